@@ -1,0 +1,99 @@
+# What a user and CI call: `make demo` shows the program at work, `make check` proves and tests all of it.
+# Logs go to out/, which is never committed.
+
+PREFIX  ?= /usr/local
+DESTDIR ?=
+RT      ?= $(shell command -v rt || echo /opt/rattle/bin/rt)
+
+NOTICED := crates/noticed/out/noticed
+SOURCES := $(shell find crates -name out -prune -o -type f -print)
+EXAMPLE := examples/one-bounce
+
+SHELL := /bin/sh
+.SHELLFLAGS := -euc
+.ONESHELL:
+.DELETE_ON_ERROR:
+.PHONY: all build demo check install clean
+
+all: build
+
+build: $(NOTICED)
+
+# The proved program. `rt run` proves what changed, builds and runs it, here on an empty input.
+# (The touch tells make that an unchanged program is up to date.)
+$(NOTICED): $(SOURCES) crates.txt HANDLES
+	@mkdir -p out
+	echo "proving and building $@ (log: out/build.log) .."
+	if ! (cd crates/noticed && "$(RT)" run -- batch mx.example.net) < /dev/null > out/build.log 2>&1; then
+	    cat out/build.log
+	    echo "the program could not be proved or built"
+	    exit 1
+	fi
+	touch $@
+
+# The program's standard output and standard error, each under a heading of its own.
+demo: $(NOTICED)
+	@mkdir -p out
+	status=0
+	./$(NOTICED) batch mx.example.net < $(EXAMPLE).frames > out/demo.outbox 2> out/demo.notes || status=$$?
+	echo
+	echo "== Requests: $(EXAMPLE).frames, one append and one flush =="
+	od -A d -t x1 $(EXAMPLE).frames
+	echo
+	echo "== Answers: standard error of 'noticed batch mx.example.net' =="
+	cat out/demo.notes
+	echo
+	echo "== Outbox: standard output, an SMTP client's side with the notice in it =="
+	cat out/demo.outbox
+	echo
+	echo "== Exit status: $$status =="
+	exit $$status
+
+# The gate, then the scripts of tests/ on the program that the gate left. The last line is the gate's own,
+# 'N passed, M failed'; a script that failed is counted into M.
+check:
+	@mkdir -p out
+	for tool in python3 gcc "$(RT)"; do
+	    command -v "$$tool" > /dev/null || { echo "make check needs $$tool"; echo "0 passed, 1 failed"; exit 1; }
+	done
+	echo "running the gate, rt ci (log: out/gate.log) .."
+	gate=0
+	"$(RT)" ci > out/gate.log 2>&1 || gate=$$?
+	cat out/gate.log
+	verdict=$$(sed -n '/^[0-9][0-9]* passed, [0-9][0-9]* failed$$/h; $${x; p;}' out/gate.log)
+	verdict=$${verdict:-0 passed, 1 failed}
+	passed=$${verdict%% *}
+	failed=$${verdict#*, }
+	failed=$${failed%% *}
+	if [ $$gate -ne 0 ] || [ $$failed -ne 0 ]; then
+	    [ $$failed -ne 0 ] || failed=1
+	    echo "the gate failed with status $$gate, so the scripts of tests/ were not run"
+	    echo "$$passed passed, $$failed failed"
+	    exit 1
+	fi
+	scripts=
+	for script in tests/*.py tests/*.sh; do
+	    [ -f "$$script" ] || continue
+	    echo "== $$script"
+	    run=sh
+	    case $$script in *.py) run=python3 ;; esac
+	    if ! NOTICED="$(CURDIR)/$(NOTICED)" PYTHONDONTWRITEBYTECODE=1 $$run "$$script"; then
+	        failed=$$((failed + 1))
+	        scripts="$$scripts $$script"
+	    fi
+	done
+	if [ $$failed -ne 0 ]; then
+	    echo "FAILED:$$scripts"
+	    echo "$$passed passed, $$failed failed"
+	    exit 1
+	fi
+	echo "the gate and every script of tests/ passed"
+	echo "$$verdict"
+
+install: $(NOTICED)
+	@install -D -m 755 $(NOTICED) "$(DESTDIR)$(PREFIX)/bin/noticed"
+	echo "installed $(DESTDIR)$(PREFIX)/bin/noticed"
+
+# Removes what was built and what the prover kept: the next build proves everything again.
+clean:
+	@rm -rf out crates/*/out

@@ -1,0 +1,141 @@
+#!/usr/bin/env python3
+r"""Writes request frames for `noticed` from a description in words.
+
+    python3 examples/frames.py NAME.requests > NAME.frames
+    python3 examples/frames.py NAME.requests | noticed batch mx.example.net
+
+A description has one frame a line; empty lines and lines that begin with '#' are left out.
+
+    append NUMBER SERVICE ID RECIPIENT ACTION STATUS [original=T] [mta=T] [diagnostic=T] [reason=T]
+    flush NUMBER SERVICE ID [return=T] [moment=N] [arrival=N] [envelope=T] [header=T]
+    discard NUMBER SERVICE ID
+    hex DIGITS               these bytes as they are, for input that is not as it should be
+
+SERVICE is bounce, defer or trace, ACTION is failed, delayed, delivered, relayed or expanded (or either is the
+byte's number). A word may stand in quotes, as in a shell, and in a text T, RECIPIENT, STATUS and ID these stand
+for other bytes: \n LF, \r CR, \t tab, \s space, \\ a backslash, \xE9 the byte of that number, \{1200*a} so many
+times the one character. A flush has moment=1700000000, arrival=1699996400 and return=ann@example.com unless said;
+return= is the null return path.
+
+docs/FORMATS.md has the layout of the frames. Nothing here tests a value: the daemon does.
+"""
+import re
+import shlex
+import struct
+import sys
+
+SERVICES = {"bounce": 1, "defer": 2, "trace": 3}
+ACTIONS = {"failed": 1, "delayed": 2, "delivered": 3, "relayed": 4, "expanded": 5}
+VERSION, APPEND, FLUSH, DISCARD = 1, 1, 2, 3
+
+
+def text(value: bytes) -> bytes:
+    """A text on the wire: its length as a u16, then its bytes."""
+    return struct.pack(">H", len(value)) + value
+
+
+def frame(body: bytes) -> bytes:
+    """A frame: the body's length as a u32, then the body."""
+    return struct.pack(">I", len(body)) + body
+
+
+def start(kind: int, number: int, service: int, queue_id: bytes) -> bytes:
+    """The part that all bodies begin with."""
+    return struct.pack(">BBIB", VERSION, kind, number, service) + text(queue_id)
+
+
+def append(number, service, queue_id, recipient, action, status, original=b"", mta=b"", diagnostic=b"", reason=b""):
+    """The frame of a request to add one recipient's outcome to a log."""
+    body = start(APPEND, number, service, queue_id) + text(original) + text(recipient) + bytes([action])
+    return frame(body + text(status) + text(mta) + text(diagnostic) + text(reason))
+
+
+def flush(number, service, queue_id, return_path=b"ann@example.com", moment=1700000000, arrival=1699996400, envelope=b"", header=b""):
+    """The frame of a request to close a log and to make its notice."""
+    body = start(FLUSH, number, service, queue_id) + struct.pack(">QQ", moment, arrival)
+    return frame(body + text(return_path) + text(envelope) + text(header))
+
+
+def discard(number, service, queue_id):
+    """The frame of a request to close a log without a notice."""
+    return frame(start(DISCARD, number, service, queue_id))
+
+
+ESCAPE = re.compile(rb"\\(?:x([0-9A-Fa-f]{2})|\{(\d+)\*([^}])\}|(.))", re.DOTALL)
+SHORT = {b"n": b"\n", b"r": b"\r", b"t": b"\t", b"s": b" ", b"\\": b"\\"}
+
+
+def unescaped(word: str) -> bytes:
+    """The bytes that a word of a description stands for."""
+
+    def stands_for(found):
+        number, times, repeated, short = found.groups()
+        if number:
+            return bytes([int(number, 16)])
+        if times:
+            return repeated * int(times)
+        if short not in SHORT:
+            raise ValueError(f"unknown escape \\{short.decode(errors='replace')}")
+        return SHORT[short]
+
+    return ESCAPE.sub(stands_for, word.encode())
+
+
+def words_of(line: str) -> list:
+    """The words of a line, quotes taken off and backslashes kept."""
+    lexer = shlex.shlex(line, posix=True, punctuation_chars=False)
+    lexer.whitespace_split, lexer.commenters, lexer.escape = True, "", ""
+    return list(lexer)
+
+
+def frame_of_line(line: str) -> bytes:
+    """The frame that one line of a description stands for."""
+    kind, *words = words_of(line)
+    if kind == "hex":
+        return bytes.fromhex("".join(words))
+    named = {"append": 6, "flush": 3, "discard": 3}.get(kind)
+    if named is None or len(words) < named:
+        raise ValueError("not a request")
+    fixed, options = words[:named], dict(it.partition("=")[::2] for it in words[named:])
+    number, service, queue_id = int(fixed[0]), SERVICES.get(fixed[1]) or int(fixed[1]), unescaped(fixed[2])
+    if kind == "append":
+        recipient, action, status = unescaped(fixed[3]), ACTIONS.get(fixed[4]) or int(fixed[4]), unescaped(fixed[5])
+        return append(number, service, queue_id, recipient, action, status, **{it: unescaped(value) for it, value in options.items()})
+    if kind == "flush":
+        times = {it: int(options.pop(it)) for it in ("moment", "arrival") if it in options}
+        texts = {"return_path" if it == "return" else it: unescaped(value) for it, value in options.items()}
+        return flush(number, service, queue_id, **times, **texts)
+    if options:
+        raise ValueError("a discard has nothing after the queue id")
+    return discard(number, service, queue_id)
+
+
+def frames_of(description: str) -> bytes:
+    """All frames of a description, one after another."""
+    frames = []
+    for at, line in enumerate(description.splitlines(), 1):
+        if not line.strip() or line.lstrip().startswith("#"):
+            continue
+        try:
+            frames.append(frame_of_line(line))
+        except (ValueError, TypeError, struct.error) as why:
+            raise ValueError(f"line {at}: {why}: {line}") from why
+    return b"".join(frames)
+
+
+def main() -> int:
+    if len(sys.argv) != 2:
+        print("usage: frames.py NAME.requests > NAME.frames", file=sys.stderr)
+        return 2
+    try:
+        with open(sys.argv[1], encoding="utf-8") as it:
+            frames = frames_of(it.read())
+    except (OSError, ValueError) as why:
+        print(f"frames.py: {why}", file=sys.stderr)
+        return 1
+    sys.stdout.buffer.write(frames)
+    return 0
+
+
+if __name__ == "__main__":
+    sys.exit(main())

@@ -1,0 +1,91 @@
+"""What the scripts of tests/ share: the program under test, running it, and counting what failed."""
+import importlib.util
+import os
+import subprocess
+import sys
+from dataclasses import dataclass
+from pathlib import Path
+
+sys.dont_write_bytecode = True
+
+ROOT = Path(__file__).resolve().parents[2]
+EXAMPLES = ROOT / "examples"
+HOST = "mx.example.net"
+LIMIT = 120  # seconds that one run may take
+
+
+def program() -> str:
+    """The program under test: what NOTICED names, else the one that the gate or `make build` left."""
+    path = os.environ.get("NOTICED") or str(ROOT / "crates/noticed/out/noticed")
+    if not os.access(path, os.X_OK):
+        print(f"there is no program {path}: run make build, or name one in NOTICED")
+        sys.exit(1)
+    return path
+
+
+@dataclass
+class Ran:
+    """What one run gave: standard output, standard error and the exit status (negative: stopped by a signal)."""
+
+    outbox: bytes
+    notes: bytes
+    status: int
+
+
+def run(words, given=b"", **how) -> Ran:
+    """Runs the program with these arguments (text or bytes) on these bytes."""
+    if "stdin" not in how:
+        how["input"] = given
+    how.setdefault("stdout", subprocess.PIPE)
+    how.setdefault("stderr", subprocess.PIPE)
+    ended = subprocess.run([program(), *words], timeout=LIMIT, check=False, **how)
+    return Ran(ended.stdout or b"", ended.stderr or b"", ended.returncode)
+
+
+def batch(given=b"", **how) -> Ran:
+    """Runs `noticed batch mx.example.net` on these bytes."""
+    return run(["batch", HOST], given, **how)
+
+
+def empty_outbox(host=HOST) -> bytes:
+    """The outbox of a run that made no notice."""
+    return f"EHLO {host}\r\nQUIT\r\n".encode()
+
+
+def frames_module():
+    """examples/frames.py, which writes request frames."""
+    spec = importlib.util.spec_from_file_location("frames", EXAMPLES / "frames.py")
+    module = importlib.util.module_from_spec(spec)
+    spec.loader.exec_module(module)
+    return module
+
+
+class Checks:
+    """Counts what holds and prints what doesn't."""
+
+    def __init__(self, about: str):
+        print(about)
+        self.held, self.failed = 0, 0
+
+    def equal(self, what: str, found, wanted):
+        """Checks that two values are equal, and prints both where they aren't."""
+        if found == wanted:
+            self.held += 1
+            return
+        self.failed += 1
+        print(f"  FAILED: {what}\n    wanted {shown(wanted)}\n    found  {shown(found)}")
+
+    def true(self, what: str, holds):
+        """Checks that something holds."""
+        self.equal(what, bool(holds), True)
+
+    def done(self):
+        """Prints the counts and ends the script."""
+        print(f"  {self.held} held, {self.failed} failed")
+        sys.exit(1 if self.failed else 0)
+
+
+def shown(value) -> str:
+    """A value for a line of a report, cut where it is long."""
+    text = repr(value)
+    return text if len(text) <= 2000 else f"{text[:2000]}.. ({len(text)} characters)"

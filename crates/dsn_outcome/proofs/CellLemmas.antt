@@ -1,0 +1,38 @@
+-- Cells: the letters along their links, one step at a time.
+use Rattle.std.proofs.Common.{◌≡◌, ℕ, suc, ◌==◌, Bool, true, false, not, ◌∷◌, length, refl, ap, sym, ◌∙◌, arith}
+use Rattle.std.specs.Prelude.{Option, Some, None, Box, is_none, is_some, All}
+use Rattle.std.specs.declared.alloc.Global.{Global}
+use Rattle.std.proofs.lemmas.List.Elements.{All-tail}
+use Rattle.dsn_outcome.specs.Cell.{letter_in, letters_from, letters_along, letters_linked}
+use Rattle.dsn_outcome.specs.Letter.{IsLetter}
+use Rattle.dsn_outcome.specs.declared.cell.Cell.{Cell, Cell', None', Some', out-Cell}
+
+-- the letters from a cell on are its own and those along its link
+pub letters_from-cell : (cell : Cell) → letters_from cell ≡ letter_in cell ∷ letters_linked (out-Cell cell).next
+unfolding out-Cell denote.Hole.Carrier.out
+letters_from-cell (Cell' terms sealed None') = refl
+letters_from-cell (Cell' terms sealed (Some' place next)) = refl
+
+-- what is linked after the first cell is legal where all is
+pub All-next : (first next : Option (Box Cell Global)) (cell : Box Cell Global) → Some cell ≡ first → next ≡ (out-Cell cell.value).next → All IsLetter (letters_linked first) → All IsLetter (letters_linked next)
+All-next first next cell is link all =
+    let linked : letters_linked first ≡ letter_in cell.value ∷ letters_linked (out-Cell cell.value).next = ap letters_linked (sym is) ∙ letters_from-cell cell.value in
+    rw link (All-tail IsLetter (letter_in cell.value) (letters_linked (out-Cell cell.value).next) (rw linked at all))
+
+suc-not-zero : (n : ℕ) → false ≡ (suc n == 0)
+suc-not-zero n = grind arith
+
+length-linked : (cell : Cell) → false ≡ (length (letters_from cell) == 0)
+length-linked (Cell' terms sealed next) = suc-not-zero (length (letters_along next))
+
+-- there is no letter exactly where there is no link
+pub is_none-letters_linked : (link : Option (Box Cell Global)) → is_none link ≡ (length (letters_linked link) == 0)
+is_none-letters_linked None = refl
+is_none-letters_linked (Some first) = length-linked first.value
+
+-- an answer that says the contrary of `is_some` says `is_none`
+pub is_none-answer : {A : Type 0} (option : Option A) (answer : Bool) → is_some option ≡ not answer → answer ≡ is_none option
+is_none-answer None true e = refl
+is_none-answer None false e = cc
+is_none-answer (Some x) true e = cc
+is_none-answer (Some x) false e = refl

@@ -1,0 +1,14 @@
+pub mod CellLemmas
+pub mod Checks
+mod Dates
+mod Examples
+pub mod FailureLemmas
+pub mod HistoryLaws
+pub mod HistoryLemmas
+pub mod KeyLemmas
+pub mod OutcomeLemmas
+pub mod StampLemmas
+mod StatusExamples
+pub mod StatusLemmas
+pub mod TextLemmas
+pub mod TransferLemmas

@@ -1,0 +1,78 @@
+-- Outcomes: what it means that their fields have no fault.
+use Rattle.std.proofs.Common.{◌≡◌, ℕ, ◌≤◌, Bool, true, false, List, [], ◌∷◌, length, refl}
+use Rattle.std.specs.Prelude.{Option, Some, None, IsTrue, if◌then◌else◌}
+use Rattle.std.specs.Option.{option_map_or}
+use Rattle.std.proofs.lemmas.Bool.{leb-true}
+use Rattle.dsn_outcome.specs.Action.{action_of_byte}
+use Rattle.dsn_outcome.specs.Outcome.{Fields, Outcome, first_failed, first_outcome_fault, outcome_checks, unless_empty, is_none_or, takes, fits_class, IsLegalOutcome, IsOutcomeOf}
+use Rattle.dsn_outcome.specs.Status.{is_status_code, status_class}
+use Rattle.dsn_outcome.specs.Text.{is_address, is_mta_name, is_clean, clean_text}
+use Rattle.dsn_outcome.proofs.TextLemmas.{IsClean-clean_text}
+use Rattle.dsn_outcome.specs.declared.service.Service.{Service}
+
+-- every check of a list passes
+abbrev pub AllPass : {F : Type 0} → List (Bool × F) → Type 0
+AllPass [] = Unit {0}
+AllPass (check ∷ rest) = (check.0 ≡ true) × AllPass rest
+
+next-passes : {F : Type 0} (passes : Bool) (fault : F) (later : Option F) → (if passes then later else Some fault) ≡ None → (passes ≡ true) × (later ≡ None)
+next-passes true fault later none = (refl, none)
+next-passes false fault later none = cc
+
+-- where no check is the first that fails, all pass
+pub AllPass-first_failed : {F : Type 0} (checks : List (Bool × F)) → first_failed checks ≡ None → AllPass checks
+AllPass-first_failed [] none = tt
+AllPass-first_failed (check ∷ rest) none =
+    let both = next-passes check.0 check.1 (first_failed rest) none in
+    (both.0, AllPass-first_failed rest both.1)
+
+-- every check of an outcome's fields passes
+pub record Passes (service : Service) (fields : Fields) : Type 0 where
+  pub recipient : IsTrue (is_address fields.recipient)
+  pub original : IsTrue (is_none_or is_address (unless_empty fields.original))
+  pub action : IsTrue (option_map_or (takes service) (action_of_byte fields.action) false)
+  pub status : IsTrue (is_status_code fields.status)
+  pub class : IsTrue (option_map_or (λ action. fits_class action (status_class fields.status)) (action_of_byte fields.action) false)
+  pub mta : IsTrue (is_none_or is_mta_name (unless_empty fields.mta))
+  pub diagnostic : length fields.diagnostic ≤ 800
+  pub reason : length fields.reason ≤ 800
+
+pub passes-none : (service : Service) (fields : Fields) → first_outcome_fault service fields ≡ None → Passes service fields
+unfolding first_outcome_fault
+passes-none service fields none =
+    let recipient = AllPass-first_failed (outcome_checks service fields) none in
+    let original = recipient.1 in
+    let action = original.1 in
+    let status = action.1 in
+    let class = status.1 in
+    let mta = class.1 in
+    let diagnostic = mta.1 in
+    let reason = diagnostic.1 in
+    record {
+      recipient = recipient.0;
+      original = original.0;
+      action = action.0;
+      status = status.0;
+      class = class.0;
+      mta = mta.0;
+      diagnostic = leb-true _ _ diagnostic.0;
+      reason = leb-true _ _ reason.0;
+    }
+
+-- a cleaned text that is short enough, if there is one
+is_clean-unless_empty : (text : List ℕ) → length text ≤ 800 → IsTrue (is_none_or is_clean (unless_empty (clean_text text)))
+is_clean-unless_empty [] short = refl
+is_clean-unless_empty (byte ∷ rest) short = IsClean-clean_text (byte ∷ rest) short
+
+-- the outcome of fields without a fault is legal
+pub legal-IsOutcomeOf : (service : Service) (fields : Fields) (outcome : Outcome) → Passes service fields → IsOutcomeOf service fields outcome → IsLegalOutcome outcome
+legal-IsOutcomeOf service fields outcome passes of = record {
+  recipient_legal = rw of.recipient_is passes.recipient;
+  original_legal = rw of.original_is passes.original;
+  action_taken = rw of.service_is (rw of.action_is at passes.action);
+  status_legal = rw of.status_is passes.status;
+  class_fits = rw of.status_is (rw of.action_is at passes.class);
+  mta_legal = rw of.mta_is passes.mta;
+  diagnostic_clean = rw of.diagnostic_is (is_clean-unless_empty fields.diagnostic passes.diagnostic);
+  reason_clean = rw of.reason_is (is_clean-unless_empty fields.reason passes.reason);
+}

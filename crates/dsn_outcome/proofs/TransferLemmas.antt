@@ -1,0 +1,72 @@
+-- How what became of several texts, sent or asked for in turn, is what became of them together.
+use Rattle.std.proofs.Common.{◌≡◌, ℕ, ◌+◌, ◌-◌, ◌<◌, ◌≤◌, List, [], ◌++◌, Option, Result, Ok, Err, OnErr, length, take, drop, refl, sym, ap, ◌∙◌, arith, append_assoc, append-nil, take-append-drop, length-take-le, length-append}
+use Rattle.std.proofs.lemmas.List.{take_rest, take-take}
+use Rattle.std.proofs.Math.Seq.{take-append-add}
+use borrow.Rule.Slice.PartMut.{put_mid}
+use Rattle.std.proofs.lemmas.Slice.{take-put_mid}
+use Rattle.std.specs.Io.KnownBytes.{Appends, Consumes, Keeps}
+use Rattle.std.proofs.KnownBytes.{Appends-nil, Appends-trans, Appends-kept, Consumes-nil, Consumes-trans, Consumes-kept}
+use Rattle.dsn_outcome.specs.Transfer.{AppendsFront, ConsumesFewer}
+
+-- ---- what holds whatever a call answered
+
+-- a fact that holds in any case holds on an error
+pub OnErr-always : {T E P : Type 0} (r : Result T E) → P → OnErr r P
+OnErr-always (Ok x) p = tt
+OnErr-always (Err e) p = p
+
+-- ---- what a drain took
+
+-- a whole text is a front of itself
+pub AppendsFront-all : (a b : Option (List ℕ)) (text : List ℕ) → Appends a b text → AppendsFront a b text
+AppendsFront-all a b text p = record { front = text; unsent = []; split = sym (append-nil text); appended = p }
+
+-- a drain that kept its bytes took the empty front
+pub AppendsFront-none : (a b : Option (List ℕ)) (text : List ℕ) → Keeps a b → AppendsFront a b text
+AppendsFront-none a b text p = record { front = []; unsent = text; split = refl; appended = Appends-kept a a b [] (Appends-nil a) p }
+
+-- a front of a text is a front of each longer text
+pub AppendsFront-longer : (a b : Option (List ℕ)) (text more : List ℕ) → AppendsFront a b text → AppendsFront a b (text ++ more)
+AppendsFront-longer a b text more p =
+    record { front = p.front; unsent = p.unsent ++ more; split = ap (λ l. l ++ more) p.split ∙ append_assoc p.front p.unsent more; appended = p.appended }
+
+-- a text and then a front of a second one are a front of both
+pub Appends-front : (a b c : Option (List ℕ)) (text more : List ℕ) → Appends a b text → AppendsFront b c more → AppendsFront a c (text ++ more)
+Appends-front a b c text more p q =
+    record { front = text ++ q.front; unsent = q.unsent; split = ap (λ l. text ++ l) q.split ∙ sym (append_assoc text q.front q.unsent); appended = Appends-trans a b c text q.front p q.appended }
+
+-- what keeps the bytes of a drain keeps what it took
+pub AppendsFront-kept : (a b c : Option (List ℕ)) (text : List ℕ) → AppendsFront a b text → Keeps b c → AppendsFront a c text
+AppendsFront-kept a b c text p q = record { front = p.front; unsent = p.unsent; split = p.split; appended = Appends-kept a b c p.front p.appended q }
+
+-- the text's front moves from what is unsent to what is sent
+pub split-moved : (all done rest : List ℕ) (n : ℕ) → all ≡ done ++ rest → all ≡ (done ++ take n rest) ++ take (length rest - n) (drop n rest)
+split-moved all done rest n e =
+    e ∙ ap (λ l. done ++ l) (sym (take-append-drop n rest)) ∙ sym (append_assoc done (take n rest) (drop n rest)) ∙ ap (λ l. (done ++ take n rest) ++ l) (sym (take_rest rest n))
+
+-- ---- what a source gave
+
+-- a source that kept its bytes gave none of them
+pub ConsumesFewer-none : (a b : Option (List ℕ)) (limit : ℕ) → 0 < limit → Keeps a b → ConsumesFewer a b limit
+ConsumesFewer-none a b limit some p = record { taken = []; few = some; consumed = Consumes-kept a a b [] (Consumes-nil a) p }
+
+-- some bytes, and then fewer than so many
+pub Consumes-fewer : (a b c : Option (List ℕ)) (bytes : List ℕ) (limit : ℕ) → Consumes a b bytes → ConsumesFewer b c limit → ConsumesFewer a c (length bytes + limit)
+Consumes-fewer a b c bytes limit p q =
+    record { taken = bytes ++ q.taken; few = rw length-append (omega (arith, q.few)); consumed = Consumes-trans a b c bytes q.taken p q.consumed }
+
+-- what keeps the bytes of a source keeps what it gave
+pub ConsumesFewer-kept : (a b c : Option (List ℕ)) (limit : ℕ) → ConsumesFewer a b limit → Keeps b c → ConsumesFewer a c limit
+ConsumesFewer-kept a b c limit p q = record { taken = p.taken; few = p.few; consumed = Consumes-kept a b c p.taken p.consumed q }
+
+-- a read into the rest of a buffer puts its bytes after the front
+pub take-put_mid_more : (a n : ℕ) (xs ys : List ℕ) → a ≤ length xs → length ys ≡ length xs - a → n ≤ length ys
+    → take (a + n) (put_mid a (length xs - a) xs ys) ≡ take a xs ++ take n ys
+take-put_mid_more a n xs ys within whole fits =
+    let k = length xs - a in
+    let all : take (a + length ys) (put_mid a k xs ys) ≡ take a xs ++ ys = take-put_mid a k xs ys (a + length ys) refl within in
+    let long : length (take a xs) ≡ a = length-take-le a xs within in
+    sym (take-take (a + n) (a + length ys) (put_mid a k xs ys) (omega arith))
+    ∙ ap (take (a + n)) all
+    ∙ ap (λ m. take (m + n) (take a xs ++ ys)) (sym long)
+    ∙ take-append-add (take a xs) ys n

@@ -1,0 +1,17 @@
+use Rattle.std.proofs.Common.{take, arith, ◌++◌}
+use Rattle.std.proofs.lemmas.Bool.Decides.{nat_tests}
+use Rattle.std.proofs.KnownBytes.{Appends-trans, Keeps-trans}
+use Rattle.dsn_outcome.proofs.TransferLemmas.{split-moved}
+use Rattle.dsn_outcome.proofs.transfer.send.Goals as goal
+
+pub loop-unsent-preserved : goal.loop-unsent-preserved
+loop-unsent-preserved g c =
+    let (done, split, appended) = c.loop-unsent.invariant.sent in
+    let n = c.in_ok-taken.taken in
+    let took = c.in_ok-taken.ensures in
+    record {
+      sent = (done ++ take n c.loop-unsent.unsent.now, split-moved _ done _ n split, Appends-trans _ _ _ _ _ appended took.bytes);
+      unread = Keeps-trans _ _ _ c.loop-unsent.invariant.unread took.unread;
+      count = grind (arith, nat_tests, took.count);
+      steady = λ h. (took.steady (c.loop-unsent.invariant.steady h)).0;
+    }

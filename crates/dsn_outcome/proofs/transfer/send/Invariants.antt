@@ -1,0 +1,15 @@
+-- What is gone from `unsent` was appended, and the drain did not fail.
+use Rattle.std.proofs.Common.{◌≡◌, List, ◌++◌, length, ℕ}
+use Rattle.std.specs.Io.KnownBytes.{Appends, Keeps}
+use Rattle.dsn_outcome.proofs.transfer.send.Given as goal
+
+abbrev pub invariant-loop-unsent : goal.invariant-loop-unsent
+invariant-loop-unsent g l = record {
+  sent : (done : List ℕ) × (l.initial.unsent ≡ done ++ l.unsent) × Appends (g.D.Drain.contents l.initial.drain) (g.D.Drain.contents l.drain) done;
+  unread : Keeps (g.D.Drain.left l.initial.drain) (g.D.Drain.left l.drain);
+  count : g.D.Drain.failures l.drain ≡ g.D.Drain.failures l.initial.drain;
+  steady : g.D.Drain.steady l.initial.drain → g.D.Drain.steady l.drain;
+}
+
+abbrev pub decreases-loop-unsent : goal.decreases-loop-unsent
+decreases-loop-unsent g l = length l.unsent

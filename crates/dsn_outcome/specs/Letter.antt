@@ -1,0 +1,17 @@
+-- Letters: a sealed log with the draft of its notice.
+use Rattle.std.specs.Prelude.{◌≡◌, ◌≢◌, List, [], All, IsSome}
+use Rattle.dsn_outcome.specs.Draft.{Draft}
+use Rattle.dsn_outcome.specs.Outcome.{Outcome}
+use Rattle.dsn_outcome.specs.declared.key.Key.{Key}
+
+-- a log's key, what its flush said, and its outcomes, oldest first
+pub record Letter : Type 0 where
+  pub key : Key
+  pub draft : Draft
+  pub outcomes : List Outcome
+
+-- a letter can be sent: it reports some outcome (RFC 3464 section 2.1), all of its service, and somebody gets it
+pub record IsLetter (letter : Letter) : Type 0 where
+  pub reports : letter.outcomes ≢ []
+  pub of_service : All (λ outcome. outcome.service ≡ letter.key.service) letter.outcomes
+  pub returns : IsSome letter.draft.return_path

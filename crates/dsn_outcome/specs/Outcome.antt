@@ -1,0 +1,110 @@
+-- Outcomes: what became of one recipient, and which of them are legal (RFC 3464 section 2.3).
+use Rattle.std.specs.Prelude.{◌≡◌, ℕ, Bool, true, false, ◌||◌, ◌==◌, List, [], ◌∷◌, length, Option, Some, None, IsTrue, if◌then◌else◌, nat_le}
+use Rattle.std.specs.Option.{option_map_or}
+use Rattle.dsn_outcome.specs.Action.{action_of_byte}
+use Rattle.dsn_outcome.specs.Text.{is_address, is_mta_name, is_clean, clean_text}
+use Rattle.dsn_outcome.specs.Status.{is_status_code, status_class}
+use Rattle.dsn_outcome.specs.declared.action.Action.{Action}
+use Rattle.dsn_outcome.specs.declared.action.Action.TheVariants.{Failed, Delayed, Delivered, Relayed, Expanded}
+use Rattle.dsn_outcome.specs.declared.outcome_fault.OutcomeFault.{OutcomeFault}
+use Rattle.dsn_outcome.specs.declared.outcome_fault.OutcomeFault.TheVariants.{BadRecipient, BadOriginal, BadAction, BadStatus, StatusClass, BadMta, LongDiagnostic, LongReason}
+use Rattle.dsn_outcome.specs.declared.service.Service.{Service}
+use Rattle.dsn_outcome.specs.declared.service.Service.TheVariants.{Bounce, Defer, Trace}
+
+-- what became of one recipient; the texts are clean
+pub record Outcome : Type 0 where
+  pub service : Service
+  pub recipient : List ℕ
+  pub original : Option (List ℕ)
+  pub action : Action
+  pub status : List ℕ
+  pub mta : Option (List ℕ)
+  pub diagnostic : Option (List ℕ)
+  pub reason : Option (List ℕ)
+
+-- the fields of an outcome as an agent hands them in; an empty text means that there is none
+pub record Fields : Type 0 where
+  pub recipient : List ℕ
+  pub original : List ℕ
+  pub action : ℕ
+  pub status : List ℕ
+  pub mta : List ℕ
+  pub diagnostic : List ℕ
+  pub reason : List ℕ
+
+-- which actions a service's log takes (this project's profile)
+abbrev pub takes : Service → Action → Bool
+takes Bounce Failed = true
+takes Bounce Delayed = false
+takes Bounce Delivered = false
+takes Bounce Relayed = false
+takes Bounce Expanded = false
+takes Defer Failed = false
+takes Defer Delayed = true
+takes Defer Delivered = false
+takes Defer Relayed = false
+takes Defer Expanded = false
+takes Trace action = true
+
+-- which class of status, `2`, `4` or `5`, stands with an action (this project's profile, after RFC 3464 section 2.3.3
+-- and RFC 3463 section 2)
+abbrev pub fits_class : Action → ℕ → Bool
+fits_class Failed class = (class == 52) || (class == 53)
+fits_class Delayed class = class == 52
+fits_class Delivered class = class == 50
+fits_class Relayed class = class == 50
+fits_class Expanded class = class == 50
+
+-- no text where it is empty
+abbrev pub unless_empty : List ℕ → Option (List ℕ)
+unless_empty [] = None
+unless_empty (byte ∷ rest) = Some (byte ∷ rest)
+
+-- the fault of the first check that fails
+abbrev pub first_failed : {F : Type 0} → List (Bool × F) → Option F
+first_failed [] = None
+first_failed (check ∷ rest) = if check.0 then first_failed rest else Some check.1
+
+-- what is asked of an outcome's fields, in the order in which a refusal names it
+abbrev pub outcome_checks : Service → Fields → List (Bool × OutcomeFault)
+outcome_checks service fields =
+    (is_address fields.recipient, BadRecipient)
+    ∷ (option_map_or is_address (unless_empty fields.original) true, BadOriginal)
+    ∷ (option_map_or (takes service) (action_of_byte fields.action) false, BadAction)
+    ∷ (is_status_code fields.status, BadStatus)
+    ∷ (option_map_or (λ action. fits_class action (status_class fields.status)) (action_of_byte fields.action) false, StatusClass)
+    ∷ (option_map_or is_mta_name (unless_empty fields.mta) true, BadMta)
+    ∷ (nat_le (length fields.diagnostic) 800, LongDiagnostic)
+    ∷ (nat_le (length fields.reason) 800, LongReason)
+    ∷ []
+
+-- the first fault of an outcome's fields, if they have one
+unfoldable pub first_outcome_fault : Service → Fields → Option OutcomeFault
+first_outcome_fault service fields = first_failed (outcome_checks service fields)
+
+-- the outcome that legal fields stand for: the same values, diagnostic and reason cleaned
+pub record IsOutcomeOf (service : Service) (fields : Fields) (outcome : Outcome) : Type 0 where
+  pub service_is : outcome.service ≡ service
+  pub recipient_is : outcome.recipient ≡ fields.recipient
+  pub original_is : outcome.original ≡ unless_empty fields.original
+  pub action_is : action_of_byte fields.action ≡ Some outcome.action
+  pub status_is : outcome.status ≡ fields.status
+  pub mta_is : outcome.mta ≡ unless_empty fields.mta
+  pub diagnostic_is : outcome.diagnostic ≡ unless_empty (clean_text fields.diagnostic)
+  pub reason_is : outcome.reason ≡ unless_empty (clean_text fields.reason)
+
+-- a text that is missing, or meets the test
+abbrev pub is_none_or : (List ℕ → Bool) → Option (List ℕ) → Bool
+is_none_or test text = option_map_or test text true
+
+-- a legal outcome (RFC 3464 sections 2.3.1 to 2.3.6): the service takes the action, the status is a code
+-- whose class fits the action, and each text is within its bounds
+pub record IsLegalOutcome (outcome : Outcome) : Type 0 where
+  pub recipient_legal : IsTrue (is_address outcome.recipient)
+  pub original_legal : IsTrue (is_none_or is_address outcome.original)
+  pub action_taken : IsTrue (takes outcome.service outcome.action)
+  pub status_legal : IsTrue (is_status_code outcome.status)
+  pub class_fits : IsTrue (fits_class outcome.action (status_class outcome.status))
+  pub mta_legal : IsTrue (is_none_or is_mta_name outcome.mta)
+  pub diagnostic_clean : IsTrue (is_none_or is_clean outcome.diagnostic)
+  pub reason_clean : IsTrue (is_none_or is_clean outcome.reason)

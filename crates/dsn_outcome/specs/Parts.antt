@@ -1,0 +1,15 @@
+-- Parts: the fields of an outcome as the program's references hand them in.
+use Rattle.dsn_outcome.specs.Outcome.{Fields}
+use Rattle.dsn_outcome.specs.declared.parts.Parts.{Parts}
+
+-- the texts that the references point to
+abbrev pub fields_of : Parts → Fields
+fields_of parts = record {
+  recipient = parts.recipient.now;
+  original = parts.original.now;
+  action = parts.action;
+  status = parts.status.now;
+  mta = parts.mta.now;
+  diagnostic = parts.diagnostic.now;
+  reason = parts.reason.now;
+}

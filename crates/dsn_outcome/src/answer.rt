@@ -1,0 +1,35 @@
+//! What the daemon answers a delivery agent.
+
+/// What became of a request. A number is how many outcomes the log held before it.
+#[derive(Clone, Copy, Debug, PartialEq, Eq)]
+pub enum Reply {
+    /// The outcome stands in its log, after so many others.
+    Logged(u32),
+    /// The log was flushed or discarded before; nothing changed.
+    Closed,
+    /// No log is left for a new key; nothing changed.
+    TableFull,
+    /// The log has as many outcomes as a log can; nothing changed.
+    LogFull,
+    /// The log was empty, so there is no notice; it is closed now.
+    Nothing,
+    /// The return path is null, so there is no notice of these outcomes; the log is closed now.
+    NoReturn(u32),
+    /// A notice of these outcomes is made; the log is closed now.
+    Sealed(u32),
+    /// These outcomes were dropped; the log is closed now.
+    Discarded(u32),
+    /// The agent said goodbye.
+    Gone,
+}
+
+/// A reply with the agent and the number of the request that it answers.
+#[derive(Clone, Copy, Debug, PartialEq, Eq)]
+pub struct Answer {
+    /// The agent that asked, from 0.
+    pub agent: u32,
+    /// How many requests of that agent were accepted before this one.
+    pub number: u32,
+    /// What became of the request.
+    pub reply: Reply,
+}

@@ -1,0 +1,45 @@
+//! What a delivery agent asks.
+use crate::draft::Draft;
+use crate::key::Key;
+use crate::node::Node;
+use crate::queue_id::QueueId;
+
+/// What a delivery agent asks.
+#[derive(Drop)]
+pub enum Body {
+    /// Log this outcome of the message. The service is the outcome's.
+    Append(QueueId, Box<Node>),
+    /// Seal this log and make a notice of it.
+    Flush(Key, Draft),
+    /// Drop this log.
+    Discard(Key),
+    /// The agent leaves.
+    Bye,
+}
+
+impl Body {
+    ghost use Rattle.std.specs.Prelude.{◌≡◌, ◌↔◌, IsTrue};
+    ghost use Rattle.dsn_outcome.specs.Request.{key_of, Bye as Goodbye};
+    ghost use Rattle.dsn_outcome.specs.Body.{body_of};
+
+    /// The key of the log that it is about; a goodbye has none.
+    pub fn key(&self) -> Option<Key>
+        ensures { result ≡ key_of (body_of self.now) }
+    {
+        match self {
+            Body::Append(id, node) => Some(Key {
+                service: node.outcome().service(),
+                id: *id,
+            }),
+            Body::Flush(key, _) | Body::Discard(key) => Some(*key),
+            Body::Bye => None,
+        }
+    }
+
+    /// Whether the agent leaves.
+    pub fn is_bye(&self) -> bool
+        ensures { IsTrue result ↔ (body_of self.now ≡ Goodbye) }
+    {
+        matches!(self, Body::Bye)
+    }
+}

@@ -1,0 +1,38 @@
+//! What the daemon writes to.
+ghost use Rattle.std.specs.Prelude.{◌≡◌, ℕ, List, Option, None, is_err};
+ghost use Rattle.std.specs.Io.{WritesAtMost};
+ghost use Rattle.std.specs.Io.KnownBytes.{WriteAppends, Keeps};
+ghost use Rattle.dsn_outcome.specs.Failures.{counted, write_failed};
+
+use crate::broken::Broken;
+
+/// A writer that counts its failures. A write that takes no byte of a text that has some is one,
+/// and so is an interrupted call.
+pub trait Drain {
+    // The bytes that the device holds, where they are known.
+    ghost contents: { Self → Option (List ℕ) };
+
+    // The bytes that reads of a device which is read from as well will give, where they are known.
+    ghost left: { Self → Option (List ℕ) } = { λ _. None };
+
+    // How many calls have failed; the count stands still at `u64::MAX`.
+    ghost failures: { Self → ℕ };
+
+    // While this holds the count stands still, and the device keeps it: no call fails.
+    ghost steady: { Self → Type 0 };
+
+    /// Writes a front of the text and says how many bytes it took.
+    fn write(&mut self, text: &[u8]) -> Result<usize, Broken>
+        ensures bound { WritesAtMost result text.now }
+        ensures bytes { WriteAppends (contents self.old) (contents self.new) result text.now }
+        ensures unread { Keeps (left self.old) (left self.new) }
+        ensures count { failures self.new ≡ counted (write_failed result text.now) (failures self.old) }
+        ensures steady { steady self.old → steady self.new × (failures self.new ≡ failures self.old) };
+
+    /// Passes on what the device holds in a buffer of its own, if it has one.
+    fn flush(&mut self) -> Result<(), Broken>
+        ensures bytes { Keeps (contents self.old) (contents self.new) }
+        ensures unread { Keeps (left self.old) (left self.new) }
+        ensures count { failures self.new ≡ counted (is_err result) (failures self.old) }
+        ensures steady { steady self.old → steady self.new × (failures self.new ≡ failures self.old) };
+}

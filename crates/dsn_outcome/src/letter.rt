@@ -1,0 +1,113 @@
+//! A sealed log with the draft of its notice.
+ghost use Rattle.std.specs.Prelude.{◌≡◌, ◌≢◌, [], IsSome, All, Some};
+ghost use Rattle.std.specs.Option.{option_copied};
+
+use crate::address::Address;
+use crate::cell::{Cell, Sealed};
+use crate::chain::Chain;
+use crate::draft::Draft;
+use crate::envelope_id::EnvelopeId;
+use crate::key::Key;
+use crate::links::Outcomes;
+use crate::raw_header::RawHeader;
+use crate::stamp::Stamp;
+use std::marker::Model;
+
+/// A sealed log: what a notice is made of. It has at least one outcome, each of them of its key's
+/// service, and somebody whom the notice goes to.
+#[derive(Drop)]
+pub struct Letter {
+    pub(crate) cell: Box<Cell>,
+}
+
+impl Model for Letter {
+    ghost use Rattle.dsn_outcome.specs.Letter.{Letter, IsLetter};
+    ghost use Rattle.dsn_outcome.specs.Cell.{letter_in};
+
+    ghost Value = { Letter };
+
+    ghost view = { λ l. letter_in l.cell.value };
+
+    ghost invariant = { λ l. IsLetter (letter_in l.cell.value) };
+}
+
+impl Letter {
+    ghost use Rattle.dsn_outcome.specs.Letter.{IsLetter};
+    ghost use Rattle.dsn_outcome.specs.Outcomes.{outcomes_left};
+
+    /// Seals a log: the draft's cell becomes the letter's, and takes no memory.
+    pub fn seal(key: Key, draft: Draft, chain: Chain) -> Letter
+        requires reports { chain ≢ [] }
+        requires of_service { All (λ outcome. outcome.service ≡ key.service) chain }
+        requires returns { IsSome draft.return_path }
+        ensures key { result.key ≡ key }
+        ensures draft { result.draft ≡ draft }
+        ensures outcomes { result.outcomes ≡ chain }
+    {
+        let Draft { mut cell } = draft;
+        cell.sealed = Some(Sealed {
+            key,
+            outcomes: chain.oldest_first(),
+        });
+        Letter { cell }
+    }
+
+    /// The log's key.
+    pub fn key(&self) -> Key
+        ensures same { result ≡ self.now.key }
+        ensures legal { IsLetter self.now }
+    {
+        match &self.cell.sealed {
+            Some(sealed) => sealed.key,
+            None => unreachable!(),
+        }
+    }
+
+    /// The flush's moment, which stands in boundaries and in the notice's date.
+    pub fn moment(&self) -> Stamp
+        ensures { result ≡ self.now.draft.moment }
+    {
+        self.cell.terms.moment
+    }
+
+    /// When the message arrived.
+    pub fn arrival(&self) -> Stamp
+        ensures { result ≡ self.now.draft.arrival }
+    {
+        self.cell.terms.arrival
+    }
+
+    /// Whom the notice goes to.
+    pub fn return_path(&self) -> &Address
+        ensures { self.now.draft.return_path ≡ Some result.now }
+    {
+        match &self.cell.terms.return_path {
+            Some(address) => address,
+            None => unreachable!(),
+        }
+    }
+
+    /// The sender's envelope id, if there was one.
+    pub fn envelope_id(&self) -> Option<&EnvelopeId>
+        ensures { option_copied result ≡ self.now.draft.envelope_id }
+    {
+        self.cell.terms.envelope_id.as_ref()
+    }
+
+    /// The message's header as it came.
+    pub fn header(&self) -> &RawHeader
+        ensures { result.now ≡ self.now.draft.header }
+    {
+        &self.cell.terms.header
+    }
+
+    /// The outcomes, oldest first.
+    pub fn outcomes(&self) -> Outcomes<'_>
+        ensures { outcomes_left result ≡ self.now.outcomes }
+    {
+        match &self.cell.sealed {
+            Some(sealed) => sealed.outcomes.iter(),
+            None => unreachable!(),
+        }
+    }
+}

@@ -1,0 +1,18 @@
+//! Want of memory.
+ghost use Rattle.std.specs.Prelude.{◌≡◌};
+
+use thiserror::Error;
+
+/// The memory that a call needed was refused.
+#[derive(Clone, Copy, Debug, PartialEq, Eq, Error)]
+#[error("out of memory")]
+pub struct NoMemory;
+
+impl NoMemory {
+    /// The number of the refusal, 9.
+    pub fn code(&self) -> u32
+        ensures { result ≡ 9 }
+    {
+        9
+    }
+}

@@ -1,0 +1,66 @@
+//! Texts that may be missing: an empty one means that there is none.
+ghost use Rattle.std.specs.Prelude.{◌≡◌, ◌≤◌, ◌↔◌, length, IsTrue, IfOk, IfErr};
+ghost use Rattle.dsn_outcome.specs.Outcome.{unless_empty, is_none_or};
+ghost use Rattle.dsn_outcome.specs.Text.{is_address, is_mta_name, clean_text};
+
+use crate::address::Address;
+use crate::clean::Clean;
+use crate::mta_name::MtaName;
+use crate::outcome_fault::OutcomeFault;
+use std::alloc::Global;
+
+/// Whether a text is empty or can be an address.
+pub(crate) fn is_optional_address(text: &[u8]) -> bool
+    ensures { IsTrue result ↔ IsTrue (is_none_or is_address (unless_empty text.now)) }
+{
+    text.is_empty() || Address::is_valid(text)
+}
+
+/// Whether a text is empty or can be a remote system's name.
+pub(crate) fn is_optional_mta_name(text: &[u8]) -> bool
+    ensures { IsTrue result ↔ IsTrue (is_none_or is_mta_name (unless_empty text.now)) }
+{
+    text.is_empty() || MtaName::is_valid(text)
+}
+
+pub(crate) fn optional_address(alloc: Global, text: &[u8]) -> Result<Option<Address>, OutcomeFault>
+    requires { IsTrue (is_none_or is_address (unless_empty text.now)) }
+    ensures kept { IfOk result (λ address. address ≡ unless_empty text.now) }
+    ensures memory { IfErr result (λ fault. fault ≡ OutcomeFault.NoMemory) }
+{
+    if text.is_empty() {
+        return Ok(None);
+    }
+    match Address::new(alloc, text) {
+        Ok(address) => Ok(Some(address)),
+        Err(_) => Err(OutcomeFault::NoMemory),
+    }
+}
+
+pub(crate) fn optional_mta_name(alloc: Global, text: &[u8]) -> Result<Option<MtaName>, OutcomeFault>
+    requires { IsTrue (is_none_or is_mta_name (unless_empty text.now)) }
+    ensures kept { IfOk result (λ name. name ≡ unless_empty text.now) }
+    ensures memory { IfErr result (λ fault. fault ≡ OutcomeFault.NoMemory) }
+{
+    if text.is_empty() {
+        return Ok(None);
+    }
+    match MtaName::new(alloc, text) {
+        Ok(name) => Ok(Some(name)),
+        Err(_) => Err(OutcomeFault::NoMemory),
+    }
+}
+
+pub(crate) fn optional_clean(alloc: Global, text: &[u8]) -> Result<Option<Clean>, OutcomeFault>
+    requires { length text.now ≤ 800 }
+    ensures kept { IfOk result (λ clean. clean ≡ unless_empty (clean_text text.now)) }
+    ensures memory { IfErr result (λ fault. fault ≡ OutcomeFault.NoMemory) }
+{
+    if text.is_empty() {
+        return Ok(None);
+    }
+    match Clean::new(alloc, text) {
+        Ok(clean) => Ok(Some(clean)),
+        Err(_) => Err(OutcomeFault::NoMemory),
+    }
+}

@@ -1,0 +1,187 @@
+//! What became of one recipient (RFC 3464 section 2.3).
+ghost use Rattle.std.specs.Prelude.{◌≡◌, IfOk, IfErr, unwrap_or};
+ghost use Rattle.dsn_outcome.specs.Action.{action_of_byte};
+
+use crate::action::Action;
+use crate::address::Address;
+use crate::clean::Clean;
+use crate::mta_name::MtaName;
+use crate::node::Node;
+use crate::optional::{
+    is_optional_address, is_optional_mta_name, optional_address, optional_clean, optional_mta_name,
+};
+use crate::outcome_fault::OutcomeFault;
+use crate::parts::Parts;
+use crate::service::Service;
+use crate::status::Status;
+use std::alloc::Global;
+use std::marker::Model;
+
+/// A legal outcome: the service's log takes its action, its status stands with the action, and
+/// its texts are within their bounds.
+#[derive(Drop)]
+pub struct Outcome {
+    service: Service,
+    recipient: Address,
+    original: Option<Address>,
+    action: Action,
+    status: Status,
+    mta: Option<MtaName>,
+    diagnostic: Option<Clean>,
+    reason: Option<Clean>,
+}
+
+impl Model for Outcome {
+    ghost use Rattle.dsn_outcome.specs.Outcome.{Outcome, IsLegalOutcome};
+
+    ghost Value = { Outcome };
+
+    ghost view = { λ o. record { service = o.service; recipient = o.recipient; original = o.original; action = o.action; status = o.status; mta = o.mta; diagnostic = o.diagnostic; reason = o.reason } };
+
+    ghost invariant = { λ o. IsLegalOutcome (record { service = o.service; recipient = o.recipient; original = o.original; action = o.action; status = o.status; mta = o.mta; diagnostic = o.diagnostic; reason = o.reason }) };
+}
+
+impl Outcome {
+    ghost use Rattle.std.specs.Option.{option_copied};
+    ghost use Rattle.dsn_outcome.specs.Node.{outcome_of};
+    ghost use Rattle.dsn_outcome.specs.Outcome.{IsLegalOutcome, IsOutcomeOf, first_outcome_fault};
+    ghost use Rattle.dsn_outcome.specs.Parts.{fields_of};
+
+    /// The outcome of a service's log that these fields describe, ready to be linked into its
+    /// log. The fields are tested, in the order of `OutcomeFault`'s variants, before memory is
+    /// taken.
+    pub fn new(alloc: Global, service: Service, parts: Parts<'_>) -> Result<Box<Node>, OutcomeFault>
+        ensures kept { IfOk result (λ node. IsOutcomeOf service (fields_of parts.entry) (outcome_of node.value)) }
+        ensures accepted { IfOk result (λ node. first_outcome_fault service (fields_of parts.entry) ≡ None) }
+        ensures legal { IfOk result (λ node. IsLegalOutcome (outcome_of node.value)) }
+        ensures refused { IfErr result (λ fault. fault ≡ unwrap_or (first_outcome_fault service (fields_of parts.entry)) OutcomeFault.NoMemory) }
+    {
+        let (action, status) = check(service, &parts)?;
+        let outcome = Outcome {
+            service,
+            recipient: Address::new(alloc, parts.recipient).map_err(|_| OutcomeFault::NoMemory)?,
+            original: optional_address(alloc, parts.original)?,
+            action,
+            status,
+            mta: optional_mta_name(alloc, parts.mta)?,
+            diagnostic: optional_clean(alloc, parts.diagnostic)?,
+            reason: optional_clean(alloc, parts.reason)?,
+        };
+        linked(alloc, outcome)
+    }
+
+    /// The service whose log it belongs to.
+    pub fn service(&self) -> Service
+        ensures { result ≡ self.now.service }
+    {
+        self.service
+    }
+
+    /// The final recipient.
+    pub fn recipient(&self) -> &Address
+        ensures { result.now ≡ self.now.recipient }
+    {
+        &self.recipient
+    }
+
+    /// The recipient as the sender gave it, if the agent knew it.
+    pub fn original(&self) -> Option<&Address>
+        ensures { option_copied result ≡ self.now.original }
+    {
+        self.original.as_ref()
+    }
+
+    /// What was done.
+    pub fn action(&self) -> Action
+        ensures { result ≡ self.now.action }
+    {
+        self.action
+    }
+
+    /// The status code.
+    pub fn status(&self) -> &Status
+        ensures { result.now ≡ self.now.status }
+    {
+        &self.status
+    }
+
+    /// The remote system, if there was one.
+    pub fn mta(&self) -> Option<&MtaName>
+        ensures { option_copied result ≡ self.now.mta }
+    {
+        self.mta.as_ref()
+    }
+
+    /// What the remote system said, if it said something.
+    pub fn diagnostic(&self) -> Option<&Clean>
+        ensures { option_copied result ≡ self.now.diagnostic }
+    {
+        self.diagnostic.as_ref()
+    }
+
+    /// The agent's own words, if it had some.
+    pub fn reason(&self) -> Option<&Clean>
+        ensures { option_copied result ≡ self.now.reason }
+    {
+        self.reason.as_ref()
+    }
+}
+
+ghost use Rattle.dsn_outcome.specs.Node.{outcome_of};
+ghost use Rattle.dsn_outcome.specs.Outcome.{IsLegalOutcome, first_outcome_fault};
+ghost use Rattle.dsn_outcome.specs.Parts.{fields_of};
+
+/// An outcome in a node of its own, linked to nothing.
+fn linked(alloc: Global, outcome: Outcome) -> Result<Box<Node>, OutcomeFault>
+    requires { IsLegalOutcome outcome }
+    ensures kept { IfOk result (λ node. outcome_of node.value ≡ outcome) }
+    ensures legal { IfOk result (λ node. IsLegalOutcome (outcome_of node.value)) }
+    ensures memory { IfErr result (λ fault. fault ≡ OutcomeFault.NoMemory) }
+{
+    let node = Node {
+        outcome,
+        next: None,
+    };
+    match Box::new(alloc, node) {
+        Ok(node) => Ok(node),
+        Err(_) => Err(OutcomeFault::NoMemory),
+    }
+}
+
+/// The action and the status of fields that have no fault, or their first fault. It takes no
+/// memory.
+fn check(service: Service, parts: &Parts<'_>) -> Result<(Action, Status), OutcomeFault>
+    ensures none { IfOk result (λ found. first_outcome_fault service (fields_of parts.now) ≡ None) }
+    ensures action { IfOk result (λ found. action_of_byte parts.now.action ≡ Some found.0) }
+    ensures status { IfOk result (λ found. found.1 ≡ parts.now.status.now) }
+    ensures first { IfErr result (λ fault. first_outcome_fault service (fields_of parts.now) ≡ Some fault) }
+{
+    if !Address::is_valid(parts.recipient) {
+        return Err(OutcomeFault::BadRecipient);
+    }
+    if !is_optional_address(parts.original) {
+        return Err(OutcomeFault::BadOriginal);
+    }
+    let Some(action) = Action::from_byte(parts.action) else {
+        return Err(OutcomeFault::BadAction);
+    };
+    if !service.takes(action) {
+        return Err(OutcomeFault::BadAction);
+    }
+    let Some(status) = Status::read(parts.status) else {
+        return Err(OutcomeFault::BadStatus);
+    };
+    if !action.fits_class(status.class()) {
+        return Err(OutcomeFault::StatusClass);
+    }
+    if !is_optional_mta_name(parts.mta) {
+        return Err(OutcomeFault::BadMta);
+    }
+    if !Clean::is_valid(parts.diagnostic) {
+        return Err(OutcomeFault::LongDiagnostic);
+    }
+    if !Clean::is_valid(parts.reason) {
+        return Err(OutcomeFault::LongReason);
+    }
+    Ok((action, status))
+}

@@ -1,0 +1,56 @@
+//! Why an outcome is refused.
+ghost use Rattle.std.specs.Prelude.{◌≡◌};
+ghost use Rattle.dsn_outcome.specs.OutcomeFault.{outcome_fault_code};
+
+use thiserror::Error;
+
+/// Why an outcome is refused; the first reason in this order is given.
+#[derive(Clone, Copy, Debug, PartialEq, Eq, Error)]
+pub enum OutcomeFault {
+    /// The recipient is no address.
+    #[error("the recipient is no address")]
+    BadRecipient,
+    /// The original recipient is neither empty nor an address.
+    #[error("the original recipient is neither empty nor an address")]
+    BadOriginal,
+    /// The action is unknown, or none that the service's log takes.
+    #[error("the action is unknown or none that the service takes")]
+    BadAction,
+    /// The status is no status code.
+    #[error("the status is no status code")]
+    BadStatus,
+    /// The class of the status doesn't stand with the action.
+    #[error("the class of the status does not stand with the action")]
+    StatusClass,
+    /// The remote system's name is neither empty nor a name.
+    #[error("the remote system's name is neither empty nor a name")]
+    BadMta,
+    /// The diagnostic has more than 800 bytes.
+    #[error("the diagnostic has more than 800 bytes")]
+    LongDiagnostic,
+    /// The reason has more than 800 bytes.
+    #[error("the reason has more than 800 bytes")]
+    LongReason,
+    /// Memory for the outcome was refused.
+    #[error("out of memory")]
+    NoMemory,
+}
+
+impl OutcomeFault {
+    /// The number of the refusal, 1 to 9, as an answer carries it.
+    pub fn code(&self) -> u32
+        ensures { result ≡ outcome_fault_code self.now }
+    {
+        match self {
+            OutcomeFault::BadRecipient => 1,
+            OutcomeFault::BadOriginal => 2,
+            OutcomeFault::BadAction => 3,
+            OutcomeFault::BadStatus => 4,
+            OutcomeFault::StatusClass => 5,
+            OutcomeFault::BadMta => 6,
+            OutcomeFault::LongDiagnostic => 7,
+            OutcomeFault::LongReason => 8,
+            OutcomeFault::NoMemory => 9,
+        }
+    }
+}

@@ -1,0 +1,21 @@
+//! The fields of an outcome as a delivery agent hands them in.
+
+/// What a delivery agent says of one recipient. An empty original, remote system, diagnostic or
+/// reason means that there is none.
+#[derive(Clone, Copy)]
+pub struct Parts<'a> {
+    /// The final recipient (RFC 3464 section 2.3.2).
+    pub recipient: &'a [u8],
+    /// The recipient as the sender gave it (RFC 3464 section 2.3.1).
+    pub original: &'a [u8],
+    /// The action's byte, 1 to 5.
+    pub action: u8,
+    /// The status code (RFC 3464 section 2.3.4).
+    pub status: &'a [u8],
+    /// The remote system's name (RFC 3464 section 2.3.5).
+    pub mta: &'a [u8],
+    /// What the remote system said (RFC 3464 section 2.3.6), at most 800 bytes.
+    pub diagnostic: &'a [u8],
+    /// The agent's own words for people, at most 800 bytes.
+    pub reason: &'a [u8],
+}

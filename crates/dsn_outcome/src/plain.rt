@@ -1,0 +1,166 @@
+//! Devices made of std's readers and writers.
+ghost use Rattle.std.specs.Prelude.{◌≡◌, true};
+ghost use Rattle.dsn_outcome.specs.Failures.{counted};
+ghost use Rattle.dsn_outcome.specs.Plain.{plain_inner, plain_failures};
+
+use crate::broken::Broken;
+use crate::drain::Drain;
+use crate::opaque::Opaque;
+use crate::source::Source;
+use crate::stream::Stream;
+use std::io::{Read, Write};
+
+/// A reader or a writer of std's with a count of its failures, which stands still at `u64::MAX`.
+/// Every error is a failure, `Interrupted` too, and no call is tried again.
+#[derive(Drop)]
+pub struct Plain<T> {
+    inner: T,
+    failures: u64,
+}
+
+impl<T> Plain<T> {
+    /// The device that reads from or writes to `inner` and has not failed so far.
+    pub fn new(inner: T) -> Plain<T>
+        ensures inner { plain_inner result ≡ inner }
+        ensures failures { plain_failures result ≡ 0 }
+    {
+        Plain { inner, failures: 0 }
+    }
+
+    /// The reader or writer inside.
+    pub fn into_inner(self) -> T
+        ensures { result ≡ plain_inner self }
+    {
+        let Plain { inner, failures: _ } = self;
+        inner
+    }
+
+    // Counts a failure.
+    fn count_failure(&mut self)
+        ensures inner { plain_inner self.new ≡ plain_inner self.old }
+        ensures count { plain_failures self.new ≡ counted true (plain_failures self.old) }
+    {
+        self.failures = self.failures.saturating_add(1);
+    }
+}
+
+impl<T: Read> Source for Plain<T> {
+    ghost remaining = { λ p. T.remaining (plain_inner p) };
+
+    ghost failures = { λ p. plain_failures p };
+
+    ghost steady = { λ _. ⊥ };
+
+    fn read(&mut self, buffer: &mut [u8]) -> Result<usize, Broken> {
+        match self.inner.read(buffer) {
+            Ok(count) => Ok(count),
+            Err(_) => {
+                self.count_failure();
+                Err(Broken)
+            }
+        }
+    }
+}
+
+impl<T: Write> Drain for Plain<T> {
+    ghost contents = { λ p. T.contents (plain_inner p) };
+
+    ghost failures = { λ p. plain_failures p };
+
+    ghost steady = { λ _. ⊥ };
+
+    fn write(&mut self, text: &[u8]) -> Result<usize, Broken> {
+        match self.inner.write(text) {
+            Ok(0) if !text.is_empty() => {
+                self.count_failure();
+                Ok(0)
+            }
+            Ok(count) => Ok(count),
+            Err(_) => {
+                self.count_failure();
+                Err(Broken)
+            }
+        }
+    }
+
+    fn flush(&mut self) -> Result<(), Broken> {
+        match self.inner.flush() {
+            Ok(()) => Ok(()),
+            Err(_) => {
+                self.count_failure();
+                Err(Broken)
+            }
+        }
+    }
+}
+
+impl<T: Opaque> Stream for Plain<T> {
+    ghost use Rattle.std.specs.Prelude.{refl};
+    ghost use Rattle.std.proofs.Common.{sym};
+
+    ghost one_count = { λ _. refl };
+
+    ghost one_promise = { λ _. (λ h. h, λ h. h) };
+
+    ghost held_is_written = { λ p. sym (T.untold_output (plain_inner p)) };
+
+    ghost left_is_unread = { λ p. sym (T.untold_input (plain_inner p)) };
+}
+
+#[cfg(test)]
+mod tests {
+    use super::*;
+    use crate::fakes::{PieceReader, PieceWriter};
+
+    #[test]
+    fn failed_reads_are_counted(rt: HostRuntime) {
+        let mut source = Plain::new(PieceReader {
+            rest: b"QUIT",
+            most: 4,
+            good: 1,
+        });
+        let mut buffer = [0; 8];
+        assert_eq!(rt; source.read(&mut buffer), Ok(4));
+        assert_eq!(rt; source.failures, 0);
+        assert_eq!(rt; source.read(&mut buffer), Err(Broken));
+        assert_eq!(rt; source.failures, 1);
+        assert_eq!(rt; source.read(&mut buffer), Ok(0));
+        assert_eq!(rt; source.failures, 1);
+        assert_eq!(rt; source.into_inner().rest.len(), 0);
+    }
+
+    #[test]
+    fn failed_writes_and_flushes_are_counted(rt: HostRuntime) {
+        let mut drain = Plain::new(PieceWriter {
+            held: Vec::new(rt.alloc()),
+            most: 3,
+            room: 3,
+        });
+        assert_eq!(rt; drain.write(b"QUIT"), Ok(3));
+        assert_eq!(rt; drain.failures, 0);
+        assert_eq!(rt; drain.write(b"T"), Err(Broken));
+        assert_eq!(rt; drain.failures, 1);
+        assert_eq!(rt; drain.write(b""), Ok(0));
+        assert_eq!(rt; drain.flush(), Ok(()));
+        assert_eq!(rt; drain.failures, 1);
+        drain.inner.room = 0;
+        assert_eq!(rt; drain.flush(), Err(Broken));
+        assert_eq!(rt; drain.failures, 2);
+        drain.inner.most = 0;
+        assert_eq!(rt; drain.write(b"T"), Ok(0));
+        assert_eq!(rt; drain.failures, 3);
+        assert_eq!(rt; drain.into_inner().held.as_slice(), b"QUI".as_slice());
+    }
+
+    #[test]
+    fn the_count_stands_still_at_its_end(rt: HostRuntime) {
+        let mut source = Plain::new(PieceReader {
+            rest: b"QUIT",
+            most: 4,
+            good: 0,
+        });
+        source.failures = u64::MAX;
+        assert_eq!(rt; source.read(&mut [0; 8]), Err(Broken));
+        assert_eq!(rt; source.failures, u64::MAX);
+    }
+}

@@ -1,0 +1,72 @@
+//! Short texts that take no memory.
+ghost use Rattle.std.specs.Prelude.{◌≡◌, ◌+◌, ◌≤◌, [], ◌++◌, length, decimal};
+
+use itoa::Buffer;
+use std::marker::Model;
+
+/// The most bytes that a short text has.
+pub const SHORT_ROOM: usize = 64;
+
+/// A text of at most 64 bytes, held in place: a name, a boundary or a line of notes.
+#[derive(Drop)]
+pub struct ShortText {
+    buffer: [u8; SHORT_ROOM],
+    len: usize,
+}
+
+impl Model for ShortText {
+    ghost use Rattle.std.specs.Prelude.{ℕ, List, ◌≤◌, take};
+
+    ghost Value = { List ℕ };
+
+    ghost view = { λ t. take t.len t.buffer };
+
+    ghost invariant = { λ t. t.len ≤ 64 };
+}
+
+impl ShortText {
+    /// The empty text.
+    pub fn new() -> Self
+        ensures { result ≡ [] }
+    {
+        ShortText {
+            buffer: [0; SHORT_ROOM],
+            len: 0,
+        }
+    }
+
+    /// Adds a text at the end.
+    pub fn push(&mut self, text: &[u8])
+        requires { length self.old + length text.now ≤ SHORT_ROOM }
+        ensures { self.new ≡ self.old ++ text.now }
+    {
+        let end = self.len + text.len();
+        self.buffer[self.len..end].copy_from_slice(text);
+        self.len = end;
+    }
+
+    /// Adds a number in decimal at the end; it takes at most 20 bytes.
+    pub fn push_number(&mut self, number: u64)
+        requires { length self.old + 20 ≤ SHORT_ROOM }
+        ensures added { self.new ≡ self.old ++ decimal number }
+        ensures short { length self.new ≤ length self.old + 20 }
+    {
+        self.push(Buffer::new().format(number).as_bytes());
+    }
+
+    /// The text.
+    pub fn bytes(&self) -> &[u8]
+        ensures same { result.now ≡ self.now }
+        ensures short { length self.now ≤ SHORT_ROOM }
+    {
+        &self.buffer[..self.len]
+    }
+}
+
+impl Default for ShortText {
+    ghost is_default = { λ text. text ≡ [] };
+
+    fn default() -> Self {
+        ShortText::new()
+    }
+}

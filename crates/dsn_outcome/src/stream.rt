@@ -1,0 +1,17 @@
+//! Devices that are both read from and written to, as a connection is.
+ghost use Rattle.std.specs.Prelude.{◌≡◌, ◌↔◌};
+
+use crate::drain::Drain;
+use crate::source::Source;
+
+/// A source and a drain in one device: its failures are counted together, reading keeps what was
+/// written and writing keeps what is still to be read.
+pub trait Stream: Source + Drain {
+    ghost one_count: { (s : Self) → Self.Drain.failures s ≡ Self.Source.failures s };
+
+    ghost one_promise: { (s : Self) → Self.Drain.steady s ↔ Self.Source.steady s };
+
+    ghost held_is_written: { (s : Self) → Self.holds s ≡ Self.contents s };
+
+    ghost left_is_unread: { (s : Self) → Self.left s ≡ Self.remaining s };
+}

@@ -1,0 +1,59 @@
+//! Whole texts over devices that take and give them in pieces.
+ghost use Rattle.std.specs.Prelude.{◌≡◌, ◌<◌, length, take, IfOk, OnOk, OnErr, is_err};
+ghost use Rattle.std.specs.Io.{ReadsAtMost};
+ghost use Rattle.std.specs.Io.KnownBytes.{Appends, Consumes, IsAtEnd, Keeps};
+ghost use Rattle.dsn_outcome.specs.Failures.{counted};
+ghost use Rattle.dsn_outcome.specs.Transfer.{AppendsFront, ConsumesFewer};
+
+use crate::broken::Broken;
+use crate::drain::Drain;
+use crate::source::Source;
+
+/// Writes the whole text, and stops at the drain's first failure: a front of the text is then
+/// written. An empty text makes no write.
+pub fn send<D: Drain>(drain: &mut D, text: &[u8]) -> Result<(), Broken>
+    ensures sent { OnOk result (Appends (D.contents drain.old) (D.contents drain.new) text.now) }
+    ensures front { OnErr result (AppendsFront (D.contents drain.old) (D.contents drain.new) text.now) }
+    ensures unread { Keeps (D.left drain.old) (D.left drain.new) }
+    ensures count { D.failures drain.new ≡ counted (is_err result) (D.failures drain.old) }
+    ensures steady { D.steady drain.old → D.steady drain.new × (D.failures drain.new ≡ D.failures drain.old) }
+{
+    let mut unsent = text;
+    while !unsent.is_empty() {
+        let taken = drain.write(unsent)?;
+        if taken == 0 {
+            return Err(Broken);
+        }
+        unsent = &unsent[taken..];
+    }
+    Ok(())
+}
+
+/// Reads until the buffer is full or the input ends, and says how many bytes it read, which then
+/// stand at the buffer's front. It stops at the source's first failure: what it read before that
+/// is lost. An empty buffer makes no read.
+pub fn fill<S: Source>(source: &mut S, buffer: &mut [u8]) -> Result<usize, Broken>
+    ensures bound { ReadsAtMost result buffer.new }
+    ensures bytes { IfOk result (λ n.
+        Consumes (S.remaining source.old) (S.remaining source.new) (take n buffer.new)) }
+    ensures end { IfOk result (λ n.
+        n < length buffer.new → IsAtEnd (S.remaining source.new)) }
+    ensures lost { OnErr result
+        (ConsumesFewer (S.remaining source.old) (S.remaining source.new) (length buffer.new)) }
+    ensures held { Keeps (S.holds source.old) (S.holds source.new) }
+    ensures count { S.failures source.new ≡ counted (is_err result) (S.failures source.old) }
+    ensures steady { S.steady source.old → S.steady source.new × (S.failures source.new ≡ S.failures source.old) }
+{
+    let mut filled = 0;
+    while filled < buffer.len() {
+        let count = source.read(&mut buffer[filled..])?;
+        if count == 0 {
+            return Ok(filled);
+        }
+        filled += count;
+    }
+    Ok(filled)
+}
+
+#[cfg(test)]
+mod tests;

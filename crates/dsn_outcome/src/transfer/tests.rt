@@ -1,0 +1,167 @@
+//! Texts over devices that take and give them in pieces, and that fail at each byte.
+ghost use Rattle.std.specs.Prelude.{OnOk};
+ghost use Rattle.std.specs.Io.KnownBytes.{Appends};
+
+use super::*;
+use crate::fakes::{PieceConnection, PieceReader, PieceWriter};
+use crate::plain::Plain;
+use crate::stream::Stream;
+use std::os::unix::net::UnixStream;
+use std::test::Fail;
+
+const TEXT: &[u8] = b"MAIL FROM:<>";
+
+// What came of sending to a writer that fails once, where `room` bytes were taken.
+fn sent_into(rt: &HostRuntime, room: usize, most: usize) -> Result<(bool, Vec<u8>), Fail> {
+    let mut drain = Plain::new(PieceWriter {
+        held: Vec::new(rt.alloc()),
+        most,
+        room,
+    });
+    let sent = send(&mut drain, TEXT).is_ok();
+    Ok((sent, drain.into_inner().held))
+}
+
+#[test]
+fn sends_a_front_up_to_the_failure(rt: HostRuntime) -> Result<(), Fail> {
+    for most in 1..TEXT.len() + 1 {
+        for room in 0..TEXT.len() {
+            let (sent, held) = sent_into(&rt, room, most)?;
+            assert!(rt; !sent, "{room} bytes by {most}");
+            assert_eq!(rt; held.as_slice(), &TEXT[..room]);
+        }
+        let (sent, held) = sent_into(&rt, TEXT.len(), most)?;
+        assert!(rt; sent, "all by {most}");
+        assert_eq!(rt; held.as_slice(), TEXT);
+    }
+    Ok(())
+}
+
+#[test]
+fn a_write_that_takes_nothing_is_a_failure(rt: HostRuntime) -> Result<(), Fail> {
+    let (sent, held) = sent_into(&rt, TEXT.len(), 0)?;
+    assert!(rt; !sent);
+    assert_eq!(rt; held.len(), 0);
+    Ok(())
+}
+
+#[test]
+fn an_empty_text_makes_no_write(rt: HostRuntime) {
+    let mut drain = Plain::new(PieceWriter {
+        held: Vec::new(rt.alloc()),
+        most: 1,
+        room: 0,
+    });
+    assert_eq!(rt; send(&mut drain, b""), Ok(()));
+    assert_eq!(rt; send(&mut drain, b"."), Err(Broken));
+}
+
+// What came of filling 8 bytes from a reader that is interrupted once, after `good` calls.
+fn filled_from(good: usize, most: usize, input: &[u8]) -> (Result<usize, Broken>, [u8; 8]) {
+    let mut buffer = [0; 8];
+    let mut source = Plain::new(PieceReader {
+        rest: input,
+        most,
+        good,
+    });
+    let filled = fill(&mut source, &mut buffer);
+    (filled, buffer)
+}
+
+#[test]
+fn fills_until_full_or_at_the_end(rt: HostRuntime) {
+    for most in 1..10 {
+        let (filled, buffer) = filled_from(100, most, TEXT);
+        assert_eq!(rt; filled, Ok(8));
+        assert_eq!(rt; buffer.as_slice(), b"MAIL FRO".as_slice());
+        let (filled, buffer) = filled_from(100, most, b"QUIT");
+        assert_eq!(rt; filled, Ok(4));
+        assert_eq!(rt; buffer.as_slice(), b"QUIT\0\0\0\0".as_slice());
+    }
+}
+
+#[test]
+fn an_interrupted_read_is_a_failure(rt: HostRuntime) {
+    for good in 0..8 {
+        assert_eq!(rt;
+            filled_from(good, 1, TEXT).0,
+            Err(Broken),
+            "after {good} bytes"
+        );
+    }
+    assert_eq!(rt;
+        filled_from(8, 1, TEXT).0,
+        Ok(8),
+        "a full buffer asks for no more"
+    );
+    for good in 0..5 {
+        assert_eq!(rt;
+            filled_from(good, 1, b"QUIT").0,
+            Err(Broken),
+            "after {good} bytes"
+        );
+    }
+    assert_eq!(rt;
+        filled_from(5, 1, b"QUIT").0,
+        Ok(4),
+        "the end is asked for once"
+    );
+}
+
+#[test]
+fn an_empty_buffer_makes_no_read(rt: HostRuntime) {
+    let mut source = Plain::new(PieceReader {
+        rest: TEXT,
+        most: 1,
+        good: 0,
+    });
+    assert_eq!(rt; fill(&mut source, &mut []), Ok(0));
+}
+
+// Sends a text and fills a buffer over one device; what was sent stays in it.
+fn exchange<S: Stream>(stream: &mut S, text: &[u8], buffer: &mut [u8]) -> Result<usize, Broken>
+    ensures { OnOk result (Appends (S.contents stream.old) (S.contents stream.new) text.now) }
+{
+    send(stream, text)?;
+    fill(stream, buffer)
+}
+
+#[test]
+fn a_socket_is_a_stream(rt: HostRuntime) -> Result<(), Fail> {
+    let (near, far) = UnixStream::pair(&rt)?;
+    let mut near = Plain::new(near);
+    let mut far = Plain::new(far);
+    assert_eq!(rt; send(&mut far, b"250 OK\r\n"), Ok(()));
+    let mut buffer = [0; 8];
+    assert_eq!(rt; exchange(&mut near, TEXT, &mut buffer), Ok(8));
+    assert_eq!(rt; buffer.as_slice(), b"250 OK\r\n".as_slice());
+    drop(near);
+    let mut buffer = [0; 16];
+    assert_eq!(rt; fill(&mut far, &mut buffer), Ok(TEXT.len()));
+    assert_eq!(rt; &buffer[..12], TEXT);
+    Ok(())
+}
+
+#[test]
+fn one_connection_counts_both_ways(rt: HostRuntime) -> Result<(), Fail> {
+    let mut stream = Plain::new(PieceConnection {
+        input: PieceReader {
+            rest: b"250 OK\r\n",
+            most: 3,
+            good: 4,
+        },
+        output: PieceWriter {
+            held: Vec::new(rt.alloc()),
+            most: 5,
+            room: TEXT.len(),
+        },
+    });
+    let mut buffer = [0; 8];
+    assert_eq!(rt; exchange(&mut stream, TEXT, &mut buffer), Ok(8));
+    assert_eq!(rt; buffer.as_slice(), b"250 OK\r\n".as_slice());
+    assert_eq!(rt; send(&mut stream, b"."), Err(Broken));
+    assert_eq!(rt; fill(&mut stream, &mut buffer), Ok(0));
+    assert_eq!(rt; fill(&mut stream, &mut buffer), Err(Broken));
+    assert_eq!(rt; stream.into_inner().output.held.as_slice(), TEXT);
+    Ok(())
+}

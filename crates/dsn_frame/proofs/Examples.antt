@@ -1,0 +1,176 @@
+-- Worked examples of frames and bodies, computed by the definitions.
+use Rattle.std.proofs.Common.{◌≡◌, ℕ, List, [], ◌∷◌, ◌++◌, refl, lit<, lit≤, arith}
+use Rattle.std.specs.Prelude.{Option, Some, None, codes}
+use Rattle.std.specs.Option.{option_map}
+use Rattle.dsn_outcome.specs.Outcome.{first_outcome_fault}
+use Rattle.dsn_outcome.specs.Request.{Append, Flush}
+use Rattle.dsn_outcome.specs.declared.action.Action.TheVariants.{Failed}
+use Rattle.dsn_outcome.specs.declared.service.Service.TheVariants.{Bounce}
+use Rattle.dsn_frame.specs.BodyFault.{body_fault_code}
+use Rattle.dsn_frame.specs.Frame.{frame, AreFramesOf}
+use Rattle.dsn_frame.specs.Request.{first_body_fault, first_own_fault, StandsFor, Encodes}
+use Rattle.dsn_frame.specs.Wire.{AppendFields, FlushFieldsOf, number_at, number_bytes, text_at, text_bytes, head_at, head_bytes, append_at, append_bytes, flush_at, flush_bytes, own_at, body_at, body_bytes, own_bytes, FitsOwn}
+use Rattle.dsn_frame.specs.declared.frame_fault.FrameFault.TheVariants.{TooLong, Empty, CutShort}
+
+-- the number of the refusal, if the body is refused
+abbrev refused : List ℕ → Option ℕ
+refused bytes = option_map body_fault_code (first_body_fault bytes)
+
+-- short bodies
+no_bytes : refused [] ≡ Some 23
+unfolding first_body_fault first_own_fault body_at head_at text_at number_at own_at
+no_bytes = refl
+
+wrong_version : refused (0 ∷ []) ≡ Some 21
+unfolding first_body_fault first_own_fault body_at head_at text_at number_at own_at
+wrong_version = refl
+
+wrong_kind : refused (1 ∷ 4 ∷ []) ≡ Some 22
+unfolding first_body_fault first_own_fault body_at head_at text_at number_at own_at
+wrong_kind = refl
+
+kind_alone : refused (1 ∷ 3 ∷ []) ≡ Some 23
+unfolding first_body_fault first_own_fault body_at head_at text_at number_at own_at
+kind_alone = refl
+
+whole_discard : refused (1 ∷ 3 ∷ 0 ∷ 0 ∷ 0 ∷ 0 ∷ 1 ∷ 0 ∷ 2 ∷ 75 ∷ 49 ∷ []) ≡ None
+unfolding first_body_fault first_own_fault body_at head_at text_at number_at own_at
+whole_discard = refl
+
+byte_after_discard : refused (1 ∷ 3 ∷ 0 ∷ 0 ∷ 0 ∷ 0 ∷ 1 ∷ 0 ∷ 2 ∷ 75 ∷ 49 ∷ 0 ∷ []) ≡ Some 24
+unfolding first_body_fault first_own_fault body_at head_at text_at number_at own_at
+byte_after_discard = refl
+
+dash_in_id : refused (1 ∷ 3 ∷ 0 ∷ 0 ∷ 0 ∷ 0 ∷ 1 ∷ 0 ∷ 2 ∷ 75 ∷ 45 ∷ []) ≡ Some 26
+unfolding first_body_fault first_own_fault body_at head_at text_at number_at own_at
+dash_in_id = refl
+
+service_before_id : refused (1 ∷ 3 ∷ 0 ∷ 0 ∷ 0 ∷ 0 ∷ 4 ∷ 0 ∷ 2 ∷ 75 ∷ 45 ∷ []) ≡ Some 25
+unfolding first_body_fault first_own_fault body_at head_at text_at number_at own_at
+service_before_id = refl
+
+-- one append and one flush: the bodies of a delivery agent that gives up on one recipient and asks for the notice
+abbrev append_body : List ℕ
+append_body =
+    (1 ∷ 1 ∷ 0 ∷ 0 ∷ 0 ∷ 0 ∷ 1 ∷ 0 ∷ 6 ∷ []) ++ codes "A1B2C3" ++ (0 ∷ 0 ∷ 0 ∷ 15 ∷ []) ++ codes "bob@example.org"
+    ++ (1 ∷ 0 ∷ 5 ∷ []) ++ codes "5.1.1" ++ (0 ∷ 0 ∷ 0 ∷ 0 ∷ 0 ∷ 0 ∷ [])
+
+abbrev flush_body : List ℕ
+flush_body =
+    (1 ∷ 2 ∷ 0 ∷ 0 ∷ 0 ∷ 1 ∷ 1 ∷ 0 ∷ 6 ∷ []) ++ codes "A1B2C3" ++ (0 ∷ 0 ∷ 0 ∷ 0 ∷ 0x65 ∷ 0x53 ∷ 0xf1 ∷ 0 ∷ [])
+    ++ (0 ∷ 0 ∷ 0 ∷ 0 ∷ 0x65 ∷ 0x53 ∷ 0xe2 ∷ 0xf0 ∷ []) ++ (0 ∷ 15 ∷ []) ++ codes "ann@example.com" ++ (0 ∷ 0 ∷ 0 ∷ 0 ∷ [])
+
+append_is_accepted : refused append_body ≡ None
+unfolding first_body_fault first_own_fault body_at head_at text_at number_at own_at append_at first_outcome_fault
+append_is_accepted = refl
+
+flush_is_accepted : refused flush_body ≡ None
+unfolding first_body_fault first_own_fault body_at head_at text_at number_at own_at flush_at
+flush_is_accepted = refl
+
+byte_after_append : refused (append_body ++ (0 ∷ [])) ≡ Some 24
+unfolding first_body_fault first_own_fault body_at head_at text_at number_at own_at append_at
+byte_after_append = refl
+
+append_is_encoded :
+    Encodes append_body 0 (Append (codes "A1B2C3") (record {
+      service = Bounce;
+      recipient = codes "bob@example.org";
+      original = None;
+      action = Failed;
+      status = codes "5.1.1";
+      mta = None;
+      diagnostic = None;
+      reason = None;
+    }))
+unfolding body_bytes own_bytes head_bytes append_bytes flush_bytes text_bytes number_bytes FitsOwn first_own_fault StandsFor first_outcome_fault
+append_is_encoded = record {
+  wire = AppendFields (record { number = 0; service = 1; id = codes "A1B2C3" }) (record { recipient = codes "bob@example.org"; original = []; action = 1; status = codes "5.1.1"; mta = []; diagnostic = []; reason = [] });
+  laid_out = refl;
+  fits = (record { number = lit< tt; id = lit< tt }, record { original = lit< tt; recipient = lit< tt; status = lit< tt; mta = lit< tt; diagnostic = lit< tt; reason = lit< tt });
+  number_is = refl;
+  accepted = refl;
+  stands_for = record {
+    service_is = refl;
+    id_is = refl;
+    outcome_is = record { service_is = refl; recipient_is = refl; original_is = refl; action_is = refl; status_is = refl; mta_is = refl; diagnostic_is = refl; reason_is = refl };
+  };
+}
+
+flush_is_encoded :
+    Encodes flush_body 1 (Flush (record { service = Bounce; id = codes "A1B2C3" }) (record {
+      moment = 1700000000;
+      arrival = 1699996400;
+      return_path = Some (codes "ann@example.com");
+      envelope_id = None;
+      header = [];
+    }))
+unfolding body_bytes own_bytes head_bytes append_bytes flush_bytes text_bytes number_bytes FitsOwn first_own_fault StandsFor
+flush_is_encoded = record {
+  wire = FlushFieldsOf (record { number = 1; service = 1; id = codes "A1B2C3" }) (record { moment = 1700000000; arrival = 1699996400; return_path = codes "ann@example.com"; envelope_id = []; header = [] });
+  laid_out = refl;
+  fits = (record { number = lit< tt; id = lit< tt }, record { moment = lit< tt; arrival = lit< tt; return_path = lit< tt; envelope_id = lit< tt; header = lit< tt });
+  number_is = refl;
+  accepted = refl;
+  stands_for = (record { service_is = refl; id_is = refl }, refl);
+}
+
+-- the input of this agent is these two frames; where its last byte is missing, one frame, and a fault
+agent_input : List ℕ
+agent_input = frame append_body ++ frame flush_body
+
+two_frames : AreFramesOf agent_input (append_body ∷ flush_body ∷ []) None
+unfolding agent_input
+two_frames = record {
+  rest = [];
+  begins = record { front = refl; whole = ((lit≤ tt, lit≤ tt), ((lit≤ tt, lit≤ tt), tt)) };
+  ends = refl;
+}
+
+cut_in_length : AreFramesOf (frame append_body ++ (0 ∷ 0 ∷ [])) (append_body ∷ []) (Some CutShort)
+cut_in_length = record {
+  rest = 0 ∷ 0 ∷ [];
+  begins = record { front = refl; whole = ((lit≤ tt, lit≤ tt), tt) };
+  ends = (lit< tt, λ h. absurd (omega arith));
+}
+
+-- statuses that are none, and one of a class that a failure can't have
+abbrev append_with_status : ℕ → List ℕ → List ℕ
+append_with_status size status =
+    (1 ∷ 1 ∷ 0 ∷ 0 ∷ 0 ∷ 0 ∷ 1 ∷ 0 ∷ 2 ∷ []) ++ codes "K1" ++ (0 ∷ 0 ∷ 0 ∷ 3 ∷ []) ++ codes "x@y" ++ (1 ∷ 0 ∷ size ∷ []) ++ status
+    ++ (0 ∷ 0 ∷ 0 ∷ 0 ∷ 0 ∷ 0 ∷ [])
+
+status_with_leading_zero : refused (append_with_status 6 (codes "5.01.1")) ≡ Some 4
+unfolding first_body_fault first_own_fault body_at head_at text_at number_at own_at append_at first_outcome_fault
+status_with_leading_zero = refl
+
+status_of_unknown_class : refused (append_with_status 5 (codes "3.0.0")) ≡ Some 4
+unfolding first_body_fault first_own_fault body_at head_at text_at number_at own_at append_at first_outcome_fault
+status_of_unknown_class = refl
+
+status_with_four_digits : refused (append_with_status 8 (codes "5.1000.1")) ≡ Some 4
+unfolding first_body_fault first_own_fault body_at head_at text_at number_at own_at append_at first_outcome_fault
+status_with_four_digits = refl
+
+status_of_success : refused (append_with_status 5 (codes "2.0.0")) ≡ Some 5
+unfolding first_body_fault first_own_fault body_at head_at text_at number_at own_at append_at first_outcome_fault
+status_of_success = refl
+
+status_of_delay : refused (append_with_status 5 (codes "4.4.7")) ≡ None
+unfolding first_body_fault first_own_fault body_at head_at text_at number_at own_at append_at first_outcome_fault
+status_of_delay = refl
+
+-- a length that no frame has
+too_long : AreFramesOf (0 ∷ 1 ∷ 0 ∷ 1 ∷ []) [] (Some TooLong)
+too_long = record {
+  rest = 0 ∷ 1 ∷ 0 ∷ 1 ∷ [];
+  begins = record { front = refl; whole = tt };
+  ends = (lit≤ tt, lit< tt);
+}
+
+empty_frame : AreFramesOf (0 ∷ 0 ∷ 0 ∷ 0 ∷ []) [] (Some Empty)
+empty_frame = record {
+  rest = 0 ∷ 0 ∷ 0 ∷ 0 ∷ [];
+  begins = record { front = refl; whole = tt };
+  ends = (lit≤ tt, refl);
+}

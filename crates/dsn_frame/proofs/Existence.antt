@@ -1,0 +1,199 @@
+-- There is a request for all bytes that are not refused, and there are frames and an end for each input.
+use Rattle.std.proofs.Common.{◌≡◌, ℕ, zero, suc, ◌+◌, ◌-◌, ◌<◌, ◌≤◌, List, [], ◌∷◌, ◌++◌, Bool, true, false, cond, eqb, length, take, drop, Option, Some, None, inl, inr, refl, sym, ap, subst, ◌∙◌, append_assoc, arith}
+use Rattle.std.specs.Prelude.{is_some}
+use Rattle.std.specs.Option.{option_map, option_map_or}
+use Rattle.std.proofs.lemmas.Bool.{eqb-true, cases_lt}
+use Rattle.std.proofs.lemmas.List.{nil_from_length, length-take, length-drop, take-append-drop}
+use Rattle.std.proofs.lemmas.List.Concat.{flat_map-cons}
+use Rattle.std.proofs.lemmas.Nat.{be_bytes_4}
+use Rattle.std.specs.Int.{w32, to_be_bytes}
+use Rattle.std.specs.List.{flat_map}
+use Rattle.dsn_outcome.specs.Action.{action_of_byte}
+use Rattle.dsn_outcome.specs.Outcome.{Outcome, Fields, first_outcome_fault, first_failed, takes, unless_empty}
+use Rattle.dsn_outcome.specs.Request.{Body, Append, Flush, Discard}
+use Rattle.dsn_outcome.specs.Service.{service_of_byte}
+use Rattle.dsn_outcome.specs.Text.{clean_text}
+use Rattle.dsn_outcome.specs.declared.action.Action.{Action}
+use Rattle.dsn_outcome.specs.declared.service.Service.{Service}
+use Rattle.dsn_frame.specs.BodyFault.{outcome_refusal}
+use Rattle.dsn_frame.specs.Request.{layout_checks, head_checks, first_own_fault, first_field_fault, first_body_fault, or_else, IsWhole, draft_of, StandsFor, Encodes}
+use Rattle.dsn_frame.specs.Wire.{Head, WireBody, AppendFields, FlushFieldsOf, DiscardFields, head_of, body_at}
+use Rattle.dsn_frame.specs.declared.body_fault.BodyFault.{BodyFault}
+use Rattle.dsn_frame.specs.Frame.{frame, declared_length, FramesEnd, AreFramesOf}
+use Rattle.dsn_frame.specs.FrameBody.{IsFrameLength, IsFrameBody}
+use Rattle.dsn_frame.specs.declared.frame_fault.FrameFault.{FrameFault}
+use Rattle.dsn_frame.specs.declared.frame_fault.FrameFault.TheVariants.{TooLong, Empty, CutShort}
+use Rattle.dsn_frame.proofs.FieldLaws.{IsBytes, IsBytes-take, IsBytes-after}
+use Rattle.dsn_frame.proofs.RequestLaws.{whole_fault, whole_encodes}
+
+-- ---- tests that are all passed
+
+passed : {F : Type 0} (b : Bool) (fault : F) (later : Option F) → cond b later (Some fault) ≡ None → (b ≡ true) × (later ≡ None)
+passed true fault later e = (refl, e)
+passed false fault later e = absurd cc
+
+neither : {F : Type 0} (first later : Option F) → or_else first later ≡ None → (first ≡ None) × (later ≡ None)
+neither None later e = (refl, e)
+neither (Some fault) later e = absurd cc
+
+there_is : {A : Type 0} (o : Option A) → is_some o ≡ true → (x : A) × (o ≡ Some x)
+there_is (Some x) e = (x, refl)
+there_is None e = absurd cc
+
+unmapped : {A B : Type 0} (f : A → B) (o : Option A) → option_map f o ≡ None → o ≡ None
+unmapped f None e = refl
+unmapped f (Some x) e = absurd cc
+
+-- ---- a body for fields that have no fault
+
+outcome_with : Service → Fields → Action → Outcome
+outcome_with service fields action = record {
+  service = service;
+  recipient = fields.recipient;
+  original = unless_empty fields.original;
+  action = action;
+  status = fields.status;
+  mta = unless_empty fields.mta;
+  diagnostic = unless_empty (clean_text fields.diagnostic);
+  reason = unless_empty (clean_text fields.reason);
+}
+
+action_there : (service : Service) (o : Option Action) → option_map_or (takes service) o false ≡ true → (action : Action) × (o ≡ Some action)
+action_there service (Some action) e = (action, refl)
+action_there service None e = absurd cc
+
+action_of : (service : Service) (fields : Fields) → first_outcome_fault service fields ≡ None → (action : Action) × (action_of_byte fields.action ≡ Some action)
+unfolding first_outcome_fault
+action_of service fields e =
+    let recipient = passed _ _ _ e in
+    let original = passed _ _ _ recipient.1 in
+    let action = passed _ _ _ original.1 in
+    action_there service (action_of_byte fields.action) action.0
+
+service_there : (head : Head) → first_failed (head_checks head) ≡ None → (service : Service) × (service_of_byte head.service ≡ Some service)
+service_there head e = there_is (service_of_byte head.service) (passed _ _ _ e).0
+
+pub body_of_fields : (wire : WireBody) → first_field_fault wire ≡ None → (body : Body) × StandsFor wire body
+unfolding first_own_fault StandsFor outcome_with
+body_of_fields (AppendFields head fields) e =
+    let parts = neither _ _ e in
+    let service = service_there head parts.0 in
+    let own : option_map outcome_refusal (first_outcome_fault service.0 fields) ≡ None = rw service.1 at parts.1 in
+    let action = action_of service.0 fields (unmapped outcome_refusal (first_outcome_fault service.0 fields) own) in (
+      Append head.id (outcome_with service.0 fields action.0),
+      record {
+        service_is = service.1;
+        id_is = refl;
+        outcome_is = record { service_is = refl; recipient_is = refl; original_is = refl; action_is = action.1; status_is = refl; mta_is = refl; diagnostic_is = refl; reason_is = refl };
+      },
+    )
+body_of_fields (FlushFieldsOf head fields) e =
+    let service = service_there head (neither _ _ e).0 in
+    (Flush (record { service = service.0; id = head.id }) (draft_of fields), (record { service_is = service.1; id_is = refl }, refl))
+body_of_fields (DiscardFields head) e =
+    let service = service_there head (neither _ _ e).0 in
+    (Discard (record { service = service.0; id = head.id }), record { service_is = service.1; id_is = refl })
+
+-- ---- a request for bytes that are not refused
+
+abbrev Read : Type 0
+Read = Option (WireBody × List ℕ)
+
+read_all : (read : Read) (version kind : Bool) (a b c d : BodyFault)
+    → cond version (cond kind (cond (is_some read) (cond (option_map_or (λ x. eqb (length x.1) 0) read false) None (Some d)) (Some c)) (Some b)) (Some a) ≡ None
+    → (wire : WireBody) × (read ≡ Some (wire, []))
+read_all read false kind a b c d e = absurd cc
+read_all read true false a b c d e = absurd cc
+read_all None true true a b c d e = absurd cc
+read_all (Some x) true true a b c d e =
+    let ended : eqb (length x.1) 0 ≡ true = (passed (eqb (length x.1) 0) d None e).0 in
+    let nothing : x.1 ≡ [] = nil_from_length x.1 (eqb-true _ _ ended) in
+    (x.0, ap (λ (rest : List ℕ). Some (x.0, rest)) nothing)
+
+whole_from : (bytes : List ℕ) → first_body_fault bytes ≡ None → (wire : WireBody) × (IsWhole bytes wire × (first_field_fault wire ≡ None))
+unfolding first_body_fault
+whole_from bytes e =
+    let accepted : first_failed (layout_checks bytes) ≡ None = (neither _ _ e).0 in
+    let read = read_all (body_at bytes) _ _ _ _ _ _ accepted in
+    let whole : IsWhole bytes read.0 = record { accepted = accepted; read = read.1 } in
+    (read.0, (whole, sym (whole_fault bytes read.0 whole) ∙ e))
+
+-- bytes that are not refused encode a request
+pub accepted_is_encoded : (bytes : List ℕ) → IsBytes bytes → first_body_fault bytes ≡ None → (number : ℕ) × (body : Body) × Encodes bytes number body
+accepted_is_encoded bytes fits e =
+    let whole = whole_from bytes e in
+    let body = body_of_fields whole.0 whole.1.1 in
+    ((head_of whole.0).number, body.0, whole_encodes bytes whole.0 body.0 fits whole.1.0 whole.1.1 body.1)
+
+-- ---- frames and an end for each input
+
+-- a front of so many bytes is a frame of the body after its length
+frame_at : (input : List ℕ) → IsBytes input → 4 + declared_length input ≤ length input → IsFrameLength (declared_length input)
+    → (body : List ℕ) × (rest : List ℕ) × IsFrameBody body × (input ≡ frame body ++ rest) × (length rest < length input)
+frame_at input fits long legal =
+    let size = declared_length input in
+    let head = take 4 input in
+    let after = drop 4 input in
+    let body = take size after in
+    let rest = drop size after in
+    let four : length head ≡ 4 = omega (arith, length-take 4 input) in
+    let after_length : length after ≡ length input - 4 = length-drop 4 input in
+    let body_length : length body ≡ size = omega (arith, length-take size after) in
+    let rest_length : length rest ≡ length after - size = length-drop size after in
+    let written : to_be_bytes w32 size ≡ head = be_bytes_4 head _ four (IsBytes-take 4 input fits) refl in
+    let legal_body : IsFrameBody body = rw body_length legal in
+    let framed : frame body ≡ head ++ body = ap (λ (n : ℕ). to_be_bytes w32 n ++ body) body_length ∙ ap (λ (text : List ℕ). text ++ body) written in
+    let whole : input ≡ frame body ++ rest = sym (take-append-drop 4 input) ∙ ap (λ (text : List ℕ). head ++ text) (sym (take-append-drop size after)) ∙ sym (append_assoc head body rest) ∙ ap (λ (text : List ℕ). text ++ rest) (sym framed) in
+    (body, rest, legal_body, whole, omega arith)
+
+Frames : List ℕ → Type 0
+Frames input = (bodies : List (List ℕ)) × (end : Option FrameFault) × AreFramesOf input bodies end
+
+ends_here : (input : List ℕ) (end : Option FrameFault) → FramesEnd input end → Frames input
+unfolding Frames
+ends_here input end ends = ([], end, record { rest = input; begins = record { front = refl; whole = tt }; ends = ends })
+
+goes_on : (input body rest : List ℕ) → IsFrameBody body → input ≡ frame body ++ rest → Frames rest → Frames input
+unfolding Frames
+goes_on input body rest legal is frames =
+    let more = frames.2 in (
+      body ∷ frames.0,
+      frames.1,
+      record {
+        rest = more.rest;
+        begins = record {
+          front = is ∙ ap (λ (text : List ℕ). frame body ++ text) more.begins.front ∙ sym (append_assoc (frame body) (flat_map frame frames.0) more.rest)
+              ∙ ap (λ (text : List ℕ). text ++ more.rest) (sym (flat_map-cons frame body frames.0));
+          whole = (legal, more.begins.whole);
+        };
+        ends = more.ends;
+      },
+    )
+
+frames_within : (fuel : ℕ) (input : List ℕ) → length input ≤ fuel → IsBytes input → Frames input
+frames_within zero input short fits = ends_here input None (nil_from_length input (omega arith))
+frames_within (suc fuel) input short fits =
+    elim (cases_lt 0 (length input)) [
+      | inr none ↦ ends_here input None (nil_from_length input (omega arith))
+      | inl some ↦ elim (cases_lt (length input) 4) [
+        | inl cut ↦ ends_here input (Some CutShort) (some, λ h. absurd (omega arith))
+        | inr four ↦ elim (cases_lt 65536 (declared_length input)) [
+          | inl long ↦ ends_here input (Some TooLong) (four, long)
+          | inr bounded ↦ elim (cases_lt 0 (declared_length input)) [
+            | inr empty ↦ ends_here input (Some Empty) (four, omega arith)
+            | inl filled ↦ elim (cases_lt (length input) (4 + declared_length input)) [
+              | inl cut ↦ ends_here input (Some CutShort) (some, λ h. ((omega arith, bounded), cut))
+              | inr whole ↦
+                  let found = frame_at input fits whole (omega arith, bounded) in
+                  let left : IsBytes found.1 = IsBytes-after (frame found.0) found.1 (subst IsBytes found.3 fits) in
+                  goes_on input found.0 found.1 found.2 found.3 (frames_within fuel found.1 (omega (arith, found.4)) left)
+            ]
+          ]
+        ]
+      ]
+    ]
+
+-- each input has a list of frames and an end
+pub frames_exist : (input : List ℕ) → IsBytes input → (bodies : List (List ℕ)) × (end : Option FrameFault) × AreFramesOf input bodies end
+unfolding Frames
+frames_exist input fits = frames_within (length input) input (omega arith) fits

@@ -1,0 +1,7 @@
+pub mod BodyLaws
+mod Examples
+pub mod Existence
+pub mod FieldLaws
+pub mod FrameLaws
+pub mod InputLaws
+pub mod RequestLaws

@@ -1,0 +1,151 @@
+-- Requests in bytes: some bytes encode one request at most, and none of those that are refused; and what a decoder
+-- has read encodes what it made of it.
+use Rattle.std.proofs.Common.{◌≡◌, ℕ, List, [], ◌∷◌, Bool, true, false, cond, eqb, Option, Some, None, refl, sym, ap, subst, ◌∙◌}
+use Rattle.std.specs.Prelude.{slice_get}
+use Rattle.std.proofs.lemmas.Bool.{eqb-true}
+use Rattle.std.proofs.lemmas.List.{append-nil}
+use Rattle.dsn_outcome.specs.Draft.{Draft}
+use Rattle.dsn_outcome.specs.Outcome.{Outcome, Fields, first_failed}
+use Rattle.dsn_outcome.specs.Request.{Body, Append, Flush, Discard, Bye}
+use Rattle.dsn_outcome.specs.declared.action.Action.{Action}
+use Rattle.dsn_outcome.specs.declared.key.Key.{Key}
+use Rattle.dsn_outcome.specs.declared.service.Service.{Service}
+use Rattle.dsn_frame.specs.Request.{layout_checks, first_field_fault, first_body_fault, IsWhole, IsKeyOf, IsAppendOf, StandsFor, Encodes}
+use Rattle.dsn_frame.specs.Wire.{Head, WireBody, AppendFields, FlushFieldsOf, DiscardFields, head_of, kind_of, body_bytes, Fits, body_at}
+use Rattle.dsn_frame.specs.declared.body_fault.BodyFault.TheVariants as faults
+use Rattle.dsn_frame.proofs.BodyLaws.{body_again, body_takes}
+use Rattle.dsn_frame.proofs.FieldLaws.{IsBytes, some_is}
+
+-- ---- bytes that encode a request are whole
+
+layout_passes : (wire : WireBody) (bytes : List ℕ) → slice_get bytes 0 ≡ Some 1 → slice_get bytes 1 ≡ Some (kind_of wire) → body_at bytes ≡ Some (wire, []) → first_failed (layout_checks bytes) ≡ None
+layout_passes (AppendFields head fields) bytes version kind read = rw (version, kind, read) refl
+layout_passes (FlushFieldsOf head fields) bytes version kind read = rw (version, kind, read) refl
+layout_passes (DiscardFields head) bytes version kind read = rw (version, kind, read) refl
+
+pub body_is_whole : (wire : WireBody) → Fits wire → IsWhole (body_bytes wire) wire
+unfolding body_bytes
+body_is_whole wire fits = record {
+  accepted = layout_passes wire (body_bytes wire) refl refl (body_again wire fits);
+  read = body_again wire fits;
+}
+
+pub encoded_is_whole : (bytes : List ℕ) (number : ℕ) (body : Body) (encoded : Encodes bytes number body) → IsWhole bytes encoded.wire
+encoded_is_whole bytes number body encoded =
+    subst (λ (b : List ℕ). IsWhole b encoded.wire) (sym encoded.laid_out) (body_is_whole encoded.wire encoded.fits)
+
+-- whole bytes are refused where their fields are
+pub whole_fault : (bytes : List ℕ) (wire : WireBody) → IsWhole bytes wire → first_body_fault bytes ≡ first_field_fault wire
+unfolding first_body_fault
+whole_fault bytes wire whole = rw (whole.accepted, whole.read) refl
+
+-- bytes that encode a request are not refused
+pub encoded_is_accepted : (bytes : List ℕ) (number : ℕ) (body : Body) → Encodes bytes number body → first_body_fault bytes ≡ None
+encoded_is_accepted bytes number body encoded =
+    whole_fault bytes encoded.wire (encoded_is_whole bytes number body encoded) ∙ encoded.accepted
+
+-- ---- they encode one request
+
+make_outcome : Service → List ℕ → Option (List ℕ) → Action → List ℕ → Option (List ℕ) → Option (List ℕ) → Option (List ℕ) → Outcome
+make_outcome service recipient original action status mta diagnostic reason = record {
+  service = service;
+  recipient = recipient;
+  original = original;
+  action = action;
+  status = status;
+  mta = mta;
+  diagnostic = diagnostic;
+  reason = reason;
+}
+
+made_of : (o : Outcome) → make_outcome o.service o.recipient o.original o.action o.status o.mta o.diagnostic o.reason ≡ o
+unfolding make_outcome
+made_of o = refl
+
+same_outcome : (a b : Outcome) → a.service ≡ b.service → a.recipient ≡ b.recipient → a.original ≡ b.original → a.action ≡ b.action
+    → a.status ≡ b.status → a.mta ≡ b.mta → a.diagnostic ≡ b.diagnostic → a.reason ≡ b.reason → a ≡ b
+same_outcome a b service recipient original action status mta diagnostic reason = let x = made_of a in let y = made_of b in cc
+
+same_key : (a b : Key) → a.service ≡ b.service → a.id ≡ b.id → a ≡ b
+same_key a b service id =
+    let make : Service → List ℕ → Key = λ s i. record { service = s; id = i } in
+    ap (λ (s : Service). make s a.id) service ∙ ap (λ (i : List ℕ). make b.service i) id
+
+same_key_of : (head : Head) (a b : Key) → IsKeyOf head a → IsKeyOf head b → a ≡ b
+same_key_of head a b p q = same_key a b (some_is a.service b.service (sym p.service_is ∙ q.service_is)) (p.id_is ∙ sym q.id_is)
+
+same_outcome_of : (head : Head) (fields : Fields) (i j : List ℕ) (a b : Outcome) → IsAppendOf head fields i a → IsAppendOf head fields j b → a ≡ b
+same_outcome_of head fields i j a b p q =
+    same_outcome a b
+    (some_is a.service b.service (sym p.service_is ∙ q.service_is))
+    (p.outcome_is.recipient_is ∙ sym q.outcome_is.recipient_is)
+    (p.outcome_is.original_is ∙ sym q.outcome_is.original_is)
+    (some_is a.action b.action (sym p.outcome_is.action_is ∙ q.outcome_is.action_is))
+    (p.outcome_is.status_is ∙ sym q.outcome_is.status_is)
+    (p.outcome_is.mta_is ∙ sym q.outcome_is.mta_is)
+    (p.outcome_is.diagnostic_is ∙ sym q.outcome_is.diagnostic_is)
+    (p.outcome_is.reason_is ∙ sym q.outcome_is.reason_is)
+
+-- fields stand for one body
+pub same_body : (wire : WireBody) (a b : Body) → StandsFor wire a → StandsFor wire b → a ≡ b
+unfolding StandsFor
+same_body (AppendFields head fields) (Append i a) (Append j b) p q =
+    ap (λ (id : List ℕ). Append id a) (p.id_is ∙ sym q.id_is) ∙ ap (λ (o : Outcome). Append j o) (same_outcome_of head fields i j a b p q)
+same_body (AppendFields head fields) (Append i a) (Flush k e) p q = absurd q
+same_body (AppendFields head fields) (Append i a) (Discard k) p q = absurd q
+same_body (AppendFields head fields) (Append i a) Bye p q = absurd q
+same_body (AppendFields head fields) (Flush k e) b p q = absurd p
+same_body (AppendFields head fields) (Discard k) b p q = absurd p
+same_body (AppendFields head fields) Bye b p q = absurd p
+same_body (FlushFieldsOf head fields) (Flush k d) (Flush l e) p q =
+    ap (λ (key : Key). Flush key d) (same_key_of head k l p.0 q.0) ∙ ap (λ (draft : Draft). Flush l draft) (p.1 ∙ sym q.1)
+same_body (FlushFieldsOf head fields) (Flush k d) (Append i a) p q = absurd q
+same_body (FlushFieldsOf head fields) (Flush k d) (Discard l) p q = absurd q
+same_body (FlushFieldsOf head fields) (Flush k d) Bye p q = absurd q
+same_body (FlushFieldsOf head fields) (Append i a) b p q = absurd p
+same_body (FlushFieldsOf head fields) (Discard k) b p q = absurd p
+same_body (FlushFieldsOf head fields) Bye b p q = absurd p
+same_body (DiscardFields head) (Discard k) (Discard l) p q = ap Discard (same_key_of head k l p q)
+same_body (DiscardFields head) (Discard k) (Append i a) p q = absurd q
+same_body (DiscardFields head) (Discard k) (Flush l e) p q = absurd q
+same_body (DiscardFields head) (Discard k) Bye p q = absurd q
+same_body (DiscardFields head) (Append i a) b p q = absurd p
+same_body (DiscardFields head) (Flush k d) b p q = absurd p
+same_body (DiscardFields head) Bye b p q = absurd p
+
+same_wire : (bytes : List ℕ) (a b : WireBody) → body_at bytes ≡ Some (a, []) → body_at bytes ≡ Some (b, []) → a ≡ b
+same_wire bytes a b p q =
+    let x : WireBody × List ℕ = (a, []) in
+    let y : WireBody × List ℕ = (b, []) in
+    ap (λ (read : WireBody × List ℕ). read.0) (some_is x y (sym p ∙ q))
+
+-- some bytes encode one number and one body
+pub encodes_one : (bytes : List ℕ) (number other : ℕ) (body elsewise : Body) → Encodes bytes number body → Encodes bytes other elsewise → (number ≡ other) × (body ≡ elsewise)
+encodes_one bytes number other body elsewise p q =
+    let wire = same_wire bytes p.wire q.wire (encoded_is_whole bytes number body p).read (encoded_is_whole bytes other elsewise q).read in
+    let stands : StandsFor p.wire elsewise = subst (λ (w : WireBody). StandsFor w elsewise) (sym wire) q.stands_for in
+    (p.number_is ∙ ap (λ (w : WireBody). (head_of w).number) wire ∙ sym q.number_is, same_body p.wire body elsewise p.stands_for stands)
+
+-- ---- what a decoder has read
+
+passed : {F : Type 0} (b : Bool) (fault : F) (later : Option F) → cond b later (Some fault) ≡ None → b ≡ true
+passed true fault later e = refl
+passed false fault later e = absurd cc
+
+first_is_one : (bytes : List ℕ) (wire : WireBody) → IsWhole bytes wire → slice_get bytes 0 ≡ Some 1
+unfolding body_at
+first_is_one [] wire whole = absurd (let read = whole.read in cc)
+first_is_one (version ∷ bytes) wire whole = ap (λ (v : ℕ). Some v) (eqb-true version 1 (passed (eqb version 1) faults.Version _ whole.accepted))
+
+-- what was read encodes what was made of it
+pub whole_encodes : (bytes : List ℕ) (wire : WireBody) (body : Body) → IsBytes bytes → IsWhole bytes wire → first_field_fault wire ≡ None → StandsFor wire body → Encodes bytes (head_of wire).number body
+whole_encodes bytes wire body fits whole accepted stands =
+    let taken = body_takes bytes (wire, []) fits (first_is_one bytes wire whole) whole.read in
+    record {
+      wire = wire;
+      laid_out = taken.0.parts ∙ append-nil (body_bytes wire);
+      fits = taken.1;
+      number_is = refl;
+      accepted = accepted;
+      stands_for = stands;
+    }

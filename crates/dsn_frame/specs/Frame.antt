@@ -1,0 +1,88 @@
+-- Frames: how bodies follow one another in an input, and how an input ends (this project's profile).
+use Rattle.std.specs.Prelude.{◌≡◌, ℕ, ◌+◌, ◌<◌, ◌≤◌, List, [], ◌++◌, length, take, Option, Some, None}
+use Rattle.std.specs.Io.KnownBytes.{Consumes, IsAtEnd}
+use Rattle.std.specs.Int.{w32, to_be_bytes, from_be_bytes}
+use Rattle.std.specs.List.{flat_map, AllByRecursion}
+use Rattle.dsn_frame.specs.FrameBody.{IsFrameLength, IsFrameBody}
+use Rattle.dsn_frame.specs.declared.frame_fault.FrameFault.{FrameFault}
+use Rattle.dsn_frame.specs.declared.frame_fault.FrameFault.TheVariants.{NoMemory, TooLong, Empty, CutShort, Read}
+
+-- a frame: its body's length in four bytes, the highest first, and then the body
+abbrev pub frame : List ℕ → List ℕ
+frame body = to_be_bytes w32 (length body) ++ body
+
+-- the length that the first four bytes declare
+abbrev pub declared_length : List ℕ → ℕ
+declared_length bytes = from_be_bytes w32 (take 4 bytes)
+
+-- less than a whole frame, as far as its bytes tell
+abbrev pub IsPartOfFrame : List ℕ → Type 0
+IsPartOfFrame part = 4 ≤ length part → IsFrameLength (declared_length part) × (length part < 4 + declared_length part)
+
+-- ---- the frames of a whole input
+
+-- how what follows the last whole frame ends an input: well, where nothing does, or with a fault of its own
+abbrev pub FramesEnd : List ℕ → Option FrameFault → Type 0
+FramesEnd rest None = rest ≡ []
+FramesEnd rest (Some TooLong) = (4 ≤ length rest) × (65536 < declared_length rest)
+FramesEnd rest (Some Empty) = (4 ≤ length rest) × (declared_length rest ≡ 0)
+FramesEnd rest (Some CutShort) = (0 < length rest) × IsPartOfFrame rest
+FramesEnd rest (Some Read) = ⊥
+FramesEnd rest (Some NoMemory) = ⊥
+
+-- an input that begins with the frames of these bodies, and goes on with the rest
+pub record BeginsWithFrames (input : List ℕ) (bodies : List (List ℕ)) (rest : List ℕ) : Type 0 where
+  pub front : input ≡ flat_map frame bodies ++ rest
+  pub whole : AllByRecursion IsFrameBody bodies
+
+-- the frames of an input: as many whole ones as it begins with, and how the rest ends it
+pub record AreFramesOf (input : List ℕ) (bodies : List (List ℕ)) (end : Option FrameFault) : Type 0 where
+  pub rest : List ℕ
+  pub begins : BeginsWithFrames input bodies rest
+  pub ends : FramesEnd rest end
+
+-- ---- one frame, read from a source whose bytes may be known
+
+-- what the next frame of a source is: this body's, or none at the end
+abbrev pub ReadsNext : Option (List ℕ) → Option (List ℕ) → Option (List ℕ) → Type 0
+ReadsNext old new None = IsAtEnd old × IsAtEnd new
+ReadsNext old new (Some body) = IsFrameBody body × Consumes old new (frame body)
+
+-- what a fault says of the bytes that were read before it: the length alone, or less than a frame
+abbrev pub StopsAt : FrameFault → List ℕ → Type 0
+StopsAt TooLong part = (length part ≡ 4) × (65536 < declared_length part)
+StopsAt Empty part = (length part ≡ 4) × (declared_length part ≡ 0)
+StopsAt CutShort part = (0 < length part) × IsPartOfFrame part
+StopsAt Read part = IsPartOfFrame part
+StopsAt NoMemory part = (length part ≡ 4) × IsFrameLength (declared_length part)
+
+-- no frame could be read: these bytes were, and a frame that is cut short is cut by the end of the input
+pub record ReadsNone (old new : Option (List ℕ)) (fault : FrameFault) : Type 0 where
+  pub part : List ℕ
+  pub consumed : Consumes old new part
+  pub stops : StopsAt fault part
+  pub ends : fault ≡ CutShort → IsAtEnd new
+
+-- the four bytes of a frame's length
+pub record ConsumesLength (old new : Option (List ℕ)) (size : ℕ) : Type 0 where
+  pub consumed : Consumes old new (to_be_bytes w32 size)
+  pub legal : IsFrameLength size
+
+-- the length of the next frame, or none at the end
+abbrev pub ReadsLength : Option (List ℕ) → Option (List ℕ) → Option ℕ → Type 0
+ReadsLength old new None = IsAtEnd old × IsAtEnd new
+ReadsLength old new (Some size) = ConsumesLength old new size
+
+-- a body of this size could not be read: nothing of it, or less than all of it
+abbrev pub MissesBody : FrameFault → ℕ → List ℕ → Type 0
+MissesBody NoMemory size part = part ≡ []
+MissesBody CutShort size part = length part < size
+MissesBody Read size part = length part < size
+MissesBody TooLong size part = ⊥
+MissesBody Empty size part = ⊥
+
+pub record BodyMissing (old new : Option (List ℕ)) (size : ℕ) (fault : FrameFault) : Type 0 where
+  pub part : List ℕ
+  pub consumed : Consumes old new part
+  pub misses : MissesBody fault size part
+  pub ends : fault ≡ CutShort → IsAtEnd new

@@ -1,0 +1,20 @@
+-- The numbers of the faults of a frame (this project's profile).
+use Rattle.std.specs.Prelude.{ℕ, Bool, true, false, Result, Ok, Err}
+use Rattle.dsn_frame.specs.declared.frame_fault.FrameFault.{FrameFault}
+use Rattle.dsn_frame.specs.declared.frame_fault.FrameFault.TheVariants.{NoMemory, TooLong, Empty, CutShort, Read}
+
+abbrev pub frame_fault_code : FrameFault → ℕ
+frame_fault_code NoMemory = 9
+frame_fault_code TooLong = 11
+frame_fault_code Empty = 12
+frame_fault_code CutShort = 13
+frame_fault_code Read = 14
+
+-- whether a result says that the source failed
+abbrev pub source_failed : {T : Type 0} → Result T FrameFault → Bool
+source_failed (Ok value) = false
+source_failed (Err NoMemory) = false
+source_failed (Err TooLong) = false
+source_failed (Err Empty) = false
+source_failed (Err CutShort) = false
+source_failed (Err Read) = true

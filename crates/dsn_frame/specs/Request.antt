@@ -1,0 +1,106 @@
+-- Requests in bytes: which body some bytes stand for, and why they are refused where they stand for none (this
+-- project's profile, version 1).
+use Rattle.std.specs.Prelude.{◌≡◌, ℕ, Bool, true, false, ◌&&◌, ◌==◌, nat_le, List, [], ◌∷◌, length, Option, Some, None, is_some, slice_get, option_and_then}
+use Rattle.std.specs.Option.{option_map, option_map_or}
+use Rattle.dsn_outcome.specs.Draft.{Draft}
+use Rattle.dsn_outcome.specs.Outcome.{Outcome, Fields, IsOutcomeOf, first_outcome_fault, first_failed, is_none_or, unless_empty}
+use Rattle.dsn_outcome.specs.Request.{Body, Append, Flush, Discard}
+use Rattle.dsn_outcome.specs.Service.{service_of_byte}
+use Rattle.dsn_outcome.specs.Stamp.{last_moment}
+use Rattle.dsn_outcome.specs.Text.{is_queue_id, is_address, is_envelope_id}
+use Rattle.dsn_outcome.specs.declared.key.Key.{Key}
+use Rattle.dsn_frame.specs.BodyFault.{outcome_refusal}
+use Rattle.dsn_frame.specs.Wire.{Head, FlushFields, WireBody, AppendFields, FlushFieldsOf, DiscardFields, head_of, body_bytes, Fits, body_at}
+use Rattle.dsn_frame.specs.declared.body_fault.BodyFault.{BodyFault}
+use Rattle.dsn_frame.specs.declared.body_fault.BodyFault.TheVariants as faults
+
+-- ---- refusals
+
+abbrev pub is_kind : ℕ → Bool
+is_kind kind = nat_le 1 kind && nat_le kind 3
+
+-- a first and a second byte that there are must be right; then the fields must end where the body does
+abbrev pub layout_checks : List ℕ → List (Bool × BodyFault)
+layout_checks bytes =
+    (option_map_or (λ version. version == 1) (slice_get bytes 0) true, faults.Version)
+    ∷ (option_map_or is_kind (slice_get bytes 1) true, faults.Kind)
+    ∷ (is_some (body_at bytes), faults.Short)
+    ∷ (option_map_or (λ read. length read.1 == 0) (body_at bytes) false, faults.Extra)
+    ∷ []
+
+abbrev pub head_checks : Head → List (Bool × BodyFault)
+head_checks head =
+    (is_some (service_of_byte head.service), faults.Service)
+    ∷ (is_queue_id head.id, faults.QueueId)
+    ∷ []
+
+abbrev pub flush_checks : FlushFields → List (Bool × BodyFault)
+flush_checks fields =
+    (nat_le fields.moment last_moment && nat_le fields.arrival last_moment, faults.Moment)
+    ∷ (nat_le (length fields.header) 32768, faults.Header)
+    ∷ (is_none_or is_address (unless_empty fields.return_path), faults.ReturnPath)
+    ∷ (is_none_or is_envelope_id (unless_empty fields.envelope_id), faults.EnvelopeId)
+    ∷ []
+
+-- the first of two faults
+abbrev pub or_else : {F : Type 0} → Option F → Option F → Option F
+or_else (Some fault) later = Some fault
+or_else None later = later
+
+-- the first fault of the fields of a body's kind; an append's are those of an outcome of its service
+unfoldable pub first_own_fault : WireBody → Option BodyFault
+first_own_fault (AppendFields head fields) =
+    option_and_then (λ service. option_map outcome_refusal (first_outcome_fault service fields)) (service_of_byte head.service)
+first_own_fault (FlushFieldsOf head fields) = first_failed (flush_checks fields)
+first_own_fault (DiscardFields head) = None
+
+-- the first fault of a body's fields: those of its key come first
+abbrev pub first_field_fault : WireBody → Option BodyFault
+first_field_fault wire = or_else (first_failed (head_checks (head_of wire))) (first_own_fault wire)
+
+-- the first fault of a body, if it has one: its layout is judged before its fields
+unfoldable pub first_body_fault : List ℕ → Option BodyFault
+first_body_fault bytes =
+    or_else (first_failed (layout_checks bytes)) (option_and_then (λ read. first_field_fault read.0) (body_at bytes))
+
+-- bytes that hold exactly the fields of one body
+pub record IsWhole (bytes : List ℕ) (wire : WireBody) : Type 0 where
+  pub accepted : first_failed (layout_checks bytes) ≡ None
+  pub read : body_at bytes ≡ Some (wire, [])
+
+-- ---- what a body stands for
+
+-- the draft that a flush's fields stand for
+abbrev pub draft_of : FlushFields → Draft
+draft_of fields = record {
+  moment = fields.moment;
+  arrival = fields.arrival;
+  return_path = unless_empty fields.return_path;
+  envelope_id = unless_empty fields.envelope_id;
+  header = fields.header;
+}
+
+pub record IsKeyOf (head : Head) (key : Key) : Type 0 where
+  pub service_is : service_of_byte head.service ≡ Some key.service
+  pub id_is : key.id ≡ head.id
+
+pub record IsAppendOf (head : Head) (fields : Fields) (id : List ℕ) (outcome : Outcome) : Type 0 where
+  pub service_is : service_of_byte head.service ≡ Some outcome.service
+  pub id_is : id ≡ head.id
+  pub outcome_is : IsOutcomeOf outcome.service fields outcome
+
+-- the request that fields stand for; the values are theirs, but that an outcome's diagnostic and reason are cleaned
+unfoldable pub StandsFor : WireBody → Body → Type 0
+StandsFor (AppendFields head fields) (Append id outcome) = IsAppendOf head fields id outcome
+StandsFor (FlushFieldsOf head fields) (Flush key draft) = IsKeyOf head key × (draft ≡ draft_of fields)
+StandsFor (DiscardFields head) (Discard key) = IsKeyOf head key
+StandsFor wire body = ⊥
+
+-- bytes that are laid out as a request with this number and body; a goodbye has no bytes
+pub record Encodes (bytes : List ℕ) (number : ℕ) (body : Body) : Type 0 where
+  pub wire : WireBody
+  pub laid_out : bytes ≡ body_bytes wire
+  pub fits : Fits wire
+  pub number_is : number ≡ (head_of wire).number
+  pub accepted : first_field_fault wire ≡ None
+  pub stands_for : StandsFor wire body

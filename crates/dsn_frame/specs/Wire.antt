@@ -1,0 +1,168 @@
+-- The fields of a request's body as they stand in it, from left to right, before any is judged (this project's
+-- profile, version 1).
+use Rattle.std.specs.Prelude.{ℕ, ◌<◌, ◌^◌, List, [], ◌∷◌, ◌++◌, length, take, drop, Option, Some, None, nat_lt, ◌==◌, if◌then◌else◌}
+use Rattle.std.specs.Int.{Width, w16, w32, w64, byte_len, to_be_bytes, from_be_bytes}
+use Rattle.dsn_outcome.specs.Outcome.{Fields}
+
+-- what every body begins with, after its version and its kind: its number on the connection, the byte of its
+-- service, and the queue id of its message
+pub record Head : Type 0 where
+  pub number : ℕ
+  pub service : ℕ
+  pub id : List ℕ
+
+-- what a flush goes on with: moment and arrival in seconds since 1970, the return path, the envelope id and the
+-- returned header; an empty text means that there is none
+pub record FlushFields : Type 0 where
+  pub moment : ℕ
+  pub arrival : ℕ
+  pub return_path : List ℕ
+  pub envelope_id : List ℕ
+  pub header : List ℕ
+
+-- a body's fields: of an append those of an outcome, of a flush its own, of a discard no more
+pub data WireBody : Type 0 where
+  AppendFields : Head → Fields → WireBody
+  FlushFieldsOf : Head → FlushFields → WireBody
+  DiscardFields : Head → WireBody
+
+abbrev pub head_of : WireBody → Head
+head_of (AppendFields head fields) = head
+head_of (FlushFieldsOf head fields) = head
+head_of (DiscardFields head) = head
+
+-- ---- how fields are written
+
+-- a number of a fixed width, its highest byte first
+unfoldable pub number_bytes : Width → ℕ → List ℕ
+number_bytes w number = to_be_bytes w number
+
+-- a text: its length in two bytes, and its bytes
+unfoldable pub text_bytes : List ℕ → List ℕ
+text_bytes text = number_bytes w16 (length text) ++ text
+
+unfoldable pub head_bytes : Head → List ℕ
+head_bytes head = number_bytes w32 head.number ++ (head.service ∷ text_bytes head.id)
+
+unfoldable pub append_bytes : Fields → List ℕ
+append_bytes fields =
+    text_bytes fields.original ++ (text_bytes fields.recipient ++ (fields.action ∷ (text_bytes fields.status
+    ++ (text_bytes fields.mta ++ (text_bytes fields.diagnostic ++ text_bytes fields.reason)))))
+
+unfoldable pub flush_bytes : FlushFields → List ℕ
+flush_bytes fields =
+    number_bytes w64 fields.moment ++ (number_bytes w64 fields.arrival
+    ++ (text_bytes fields.return_path ++ (text_bytes fields.envelope_id ++ text_bytes fields.header)))
+
+-- the byte of a body's kind
+abbrev pub kind_of : WireBody → ℕ
+kind_of (AppendFields head fields) = 1
+kind_of (FlushFieldsOf head fields) = 2
+kind_of (DiscardFields head) = 3
+
+-- the fields that a kind of body goes on with
+unfoldable pub own_bytes : WireBody → List ℕ
+own_bytes (AppendFields head fields) = append_bytes fields
+own_bytes (FlushFieldsOf head fields) = flush_bytes fields
+own_bytes (DiscardFields head) = []
+
+-- a body: its version 1, its kind, and its fields
+unfoldable pub body_bytes : WireBody → List ℕ
+body_bytes wire = 1 ∷ kind_of wire ∷ (head_bytes (head_of wire) ++ own_bytes wire)
+
+-- ---- which fields can be written
+
+-- a text's length fits two bytes
+abbrev pub FitsText : List ℕ → Type 0
+FitsText text = length text < 2 ^ 16
+
+pub record FitsHead (head : Head) : Type 0 where
+  pub number : head.number < 2 ^ 32
+  pub id : FitsText head.id
+
+pub record FitsAppend (fields : Fields) : Type 0 where
+  pub original : FitsText fields.original
+  pub recipient : FitsText fields.recipient
+  pub status : FitsText fields.status
+  pub mta : FitsText fields.mta
+  pub diagnostic : FitsText fields.diagnostic
+  pub reason : FitsText fields.reason
+
+pub record FitsFlush (fields : FlushFields) : Type 0 where
+  pub moment : fields.moment < 2 ^ 64
+  pub arrival : fields.arrival < 2 ^ 64
+  pub return_path : FitsText fields.return_path
+  pub envelope_id : FitsText fields.envelope_id
+  pub header : FitsText fields.header
+
+unfoldable pub FitsOwn : WireBody → Type 0
+FitsOwn (AppendFields head fields) = FitsAppend fields
+FitsOwn (FlushFieldsOf head fields) = FitsFlush fields
+FitsOwn (DiscardFields head) = Unit {0}
+
+abbrev pub Fits : WireBody → Type 0
+Fits wire = FitsHead (head_of wire) × FitsOwn wire
+
+-- ---- how fields are read
+
+-- what follows a field that was read, unless the bytes ended before it did
+infixl 10 ◌>>=◌
+abbrev pub ◌>>=◌ : {A B : Type 0} → Option A → (A → Option B) → Option B
+None >>= next = None
+(Some read) >>= next = next read
+
+-- a field at the front of some bytes, with the bytes after it
+abbrev pub byte_at : List ℕ → Option (ℕ × List ℕ)
+byte_at [] = None
+byte_at (byte ∷ rest) = Some (byte, rest)
+
+unfoldable pub number_at : Width → List ℕ → Option (ℕ × List ℕ)
+number_at w bytes =
+    if nat_lt (length bytes) (byte_len w) then None
+    else Some (from_be_bytes w (take (byte_len w) bytes), drop (byte_len w) bytes)
+
+unfoldable pub text_at : List ℕ → Option (List ℕ × List ℕ)
+text_at bytes = do
+  size ← number_at w16 bytes
+  if nat_lt (length size.1) size.0 then None else Some (take size.0 size.1, drop size.0 size.1)
+
+unfoldable pub head_at : List ℕ → Option (Head × List ℕ)
+head_at bytes = do
+  number ← number_at w32 bytes
+  service ← byte_at number.1
+  id ← text_at service.1
+  Some (record { number = number.0; service = service.0; id = id.0 }, id.1)
+
+unfoldable pub append_at : List ℕ → Option (Fields × List ℕ)
+append_at bytes = do
+  original ← text_at bytes
+  recipient ← text_at original.1
+  action ← byte_at recipient.1
+  status ← text_at action.1
+  mta ← text_at status.1
+  diagnostic ← text_at mta.1
+  reason ← text_at diagnostic.1
+  Some (record { recipient = recipient.0; original = original.0; action = action.0; status = status.0; mta = mta.0; diagnostic = diagnostic.0; reason = reason.0 }, reason.1)
+
+unfoldable pub flush_at : List ℕ → Option (FlushFields × List ℕ)
+flush_at bytes = do
+  moment ← number_at w64 bytes
+  arrival ← number_at w64 moment.1
+  return_path ← text_at arrival.1
+  envelope_id ← text_at return_path.1
+  header ← text_at envelope_id.1
+  Some (record { moment = moment.0; arrival = arrival.0; return_path = return_path.0; envelope_id = envelope_id.0; header = header.0 }, header.1)
+
+-- the body of this kind that begins with this head
+unfoldable pub own_at : ℕ → Head → List ℕ → Option (WireBody × List ℕ)
+own_at kind head bytes =
+    if kind == 1 then (append_at bytes >>= λ fields. Some (AppendFields head fields.0, fields.1))
+    else (if kind == 2 then (flush_at bytes >>= λ fields. Some (FlushFieldsOf head fields.0, fields.1))
+    else (if kind == 3 then Some (DiscardFields head, bytes) else None))
+
+unfoldable pub body_at : List ℕ → Option (WireBody × List ℕ)
+body_at bytes = do
+  version ← byte_at bytes
+  kind ← byte_at version.1
+  head ← head_at kind.1
+  own_at kind.0 head.0 head.1

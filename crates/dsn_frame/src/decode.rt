@@ -1,0 +1,122 @@
+//! Bodies to requests.
+ghost use Rattle.std.specs.Prelude.{◌≡◌, [], IfOk, IfErr, OnOk, Some, None, unwrap_or};
+ghost use Rattle.dsn_outcome.specs.Body.{body_of};
+ghost use Rattle.dsn_outcome.specs.Outcome.{first_failed};
+ghost use Rattle.dsn_frame.specs.BodyParts.{head_in, flush_fields_in, wire_body_in};
+ghost use Rattle.dsn_frame.specs.Wire.{body_at, head_of};
+ghost use Rattle.dsn_frame.specs.Request.{Encodes, IsKeyOf, IsWhole, StandsFor, draft_of, first_body_fault, first_own_fault, flush_checks, head_checks, layout_checks};
+
+use crate::body_fault::BodyFault;
+use crate::optional::{
+    is_optional_address, is_optional_envelope_id, optional_address, optional_envelope_id,
+};
+use crate::parts::{BodyParts, FlushParts, HeadParts};
+use crate::reading;
+use dsn_outcome::{Body, Draft, Key, Outcome, QueueId, RawHeader, Service, Stamp};
+use std::alloc::Global;
+
+/// The version of the format.
+const VERSION: u8 = 1;
+
+/// The request that a body stands for, with its number on the connection. It is never a goodbye.
+/// A fault is the first one in the order of `BodyFault`'s variants; memory is taken once none is
+/// left, so `NoMemory` comes only where a body without a fault met a refused growth.
+#[tactic(auto, unfolding(crate::specs::Request::first_body_fault))]
+pub fn decode_request(alloc: Global, bytes: &[u8]) -> Result<(u32, Body), BodyFault>
+    ensures encoded { IfOk result (λ read. Encodes bytes.now read.0 (body_of read.1)) }
+    ensures accepted { OnOk result (first_body_fault bytes.now ≡ None) }
+    ensures refused { IfErr result (λ fault. fault ≡ unwrap_or (first_body_fault bytes.now) BodyFault.NoMemory) }
+{
+    let parts = whole_body(bytes)?;
+    let head = parts.head();
+    let key = key_of(head)?;
+    let body = body_about(alloc, key, parts)?;
+    Ok((head.number, body))
+}
+
+/// The fields that are all of a body.
+fn whole_body(bytes: &[u8]) -> Result<BodyParts<'_>, BodyFault>
+    ensures accepted { OnOk result (first_failed (layout_checks bytes.now) ≡ None) }
+    ensures read { IfOk result (λ parts. body_at bytes.now ≡ Some (wire_body_in parts, [])) }
+    ensures refused { IfErr result (λ fault. first_failed (layout_checks bytes.now) ≡ Some fault) }
+{
+    if bytes.first().is_some_and(|version| *version != VERSION) {
+        return Err(BodyFault::Version);
+    }
+    if bytes.get(1).is_some_and(|kind| *kind < 1 || 3 < *kind) {
+        return Err(BodyFault::Kind);
+    }
+    let (parts, rest) = reading::body_of(bytes).ok_or(BodyFault::Short)?;
+    if !rest.is_empty() {
+        return Err(BodyFault::Extra);
+    }
+    Ok(parts)
+}
+
+/// The key that a body is about.
+fn key_of(head: HeadParts<'_>) -> Result<Key, BodyFault>
+    ensures key { IfOk result (λ key. IsKeyOf (head_in head.entry) key) }
+    ensures accepted { OnOk result (first_failed (head_checks (head_in head.entry)) ≡ None) }
+    ensures refused { IfErr result (λ fault. first_failed (head_checks (head_in head.entry)) ≡ Some fault) }
+{
+    let service = Service::from_byte(head.service).ok_or(BodyFault::Service)?;
+    let id = QueueId::new(head.id).ok_or(BodyFault::QueueId)?;
+    Ok(Key { service, id })
+}
+
+/// The body that fields stand for, about their key.
+#[tactic(auto, unfolding(crate::specs::Request::first_own_fault, crate::specs::Request::StandsFor))]
+fn body_about(alloc: Global, key: Key, parts: BodyParts<'_>) -> Result<Body, BodyFault>
+    requires { IsKeyOf (head_of (wire_body_in parts)) key }
+    ensures body { IfOk result (λ body. StandsFor (wire_body_in parts.entry) (body_of body)) }
+    ensures accepted { OnOk result (first_own_fault (wire_body_in parts.entry) ≡ None) }
+    ensures refused { IfErr result (λ fault. fault ≡ unwrap_or (first_own_fault (wire_body_in parts.entry)) BodyFault.NoMemory) }
+{
+    match parts {
+        BodyParts::Append(_, fields) => {
+            let node = Outcome::new(alloc, key.service, fields)?;
+            Ok(Body::Append(key.id, node))
+        }
+        BodyParts::Flush(_, fields) => Ok(Body::Flush(key, draft_from(alloc, fields)?)),
+        BodyParts::Discard(_) => Ok(Body::Discard(key)),
+    }
+}
+
+/// The draft that a flush's fields stand for.
+fn draft_from(alloc: Global, fields: FlushParts<'_>) -> Result<Draft, BodyFault>
+    ensures draft { IfOk result (λ draft. draft ≡ draft_of (flush_fields_in fields.entry)) }
+    ensures accepted { OnOk result (first_failed (flush_checks (flush_fields_in fields.entry)) ≡ None) }
+    ensures refused { IfErr result (λ fault. fault ≡ unwrap_or (first_failed (flush_checks (flush_fields_in fields.entry))) BodyFault.NoMemory) }
+{
+    let (moment, arrival) = checked_moments(fields)?;
+    let return_path = optional_address(alloc, fields.return_path)?;
+    let envelope_id = optional_envelope_id(alloc, fields.envelope_id)?;
+    let header = RawHeader::new(alloc, fields.header).map_err(|_| BodyFault::NoMemory)?;
+    Draft::new(alloc, moment, arrival, return_path, envelope_id, header).map_err(
+        |_| BodyFault::NoMemory,
+    )
+}
+
+/// The moment and the arrival of a flush whose fields have no fault. It takes no memory.
+fn checked_moments(fields: FlushParts<'_>) -> Result<(Stamp, Stamp), BodyFault>
+    ensures moment { IfOk result (λ moments. moments.0 ≡ fields.entry.moment) }
+    ensures arrival { IfOk result (λ moments. moments.1 ≡ fields.entry.arrival) }
+    ensures accepted { OnOk result (first_failed (flush_checks (flush_fields_in fields.entry)) ≡ None) }
+    ensures refused { IfErr result (λ fault. first_failed (flush_checks (flush_fields_in fields.entry)) ≡ Some fault) }
+{
+    let moment = Stamp::new(fields.moment).ok_or(BodyFault::Moment)?;
+    let arrival = Stamp::new(fields.arrival).ok_or(BodyFault::Moment)?;
+    if !RawHeader::is_valid(fields.header) {
+        return Err(BodyFault::Header);
+    }
+    if !is_optional_address(fields.return_path) {
+        return Err(BodyFault::ReturnPath);
+    }
+    if !is_optional_envelope_id(fields.envelope_id) {
+        return Err(BodyFault::EnvelopeId);
+    }
+    Ok((moment, arrival))
+}
+
+#[cfg(test)]
+mod tests;

@@ -1,0 +1,381 @@
+//! Bodies from outside: short ones, whole ones, and ones that are a byte away from a bound.
+use super::*;
+use dsn_outcome::Parts;
+use std::test::Fail;
+
+/// An append of version 1 to `B K1` without optional texts.
+const APPEND: Parts<'static> = Parts {
+    recipient: b"x@y",
+    original: b"",
+    action: 1,
+    status: b"5.0.0",
+    mta: b"",
+    diagnostic: b"",
+    reason: b"",
+};
+
+/// A flush of `B K1` without optional texts.
+const FLUSH: FlushParts<'static> = FlushParts {
+    moment: 1_700_000_000,
+    arrival: 1_699_996_400,
+    return_path: b"ann@example.com",
+    envelope_id: b"",
+    header: b"",
+};
+
+fn push_text(body: &mut Vec<u8>, text: &[u8]) -> Result<(), Fail> {
+    let size = u16::try_from(text.len())
+        .ok()
+        .ok_or("the text is too long")?;
+    body.extend_from_slice(&size.to_be_bytes())?;
+    body.extend_from_slice(text)?;
+    Ok(())
+}
+
+fn head_bytes(rt: &HostRuntime, kind: u8, service: u8, id: &[u8]) -> Result<Vec<u8>, Fail> {
+    let mut body = vec![in rt.alloc(); 1, kind, 0, 0, 0, 7, service]?;
+    push_text(&mut body, id)?;
+    Ok(body)
+}
+
+/// The number of the refusal of a body, or 0.
+fn refusal(rt: &HostRuntime, bytes: &[u8]) -> u32 {
+    match decode_request(rt.alloc(), bytes) {
+        Ok(_) => 0,
+        Err(fault) => fault.code(),
+    }
+}
+
+fn append_refusal(rt: &HostRuntime, service: u8, parts: Parts<'_>) -> Result<u32, Fail> {
+    let mut body = head_bytes(rt, 1, service, b"K1")?;
+    push_text(&mut body, parts.original)?;
+    push_text(&mut body, parts.recipient)?;
+    body.push(parts.action)?;
+    push_text(&mut body, parts.status)?;
+    push_text(&mut body, parts.mta)?;
+    push_text(&mut body, parts.diagnostic)?;
+    push_text(&mut body, parts.reason)?;
+    Ok(refusal(rt, &body))
+}
+
+fn flush_refusal(rt: &HostRuntime, parts: FlushParts<'_>) -> Result<u32, Fail> {
+    let mut body = head_bytes(rt, 2, 1, b"K1")?;
+    body.extend_from_slice(&parts.moment.to_be_bytes())?;
+    body.extend_from_slice(&parts.arrival.to_be_bytes())?;
+    push_text(&mut body, parts.return_path)?;
+    push_text(&mut body, parts.envelope_id)?;
+    push_text(&mut body, parts.header)?;
+    Ok(refusal(rt, &body))
+}
+
+#[test]
+fn short_bodies(rt: HostRuntime) -> Result<(), Fail> {
+    for (bytes, want) in [
+        (b"".as_slice(), 23),
+        (b"\x00".as_slice(), 21),
+        (b"\x01".as_slice(), 23),
+        (b"\x01\x04".as_slice(), 22),
+        (b"\x01\x09".as_slice(), 22),
+        (b"\x01\x03".as_slice(), 23),
+        (b"\x02\x09".as_slice(), 21),
+        (b"\x01\x03\0\0\0\0\x01\0\x02K1".as_slice(), 0),
+        (b"\x01\x03\0\0\0\0\x01\0\x02K".as_slice(), 23),
+        (b"\x01\x03\0\0\0\0\x01\0\x02K1\0".as_slice(), 24),
+        (b"\x01\x03\0\0\0\0\x01\0\x02K-".as_slice(), 26),
+        (b"\x01\x03\0\0\0\0\x04\0\x02K-".as_slice(), 25),
+    ] {
+        assert_eq!(rt; refusal(&rt, bytes), want, "{bytes:?}");
+    }
+    Ok(())
+}
+
+#[test]
+fn one_append_one_flush(rt: HostRuntime) -> Result<(), Fail> {
+    let append =
+        b"\x01\x01\0\0\0\0\x01\0\x06A1B2C3\0\0\0\x0fbob@example.org\x01\0\x055.1.1\0\0\0\0\0\0";
+    let (number, body) = decode_request(rt.alloc(), append).ok().ok_or("an append")?;
+    assert_eq!(rt; number, 0);
+    let Body::Append(id, node) = body else {
+        return Err("no append")?;
+    };
+    assert_eq!(rt; id.bytes(), b"A1B2C3".as_slice());
+    assert_eq!(rt;
+        node.outcome().recipient().bytes(),
+        b"bob@example.org".as_slice()
+    );
+    assert_eq!(rt; node.outcome().status().bytes(), b"5.1.1".as_slice());
+    assert!(rt; node.outcome().mta().is_none());
+    let flush =
+        b"\x01\x02\0\0\0\x01\x01\0\x06A1B2C3\0\0\0\0\x65\x53\xf1\0\0\0\0\0\x65\x53\xe2\xf0\0\x0fann@example.com\0\0\0\0";
+    let (number, body) = decode_request(rt.alloc(), flush).ok().ok_or("a flush")?;
+    assert_eq!(rt; number, 1);
+    let Body::Flush(key, draft) = body else {
+        return Err("no flush")?;
+    };
+    assert_eq!(rt; key.id.bytes(), b"A1B2C3".as_slice());
+    assert!(rt; draft.has_return());
+    Ok(())
+}
+
+#[test]
+fn a_body_cut_anywhere_is_short(rt: HostRuntime) {
+    let append =
+        b"\x01\x01\0\0\0\0\x01\0\x06A1B2C3\0\0\0\x0fbob@example.org\x01\0\x055.1.1\0\0\0\0\0\0";
+    for end in 0..append.len() {
+        assert_eq!(rt; refusal(&rt, &append[..end]), 23, "{end} bytes");
+    }
+}
+
+#[test]
+fn statuses_refused(rt: HostRuntime) -> Result<(), Fail> {
+    for (status, want) in [
+        (b"5.01.1".as_slice(), 4),
+        (b"3.0.0".as_slice(), 4),
+        (b"5.1000.1".as_slice(), 4),
+        (b"2.0.0".as_slice(), 5),
+        (b"4.4.7".as_slice(), 0),
+    ] {
+        let parts = Parts { status, ..APPEND };
+        assert_eq!(rt; append_refusal(&rt, 1, parts)?, want, "{status:?}");
+    }
+    Ok(())
+}
+
+#[test]
+fn bounds_of_a_recipient(rt: HostRuntime) -> Result<(), Fail> {
+    let long = vec![in rt.alloc(); b'a'; 257]?;
+    for (parts, want) in [
+        (
+            Parts {
+                recipient: &long[..256],
+                ..APPEND
+            },
+            0,
+        ),
+        (
+            Parts {
+                recipient: &long,
+                ..APPEND
+            },
+            1,
+        ),
+        (
+            Parts {
+                original: b"<",
+                ..APPEND
+            },
+            2,
+        ),
+        (
+            Parts {
+                original: b"<",
+                recipient: b"<",
+                ..APPEND
+            },
+            1,
+        ),
+    ] {
+        assert_eq!(rt; append_refusal(&rt, 1, parts)?, want);
+    }
+    Ok(())
+}
+
+#[test]
+fn bounds_of_a_reporting_mta(rt: HostRuntime) -> Result<(), Fail> {
+    let long = vec![in rt.alloc(); b'a'; 256]?;
+    for (parts, want) in [
+        (
+            Parts {
+                mta: b"a b",
+                ..APPEND
+            },
+            6,
+        ),
+        (
+            Parts {
+                mta: &long[..255],
+                ..APPEND
+            },
+            0,
+        ),
+        (
+            Parts {
+                mta: &long,
+                ..APPEND
+            },
+            6,
+        ),
+    ] {
+        assert_eq!(rt; append_refusal(&rt, 1, parts)?, want);
+    }
+    Ok(())
+}
+
+#[test]
+fn bounds_of_texts(rt: HostRuntime) -> Result<(), Fail> {
+    let long = vec![in rt.alloc(); b'a'; 801]?;
+    for (parts, want) in [
+        (
+            Parts {
+                diagnostic: &long[..800],
+                ..APPEND
+            },
+            0,
+        ),
+        (
+            Parts {
+                diagnostic: &long,
+                reason: &long,
+                ..APPEND
+            },
+            7,
+        ),
+        (
+            Parts {
+                reason: &long,
+                ..APPEND
+            },
+            8,
+        ),
+    ] {
+        assert_eq!(rt; append_refusal(&rt, 1, parts)?, want);
+    }
+    Ok(())
+}
+
+#[test]
+fn actions_and_services(rt: HostRuntime) -> Result<(), Fail> {
+    for (service, action, status, want) in [
+        (1, 2, b"5.0.0".as_slice(), 3),
+        (1, 6, b"5.0.0".as_slice(), 3),
+        (2, 2, b"4.4.1".as_slice(), 0),
+        (3, 5, b"2.0.0".as_slice(), 0),
+    ] {
+        let parts = Parts {
+            action,
+            status,
+            ..APPEND
+        };
+        assert_eq!(rt; append_refusal(&rt, service, parts)?, want, "{action}");
+    }
+    Ok(())
+}
+
+#[test]
+fn bounds_of_moments(rt: HostRuntime) -> Result<(), Fail> {
+    for (parts, want) in [
+        (FLUSH, 0),
+        (
+            FlushParts {
+                moment: 253_402_300_799,
+                ..FLUSH
+            },
+            0,
+        ),
+        (
+            FlushParts {
+                moment: 253_402_300_800,
+                ..FLUSH
+            },
+            27,
+        ),
+    ] {
+        assert_eq!(rt; flush_refusal(&rt, parts)?, want);
+    }
+    Ok(())
+}
+
+#[test]
+fn bounds_of_a_header(rt: HostRuntime) -> Result<(), Fail> {
+    let long = vec![in rt.alloc(); b'a'; 32_769]?;
+    for (parts, want) in [
+        (
+            FlushParts {
+                arrival: 253_402_300_800,
+                header: &long,
+                ..FLUSH
+            },
+            27,
+        ),
+        (
+            FlushParts {
+                header: &long[..32_768],
+                ..FLUSH
+            },
+            0,
+        ),
+        (
+            FlushParts {
+                header: &long,
+                return_path: b"a b",
+                ..FLUSH
+            },
+            28,
+        ),
+    ] {
+        assert_eq!(rt; flush_refusal(&rt, parts)?, want);
+    }
+    Ok(())
+}
+
+#[test]
+fn bounds_of_an_envelope_id(rt: HostRuntime) -> Result<(), Fail> {
+    let long = vec![in rt.alloc(); b'a'; 101]?;
+    for (parts, want) in [
+        (
+            FlushParts {
+                return_path: b"a b",
+                envelope_id: &long,
+                ..FLUSH
+            },
+            29,
+        ),
+        (
+            FlushParts {
+                envelope_id: &long[..100],
+                ..FLUSH
+            },
+            0,
+        ),
+        (
+            FlushParts {
+                envelope_id: &long,
+                ..FLUSH
+            },
+            30,
+        ),
+        (
+            FlushParts {
+                envelope_id: b"a\tb",
+                ..FLUSH
+            },
+            30,
+        ),
+    ] {
+        assert_eq!(rt; flush_refusal(&rt, parts)?, want);
+    }
+    Ok(())
+}
+
+#[test]
+fn a_null_return_path_is_accepted(rt: HostRuntime) -> Result<(), Fail> {
+    let parts = FlushParts {
+        return_path: b"",
+        ..FLUSH
+    };
+    assert_eq!(rt; flush_refusal(&rt, parts)?, 0);
+    Ok(())
+}
+
+#[test]
+fn bounds_of_a_queue_id(rt: HostRuntime) -> Result<(), Fail> {
+    for (id, want) in [
+        (b"".as_slice(), 26),
+        (b"012345678901234567890123456789aB".as_slice(), 0),
+        (b"012345678901234567890123456789aBc".as_slice(), 26),
+    ] {
+        let body = head_bytes(&rt, 3, 3, id)?;
+        assert_eq!(rt; refusal(&rt, &body), want, "{id:?}");
+    }
+    Ok(())
+}

@@ -1,0 +1,40 @@
+//! Why no frame could be read.
+ghost use Rattle.std.specs.Prelude.{◌≡◌};
+ghost use Rattle.dsn_frame.specs.FrameFault.{frame_fault_code};
+
+use thiserror::Error;
+
+/// Why no frame could be read. The source is used no further after it.
+#[derive(Clone, Copy, Debug, PartialEq, Eq, Error)]
+pub enum FrameFault {
+    /// Memory for the body was refused.
+    #[error("out of memory")]
+    NoMemory,
+    /// The frame declares more than 65,536 bytes.
+    #[error("the frame is longer than 65,536 bytes")]
+    TooLong,
+    /// The frame declares no byte.
+    #[error("the frame is empty")]
+    Empty,
+    /// The input ends within the frame.
+    #[error("the input ends within a frame")]
+    CutShort,
+    /// The source failed.
+    #[error("the source failed")]
+    Read,
+}
+
+impl FrameFault {
+    /// The number of the refusal, 9 or 11 to 14, as notes tell it.
+    pub fn code(&self) -> u32
+        ensures { result ≡ frame_fault_code self.now }
+    {
+        match self {
+            FrameFault::NoMemory => 9,
+            FrameFault::TooLong => 11,
+            FrameFault::Empty => 12,
+            FrameFault::CutShort => 13,
+            FrameFault::Read => 14,
+        }
+    }
+}

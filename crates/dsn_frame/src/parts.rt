@@ -1,0 +1,55 @@
+//! The fields of a body as they stand in it, before any is judged.
+use dsn_outcome::Parts;
+
+/// What every body begins with, after its version and its kind.
+#[derive(Clone, Copy)]
+pub(crate) struct HeadParts<'a> {
+    /// The number on the connection, from 0.
+    pub(crate) number: u32,
+    /// The byte of the service.
+    pub(crate) service: u8,
+    /// The queue id of the message.
+    pub(crate) id: &'a [u8],
+}
+
+/// What a flush goes on with. An empty text means that there is none.
+#[derive(Clone, Copy)]
+pub(crate) struct FlushParts<'a> {
+    /// When the flush was asked for, in seconds since 1970.
+    pub(crate) moment: u64,
+    /// When the message arrived, in seconds since 1970.
+    pub(crate) arrival: u64,
+    /// The return path.
+    pub(crate) return_path: &'a [u8],
+    /// The envelope id.
+    pub(crate) envelope_id: &'a [u8],
+    /// The header of the message that is returned.
+    pub(crate) header: &'a [u8],
+}
+
+/// A body's fields.
+#[derive(Clone, Copy)]
+pub(crate) enum BodyParts<'a> {
+    /// An outcome to be logged.
+    Append(HeadParts<'a>, Parts<'a>),
+    /// A notice to be made.
+    Flush(HeadParts<'a>, FlushParts<'a>),
+    /// A log to be dropped.
+    Discard(HeadParts<'a>),
+}
+
+impl<'a> BodyParts<'a> {
+    ghost use Rattle.std.specs.Prelude.{◌≡◌};
+    ghost use Rattle.dsn_frame.specs.BodyParts.{head_in, wire_body_in};
+    ghost use Rattle.dsn_frame.specs.Wire.{head_of};
+
+    /// What the body begins with.
+    pub(crate) fn head(self) -> HeadParts<'a>
+        ensures { head_in result ≡ head_of (wire_body_in self.entry) }
+    {
+        match self {
+            BodyParts::Append(head, _) | BodyParts::Flush(head, _) | BodyParts::Discard(head) =>
+                head,
+        }
+    }
+}

@@ -1,0 +1,175 @@
+-- A notice divides into its parts.
+use Rattle.std.proofs.Common.{◌≡◌, ℕ, Bool, true, false, ◌||◌, List, [], ◌∷◌, ◌++◌, Option, Some, None, length, take, codes, refl, sym, ap, ◌∙◌, arith, append_assoc, append-nil, length-append, nat_eq}
+use Rattle.std.specs.List.{list_any, flat_map}
+use Rattle.std.specs.Cmp.Lexicographic.{unequal}
+use Rattle.std.proofs.lemmas.Bool.{true≢false}
+use Rattle.std.proofs.lemmas.Bool.Decides.{Decides-eqb}
+use Rattle.std.proofs.lemmas.List.{length-take}
+use Rattle.std.proofs.lemmas.Slice.Eq.{starts_is}
+use Rattle.dsn_outcome.specs.Action.{action_word}
+use Rattle.dsn_outcome.specs.Letter.{Letter}
+use Rattle.dsn_outcome.specs.Outcome.{Outcome}
+use Rattle.dsn_outcome.specs.declared.service.Service.{Service}
+use Rattle.dsn_outcome.specs.declared.service.Service.TheVariants.{Bounce, Defer, Trace}
+use Rattle.dsn_report.proofs.BoundaryLaw.{boundary_number-is}
+use Rattle.dsn_report.specs.Boundary.{boundary_of, is_delimiter, is_ruled_out, returned_lines}
+use Rattle.dsn_report.specs.DeliveryStatus.{line_if_any, per_message_fields, per_recipient_fields, recipient_group, delivery_status}
+use Rattle.dsn_report.specs.Multipart.{DivisionLaw, divide, divide_more, body_of, part_lines, returned_parts, notice_parts, is_last_delimiter}
+use Rattle.dsn_report.specs.Notice.{notice_header, part_header, part_of, outcome_lines, notification, opening_of, returned_part, lines_with_boundary, notice_lines}
+
+-- ---- lines that are no delimiters
+
+abbrev NoneDelimits : List ℕ → List (List ℕ) → Type 0
+NoneDelimits boundary lines = list_any (is_delimiter boundary) lines ≡ false
+
+or-false : (a b : Bool) → (a || b) ≡ false → (a ≡ false) × (b ≡ false)
+or-false true b e = absurd (true≢false e)
+or-false false b e = (refl, e)
+
+or-both : (a b : Bool) → a ≡ false → b ≡ false → (a || b) ≡ false
+or-both a b p q = rw (p, q) refl
+
+none-append : (boundary : List ℕ) (xs ys : List (List ℕ)) → NoneDelimits boundary xs → NoneDelimits boundary ys → NoneDelimits boundary (xs ++ ys)
+none-append boundary [] ys p q = q
+none-append boundary (x ∷ xs) ys p q =
+    let both = or-false (is_delimiter boundary x) (list_any (is_delimiter boundary) xs) p in
+    or-both (is_delimiter boundary x) (list_any (is_delimiter boundary) (xs ++ ys)) both.0 (none-append boundary xs ys both.1 q)
+
+none-flat_map : {A : Type 0} (boundary : List ℕ) (f : A → List (List ℕ)) (xs : List A) → ((x : A) → NoneDelimits boundary (f x)) → NoneDelimits boundary (flat_map f xs)
+none-flat_map boundary f [] each = refl
+none-flat_map boundary f (x ∷ xs) each = none-append boundary (f x) (flat_map f xs) (each x) (none-flat_map boundary f xs each)
+
+-- ---- the lines of a notice
+
+none-if-any : (boundary : List ℕ) (byte : ℕ) (name : List ℕ) (value : Option (List ℕ)) → nat_eq 45 byte ≡ false → NoneDelimits boundary (line_if_any (byte ∷ name) value)
+unfolding line_if_any
+none-if-any boundary byte name None other = refl
+none-if-any boundary byte name (Some value) other = rw other refl
+
+none-opening : (boundary : List ℕ) (service : Service) → is_delimiter boundary (opening_of service) ≡ false
+none-opening boundary Bounce = refl
+none-opening boundary Defer = refl
+none-opening boundary Trace = refl
+
+none-outcome : (boundary : List ℕ) (outcome : Outcome) → NoneDelimits boundary (outcome_lines outcome)
+unfolding outcome_lines
+none-outcome boundary outcome = none-if-any boundary 32 (codes "   ") outcome.reason refl
+
+none-notification : (boundary host : List ℕ) (letter : Letter) → NoneDelimits boundary (notification host letter)
+unfolding notification
+none-notification boundary host letter =
+    or-both (is_delimiter boundary (opening_of letter.key.service)) (list_any (is_delimiter boundary) (flat_map outcome_lines letter.outcomes))
+    (none-opening boundary letter.key.service)
+    (none-flat_map boundary outcome_lines letter.outcomes (none-outcome boundary))
+
+none-message : (boundary host : List ℕ) (letter : Letter) → NoneDelimits boundary (per_message_fields host letter)
+unfolding per_message_fields
+none-message boundary host letter =
+    none-append boundary (line_if_any (codes "Original-Envelope-Id: ") letter.draft.envelope_id) _
+    (none-if-any boundary 79 (codes "riginal-Envelope-Id: ") letter.draft.envelope_id refl) refl
+
+none-recipient : (boundary : List ℕ) (outcome : Outcome) → NoneDelimits boundary (recipient_group outcome)
+unfolding per_recipient_fields
+none-recipient boundary outcome =
+    let original = line_if_any (codes "Original-Recipient: rfc822; ") outcome.original in
+    let always =
+    (codes "Final-Recipient: rfc822; " ++ outcome.recipient) ∷ (codes "Action: " ++ action_word outcome.action) ∷ (codes "Status: " ++ outcome.status) ∷ [] in
+    let mta = line_if_any (codes "Remote-MTA: dns; ") outcome.mta in
+    let diagnostic = line_if_any (codes "Diagnostic-Code: smtp; ") outcome.diagnostic in
+    none-append boundary (original ++ always ++ mta) diagnostic
+    (none-append boundary (original ++ always) mta
+    (none-append boundary original always (none-if-any boundary 79 (codes "riginal-Recipient: rfc822; ") outcome.original refl) refl)
+    (none-if-any boundary 82 (codes "emote-MTA: dns; ") outcome.mta refl))
+    (none-if-any boundary 68 (codes "iagnostic-Code: smtp; ") outcome.diagnostic refl)
+
+none-status : (boundary host : List ℕ) (letter : Letter) → NoneDelimits boundary (delivery_status host letter)
+unfolding delivery_status
+none-status boundary host letter =
+    none-append boundary (per_message_fields host letter) (flat_map recipient_group letter.outcomes)
+    (none-message boundary host letter)
+    (none-flat_map boundary recipient_group letter.outcomes (none-recipient boundary))
+
+none-part : (boundary description content_type : List ℕ) (body : List (List ℕ)) → NoneDelimits boundary body → NoneDelimits boundary (part_lines description content_type body)
+unfolding part_lines
+none-part boundary description content_type body none = none-append boundary body ([] ∷ []) none refl
+
+-- ---- the delimiters
+
+delimiter-is : (boundary rest : List ℕ) → is_delimiter boundary ((codes "--" ++ boundary) ++ rest) ≡ true
+delimiter-is boundary rest = (starts_is Decides-eqb ((codes "--" ++ boundary) ++ rest) (codes "--" ++ boundary) _ refl).1 rest refl
+
+delimiter-plain : (boundary : List ℕ) → is_delimiter boundary (codes "--" ++ boundary) ≡ true
+delimiter-plain boundary = ap (is_delimiter boundary) (sym (append-nil (codes "--" ++ boundary))) ∙ delimiter-is boundary []
+
+last-is : (boundary : List ℕ) → is_last_delimiter boundary (codes "--" ++ boundary ++ codes "--") ≡ true
+last-is boundary =
+    (starts_is Decides-eqb (codes "--" ++ boundary ++ codes "--") (codes "--" ++ boundary ++ codes "--") _ refl).1 [] (sym (append-nil (codes "--" ++ boundary ++ codes "--")))
+
+last-isnt : (boundary : List ℕ) → is_last_delimiter boundary (codes "--" ++ boundary) ≡ false
+last-isnt boundary =
+    let needle = codes "--" ++ boundary ++ codes "--" in
+    unequal nat_eq needle (take (length needle) (codes "--" ++ boundary))
+    (λ same. absurd (omega (arith, same, length-take (length needle) (codes "--" ++ boundary), length-append (codes "--" ++ boundary) (codes "--"))))
+
+-- ---- dividing
+
+divide-front : (boundary : List ℕ) (ls rest : List (List ℕ)) → NoneDelimits boundary ls
+    → divide boundary (ls ++ rest) ≡ record { before = ls ++ (divide boundary rest).before; parts = (divide boundary rest).parts; after = (divide boundary rest).after }
+unfolding divide divide_more
+divide-front boundary [] rest none = refl
+divide-front boundary (line ∷ ls) rest none =
+    let both = or-false (is_delimiter boundary line) (list_any (is_delimiter boundary) ls) none in
+    rw (both.0, divide-front boundary ls rest both.1) refl
+
+divide-delimiter : (boundary : List ℕ) (rest : List (List ℕ))
+    → divide boundary ((codes "--" ++ boundary) ∷ rest) ≡ record { before = []; parts = (divide boundary rest).before ∷ (divide boundary rest).parts; after = (divide boundary rest).after }
+unfolding divide divide_more
+divide-delimiter boundary rest = rw (delimiter-plain boundary, last-isnt boundary) refl
+
+part-is : (boundary description content_type : List ℕ) (body rest : List (List ℕ))
+    → part_of boundary description content_type body ++ rest ≡ (codes "--" ++ boundary) ∷ (part_lines description content_type body ++ rest)
+unfolding part_of part_header part_lines
+part-is boundary description content_type body rest = refl
+
+divide-part : (boundary description content_type : List ℕ) (body rest : List (List ℕ)) (parts : List (List (List ℕ))) → NoneDelimits boundary body
+    → divide boundary rest ≡ record { before = []; parts = parts; after = Some [] }
+    → divide boundary (part_of boundary description content_type body ++ rest) ≡ record { before = []; parts = part_lines description content_type body ∷ parts; after = Some [] }
+divide-part boundary description content_type body rest parts none later =
+    let lines = part_lines description content_type body in
+    ap (divide boundary) (part-is boundary description content_type body rest)
+    ∙ divide-delimiter boundary (lines ++ rest)
+    ∙ rw (divide-front boundary lines rest (none-part boundary description content_type body none), later, append-nil) refl
+
+divide-last : (boundary : List ℕ) → divide boundary ((codes "--" ++ boundary ++ codes "--") ∷ []) ≡ record { before = []; parts = []; after = Some [] }
+unfolding divide divide_more
+divide-last boundary = rw (delimiter-is boundary (codes "--"), last-is boundary) refl
+
+divide-returned : (boundary : List ℕ) (ls : List (List ℕ)) → NoneDelimits boundary ls
+    → divide boundary (returned_part boundary ls ++ (codes "--" ++ boundary ++ codes "--") ∷ []) ≡ record { before = []; parts = returned_parts ls; after = Some [] }
+unfolding returned_part returned_parts
+divide-returned boundary [] none = divide-last boundary
+divide-returned boundary (line ∷ ls) none =
+    divide-part boundary (codes "Undelivered Message Headers") (codes "text/rfc822-headers") (line ∷ ls) ((codes "--" ++ boundary ++ codes "--") ∷ []) [] none (divide-last boundary)
+
+-- the body of a notice is its parts and the last delimiter
+body-is : (host : List ℕ) (letter : Letter) (boundary : List ℕ) → body_of (lines_with_boundary host letter boundary) ≡
+    part_of boundary (codes "Notification") (codes "text/plain; charset=us-ascii") (notification host letter)
+    ++ (part_of boundary (codes "Delivery report") (codes "message/delivery-status") (delivery_status host letter)
+    ++ (returned_part boundary (returned_lines letter.draft.header) ++ (codes "--" ++ boundary ++ codes "--") ∷ []))
+unfolding body_of lines_with_boundary notice_header
+body-is host letter boundary =
+    let person = part_of boundary (codes "Notification") (codes "text/plain; charset=us-ascii") (notification host letter) in
+    let program = part_of boundary (codes "Delivery report") (codes "message/delivery-status") (delivery_status host letter) in
+    let returned = returned_part boundary (returned_lines letter.draft.header) in
+    let end = (codes "--" ++ boundary ++ codes "--") ∷ [] in
+    append_assoc (person ++ program) returned end ∙ append_assoc person program (returned ++ end)
+
+pub division_law : DivisionLaw
+unfolding notice_lines notice_parts is_ruled_out
+division_law host letter short =
+    let boundary = boundary_of letter in
+    let free = (boundary_number-is letter short).free in
+    ap (divide boundary) (body-is host letter boundary)
+    ∙ divide-part boundary (codes "Notification") (codes "text/plain; charset=us-ascii") (notification host letter) _ _ (none-notification boundary host letter)
+    (divide-part boundary (codes "Delivery report") (codes "message/delivery-status") (delivery_status host letter) _ _ (none-status boundary host letter)
+    (divide-returned boundary (returned_lines letter.draft.header) free))

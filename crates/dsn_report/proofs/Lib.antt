@@ -1,0 +1,13 @@
+mod BoundaryLemmas
+mod BoundaryLaw
+mod CountLemmas
+mod DateText
+mod DivisionLemmas
+mod DotsLemmas
+mod Examples
+mod GrammarLemmas
+pub mod HeaderLemmas
+pub mod LineWriterLemmas
+mod RoomLemmas
+mod PlainLemmas
+mod LinesLemmas

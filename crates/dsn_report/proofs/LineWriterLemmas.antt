@@ -1,0 +1,136 @@
+-- What a writer of lines did with several texts, one after another, is what it did with them together.
+use Rattle.std.proofs.Common.{◌≡◌, ℕ, ◌+◌, ◌<◌, ◌&&◌, if◌then◌else◌, codes, Bool, true, false, List, [], ◌∷◌, ◌++◌, Option, length, take, get_or, refl, sym, ap, subst, ◌∙◌, append_assoc, append-nil, add-one}
+use Rattle.std.specs.List.{flat_map}
+use Rattle.std.proofs.Math.Seq.{take-suc}
+use Rattle.std.proofs.lemmas.Grind.{flat_map-append}
+use Rattle.std.proofs.lemmas.List.{map-append}
+use Rattle.std.proofs.KnownBytes.{Appends-nil, Appends-trans, Keeps-refl, Keeps-trans}
+use Rattle.dsn_outcome.proofs.TransferLemmas.{Appends-front, AppendsFront-all, AppendsFront-none, AppendsFront-longer, AppendsFront-kept}
+use Rattle.dsn_outcome.specs.Transfer.{AppendsFront}
+use Rattle.std.specs.Io.KnownBytes.{Appends}
+use Rattle.std.specs.Prelude.{IsTrue}
+use Rattle.dsn_outcome.specs.Failures.{counted}
+use Rattle.dsn_report.specs.LineWriter.{Sent, counts_failure, Took, Wrote, lines_sent}
+use Rattle.dsn_report.specs.Lines.{text_of_lines, dot_stuffed, begins_with_dot}
+use Rattle.dsn_report.specs.declared.line_writer.LineWriter.{LineWriter}
+
+-- nothing was asked
+pub Sent-none : (a : Bool) (x : Option (List ℕ)) → Sent a a x x []
+Sent-none false x = Appends-nil x
+Sent-none true x = Keeps-refl x
+
+-- one text and then another
+pub Sent-then : (a b c : Bool) (x y z : Option (List ℕ)) (s t : List ℕ) → Sent a b x y s → Sent b c y z t → Sent a c x z (s ++ t)
+Sent-then false false false x y z s t p q = Appends-trans x y z s t p q
+Sent-then false false true x y z s t p q = Appends-front x y z s t p q
+Sent-then false true false x y z s t p q = absurd q
+Sent-then false true true x y z s t p q = AppendsFront-longer x z s t (AppendsFront-kept x y z s p q)
+Sent-then true false c x y z s t p q = absurd p
+Sent-then true true false x y z s t p q = absurd q
+Sent-then true true true x y z s t p q = Keeps-trans x y z p q
+
+-- a writer that has not failed took all of a text
+Sent-whole : (a : Bool) (x y : Option (List ℕ)) (text : List ℕ) → Sent a false x y text → Appends x y text
+Sent-whole false x y text p = p
+Sent-whole true x y text p = absurd p
+
+-- whatever became of a text, a front of it was appended
+Sent-front : (a b : Bool) (x y : Option (List ℕ)) (text : List ℕ) → Sent a b x y text → AppendsFront x y text
+Sent-front false false x y text p = AppendsFront-all x y text p
+Sent-front false true x y text p = p
+Sent-front true false x y text p = absurd p
+Sent-front true true x y text p = AppendsFront-none x y text p
+
+pub counts-none : (a : Bool) (n : ℕ) → n ≡ counts_failure a a n
+counts-none false n = refl
+counts-none true n = refl
+
+pub counts-then : (a b c : Bool) (x y z : Option (List ℕ)) (s t : List ℕ) (l m n : ℕ) → Sent a b x y s → Sent b c y z t
+    → m ≡ counts_failure a b l → n ≡ counts_failure b c m → n ≡ counts_failure a c l
+counts-then false false c x y z s t l m n p q e f = f ∙ ap (counted c) e
+counts-then false true false x y z s t l m n p q e f = absurd q
+counts-then false true true x y z s t l m n p q e f = f ∙ e
+counts-then true false c x y z s t l m n p q e f = absurd p
+counts-then true true false x y z s t l m n p q e f = absurd q
+counts-then true true true x y z s t l m n p q e f = f ∙ e
+
+pub text_of_lines-append : (xs ys : List (List ℕ)) → text_of_lines (xs ++ ys) ≡ text_of_lines xs ++ text_of_lines ys
+unfolding text_of_lines
+text_of_lines-append [] ys = refl
+text_of_lines-append (x ∷ xs) ys =
+    ap (λ rest. x ++ (13 ∷ 10 ∷ rest)) (text_of_lines-append xs ys)
+    ∙ sym (append_assoc x (13 ∷ 10 ∷ text_of_lines xs) (text_of_lines ys))
+
+pub lines_sent-append : (dots : Bool) (xs ys : List (List ℕ)) → lines_sent dots (xs ++ ys) ≡ lines_sent dots xs ++ lines_sent dots ys
+lines_sent-append true xs ys = map-append dot_stuffed xs ys
+lines_sent-append false xs ys = refl
+
+pub sent_text-append : (dots : Bool) (xs ys : List (List ℕ))
+    → text_of_lines (lines_sent dots (xs ++ ys)) ≡ text_of_lines (lines_sent dots xs) ++ text_of_lines (lines_sent dots ys)
+sent_text-append dots xs ys = ap text_of_lines (lines_sent-append dots xs ys) ∙ text_of_lines-append (lines_sent dots xs) (lines_sent dots ys)
+
+module _ {W : Type 0} {contents : W → Option (List ℕ)} {failures : W → ℕ} {steady : W → Type 0} where
+  pub Took-none : (s : LineWriter W) → Took contents failures steady s s []
+  Took-none s = record {
+    sent = Sent-none s.failed (contents s.drain);
+    dots_kept = refl;
+    idle = λ failed. refl;
+    count = counts-none s.failed (failures s.drain);
+    stays_steady = λ h. (h, refl);
+  }
+
+  pub Took-then : {s t u : LineWriter W} {a b : List ℕ} → Took contents failures steady s t a → Took contents failures steady t u b → Took contents failures steady s u (a ++ b)
+  Took-then {s} {t} {u} {a} {b} p q = record {
+    sent = Sent-then s.failed t.failed u.failed (contents s.drain) (contents t.drain) (contents u.drain) a b p.sent q.sent;
+    dots_kept = q.dots_kept ∙ p.dots_kept;
+    idle = λ failed. let same : t ≡ s = p.idle failed in q.idle (subst (λ w. IsTrue w.failed) (sym same) failed) ∙ same;
+    count = counts-then s.failed t.failed u.failed (contents s.drain) (contents t.drain) (contents u.drain) a b (failures s.drain) (failures t.drain) (failures u.drain) p.sent q.sent p.count q.count;
+    stays_steady = λ h. let first = p.stays_steady h in let second = q.stays_steady first.0 in (second.0, second.1 ∙ first.1);
+  }
+
+  pub Took-as : {s t : LineWriter W} {a b : List ℕ} → a ≡ b → Took contents failures steady s t a → Took contents failures steady s t b
+  Took-as {s} {t} e p = subst (Took contents failures steady s t) e p
+
+  -- a text was taken whole where the writer has not failed
+  pub Took-sent : {s t : LineWriter W} {text : List ℕ} → t.failed ≡ false → Took contents failures steady s t text
+      → Appends (contents s.drain) (contents t.drain) text
+  Took-sent {s} {t} {text} after p =
+      Sent-whole s.failed (contents s.drain) (contents t.drain) text
+      (subst (λ has. Sent s.failed has (contents s.drain) (contents t.drain) text) after p.sent)
+
+  -- a text of which at least a front was taken
+  pub Took-front : {s t : LineWriter W} {text : List ℕ} → Took contents failures steady s t text → AppendsFront (contents s.drain) (contents t.drain) text
+  Took-front {s} {t} {text} p = Sent-front s.failed t.failed (contents s.drain) (contents t.drain) text p.sent
+
+  pub Wrote-none : (s : LineWriter W) → Wrote contents failures steady s s []
+  unfolding text_of_lines
+  Wrote-none s = record { took = none s.dots }
+    where
+      none : (dots : Bool) → Took contents failures steady s s (text_of_lines (lines_sent dots []))
+      none true = Took-none s
+      none false = Took-none s
+
+  pub Wrote-then : {s t u : LineWriter W} {a b : List (List ℕ)} → Wrote contents failures steady s t a → Wrote contents failures steady t u b → Wrote contents failures steady s u (a ++ b)
+  Wrote-then {s} {t} {u} {a} {b} p q =
+      let second = subst (λ dots. Took contents failures steady t u (text_of_lines (lines_sent dots b))) p.took.dots_kept q.took in
+      record { took = Took-as (sym (sent_text-append s.dots a b)) (Took-then p.took second) }
+
+  pub Wrote-as : {s t : LineWriter W} {a b : List (List ℕ)} → a ≡ b → Wrote contents failures steady s t a → Wrote contents failures steady s t b
+  Wrote-as {s} {t} e p = subst (Wrote contents failures steady s t) e p
+
+-- the pieces of a line, and one more of them
+pub flat_map-take-more : {X : Type 0} (f : X → List ℕ) (xs : List X) (i : ℕ) (d : X) → i < length xs
+    → flat_map f (take i xs) ++ f (get_or xs i d) ≡ flat_map f (take (i + 1) xs)
+flat_map-take-more f xs i d within =
+    rw (add-one, take-suc xs i d within, flat_map-append) (simp append-nil refl)
+
+-- a line with its dot and its end is the text of the one line
+pub line_text : (dots : Bool) (line : List ℕ)
+    → (if dots && begins_with_dot line then codes "." else []) ++ line ++ codes "\r\n" ≡ text_of_lines (lines_sent dots (line ∷ []))
+unfolding text_of_lines dot_stuffed
+line_text false line = refl
+line_text true line = with_dot (begins_with_dot line)
+  where
+    with_dot : (dot : Bool) → (if dot then codes "." else []) ++ line ++ codes "\r\n" ≡ (if dot then 46 ∷ line else line) ++ (13 ∷ 10 ∷ [])
+    with_dot true = refl
+    with_dot false = refl

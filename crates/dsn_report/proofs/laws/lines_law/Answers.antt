@@ -1,0 +1,5 @@
+use Rattle.dsn_report.proofs.LinesLemmas.{lines_law}
+use Rattle.dsn_report.proofs.laws.lines_law.Goals as goal
+
+pub returns : goal.returns
+returns c = lines_law

@@ -1,0 +1,12 @@
+-- Whoever writes what is left has written all.
+use Rattle.std.specs.List.{flat_map}
+use Rattle.dsn_outcome.specs.Outcomes.{outcomes_left}
+use Rattle.dsn_report.specs.LineWriter.{Wrote}
+use Rattle.dsn_report.specs.Notice.{outcome_lines}
+use Rattle.dsn_report.proofs.notice_lines.write_outcomes.Given as goal
+
+abbrev pub invariant-loop-outcome : goal.invariant-loop-outcome
+invariant-loop-outcome g l =
+    (end : _)
+    → Wrote g.W.Drain.contents g.W.Drain.failures g.W.Drain.steady l.lines end (flat_map outcome_lines (outcomes_left l.outcome-iterator))
+    → Wrote g.W.Drain.contents g.W.Drain.failures g.W.Drain.steady l.initial.lines end (flat_map outcome_lines l.letter.outcomes)

@@ -1,0 +1,19 @@
+use Rattle.std.proofs.Common.{◌≡◌, rules, refl, append_assoc, append-nil}
+use Rattle.std.specs.Option.{option_copied}
+use Rattle.dsn_outcome.specs.Action.{action_word}
+use Rattle.dsn_report.proofs.LineWriterLemmas.{Wrote-as, Wrote-then}
+use Rattle.dsn_report.specs.DeliveryStatus.{per_recipient_fields}
+use Rattle.dsn_report.proofs.notice_lines.write_recipient_fields.Goals as goal
+
+pub returns : goal.returns
+unfolding per_recipient_fields
+returns g c =
+    let original : option_copied c.map.result ≡ c.args.outcome.now.original = search rules in
+    let recipient : c.bytes.result.now ≡ c.args.outcome.now.recipient = search rules in
+    let action : c.word.result.now ≡ action_word c.args.outcome.now.action = search rules in
+    let status : c.bytes-2.result.now ≡ c.args.outcome.now.status = search rules in
+    let mta : option_copied c.map-2.result ≡ c.args.outcome.now.mta = search rules in
+    let diagnostic : option_copied c.map-3.result ≡ c.args.outcome.now.diagnostic = search rules in
+    Wrote-as (simp (append_assoc, append-nil, original, recipient, action, status, mta, diagnostic) refl)
+    (Wrote-then c.write_if_any.ensures (Wrote-then c.line.ensures (Wrote-then c.line-2.ensures
+    (Wrote-then c.line-3.ensures (Wrote-then c.write_if_any-2.ensures c.write_if_any-3.ensures)))))

@@ -1,0 +1,14 @@
+-- Whoever writes what is left has written all.
+use Rattle.std.proofs.Common.{◌≡◌, map, length}
+use Rattle.dsn_report.specs.Boundary.{shown_line, returned_lines}
+use Rattle.dsn_report.specs.HeaderLines.{lines_left}
+use Rattle.dsn_report.specs.LineWriter.{Wrote}
+use Rattle.dsn_report.proofs.notice_lines.write_returned_lines.Given as goal
+
+abbrev pub invariant-loop-line : goal.invariant-loop-line
+invariant-loop-line g l = record {
+  room : length l.shown ≡ 998;
+  rest : (end : _)
+      → Wrote g.W.Drain.contents g.W.Drain.failures g.W.Drain.steady l.lines end (map shown_line (lines_left l.line-iterator))
+      → Wrote g.W.Drain.contents g.W.Drain.failures g.W.Drain.steady l.initial.lines end (returned_lines l.header);
+}

@@ -1,0 +1,64 @@
+-- The boundary between the parts of a notice, and the returned lines that it has to differ from
+-- (RFC 2046 section 5.1.1).
+use Rattle.std.specs.Prelude.{ℕ, zero, suc, ◌+◌, ◌/◌, ◌%◌, ◌<◌, Bool, ◌||◌, ◌==◌, List, [], ◌∷◌, ◌++◌, length, map, take, codes, decimal, if◌then◌else◌, nat_eq, IsTrue, IsFalse}
+use Rattle.std.specs.List.{list_any, starts_with, before_first}
+use Rattle.std.specs.Str.Lines.{lines}
+use Rattle.dsn_outcome.specs.Letter.{Letter}
+use Rattle.dsn_outcome.specs.Service.{service_letter}
+use Rattle.dsn_outcome.specs.Text.{is_printable}
+
+-- a byte of a returned line: `?` stands for one that is neither printable nor a tab, since a notice is
+-- 7bit text (RFC 2045 section 2.7)
+abbrev pub shown_byte : ℕ → ℕ
+shown_byte byte = if is_printable byte || (byte == 9) then byte else 63
+
+-- a returned line, cut to the length that a line may have (RFC 5322 section 2.1.1)
+abbrev pub shown_line : List ℕ → List ℕ
+shown_line line = take 998 (map shown_byte line)
+
+-- the lines of a message's header: those before the first empty line (RFC 5322 section 2.1)
+unfoldable pub header_lines : List ℕ → List (List ℕ)
+header_lines header = before_first (λ line. length line == 0) (lines header)
+
+-- the lines that a notice returns of a header
+unfoldable pub returned_lines : List ℕ → List (List ℕ)
+returned_lines header = map shown_line (header_lines header)
+
+-- a number below 10,000 in four digits
+abbrev pub four_digits : ℕ → List ℕ
+four_digits n = (48 + n / 1000) ∷ (48 + n / 100 % 10) ∷ (48 + n / 10 % 10) ∷ (48 + n % 10) ∷ []
+
+-- `S.QUEUEID.MOMENT`: what tells a letter from others
+abbrev pub letter_name : Letter → List ℕ
+letter_name letter =
+    (service_letter letter.key.service ∷ []) ++ codes "." ++ letter.key.id ++ codes "." ++ decimal letter.draft.moment
+
+-- the boundary that has this number (this project's profile)
+unfoldable pub boundary_text : Letter → ℕ → List ℕ
+boundary_text letter number = letter_name letter ++ codes "." ++ four_digits number
+
+-- a line that would be taken for a delimiter (RFC 2046 section 5.1.1)
+abbrev pub is_delimiter : List ℕ → List ℕ → Bool
+is_delimiter boundary line = starts_with nat_eq line (codes "--" ++ boundary)
+
+-- some returned line rules this number out
+unfoldable pub is_ruled_out : Letter → ℕ → Bool
+is_ruled_out letter number = list_any (is_delimiter (boundary_text letter number)) (returned_lines letter.draft.header)
+
+-- the least number that no returned line rules out
+pub record IsBoundaryNumber (letter : Letter) (number : ℕ) : Type 0 where
+  pub free : IsFalse (is_ruled_out letter number)
+  pub least : (smaller : ℕ) → smaller < number → IsTrue (is_ruled_out letter smaller)
+
+-- the first number from one on that fails a test, tried so many times
+unfoldable pub first_failing : (ℕ → Bool) → ℕ → ℕ → ℕ
+first_failing test number zero = number
+first_failing test number (suc tries) = if test number then first_failing test (suc number) tries else number
+
+-- the number of a notice's boundary; it has four digits
+unfoldable pub boundary_number : Letter → ℕ
+boundary_number letter = first_failing (is_ruled_out letter) 0 9999
+
+-- the boundary of a notice
+abbrev pub boundary_of : Letter → List ℕ
+boundary_of letter = boundary_text letter (boundary_number letter)

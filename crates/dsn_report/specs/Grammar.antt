@@ -1,0 +1,102 @@
+-- The grammar of a delivery status part (RFC 3464 section 2.1), apart from its text.
+use Rattle.std.specs.Prelude.{◌≡◌, ◌≢◌, ℕ, Bool, true, false, List, [], ◌∷◌, ◌++◌, map, All, Option, Some, None, IsTrue, IsSome, IsSomeAnd, codes, if◌then◌else◌, nat_eq, option_map}
+use Rattle.std.specs.List.{AllZip, list_all, list_any, flat_map}
+use lib.Pointwise.{pointwise}
+use Rattle.dsn_outcome.specs.Action.{action_word}
+use Rattle.dsn_outcome.specs.Letter.{Letter}
+use Rattle.dsn_outcome.specs.Outcome.{Outcome}
+use Rattle.dsn_outcome.specs.Stamp.{date_text}
+use Rattle.dsn_outcome.specs.Status.{is_status_code}
+use Rattle.dsn_outcome.specs.Text.{is_printable}
+use Rattle.dsn_report.specs.DeliveryStatus.{delivery_status}
+use Rattle.dsn_report.specs.WellFormed.{IsWellFormed}
+
+-- a field: a name and a value
+pub record Field : Type 0 where
+  pub name : List ℕ
+  pub value : List ℕ
+
+-- its line: the name, a colon, a space and the value
+abbrev pub field_line : Field → List ℕ
+field_line field = field.name ++ codes ": " ++ field.value
+
+abbrev pub same_text : List ℕ → List ℕ → Bool
+same_text a b = pointwise nat_eq a b
+
+-- the fields of a message, in the order of RFC 3464 section 2.2
+abbrev pub per_message_names : List (List ℕ)
+per_message_names =
+    codes "Original-Envelope-Id" ∷ codes "Reporting-MTA" ∷ codes "DSN-Gateway" ∷ codes "Received-From-MTA" ∷ codes "Arrival-Date" ∷ []
+
+-- the fields of a recipient, in the order of RFC 3464 section 2.3
+abbrev pub per_recipient_names : List (List ℕ)
+per_recipient_names =
+    codes "Original-Recipient" ∷ codes "Final-Recipient" ∷ codes "Action" ∷ codes "Status" ∷ codes "Remote-MTA"
+    ∷ codes "Diagnostic-Code" ∷ codes "Last-Attempt-Date" ∷ codes "Final-Log-ID" ∷ codes "Will-Retry-Until" ∷ []
+
+-- the fields have some of the names, in their order, none of them twice
+abbrev pub is_choice_of : List (List ℕ) → List Field → Bool
+is_choice_of [] [] = true
+is_choice_of [] (field ∷ fields) = false
+is_choice_of (name ∷ names) [] = true
+is_choice_of (name ∷ names) (field ∷ fields) =
+    if same_text name field.name then is_choice_of names fields else is_choice_of names (field ∷ fields)
+
+-- the value of the first field of a name
+abbrev pub value_of : List ℕ → List Field → Option (List ℕ)
+value_of name [] = None
+value_of name (field ∷ fields) = if same_text name field.name then Some field.value else value_of name fields
+
+-- each value is printable, and so within its line
+abbrev pub has_plain_values : List Field → Bool
+has_plain_values fields = list_all (λ field. list_all is_printable field.value) fields
+
+-- the five words of RFC 3464 section 2.3.3
+abbrev pub is_action_word : List ℕ → Bool
+is_action_word text =
+    list_any (same_text text) (codes "failed" ∷ codes "delayed" ∷ codes "delivered" ∷ codes "relayed" ∷ codes "expanded" ∷ [])
+
+pub record IsMessageGroup (fields : List Field) : Type 0 where
+  pub in_order : IsTrue (is_choice_of per_message_names fields)
+  pub plain : IsTrue (has_plain_values fields)
+  pub reporter : IsSome (value_of (codes "Reporting-MTA") fields)
+
+pub record IsRecipientGroup (fields : List Field) : Type 0 where
+  pub in_order : IsTrue (is_choice_of per_recipient_names fields)
+  pub plain : IsTrue (has_plain_values fields)
+  pub recipient : IsSome (value_of (codes "Final-Recipient") fields)
+  pub action : IsSomeAnd (value_of (codes "Action") fields) (λ word. IsTrue (is_action_word word))
+  pub status : IsSomeAnd (value_of (codes "Status") fields) (λ code. IsTrue (is_status_code code))
+
+-- the lines are the message's fields, and then for each recipient an empty line and its fields; there is a recipient
+pub record IsDeliveryStatus (lines : List (List ℕ)) (message : List Field) (recipients : List (List Field)) : Type 0 where
+  pub laid_out : lines ≡ map field_line message ++ flat_map (λ group. [] ∷ map field_line group) recipients
+  pub message_group : IsMessageGroup message
+  pub some_recipient : recipients ≢ []
+  pub recipient_groups : All IsRecipientGroup recipients
+
+-- the group tells what became of the recipient: each field's value is the outcome's, and missing where that is
+pub record TellsOutcome (outcome : Outcome) (fields : List Field) : Type 0 where
+  pub original : value_of (codes "Original-Recipient") fields ≡ option_map (λ text. codes "rfc822; " ++ text) outcome.original
+  pub recipient : value_of (codes "Final-Recipient") fields ≡ Some (codes "rfc822; " ++ outcome.recipient)
+  pub action : value_of (codes "Action") fields ≡ Some (action_word outcome.action)
+  pub status : value_of (codes "Status") fields ≡ Some outcome.status
+  pub mta : value_of (codes "Remote-MTA") fields ≡ option_map (λ text. codes "dns; " ++ text) outcome.mta
+  pub diagnostic : value_of (codes "Diagnostic-Code") fields ≡ option_map (λ text. codes "smtp; " ++ text) outcome.diagnostic
+
+-- the group tells whose message it is, who reports, and when the message came
+pub record TellsMessage (host : List ℕ) (letter : Letter) (fields : List Field) : Type 0 where
+  pub envelope_id : value_of (codes "Original-Envelope-Id") fields ≡ letter.draft.envelope_id
+  pub reporter : value_of (codes "Reporting-MTA") fields ≡ Some (codes "dns; " ++ host)
+  pub arrival : value_of (codes "Arrival-Date") fields ≡ Some (date_text letter.draft.arrival)
+
+-- the second part of a notice meets the grammar, with one group for each outcome, in log order
+pub record ReportsOutcomes (host : List ℕ) (letter : Letter) : Type 0 where
+  pub message : List Field
+  pub recipients : List (List Field)
+  pub grammar : IsDeliveryStatus (delivery_status host letter) message recipients
+  pub tells_message : TellsMessage host letter message
+  pub tells_outcomes : AllZip TellsOutcome letter.outcomes recipients
+
+abbrev pub GrammarLaw : Type 0
+GrammarLaw = (host : List ℕ) (letter : Letter) → IsWellFormed host letter → ReportsOutcomes host letter

@@ -1,0 +1,19 @@
+-- The lines of a notice fit into a mail (RFC 5322 section 2.1.1, RFC 2045 section 2.7).
+use Rattle.std.specs.Prelude.{ℕ, Bool, ◌||◌, ◌&&◌, ◌==◌, List, length, IsTrue, nat_le}
+use Rattle.std.specs.List.{list_all}
+use Rattle.dsn_outcome.specs.Letter.{Letter}
+use Rattle.dsn_outcome.specs.Text.{is_printable}
+use Rattle.dsn_report.specs.Notice.{notice_lines}
+use Rattle.dsn_report.specs.WellFormed.{IsWellFormed}
+
+-- a tab, or a printable byte
+abbrev pub is_line_byte : ℕ → Bool
+is_line_byte byte = is_printable byte || (byte == 9)
+
+-- at most 998 such bytes, without the line's end
+abbrev pub is_legal_line : List ℕ → Bool
+is_legal_line line = nat_le (length line) 998 && list_all is_line_byte line
+
+-- each line of a notice is legal
+abbrev pub LinesLaw : Type 0
+LinesLaw = (host : List ℕ) (letter : Letter) → IsWellFormed host letter → IsTrue (list_all is_legal_line (notice_lines host letter))

@@ -1,0 +1,14 @@
+pub mod Boundary
+pub mod Data
+pub mod DeliveryStatus
+pub mod Grammar
+pub mod HeaderLines
+pub mod LegalLines
+pub mod LineWriter
+pub mod Lines
+pub mod Multipart
+pub mod Notice
+pub mod Outbox
+pub mod Poster
+pub mod Site
+pub mod WellFormed

@@ -1,0 +1,31 @@
+-- The outbox: the client's side of a session of the mail protocol that hands in each notice (RFC 5321 section 3.3).
+use Rattle.std.specs.Prelude.{ℕ, List, [], ◌∷◌, ◌++◌, map, codes}
+use Rattle.std.specs.List.{flat_map}
+use Rattle.dsn_outcome.specs.Letter.{Letter}
+use Rattle.dsn_report.specs.Lines.{text_of_lines, dot_stuffed}
+use Rattle.dsn_report.specs.Notice.{notice_lines, return_path_of}
+
+-- what opens the session (RFC 5321 section 3.2)
+unfoldable pub greeting : List ℕ → List ℕ
+greeting host = text_of_lines ((codes "EHLO " ++ host) ∷ [])
+
+-- what ends it (RFC 5321 section 3.8)
+unfoldable pub goodbye : List ℕ
+goodbye = text_of_lines (codes "QUIT" ∷ [])
+
+-- the lines of one mail transaction: a notice comes from the null path, so that nobody answers it with another
+-- (RFC 3464 section 2, RFC 5321 section 4.5.5), and a dot alone ends it
+unfoldable pub transaction_lines : List ℕ → Letter → List (List ℕ)
+transaction_lines host letter =
+    codes "MAIL FROM:<>"
+    ∷ (codes "RCPT TO:<" ++ return_path_of letter ++ codes ">")
+    ∷ codes "DATA"
+    ∷ map dot_stuffed (notice_lines host letter)
+    ++ codes "." ∷ []
+
+unfoldable pub mail_transaction : List ℕ → Letter → List ℕ
+mail_transaction host letter = text_of_lines (transaction_lines host letter)
+
+-- the whole session
+unfoldable pub outbox_of : List ℕ → List Letter → List ℕ
+outbox_of host letters = greeting host ++ flat_map (mail_transaction host) letters ++ goodbye

@@ -1,0 +1,38 @@
+-- Posters: what they have written, and what they write next.
+use Rattle.std.specs.Prelude.{ℕ, Bool, List, [], ◌++◌, if◌then◌else◌}
+use Rattle.dsn_outcome.specs.Letter.{Letter}
+use Rattle.dsn_report.specs.Outbox.{greeting, goodbye, mail_transaction}
+use Rattle.dsn_report.specs.declared.post_fault.PostFault.{PostFault}
+use Rattle.dsn_report.specs.declared.post_fault.PostFault.TheVariants.{Write, Failed}
+
+-- the host that notices come from, the outbox, whether it has been greeted, and whether it has failed
+pub record Poster (W : Type 0) : Type 0 where
+  pub host : List ℕ
+  pub outbox : W
+  pub greeted : Bool
+  pub failed : Bool
+
+-- the greeting, where it isn't written yet
+abbrev pub greeting_due : {W : Type 0} → Poster W → List ℕ
+greeting_due poster = if poster.greeted then [] else greeting poster.host
+
+-- what a poster writes of a letter
+unfoldable pub post_text : {W : Type 0} → Poster W → Letter → List ℕ
+post_text poster letter = greeting_due poster ++ mail_transaction poster.host letter
+
+-- what it writes at the end
+unfoldable pub finish_text : {W : Type 0} → Poster W → List ℕ
+finish_text poster = greeting_due poster ++ goodbye
+
+-- the fault of a letter that wasn't posted, by whether the outbox had failed before
+abbrev pub post_fault : Bool → Letter → PostFault
+post_fault failed letter = if failed then Failed letter else Write letter
+
+abbrev pub post_fault_code : PostFault → ℕ
+post_fault_code (Write letter) = 31
+post_fault_code (Failed letter) = 32
+
+-- the letter that a fault hands back
+abbrev pub letter_handed_back : PostFault → Letter
+letter_handed_back (Write letter) = letter
+letter_handed_back (Failed letter) = letter

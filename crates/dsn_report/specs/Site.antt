@@ -1,0 +1,20 @@
+-- Sites: host names, and the numbers of their refusals.
+use Rattle.std.specs.Prelude.{ℕ, Bool, ◌||◌, ◌==◌, List, IsTrue}
+use Rattle.dsn_outcome.specs.Text.{is_text, is_letter_or_digit}
+use Rattle.dsn_report.specs.declared.site.SiteFault.{SiteFault}
+use Rattle.dsn_report.specs.declared.site.SiteFault.TheVariants.{BadHost, NoMemory}
+
+-- ASCII letters and digits, `.` and `-` (RFC 5321 section 2.3.5)
+abbrev pub is_host_byte : ℕ → Bool
+is_host_byte byte = is_letter_or_digit byte || ((byte == 46) || (byte == 45))
+
+-- a host name (this project's profile: no more is asked of its labels)
+abbrev pub is_host : List ℕ → Bool
+is_host = is_text is_host_byte 1 255
+
+abbrev pub IsHost : List ℕ → Type 0
+IsHost host = IsTrue (is_host host)
+
+abbrev pub site_fault_code : SiteFault → ℕ
+site_fault_code BadHost = 51
+site_fault_code NoMemory = 9

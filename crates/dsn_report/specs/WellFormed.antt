@@ -1,0 +1,18 @@
+-- What the types of a site and of a letter keep: each text is legal, and each moment has a date.
+use Rattle.std.specs.Prelude.{ℕ, ◌≤◌, List, length, All, IsTrue}
+use Rattle.dsn_outcome.specs.Letter.{Letter, IsLetter}
+use Rattle.dsn_outcome.specs.Outcome.{IsLegalOutcome, is_none_or}
+use Rattle.dsn_outcome.specs.Stamp.{last_moment}
+use Rattle.dsn_outcome.specs.Text.{is_address, is_envelope_id, is_queue_id}
+use Rattle.dsn_report.specs.Site.{IsHost}
+
+pub record IsWellFormed (host : List ℕ) (letter : Letter) : Type 0 where
+  pub host_legal : IsHost host
+  pub id_legal : IsTrue (is_queue_id letter.key.id)
+  pub moment_dated : letter.draft.moment ≤ last_moment
+  pub arrival_dated : letter.draft.arrival ≤ last_moment
+  pub path_legal : IsTrue (is_none_or is_address letter.draft.return_path)
+  pub envelope_id_legal : IsTrue (is_none_or is_envelope_id letter.draft.envelope_id)
+  pub header_short : length letter.draft.header ≤ 32768
+  pub outcomes_legal : All IsLegalOutcome letter.outcomes
+  pub sealed : IsLetter letter

@@ -1,0 +1,25 @@
+//! Delivery status notifications: the text of a notice, and the outbox that the notices are
+//! written to as mail transactions.
+#![tactic(auto)]
+
+mod boundary_number;
+mod header_lines;
+mod laws;
+mod line_writer;
+mod name;
+mod notice_lines;
+mod notice_text;
+mod post_fault;
+mod poster;
+mod site;
+#[cfg(test)]
+mod tests;
+mod transaction;
+mod wording;
+
+pub use boundary_number::boundary;
+pub use laws::{division_law, dots_law, grammar_law, lines_law};
+pub use notice_text::notice;
+pub use post_fault::PostFault;
+pub use poster::{Ended, Poster};
+pub use site::{LONGEST_HOST, Site, SiteFault};

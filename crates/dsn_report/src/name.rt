@@ -1,0 +1,44 @@
+//! The name of a letter, and the boundaries made of it.
+ghost use Rattle.std.specs.Prelude.{◌≡◌, ◌+◌, ◌<◌, ◌≤◌, length};
+ghost use Rattle.dsn_report.specs.Boundary.{letter_name, boundary_text};
+
+use dsn_outcome::{Letter, ShortText};
+
+/// The letter's name: its service's letter, its queue id and its moment.
+pub(crate) fn letter_name(letter: &Letter) -> ShortText
+    ensures name { result ≡ letter_name letter.now }
+    ensures short { length result ≤ 55 }
+{
+    let key = letter.key();
+    let mut name = ShortText::new();
+    name.push(&[key.service.letter()]);
+    name.push(b".");
+    name.push(key.id.bytes());
+    name.push(b".");
+    name.push_number(letter.moment().seconds());
+    name
+}
+
+/// The letter's boundary that has this number.
+pub(crate) fn boundary_text(letter: &Letter, number: u16) -> ShortText
+    requires { number < 10000 }
+    ensures { result ≡ boundary_text letter.now number }
+{
+    let mut boundary = letter_name(letter);
+    boundary.push(b".");
+    boundary.push(&[
+        digit(number / 1000),
+        digit(number / 100 % 10),
+        digit(number / 10 % 10),
+        digit(number % 10),
+    ]);
+    boundary
+}
+
+/// A number below ten as a digit.
+fn digit(n: u16) -> u8
+    requires { n < 10 }
+    ensures { result ≡ 48 + n }
+{
+    b'0' + n as u8
+}

@@ -1,0 +1,115 @@
+//! Posting notices to an outbox, one mail transaction after another.
+ghost use Rattle.std.specs.Prelude.{◌≡◌, true, false, not, IsTrue, IsFalse, OnOk, OnErr, IfErr, is_err};
+ghost use Rattle.std.specs.Io.KnownBytes.{Appends};
+ghost use Rattle.dsn_outcome.specs.Transfer.{AppendsFront};
+ghost use Rattle.dsn_report.specs.LineWriter.{counts_failure};
+ghost use Rattle.dsn_report.specs.Poster.{post_fault, post_text, finish_text};
+
+use crate::line_writer::LineWriter;
+use crate::post_fault::PostFault;
+use crate::site::Site;
+use crate::transaction::{greet_once, write_goodbye, write_transaction};
+use dsn_outcome::{Drain, Letter};
+use std::marker::Model;
+
+/// Posts letters to an outbox. Nothing is written before the first letter, nothing is held back
+/// between calls, and nothing is written after the outbox's first failure.
+#[derive(Drop)]
+pub struct Poster<W> {
+    site: Site,
+    lines: LineWriter<W>,
+    greeted: bool,
+}
+
+impl<W> Model for Poster<W> {
+    ghost use Rattle.std.specs.Prelude.{◌≡◌, true};
+    ghost use Rattle.dsn_report.specs.Poster.{Poster};
+
+    ghost Value = { Poster W };
+
+    ghost view = { λ p. record { host = p.site; outbox = p.lines.drain; greeted = p.greeted; failed = p.lines.failed } };
+
+    ghost invariant = { λ p. p.lines.dots ≡ true };
+}
+
+/// What is left of a poster at the end.
+#[derive(Drop)]
+pub struct Ended<W> {
+    /// The outbox.
+    pub outbox: W,
+    /// Whether nothing failed, so that the outbox has the notice of each letter and its end.
+    pub whole: bool,
+}
+
+impl<W> Poster<W> {
+    /// A poster of this site. It writes nothing.
+    pub fn new(site: Site, outbox: W) -> Poster<W>
+        ensures { result ≡ record { host = site; outbox = outbox; greeted = false; failed = false } }
+    {
+        Poster {
+            site,
+            lines: LineWriter {
+                drain: outbox,
+                dots: true,
+                failed: false,
+            },
+            greeted: false,
+        }
+    }
+}
+
+impl<W: Drain> Poster<W> {
+    /// Writes the letter's notice, after the greeting if that isn't written, and flushes the
+    /// outbox. After a fault every later call is refused with `Failed`. It takes no memory.
+    pub fn post(&mut self, letter: Letter) -> Result<(), PostFault>
+        ensures sent { OnOk result (Appends (W.contents self.old.outbox) (W.contents self.new.outbox) (post_text self.old letter)) }
+        ensures front { OnErr result (AppendsFront (W.contents self.old.outbox) (W.contents self.new.outbox) (post_text self.old letter)) }
+        ensures fault { IfErr result (λ fault. fault ≡ post_fault self.old.failed letter) }
+        ensures nothing { IsTrue self.old.failed → self.new ≡ self.old }
+        ensures failed { self.new.failed ≡ is_err result }
+        ensures greeted { OnOk result (self.new.greeted ≡ true) }
+        ensures host { self.new.host ≡ self.old.host }
+        ensures count { W.failures self.new.outbox ≡ counts_failure self.old.failed (is_err result) (W.failures self.old.outbox) }
+        ensures steady { W.steady self.old.outbox → W.steady self.new.outbox × (W.failures self.new.outbox ≡ W.failures self.old.outbox) }
+    {
+        if self.lines.failed {
+            return Err(PostFault::Failed(letter));
+        }
+        greet_once(&mut self.lines, &self.site, self.greeted);
+        self.greeted = true;
+        write_transaction(&mut self.lines, &self.site, &letter);
+        self.lines.flush();
+        if self.lines.failed {
+            return Err(PostFault::Write(letter));
+        }
+        Ok(())
+    }
+
+    /// Ends the session: writes the greeting if it isn't written, and QUIT, and flushes the
+    /// outbox. After a fault it writes nothing.
+    pub fn finish(self) -> Ended<W>
+        ensures sent { IsTrue result.whole → Appends (W.contents self.outbox) (W.contents result.outbox) (finish_text self) }
+        ensures front { IsFalse result.whole → AppendsFront (W.contents self.outbox) (W.contents result.outbox) (finish_text self) }
+        ensures nothing { IsTrue self.failed → result ≡ record { outbox = self.outbox; whole = false } }
+        ensures count { W.failures result.outbox ≡ counts_failure self.failed (not result.whole) (W.failures self.outbox) }
+        ensures steady { W.steady self.outbox → W.steady result.outbox × (W.failures result.outbox ≡ W.failures self.outbox) }
+    {
+        let Poster {
+            site,
+            mut lines,
+            greeted,
+        } = self;
+        greet_once(&mut lines, &site, greeted);
+        write_goodbye(&mut lines);
+        lines.flush();
+        let LineWriter {
+            drain,
+            dots: _,
+            failed,
+        } = lines;
+        Ended {
+            outbox: drain,
+            whole: !failed,
+        }
+    }
+}

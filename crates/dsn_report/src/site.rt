@@ -1,0 +1,96 @@
+//! The mail system's own name.
+ghost use Rattle.std.specs.Prelude.{◌≡◌, ◌↔◌, IsTrue, IfOk, IsOk, IsErrOf};
+ghost use Rattle.std.specs.List.{list_all};
+ghost use Rattle.dsn_report.specs.Site.{IsHost, is_host_byte, site_fault_code};
+
+use std::alloc::Global;
+use std::marker::Model;
+use thiserror::Error;
+
+/// The longest host name, in bytes (RFC 1035 section 2.3.4).
+pub const LONGEST_HOST: usize = 255;
+
+/// Why a site is refused.
+#[derive(Clone, Copy, Debug, PartialEq, Eq, Error)]
+pub enum SiteFault {
+    /// The host is empty or too long, or has a byte that is no ASCII letter, digit, `.` or `-`.
+    #[error("not a host name")]
+    BadHost,
+    /// The memory to keep the host was refused.
+    #[error("out of memory")]
+    NoMemory,
+}
+
+impl SiteFault {
+    /// The number of the refusal, as a program prints it: 51 or 9.
+    pub fn code(&self) -> u32
+        ensures { result ≡ site_fault_code self.now }
+    {
+        match self {
+            SiteFault::BadHost => 51,
+            SiteFault::NoMemory => 9,
+        }
+    }
+}
+
+/// The mail system that notices come from, by its host name: 1 to 255 ASCII letters, digits, `.`
+/// and `-`.
+#[derive(Debug, Drop)]
+pub struct Site {
+    host: Vec<u8>,
+}
+
+impl Model for Site {
+    ghost use Rattle.std.specs.Prelude.{ℕ, List};
+    ghost use Rattle.dsn_report.specs.Site.{IsHost};
+
+    ghost Value = { List ℕ };
+
+    ghost view = { λ s. s.host.items };
+
+    ghost invariant = { λ s. IsHost s.host.items };
+}
+
+impl Site {
+    /// Whether a text can be a host name. It takes no memory.
+    pub fn is_valid(host: &[u8]) -> bool
+        ensures { IsTrue result ↔ IsHost host.now }
+    {
+        1 <= host.len() && host.len() <= LONGEST_HOST && has_host_bytes(host)
+    }
+
+    /// The site of a host name. Memory is taken only for a host name.
+    pub fn new(alloc: Global, host: &[u8]) -> Result<Site, SiteFault>
+        ensures kept { IfOk result (λ site. site ≡ host.now) }
+        ensures legal { IsOk result → IsHost host.now }
+        ensures bad { IsErrOf result SiteFault.BadHost ↔ ¬ IsHost host.now }
+    {
+        if !Site::is_valid(host) {
+            return Err(SiteFault::BadHost);
+        }
+        let host = host.to_vec(alloc).map_err(|_| SiteFault::NoMemory)?;
+        Ok(Site { host })
+    }
+
+    /// The host name.
+    pub fn bytes(&self) -> &[u8]
+        ensures same { result.now ≡ self.now }
+        ensures legal { IsHost self.now }
+    {
+        self.host.as_slice()
+    }
+}
+
+/// Whether a host name may have each of these bytes.
+fn has_host_bytes(host: &[u8]) -> bool
+    ensures { result ≡ list_all is_host_byte host.now }
+{
+    host.iter().all(|&byte| is_host_byte(byte))
+}
+
+/// Whether a host name may have this byte.
+fn is_host_byte(byte: u8) -> bool
+    ensures { result ≡ is_host_byte byte }
+{
+    matches!(byte, b'0'..=b'9' | b'A'..=b'Z' | b'a'..=b'z' | b'.' | b'-')
+}

@@ -1,0 +1,39 @@
+//! The client's side of the mail protocol.
+ghost use Rattle.std.specs.Prelude.{◌≡◌, true, [], if◌then◌else◌};
+ghost use Rattle.dsn_report.specs.LineWriter.{Took};
+ghost use Rattle.dsn_report.specs.Outbox.{greeting, goodbye, mail_transaction};
+
+use crate::line_writer::LineWriter;
+use crate::notice_lines::write_notice;
+use crate::site::Site;
+use dsn_outcome::{Drain, Letter};
+
+/// Writes what opens the session, unless it is written.
+pub(crate) fn greet_once<W: Drain>(lines: &mut LineWriter<W>, site: &Site, greeted: bool)
+    ensures { Took W.contents W.failures W.steady lines.old lines.new (if greeted then [] else greeting site.now) }
+{
+    if !greeted {
+        lines.piece(b"EHLO ");
+        lines.piece(site.bytes());
+        lines.piece(b"\r\n");
+    }
+}
+
+/// Writes the mail transaction of a letter.
+pub(crate) fn write_transaction<W: Drain>(lines: &mut LineWriter<W>, site: &Site, letter: &Letter)
+    requires { lines.old.dots ≡ true }
+    ensures { Took W.contents W.failures W.steady lines.old lines.new (mail_transaction site.now letter.now) }
+{
+    lines.line(&[b"MAIL FROM:<>"]);
+    lines.line(&[b"RCPT TO:<", letter.return_path().bytes(), b">"]);
+    lines.line(&[b"DATA"]);
+    write_notice(lines, site, letter);
+    lines.piece(b".\r\n");
+}
+
+/// Writes what ends the session.
+pub(crate) fn write_goodbye<W: Drain>(lines: &mut LineWriter<W>)
+    ensures { Took W.contents W.failures W.steady lines.old lines.new goodbye }
+{
+    lines.piece(b"QUIT\r\n");
+}

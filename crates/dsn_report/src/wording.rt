@@ -1,0 +1,27 @@
+//! The words that a notice chooses by its service.
+ghost use Rattle.std.specs.Prelude.{◌≡◌};
+ghost use Rattle.dsn_report.specs.Notice.{subject_of, opening_of};
+
+use dsn_outcome::Service;
+
+/// The subject of a notice.
+pub(crate) fn subject(service: Service) -> &'static [u8]
+    ensures { result.now ≡ subject_of service }
+{
+    match service {
+        Service::Bounce => b"Undelivered Mail Returned to Sender",
+        Service::Defer => b"Delayed Mail (still being retried)",
+        Service::Trace => b"Mail Delivery Status Report",
+    }
+}
+
+/// What a notice tells its reader first.
+pub(crate) fn opening(service: Service) -> &'static [u8]
+    ensures { result.now ≡ opening_of service }
+{
+    match service {
+        Service::Bounce => b"Your message could not be delivered to the recipients below.",
+        Service::Defer => b"Your message has not yet been delivered to the recipients below.",
+        Service::Trace => b"This is the delivery report for your message.",
+    }
+}

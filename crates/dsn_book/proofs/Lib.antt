@@ -1,0 +1,4 @@
+pub mod BookLemmas
+pub mod EntryLemmas
+pub mod OpenLineLemmas
+pub mod StepLemmas

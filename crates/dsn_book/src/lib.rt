@@ -1,0 +1,14 @@
+//! The book of a bounce daemon: which logs are open, which are closed, and what each request does
+//! to them.
+#![tactic(auto)]
+
+mod book;
+mod entry;
+mod limits;
+mod line;
+mod step;
+
+pub use book::Book;
+pub use limits::{Limits, MOST_ENTRIES, MOST_LOGS, MOST_REQUESTS};
+pub use line::OpenLine;
+pub use step::Step;

@@ -1,0 +1,118 @@
+//! The limits of a book.
+ghost use Rattle.std.specs.Prelude.{◌≡◌, ◌≤◌, ◌↔◌, IsSome, IfSome};
+ghost use Rattle.std.specs.Int.{IsInRange};
+
+use std::marker::Model;
+
+/// The most keys that a book can be told to hold.
+pub const MOST_LOGS: u32 = 65_536;
+
+/// The most outcomes that a log can be told to have.
+pub const MOST_ENTRIES: u32 = 1_000;
+
+/// The most requests that an agent can be allowed.
+pub const MOST_REQUESTS: u32 = 1_000_000;
+
+/// How many keys a book may hold, how many outcomes a log may have, and how many requests an
+/// agent may make.
+#[derive(Clone, Copy, Debug)]
+pub struct Limits {
+    logs: u32,
+    entries: u32,
+    requests: u32,
+}
+
+impl Model for Limits {
+    ghost use Rattle.std.specs.Prelude.{◌≡◌};
+    ghost use Rattle.std.specs.Int.{IsInRange};
+    ghost use Rattle.dsn_outcome.specs.History.{Limits};
+
+    ghost Value = { Limits };
+
+    ghost view = { λ l. record { logs = l.logs; entries = l.entries; requests = l.requests } };
+
+    ghost invariant = { λ l. IsInRange 1 65536 l.logs × IsInRange 1 1000 l.entries × IsInRange 1 1000000 l.requests };
+
+    ghost inverse = { λ v. record { logs = v.logs; entries = v.entries; requests = v.requests } };
+}
+
+impl Limits {
+    ghost use Rattle.dsn_book.specs.Limits.{AreLimits, limits_of};
+
+    /// The limits, or `None` where one of them is 0 or too large: at most [`MOST_LOGS`] keys,
+    /// [`MOST_ENTRIES`] outcomes and [`MOST_REQUESTS`] requests (this project's profile).
+    pub fn new(logs: u32, entries: u32, requests: u32) -> Option<Limits>
+        ensures some { IsSome result ↔ AreLimits logs entries requests }
+        ensures kept { IfSome result (λ limits. limits ≡ limits_of logs entries requests) }
+    {
+        if logs == 0 || logs > MOST_LOGS {
+            return None;
+        }
+        if entries == 0 || entries > MOST_ENTRIES {
+            return None;
+        }
+        if requests == 0 || requests > MOST_REQUESTS {
+            return None;
+        }
+        Some(Limits {
+            logs,
+            entries,
+            requests,
+        })
+    }
+
+    /// How many keys a book may hold; a closed log's key counts.
+    pub fn logs(self) -> u32
+        ensures value { result ≡ self.logs }
+        ensures range { IsInRange 1 MOST_LOGS result }
+    {
+        self.logs
+    }
+
+    /// How many outcomes a log may have.
+    pub fn entries(self) -> u32
+        ensures value { result ≡ self.entries }
+        ensures range { IsInRange 1 MOST_ENTRIES result }
+    {
+        self.entries
+    }
+
+    /// How many requests an agent may make.
+    pub fn requests(self) -> u32
+        ensures value { result ≡ self.requests }
+        ensures range { IsInRange 1 MOST_REQUESTS result }
+    {
+        self.requests
+    }
+}
+
+#[cfg(test)]
+mod tests {
+    use super::*;
+
+    #[test]
+    fn bounds(rt: HostRuntime) {
+        for (logs, entries, requests, want) in [
+            (1, 1, 1, true),
+            (65_536, 1_000, 1_000_000, true),
+            (0, 1, 1, false),
+            (1, 0, 1, false),
+            (1, 1, 0, false),
+            (65_537, 1, 1, false),
+            (1, 1_001, 1, false),
+            (1, 1, 1_000_001, false),
+        ] {
+            assert_eq!(rt; Limits::new(logs, entries, requests).is_some(), want);
+        }
+    }
+
+    #[test]
+    fn limits_are_kept(rt: HostRuntime) {
+        let Some(limits) = Limits::new(10, 20, 30) else {
+            panic!(rt; "no limits");
+        };
+        assert_eq!(rt; limits.logs(), 10);
+        assert_eq!(rt; limits.entries(), 20);
+        assert_eq!(rt; limits.requests(), 30);
+    }
+}

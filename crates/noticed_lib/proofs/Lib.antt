@@ -1,0 +1,7 @@
+pub mod BatchLemmas
+pub mod NotesLemmas
+pub mod OutgoingLemmas
+pub mod ReadingLemmas
+pub mod RunLemmas
+pub mod TellingLemmas
+pub mod WholeInputLemmas

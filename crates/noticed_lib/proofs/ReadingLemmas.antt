@@ -1,0 +1,221 @@
+-- Readings: how a reading begins, goes on with one more frame, and ends.
+use Rattle.std.proofs.Common.{◌≡◌, ℕ, ◌+◌, ◌<◌, Bool, false, true, List, [], ◌∷◌, ◌++◌, length, refl, ap, sym, ◌∙◌, append_assoc, arith}
+use Rattle.std.specs.Prelude.{Option, Some, None, Result, Ok, Err, OnOk, OnErr, is_err, nat_eq, unwrap_or}
+use Rattle.std.proofs.Common.{eq-eqb}
+use Rattle.std.specs.Io.KnownBytes.{Appends, Consumes}
+use Rattle.std.specs.List.{flat_map}
+use Rattle.std.proofs.KnownBytes.{Appends-trans, Appends-nil, Consumes-trans, Consumes-nil}
+use Rattle.std.proofs.lemmas.List.{append-nil, length-append}
+use Rattle.dsn_outcome.specs.Failures.{counted, Failed}
+use Rattle.dsn_outcome.specs.History.{Limits}
+use Rattle.dsn_outcome.specs.Request.{Request}
+use Rattle.dsn_outcome.specs.Transfer.{AppendsFront}
+use Rattle.dsn_outcome.proofs.FailureLemmas.{Failed-counted}
+use Rattle.dsn_outcome.proofs.TransferLemmas.{Appends-front}
+use Rattle.dsn_frame.specs.Frame.{frame}
+use Rattle.dsn_frame.specs.FrameBody.{IsFrameBody}
+use Rattle.dsn_frame.specs.FrameFault.{frame_fault_code, source_failed}
+use Rattle.dsn_frame.specs.declared.frame_fault.FrameFault.{FrameFault}
+use Rattle.dsn_frame.specs.declared.frame_fault.FrameFault.TheVariants.{NoMemory, TooLong, Empty, CutShort, Read}
+use Rattle.noticed_lib.proofs.NotesLemmas.{answer_lines_from-more}
+use Rattle.noticed_lib.specs.Notes.{answer_line, answer_lines_from}
+use Rattle.noticed_lib.specs.Reading.{HeardSoFar, Heard}
+use Rattle.noticed_lib.specs.Run.{Stands, Answered}
+use Rattle.noticed_lib.specs.Session.{Session, begun, answered, Answers, Ends, told_out_of_turn, notes_failed}
+use Rattle.noticed_lib.specs.declared.run.Run.{Run}
+use Rattle.noticed_lib.specs.declared.spoken.Spoken.{Spoken}
+use Rattle.noticed_lib.specs.declared.turn.Turn.{Turn}
+
+flat_map-frame-more : (bodies : List (List ℕ)) (bytes : List ℕ) → flat_map frame (bodies ++ bytes ∷ []) ≡ flat_map frame bodies ++ frame bytes
+flat_map-frame-more [] bytes = append-nil (frame bytes)
+flat_map-frame-more (first ∷ rest) bytes =
+    let more = flat_map-frame-more rest bytes in
+    rw more (simp append_assoc)
+
+length-more : {A : Type 0} (xs : List A) (x : A) (count : ℕ) → length xs ≡ count → length (xs ++ x ∷ []) ≡ count + 1
+length-more xs x count e = omega (arith, e, length-append xs (x ∷ []))
+
+pub not-false : false ≡ true → ⊥
+not-false never = cc
+
+-- what holds of a result that is an error, and of one that is none
+pub OnErr-is_err : {T E : Type 0} (result : Result T E) (P : Type 0) → is_err result ≡ true → OnErr result P → P
+OnErr-is_err (Ok value) P is holds = cc
+OnErr-is_err (Err fault) P is holds = holds
+
+pub OnOk-is_err : {T E : Type 0} (result : Result T E) (P : Type 0) → is_err result ≡ false → OnOk result P → P
+OnOk-is_err (Ok value) P is holds = holds
+OnOk-is_err (Err fault) P is holds = absurd (let never : true ≡ false = is in cc)
+
+-- a count after a failure, and after none
+pub same-after : (failed : Bool) (old new : ℕ) → failed ≡ false → new ≡ counted failed old → new ≡ old
+same-after true old new is count = absurd (let never : true ≡ false = is in cc)
+same-after false old new is count = count
+
+pub counted-after : (failed : Bool) (old new : ℕ) → failed ≡ true → new ≡ counted failed old → new ≡ counted true old
+counted-after true old new is count = count
+counted-after false old new is count = absurd (not-false is)
+
+-- no fault is no number
+pub none-differs : (number : ℕ) → None ≡ Some number → ⊥
+none-differs number same = cc
+
+-- numbers that a test tells apart are not the same
+pub differ : (a b : ℕ) → nat_eq a b ≡ false → Some a ≡ Some b → ⊥
+differ a b apart same =
+    let equal : nat_eq a b ≡ true = eq-eqb a b (ap (λ (known : Option ℕ). unwrap_or known 0) same) in
+    let never : true ≡ false = sym equal ∙ apart in
+    cc
+
+-- the faults of a frame are none of the notes
+pub frame_fault_code-not-notes : (fault : FrameFault) → Some (frame_fault_code fault) ≡ Some 33 → ⊥
+frame_fault_code-not-notes NoMemory e = differ 9 33 refl e
+frame_fault_code-not-notes TooLong e = differ 11 33 refl e
+frame_fault_code-not-notes Empty e = differ 12 33 refl e
+frame_fault_code-not-notes CutShort e = differ 13 33 refl e
+frame_fault_code-not-notes Read e = differ 14 33 refl e
+
+-- a read fault is answered only where the source failed
+pub Failed-read : (T : Type 0) (fault : FrameFault) (old new : ℕ) → new ≡ counted (source_failed {T = T} (Err fault)) old → Some (frame_fault_code fault) ≡ Some 14 → Failed old new
+Failed-read T NoMemory old new is e = absurd (differ 9 14 refl e)
+Failed-read T TooLong old new is e = absurd (differ 11 14 refl e)
+Failed-read T Empty old new is e = absurd (differ 12 14 refl e)
+Failed-read T CutShort old new is e = absurd (differ 13 14 refl e)
+Failed-read T Read old new is e = rw is (Failed-counted old)
+
+module _ {R W N : Type 0} (remaining : R → Option (List ℕ)) (input_failures : R → ℕ) (contents : W → Option (List ℕ)) (outbox_failures : W → ℕ) (told : N → Option (List ℕ)) (notes_failures : N → ℕ) (limits : Limits) (host : List ℕ) (start : W) where
+  -- nothing was read so far
+  pub heard-nothing : (input : R) (run : Run W) (notes : N) → Stands contents outbox_failures limits host start run [] → HeardSoFar remaining input_failures contents outbox_failures told notes_failures limits host start 0 input input run notes notes
+  unfolding answer_lines_from
+  heard-nothing input run notes stands = record {
+    bodies = [];
+    requests = [];
+    answers = [];
+    session = begun;
+    stands = stands;
+    read = Consumes-nil (remaining input);
+    lines = Appends-nil (told notes);
+    reading_good = refl;
+    telling_good = refl;
+    bodies_counted = refl;
+    answers_counted = refl;
+  }
+
+  some-answered : (bodies : List (List ℕ)) (bytes : List ℕ) → 0 < length (bodies ++ bytes ∷ [])
+  some-answered bodies bytes = omega (arith, length-append bodies (bytes ∷ []))
+
+  -- the session with one more frame
+  session-more : (bodies : List (List ℕ)) (requests later : List Request) (answers : List Spoken) (count : ℕ) (bytes : List ℕ) (answer : Spoken) (over : Bool) → length bodies ≡ count → Session limits bodies requests answers false → count < limits.requests → IsFrameBody bytes → Answers limits count bytes requests answer over later → Session limits (bodies ++ bytes ∷ []) later (answers ++ answer ∷ []) over
+  session-more bodies requests later answers count bytes answer over counted session few body answers' =
+      answered bodies requests later answers bytes answer over session (rw counted few) body (rw counted answers')
+
+  -- the lines with one more line
+  lines-more : (notes later last : N) (answers : List Spoken) (count : ℕ) (answer : Spoken) → length answers ≡ count → Appends (told notes) (told later) (answer_lines_from 0 answers) → Appends (told later) (told last) (answer_line count answer) → Appends (told notes) (told last) (answer_lines_from 0 (answers ++ answer ∷ []))
+  lines-more notes later last answers count answer is before one =
+      let place : 0 + length answers ≡ count = omega (arith, is) in
+      rw (answer_lines_from-more 0 answers answer, place) (Appends-trans (told notes) (told later) (told last) (answer_lines_from 0 answers) (answer_line count answer) before one)
+
+  lines-lost : (notes later last : N) (answers : List Spoken) (count : ℕ) (answer : Spoken) → length answers ≡ count → Appends (told notes) (told later) (answer_lines_from 0 answers) → AppendsFront (told later) (told last) (answer_line count answer) → AppendsFront (told notes) (told last) (answer_lines_from 0 (answers ++ answer ∷ []))
+  lines-lost notes later last answers count answer is before front =
+      let place : 0 + length answers ≡ count = omega (arith, is) in
+      rw (answer_lines_from-more 0 answers answer, place) (Appends-front (told notes) (told later) (told last) (answer_lines_from 0 answers) (answer_line count answer) before front)
+
+  read-more : (input now after : R) (bodies : List (List ℕ)) (bytes : List ℕ) → Consumes (remaining input) (remaining now) (flat_map frame bodies) → Consumes (remaining now) (remaining after) (frame bytes) → Consumes (remaining input) (remaining after) (flat_map frame (bodies ++ bytes ∷ []))
+  read-more input now after bodies bytes before one =
+      rw (flat_map-frame-more bodies bytes) (Consumes-trans (remaining input) (remaining now) (remaining after) (flat_map frame bodies) (frame bytes) before one)
+
+  -- one more frame was read, answered and told
+  pub heard-more : (count : ℕ) (input now after : R) (run next : Run W) (notes later last : N) (bytes : List ℕ) (turn : Turn)
+      → (so_far : HeardSoFar remaining input_failures contents outbox_failures told notes_failures limits host start count input now run notes later)
+      → count < limits.requests → IsFrameBody bytes → Consumes (remaining now) (remaining after) (frame bytes) → input_failures after ≡ input_failures now
+      → Answered contents outbox_failures limits host start next so_far.requests count bytes turn → turn.over ≡ false
+      → Appends (told later) (told last) (answer_line count turn.answer) → notes_failures last ≡ notes_failures later
+      → HeardSoFar remaining input_failures contents outbox_failures told notes_failures limits host start (count + 1) input after next notes last
+  heard-more count input now after run next notes later last bytes turn so_far few body read good answer goes_on line told_good = record {
+    bodies = so_far.bodies ++ bytes ∷ [];
+    requests = answer.later;
+    answers = so_far.answers ++ turn.answer ∷ [];
+    session = rw goes_on at (session-more so_far.bodies so_far.requests answer.later so_far.answers count bytes turn.answer turn.over so_far.bodies_counted so_far.session few body answer.answers);
+    stands = answer.stands;
+    read = read-more input now after so_far.bodies bytes so_far.read read;
+    lines = lines-more notes later last so_far.answers count turn.answer so_far.answers_counted so_far.lines line;
+    reading_good = good ∙ so_far.reading_good;
+    telling_good = told_good ∙ so_far.telling_good;
+    bodies_counted = length-more so_far.bodies bytes count so_far.bodies_counted;
+    answers_counted = length-more so_far.answers turn.answer count so_far.answers_counted;
+  }
+
+  -- the reading ended where no more frame was answered
+  pub heard-end : (count : ℕ) (input now after : R) (run : Run W) (notes later : N) (fault : Option ℕ)
+      → HeardSoFar remaining input_failures contents outbox_failures told notes_failures limits host start count input now run notes later
+      → Ends limits count false (remaining now) (remaining after) fault
+      → (fault ≡ Some 33 → ⊥) → (fault ≡ Some 14 → Failed (input_failures now) (input_failures after))
+      → Heard remaining input_failures contents outbox_failures told notes_failures limits host start input after run notes later fault
+  heard-end count input now after run notes later fault so_far ends not_notes cause = record {
+    bodies = so_far.bodies;
+    requests = so_far.requests;
+    answers = so_far.answers;
+    over = false;
+    session = so_far.session;
+    stands = so_far.stands;
+    left = remaining now;
+    read = so_far.read;
+    ends = rw so_far.bodies_counted ends;
+    lost = false;
+    lines = record { sent = so_far.lines; count = so_far.telling_good };
+    lost_when = λ is. absurd (not_notes is);
+    lost_only = λ never. absurd (not-false never);
+    reading_cause = λ is. rw (sym so_far.reading_good) (cause is);
+  }
+
+  -- the reading ended with an answer that could not be told
+  pub heard-lost : (count : ℕ) (input now after : R) (run next : Run W) (notes later last : N) (bytes : List ℕ) (turn : Turn)
+      → (so_far : HeardSoFar remaining input_failures contents outbox_failures told notes_failures limits host start count input now run notes later)
+      → count < limits.requests → IsFrameBody bytes → Consumes (remaining now) (remaining after) (frame bytes) → input_failures after ≡ input_failures now
+      → Answered contents outbox_failures limits host start next so_far.requests count bytes turn
+      → AppendsFront (told later) (told last) (answer_line count turn.answer) → notes_failures last ≡ counted true (notes_failures later)
+      → Heard remaining input_failures contents outbox_failures told notes_failures limits host start input after next notes last (Some 33)
+  heard-lost count input now after run next notes later last bytes turn so_far few body read good answer front failed = record {
+    bodies = so_far.bodies ++ bytes ∷ [];
+    requests = answer.later;
+    answers = so_far.answers ++ turn.answer ∷ [];
+    over = turn.over;
+    session = session-more so_far.bodies so_far.requests answer.later so_far.answers count bytes turn.answer turn.over so_far.bodies_counted so_far.session few body answer.answers;
+    stands = answer.stands;
+    left = remaining after;
+    read = read-more input now after so_far.bodies bytes so_far.read read;
+    ends = notes_failed (some-answered so_far.bodies bytes) refl;
+    lost = true;
+    lines = record {
+      sent = lines-lost notes later last so_far.answers count turn.answer so_far.answers_counted so_far.lines front;
+      count = failed ∙ ap (counted true) so_far.telling_good;
+    };
+    lost_when = λ _. refl;
+    lost_only = λ _. refl;
+    reading_cause = λ is. absurd (differ 33 14 refl is);
+  }
+
+  -- the reading ended with an answer to a number out of turn
+  pub heard-out-of-turn : (count : ℕ) (input now after : R) (run next : Run W) (notes later last : N) (bytes : List ℕ) (turn : Turn)
+      → (so_far : HeardSoFar remaining input_failures contents outbox_failures told notes_failures limits host start count input now run notes later)
+      → count < limits.requests → IsFrameBody bytes → Consumes (remaining now) (remaining after) (frame bytes) → input_failures after ≡ input_failures now
+      → Answered contents outbox_failures limits host start next so_far.requests count bytes turn → turn.over ≡ true
+      → Appends (told later) (told last) (answer_line count turn.answer) → notes_failures last ≡ notes_failures later
+      → Heard remaining input_failures contents outbox_failures told notes_failures limits host start input after next notes last (Some 46)
+  heard-out-of-turn count input now after run next notes later last bytes turn so_far few body read good answer over line told_good =
+      let lines = lines-more notes later last so_far.answers count turn.answer so_far.answers_counted so_far.lines line in record {
+        bodies = so_far.bodies ++ bytes ∷ [];
+        requests = answer.later;
+        answers = so_far.answers ++ turn.answer ∷ [];
+        over = turn.over;
+        session = session-more so_far.bodies so_far.requests answer.later so_far.answers count bytes turn.answer turn.over so_far.bodies_counted so_far.session few body answer.answers;
+        stands = answer.stands;
+        left = remaining after;
+        read = read-more input now after so_far.bodies bytes so_far.read read;
+        ends = told_out_of_turn over refl;
+        lost = false;
+        lines = record { sent = lines; count = told_good ∙ so_far.telling_good };
+        lost_when = λ is. absurd (differ 46 33 refl is);
+        lost_only = λ never. absurd (not-false never);
+        reading_cause = λ is. absurd (differ 46 14 refl is);
+      }

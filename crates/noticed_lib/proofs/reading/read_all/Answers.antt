@@ -1,0 +1,81 @@
+use Rattle.std.proofs.Common.{◌≡◌, ◌∙◌, refl, sym, List, ℕ, arith, ◌<◌}
+use Rattle.std.specs.Prelude.{Option}
+use Rattle.noticed_lib.specs.Session.{well, cut, too_many}
+use Rattle.noticed_lib.proofs.ReadingLemmas.{heard-nothing, heard-more, heard-end, heard-lost, heard-out-of-turn, frame_fault_code-not-notes, Failed-read, differ, none-differs, OnErr-is_err, OnOk-is_err, counted-after, same-after}
+use Rattle.noticed_lib.proofs.reading.read_all.Goals as goal
+
+pub loop-position-init : goal.loop-position-init
+loop-position-init g c =
+    (omega (arith, c.requires.begun), λ limits host start same stands. heard-nothing _ _ _ _ _ _ limits host start _ _ _ stands)
+
+pub returns-in-Ok-None : goal.returns-in-Ok-None
+returns-in-Ok-None g c = λ limits host start same stands.
+    let ends = rw c.in-Ok-None.field-0-is at c.in-Ok-None.ensures.next in
+    heard-end _ _ _ _ _ _ limits host start _ _ _ _ _ _ _ _ (c.loop-position.invariant.1 limits host start same stands)
+    (well refl ends.0 ends.1) (none-differs 33) (λ e. absurd (none-differs 14 e))
+
+pub returns-in-Err : goal.returns-in-Err
+returns-in-Err g c = λ limits host start same stands.
+    rw c.code.ensures
+    (heard-end _ _ _ _ _ _ limits host start _ _ _ _ _ _ _ _ (c.loop-position.invariant.1 limits host start same stands)
+    (cut refl c.in-Err.fault c.in-Err.ensures.refused) (frame_fault_code-not-notes c.in-Err.fault)
+    (Failed-read (Option (List ℕ)) c.in-Err.fault _ _ c.in-Err.ensures.count))
+
+pub returns-then-is_err : goal.returns-then-is_err
+returns-then-is_err g c = λ limits host start same stands.
+    let read = rw c.in-Ok-Some.field-0-is at c.in-Ok-Some.ensures.next in
+    let so_far = c.loop-position.invariant.1 limits host start same stands in
+    let few : c.loop-position.position < limits.requests = omega (arith, same, c.loop-position-test.true) in
+    let line = c.bytes.ensures.same ∙ c.answer_line.ensures in
+    let failed = sym c.is_err.ensures.value ∙ c.if-is_err.true in
+    heard-lost _ _ _ _ _ _ limits host start _ _ _ _ _ _ _ _ _ c.body.result.now c.answer-turn.result so_far few
+    (rw c.body.ensures.same read.0) (rw c.body.ensures.same read.1) c.in-Ok-Some.ensures.count
+    (c.answer-turn.ensures.answered limits host start so_far.requests so_far.stands)
+    (rw (← line) (OnErr-is_err c.send.result _ failed c.send.ensures.front)) (counted-after _ _ _ failed c.send.ensures.count)
+
+pub returns-then-turn : goal.returns-then-turn
+returns-then-turn g c = λ limits host start same stands.
+    let read = rw c.in-Ok-Some.field-0-is at c.in-Ok-Some.ensures.next in
+    let so_far = c.loop-position.invariant.1 limits host start same stands in
+    let few : c.loop-position.position < limits.requests = omega (arith, same, c.loop-position-test.true) in
+    let line = c.bytes.ensures.same ∙ c.answer_line.ensures in
+    let fine = sym c.is_err.ensures.value ∙ c.if-is_err.false in
+    heard-out-of-turn _ _ _ _ _ _ limits host start _ _ _ _ _ _ _ _ _ c.body.result.now c.answer-turn.result so_far few
+    (rw c.body.ensures.same read.0) (rw c.body.ensures.same read.1) c.in-Ok-Some.ensures.count
+    (c.answer-turn.ensures.answered limits host start so_far.requests so_far.stands)
+    c.if-turn.true (rw (← line) (OnOk-is_err c.send.result _ fine c.send.ensures.sent)) (same-after _ _ _ fine c.send.ensures.count)
+
+pub loop-position-preserved : goal.loop-position-preserved
+loop-position-preserved g c = (
+  omega (arith, c.answer-turn.ensures.counted, c.loop-position.invariant.0),
+  λ limits host start same stands.
+      let read = rw c.in-Ok-Some.field-0-is at c.in-Ok-Some.ensures.next in
+      let so_far = c.loop-position.invariant.1 limits host start same stands in
+      let few : c.loop-position.position < limits.requests = omega (arith, same, c.loop-position-test.true) in
+      let line = c.bytes.ensures.same ∙ c.answer_line.ensures in
+      let fine = sym c.is_err.ensures.value ∙ c.if-is_err.false in
+      heard-more _ _ _ _ _ _ limits host start _ _ _ _ _ _ _ _ _ c.body.result.now c.answer-turn.result so_far few
+      (rw c.body.ensures.same read.0) (rw c.body.ensures.same read.1) c.in-Ok-Some.ensures.count
+      (c.answer-turn.ensures.answered limits host start so_far.requests so_far.stands)
+      c.if-turn.false (rw (← line) (OnOk-is_err c.send.result _ fine c.send.ensures.sent)) (same-after _ _ _ fine c.send.ensures.count),
+)
+
+pub returns-in-Ok-None-read_frame : goal.returns-in-Ok-None-read_frame
+returns-in-Ok-None-read_frame g c = λ limits host start same stands.
+    let ends = rw c.in-Ok-None-read_frame.field-0-is at c.in-Ok-None-read_frame.ensures.next in
+    heard-end _ _ _ _ _ _ limits host start _ _ _ _ _ _ _ _ (c.loop-position.invariant.1 limits host start same stands)
+    (well refl ends.0 ends.1) (none-differs 33) (λ e. absurd (none-differs 14 e))
+
+pub returns-in-Ok-Some-read_frame : goal.returns-in-Ok-Some-read_frame
+returns-in-Ok-Some-read_frame g c = λ limits host start same stands.
+    let next = rw c.in-Ok-Some-read_frame.field-0-is at c.in-Ok-Some-read_frame.ensures.next in
+    let all : c.loop-position.position ≡ limits.requests = omega (arith, same, c.loop-position-test.false, c.loop-position.auto.position-end) in
+    heard-end _ _ _ _ _ _ limits host start _ _ _ _ _ _ _ _ (c.loop-position.invariant.1 limits host start same stands)
+    (too_many refl _ all next.0 next.1) (differ 47 33 refl) (λ e. absurd (differ 47 14 refl e))
+
+pub returns : goal.returns
+returns g c = λ limits host start same stands.
+    rw c.code-in-Err-read_frame.ensures
+    (heard-end _ _ _ _ _ _ limits host start _ _ _ _ _ _ _ _ (c.loop-position.invariant.1 limits host start same stands)
+    (cut refl c.in-Err-read_frame.fault c.in-Err-read_frame.ensures.refused) (frame_fault_code-not-notes c.in-Err-read_frame.fault)
+    (Failed-read (Option (List ℕ)) c.in-Err-read_frame.fault _ _ c.in-Err-read_frame.ensures.count))

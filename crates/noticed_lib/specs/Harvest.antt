@@ -1,0 +1,51 @@
+-- Harvests: what the parts of a whole run hand to one another.
+use Rattle.std.specs.Prelude.{◌≡◌, ℕ, Bool, true, false, not, ◌||◌, List, length, Option, Some, is_some, is_none, MatchOption, IsPermutation, if◌then◌else◌}
+use Rattle.std.specs.Io.KnownBytes.{Consumes}
+use Rattle.std.specs.List.{flat_map}
+use Rattle.std.specs.List.Sorted.{IsSortedByKey}
+use Rattle.dsn_book.specs.OpenLine.{key_cmp, open_lines_after}
+use Rattle.dsn_book.specs.declared.line.OpenLine.{OpenLine}
+use Rattle.dsn_frame.specs.Frame.{frame}
+use Rattle.dsn_outcome.specs.Failures.{Failed}
+use Rattle.dsn_outcome.specs.History.{Limits, Exchange, history_of, sealed_letters}
+use Rattle.dsn_outcome.specs.Letter.{Letter}
+use Rattle.dsn_outcome.specs.Request.{Request}
+use Rattle.dsn_outcome.specs.Transfer.{AppendsFront}
+use Rattle.noticed_lib.specs.Batch.{AreOpenLines, status_of}
+use Rattle.noticed_lib.specs.Notes.{answer_lines_from, end_lines, notes_of}
+use Rattle.noticed_lib.specs.Outgoing.{Delivered, IsOutbox}
+use Rattle.noticed_lib.specs.declared.outgoing.Outgoing.{Outgoing}
+use Rattle.noticed_lib.specs.Session.{Session, Ends}
+use Rattle.noticed_lib.specs.Telling.{Told}
+use Rattle.noticed_lib.specs.declared.batch_end.BatchEnd.{BatchEnd}
+use Rattle.noticed_lib.specs.declared.spoken.Spoken.{Spoken}
+
+module _ {R W N : Type 0} (remaining : R → Option (List ℕ)) (input_failures : R → ℕ) (contents : W → Option (List ℕ)) (outbox_failures : W → ℕ) (told : N → Option (List ℕ)) (notes_failures : N → ℕ) where
+  -- what came of the reading
+  pub record Harvested (limits : Limits) (host : List ℕ) (start : W) (input now : R) (notes later : N) (fault : Option ℕ) (outgoing : Outgoing W) (logs : Option (List OpenLine)) : Type 0 where
+    pub bodies : List (List ℕ)
+    pub requests : List Request
+    pub answers : List Spoken
+    pub over : Bool
+    pub session : Session limits bodies requests answers over
+    pub left : Option (List ℕ)
+    pub read : Consumes (remaining input) left (flat_map frame bodies)
+    pub ends : Ends limits (length bodies) over left (remaining now) fault
+    pub reading_cause : fault ≡ Some 14 → Failed (input_failures input) (input_failures now)
+    pub delivered : Delivered contents outbox_failures host start outgoing (sealed_letters (history_of limits requests))
+    pub logs_are : AreOpenLines (history_of limits requests) logs
+    pub lost : Bool
+    pub lines : Told told notes_failures false lost notes later (answer_lines_from 0 answers)
+    pub lost_when : fault ≡ Some 33 → lost ≡ true
+    pub lost_only : lost ≡ true → fault ≡ Some 33
+
+-- how a run ended, after the reading's fault
+pub record Ended {W N : Type 0} (contents : W → Option (List ℕ)) (outbox_failures : W → ℕ) (told : N → Option (List ℕ)) (notes_failures : N → ℕ) (host : List ℕ) (start : W) (letters : List Letter) (reading : Option ℕ) (logs : Option (List OpenLine)) (notes later : N) (end : BatchEnd W) : Type 0 where
+  pub outbox : IsOutbox contents outbox_failures host start end.outbox end.whole end.unsent letters
+  pub before : Bool
+  pub before_when : reading ≡ Some 33 → before ≡ true
+  pub before_only : before ≡ true → reading ≡ Some 33
+  pub lost : Bool
+  pub lines : Told told notes_failures before lost notes later (end_lines reading end.whole end.unsent logs)
+  pub fault_is : end.fault ≡ (if lost then Some 33 else reading)
+  pub status_is : end.status ≡ status_of end.fault end.whole logs

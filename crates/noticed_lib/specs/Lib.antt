@@ -1,0 +1,9 @@
+pub mod Batch
+pub mod Harvest
+pub mod Notes
+pub mod Outgoing
+pub mod Reading
+pub mod Run
+pub mod Session
+pub mod Telling
+pub mod WholeInput

@@ -1,0 +1,22 @@
+//! The daemon as a library: `batch` turns a stream of framed requests into an outbox and notes.
+#![tactic(auto)]
+
+mod batch_end;
+mod ending;
+#[cfg(test)]
+mod fakes;
+mod notes;
+mod outgoing;
+mod reading;
+mod run;
+mod spoken;
+#[cfg(test)]
+mod tests;
+mod turn;
+mod whole_run;
+
+pub use batch_end::BatchEnd;
+pub use dsn_book::Limits;
+pub use dsn_report::Site;
+pub use spoken::Spoken;
+pub use whole_run::batch;

@@ -1,0 +1,9 @@
+//! The answer to one frame.
+use crate::spoken::Spoken;
+
+/// What a frame is answered, and whether the session is over then.
+#[derive(Clone, Copy, Debug, PartialEq, Eq)]
+pub(crate) struct Turn {
+    pub(crate) answer: Spoken,
+    pub(crate) over: bool,
+}

@@ -1,0 +1,145 @@
+//! A whole run on one thread: frames in, an outbox and notes out.
+ghost use Rattle.std.specs.Prelude.{◌≡◌, ℕ, ◌≤◌, ◌↔◌, ◌||◌, not, List, [], IsTrue, is_some, if◌then◌else◌};
+ghost use Rattle.std.specs.Option.{option_map};
+ghost use Rattle.std.specs.Result.{result_ok};
+ghost use Rattle.dsn_book.specs.Book.{Represents};
+ghost use Rattle.dsn_outcome.specs.History.{Limits as Bounds};
+ghost use Rattle.dsn_outcome.specs.Letter.{Letter as SealedLog};
+ghost use Rattle.noticed_lib.specs.Batch.{IsBatch};
+ghost use Rattle.noticed_lib.specs.Harvest.{Harvested, Ended};
+ghost use Rattle.noticed_lib.specs.Outgoing.{Delivered};
+
+use crate::batch_end::BatchEnd;
+use crate::ending::{NO_MEMORY, tell_end};
+use crate::outgoing::{Finished, Outgoing};
+use crate::reading::{NOTES, read_all};
+use crate::run::Run;
+use dsn_book::{Book, Limits, OpenLine};
+use dsn_outcome::{Drain, NoMemory, Source};
+use dsn_report::Site;
+use std::alloc::Global;
+
+/// What came of the reading: the fault that ended it, the letters on their way, and the logs that
+/// are still open.
+struct Harvest<W> {
+    fault: Option<u32>,
+    outgoing: Outgoing<W>,
+    logs: Result<Vec<OpenLine>, NoMemory>,
+}
+
+/// Reads frames from `input` to its end, does what they ask as agent 0, posts a notice of each
+/// sealed log to `outbox`, and tells in `notes` what each frame was answered and how the run
+/// ended. Each line of the notes is written before the next frame is read, and a letter before
+/// its answer's line. Want of memory ends the run only where the book or a frame's memory was
+/// refused; a request that meets it is answered `refused 9`.
+pub fn batch<R: Source, W: Drain, N: Drain>(
+    alloc: Global,
+    limits: &Limits,
+    site: Site,
+    input: &mut R,
+    outbox: W,
+    notes: &mut N,
+) -> BatchEnd<W>
+    ensures { IsBatch R.remaining R.failures W.contents W.failures N.contents N.failures limits.now site input.old input.new outbox notes.old notes.new result }
+{
+    let outgoing = Outgoing::new(site, outbox);
+    match Book::new(alloc, *limits) {
+        Ok(book) => {
+            let harvest = read_into(alloc, limits.requests(), book, outgoing, input, notes);
+            end(harvest, notes)
+        }
+        Err(NoMemory) => end(
+            Harvest {
+                fault: Some(NO_MEMORY),
+                outgoing,
+                logs: Ok(Vec::new(alloc)),
+            },
+            notes,
+        ),
+    }
+}
+
+/// Reads the input into a book, and lists the logs that are open then.
+fn read_into<R: Source, W: Drain, N: Drain>(
+    alloc: Global,
+    requests: u32,
+    book: Book,
+    outgoing: Outgoing<W>,
+    input: &mut R,
+    notes: &mut N,
+) -> Harvest<W>
+    requires few { requests ≤ 1000000 }
+    ensures { (limits : Bounds) (host : List ℕ) (start : W) → limits.requests ≡ requests → book.limits ≡ limits → Represents book [] → Delivered W.contents W.failures host start outgoing [] →
+        Harvested R.remaining R.failures W.contents W.failures N.contents N.failures limits host start input.old input.new notes.old notes.new result.fault result.outgoing (option_map (λ lines. lines.items) (result_ok result.logs)) }
+{
+    let mut run = Run {
+        book,
+        outgoing,
+        accepted: 0,
+    };
+    let fault = read_all(alloc, requests, input, &mut run, notes);
+    let logs = run.book.open_lines(alloc);
+    let Run {
+        book: _,
+        outgoing,
+        accepted: _,
+    } = run;
+    Harvest {
+        fault,
+        outgoing,
+        logs,
+    }
+}
+
+/// Ends the outbox, and tells how the run ended.
+fn end<W: Drain, N: Drain>(harvest: Harvest<W>, notes: &mut N) -> BatchEnd<W>
+    ensures { (host : List ℕ) (start : W) (letters : List SealedLog) → Delivered W.contents W.failures host start harvest.outgoing letters →
+        Ended W.contents W.failures N.contents N.failures host start letters harvest.fault (option_map (λ lines. lines.items) (result_ok harvest.logs)) notes.old notes.new result }
+{
+    let Harvest {
+        fault,
+        outgoing,
+        logs,
+    } = harvest;
+    let Finished {
+        outbox,
+        whole,
+        unsent,
+    } = outgoing.finish();
+    let before = is_lost(fault);
+    let (unsent, lost) = tell_end(notes, before, fault, whole, unsent, &logs);
+    let fault = fault_after(lost, fault);
+    let status = status_of(fault, whole, logs.is_ok());
+    BatchEnd {
+        outbox,
+        whole,
+        fault,
+        unsent,
+        status,
+    }
+}
+
+/// Whether a line of the notes could not be written.
+fn is_lost(fault: Option<u32>) -> bool
+    ensures { IsTrue result ↔ (fault ≡ Some NOTES) }
+{
+    fault == Some(NOTES)
+}
+
+/// The fault of a run, by whether a line of the notes was lost.
+fn fault_after(lost: bool, reading: Option<u32>) -> Option<u32>
+    ensures { result ≡ (if lost then Some NOTES else reading) }
+{
+    if lost { Some(NOTES) } else { reading }
+}
+
+/// The exit status.
+fn status_of(fault: Option<u32>, whole: bool, listed: bool) -> u8
+    ensures { result ≡ (if is_some fault || (not whole || not listed) then 1 else 0) }
+{
+    if fault.is_some() || !whole || !listed {
+        1
+    } else {
+        0
+    }
+}

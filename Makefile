@@ -13,7 +13,7 @@ SHELL := /bin/sh
 .SHELLFLAGS := -euc
 .ONESHELL:
 .DELETE_ON_ERROR:
-.PHONY: all build demo check install clean
+.PHONY: all build demo check bench install clean
 
 all: build
 
@@ -90,9 +90,14 @@ check:
 	echo "the gate and every script of tests/ passed"
 	echo "$$verdict"
 
+# Measures the program on workloads made from a seed; not part of `make check`.
+bench: $(NOTICED)
+	@NOTICED="$(CURDIR)/$(NOTICED)" PYTHONDONTWRITEBYTECODE=1 python3 bench/bench.py
+
 install: $(NOTICED)
 	@install -D -m 755 $(NOTICED) "$(DESTDIR)$(PREFIX)/bin/noticed"
-	echo "installed $(DESTDIR)$(PREFIX)/bin/noticed"
+	install -D -m 644 docs/noticed.8 "$(DESTDIR)$(PREFIX)/share/man/man8/noticed.8"
+	echo "installed $(DESTDIR)$(PREFIX)/bin/noticed and its manual page"
 
 # Removes what was built and what the prover kept: the next build proves everything again.
 clean:

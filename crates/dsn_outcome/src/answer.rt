@@ -1,4 +1,5 @@
 //! What the daemon answers a delivery agent.
+use crate::carried::Carried;
 
 /// What became of a request. A number is how many outcomes the log held before it.
 #[derive(Clone, Copy, Debug, PartialEq, Eq)]
@@ -32,4 +33,18 @@ pub struct Answer {
     pub number: u32,
     /// What became of the request.
     pub reply: Reply,
+}
+
+impl Carried for Answer {
+    ghost agent = { λ answer. answer.agent };
+
+    ghost number = { λ answer. answer.number };
+
+    fn agent(&self) -> u32 {
+        self.agent
+    }
+
+    fn number(&self) -> u32 {
+        self.number
+    }
 }

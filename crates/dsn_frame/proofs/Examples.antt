@@ -3,7 +3,7 @@ use Rattle.std.proofs.Common.{◌≡◌, ℕ, List, [], ◌∷◌, ◌++◌, ref
 use Rattle.std.specs.Prelude.{Option, Some, None, codes}
 use Rattle.std.specs.Option.{option_map}
 use Rattle.dsn_outcome.specs.Outcome.{first_outcome_fault}
-use Rattle.dsn_outcome.specs.Request.{Append, Flush}
+use Rattle.dsn_outcome.specs.Request.{Body, Append, Flush}
 use Rattle.dsn_outcome.specs.declared.action.Action.TheVariants.{Failed}
 use Rattle.dsn_outcome.specs.declared.service.Service.TheVariants.{Bounce}
 use Rattle.dsn_frame.specs.BodyFault.{body_fault_code}
@@ -50,12 +50,12 @@ unfolding first_body_fault first_own_fault body_at head_at text_at number_at own
 service_before_id = refl
 
 -- one append and one flush: the bodies of a delivery agent that gives up on one recipient and asks for the notice
-abbrev append_body : List ℕ
+abbrev pub append_body : List ℕ
 append_body =
     (1 ∷ 1 ∷ 0 ∷ 0 ∷ 0 ∷ 0 ∷ 1 ∷ 0 ∷ 6 ∷ []) ++ codes "A1B2C3" ++ (0 ∷ 0 ∷ 0 ∷ 15 ∷ []) ++ codes "bob@example.org"
     ++ (1 ∷ 0 ∷ 5 ∷ []) ++ codes "5.1.1" ++ (0 ∷ 0 ∷ 0 ∷ 0 ∷ 0 ∷ 0 ∷ [])
 
-abbrev flush_body : List ℕ
+abbrev pub flush_body : List ℕ
 flush_body =
     (1 ∷ 2 ∷ 0 ∷ 0 ∷ 0 ∷ 1 ∷ 1 ∷ 0 ∷ 6 ∷ []) ++ codes "A1B2C3" ++ (0 ∷ 0 ∷ 0 ∷ 0 ∷ 0x65 ∷ 0x53 ∷ 0xf1 ∷ 0 ∷ [])
     ++ (0 ∷ 0 ∷ 0 ∷ 0 ∷ 0x65 ∷ 0x53 ∷ 0xe2 ∷ 0xf0 ∷ []) ++ (0 ∷ 15 ∷ []) ++ codes "ann@example.com" ++ (0 ∷ 0 ∷ 0 ∷ 0 ∷ [])
@@ -72,8 +72,10 @@ byte_after_append : refused (append_body ++ (0 ∷ [])) ≡ Some 24
 unfolding first_body_fault first_own_fault body_at head_at text_at number_at own_at append_at
 byte_after_append = refl
 
-append_is_encoded :
-    Encodes append_body 0 (Append (codes "A1B2C3") (record {
+-- what they ask
+abbrev pub append_asked : Body
+append_asked =
+    Append (codes "A1B2C3") (record {
       service = Bounce;
       recipient = codes "bob@example.org";
       original = None;
@@ -82,7 +84,19 @@ append_is_encoded :
       mta = None;
       diagnostic = None;
       reason = None;
-    }))
+    })
+
+abbrev pub flush_asked : Body
+flush_asked =
+    Flush (record { service = Bounce; id = codes "A1B2C3" }) (record {
+      moment = 1700000000;
+      arrival = 1699996400;
+      return_path = Some (codes "ann@example.com");
+      envelope_id = None;
+      header = [];
+    })
+
+pub append_is_encoded : Encodes append_body 0 append_asked
 unfolding body_bytes own_bytes head_bytes append_bytes flush_bytes text_bytes number_bytes FitsOwn first_own_fault StandsFor first_outcome_fault
 append_is_encoded = record {
   wire = AppendFields (record { number = 0; service = 1; id = codes "A1B2C3" }) (record { recipient = codes "bob@example.org"; original = []; action = 1; status = codes "5.1.1"; mta = []; diagnostic = []; reason = [] });
@@ -97,14 +111,7 @@ append_is_encoded = record {
   };
 }
 
-flush_is_encoded :
-    Encodes flush_body 1 (Flush (record { service = Bounce; id = codes "A1B2C3" }) (record {
-      moment = 1700000000;
-      arrival = 1699996400;
-      return_path = Some (codes "ann@example.com");
-      envelope_id = None;
-      header = [];
-    }))
+pub flush_is_encoded : Encodes flush_body 1 flush_asked
 unfolding body_bytes own_bytes head_bytes append_bytes flush_bytes text_bytes number_bytes FitsOwn first_own_fault StandsFor
 flush_is_encoded = record {
   wire = FlushFieldsOf (record { number = 1; service = 1; id = codes "A1B2C3" }) (record { moment = 1700000000; arrival = 1699996400; return_path = codes "ann@example.com"; envelope_id = []; header = [] });

@@ -1,3 +1,4 @@
+mod AnswerExamples
 pub mod BodyLaws
 mod Examples
 pub mod Existence
@@ -5,3 +6,4 @@ pub mod FieldLaws
 pub mod FrameLaws
 pub mod InputLaws
 pub mod RequestLaws
+mod SessionExamples

@@ -1,3 +1,4 @@
+pub mod AnswerFault
 pub mod BodyFault
 pub mod BodyParts
 pub mod Frame
@@ -5,4 +6,6 @@ pub mod FrameBody
 pub mod FrameFault
 pub mod Laws
 pub mod Request
+pub mod Session
+pub mod Spoken
 pub mod Wire

@@ -1,6 +1,7 @@
 //! The wire format of requests: frames, and the bodies that they carry.
 #![tactic(auto)]
 
+mod answer_fault;
 mod body_fault;
 mod decode;
 mod frame;
@@ -9,9 +10,12 @@ mod laws;
 mod optional;
 mod parts;
 mod reading;
+mod spoken;
 
+pub use answer_fault::AnswerFault;
 pub use body_fault::BodyFault;
 pub use decode::decode_request;
 pub use frame::{Frame, LONGEST_BODY, read_frame};
 pub use frame_fault::FrameFault;
 pub use laws::{bodies_are_requests_or_refused, inputs_are_frames_and_an_end};
+pub use spoken::Spoken;

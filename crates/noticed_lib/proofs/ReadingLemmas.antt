@@ -23,7 +23,7 @@ use Rattle.noticed_lib.specs.Reading.{HeardSoFar, Heard}
 use Rattle.noticed_lib.specs.Run.{Stands, Answered}
 use Rattle.noticed_lib.specs.Session.{Session, begun, answered, Answers, Ends, told_out_of_turn, notes_failed}
 use Rattle.noticed_lib.specs.declared.run.Run.{Run}
-use Rattle.noticed_lib.specs.declared.spoken.Spoken.{Spoken}
+use Rattle.dsn_frame.specs.declared.spoken.Spoken.{Spoken}
 use Rattle.noticed_lib.specs.declared.turn.Turn.{Turn}
 
 flat_map-frame-more : (bodies : List (List ℕ)) (bytes : List ℕ) → flat_map frame (bodies ++ bytes ∷ []) ≡ flat_map frame bodies ++ frame bytes

@@ -20,7 +20,7 @@ use Rattle.noticed_lib.specs.Session.{next_request, Answers, faulty, out_of_memo
 use Rattle.noticed_lib.specs.declared.turn.Turn.{Turn}
 use Rattle.noticed_lib.specs.declared.outgoing.Outgoing.{Outgoing}
 use Rattle.noticed_lib.specs.declared.run.Run.{Run}
-use Rattle.noticed_lib.specs.declared.spoken.Spoken.TheVariants as spoken
+use Rattle.dsn_frame.specs.declared.spoken.Spoken.TheVariants as spoken
 
 abbrev pub request_numbered : ℕ → Body → Request
 request_numbered number body = record { agent = 0; number = number; body = body }

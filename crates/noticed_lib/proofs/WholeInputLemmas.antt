@@ -20,7 +20,7 @@ use Rattle.dsn_outcome.specs.History.{Limits}
 use Rattle.dsn_outcome.specs.Request.{Request, Body}
 use Rattle.noticed_lib.specs.Session.{next_request, Answers, faulty, out_of_memory, out_of_turn, asked, Session, begun, answered, Ends, well, cut, too_many, told_out_of_turn, notes_failed, no_memory_for_book}
 use Rattle.noticed_lib.specs.WholeInput.{EncodeInTurn, IsWholeInput, IsRequestOf, AreRequestsOf, IsReply, IsReplyOrNoMemory, IsOutside, none, no_memory, read_failed, notes_lost, TakesAll}
-use Rattle.noticed_lib.specs.declared.spoken.Spoken.{Spoken}
+use Rattle.dsn_frame.specs.declared.spoken.Spoken.{Spoken}
 
 -- ---- lists with one more
 

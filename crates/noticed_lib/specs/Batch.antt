@@ -18,7 +18,7 @@ use Rattle.noticed_lib.specs.Session.{Session, Ends}
 use Rattle.noticed_lib.specs.Telling.{Told}
 use Rattle.noticed_lib.specs.WholeInput.{IsWholeInput, TakesAll}
 use Rattle.noticed_lib.specs.declared.batch_end.BatchEnd.{BatchEnd}
-use Rattle.noticed_lib.specs.declared.spoken.Spoken.{Spoken}
+use Rattle.dsn_frame.specs.declared.spoken.Spoken.{Spoken}
 
 -- the lines of the logs that a history leaves open, in key order; none where their list found no memory
 abbrev pub AreOpenLines : List Exchange → Option (List OpenLine) → Type 0

@@ -18,7 +18,7 @@ use Rattle.noticed_lib.specs.declared.outgoing.Outgoing.{Outgoing}
 use Rattle.noticed_lib.specs.Session.{Session, Ends}
 use Rattle.noticed_lib.specs.Telling.{Told}
 use Rattle.noticed_lib.specs.declared.batch_end.BatchEnd.{BatchEnd}
-use Rattle.noticed_lib.specs.declared.spoken.Spoken.{Spoken}
+use Rattle.dsn_frame.specs.declared.spoken.Spoken.{Spoken}
 
 module _ {R W N : Type 0} (remaining : R → Option (List ℕ)) (input_failures : R → ℕ) (contents : W → Option (List ℕ)) (outbox_failures : W → ℕ) (told : N → Option (List ℕ)) (notes_failures : N → ℕ) where
   -- what came of the reading

@@ -7,8 +7,8 @@ use Rattle.dsn_outcome.specs.declared.answer.Reply.{Reply}
 use Rattle.dsn_outcome.specs.declared.answer.Reply.TheVariants.{Logged, Closed, TableFull, LogFull, Nothing, NoReturn, Sealed, Discarded, Gone}
 use Rattle.dsn_outcome.specs.declared.key.Key.{Key}
 use Rattle.dsn_book.specs.declared.line.OpenLine.{OpenLine}
-use Rattle.noticed_lib.specs.declared.spoken.Spoken.{Spoken}
-use Rattle.noticed_lib.specs.declared.spoken.Spoken.TheVariants as spoken
+use Rattle.dsn_frame.specs.declared.spoken.Spoken.{Spoken}
+use Rattle.dsn_frame.specs.declared.spoken.Spoken.TheVariants as spoken
 
 -- a reply in words; the number is a place or a count
 unfoldable pub reply_words : Reply → List ℕ

@@ -11,7 +11,7 @@ use Rattle.noticed_lib.specs.Run.{Stands}
 use Rattle.noticed_lib.specs.Session.{Session, Ends}
 use Rattle.noticed_lib.specs.Telling.{Told}
 use Rattle.noticed_lib.specs.declared.run.Run.{Run}
-use Rattle.noticed_lib.specs.declared.spoken.Spoken.{Spoken}
+use Rattle.dsn_frame.specs.declared.spoken.Spoken.{Spoken}
 
 module _ {R W N : Type 0} (remaining : R → Option (List ℕ)) (input_failures : R → ℕ) (contents : W → Option (List ℕ)) (outbox_failures : W → ℕ) (told : N → Option (List ℕ)) (notes_failures : N → ℕ) where
   -- so many frames were read and answered, and nothing failed

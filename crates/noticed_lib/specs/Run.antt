@@ -5,7 +5,7 @@ use Rattle.dsn_outcome.specs.History.{Limits, history_of, reply_to, sealed_lette
 use Rattle.dsn_outcome.specs.Request.{Request, Body}
 use Rattle.noticed_lib.specs.Outgoing.{Delivered}
 use Rattle.noticed_lib.specs.Session.{Answers, next_request}
-use Rattle.noticed_lib.specs.declared.spoken.Spoken.TheVariants as spoken
+use Rattle.dsn_frame.specs.declared.spoken.Spoken.TheVariants as spoken
 use Rattle.noticed_lib.specs.declared.run.Run.{Run}
 use Rattle.noticed_lib.specs.declared.turn.Turn.{Turn}
 

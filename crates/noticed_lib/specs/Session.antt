@@ -11,8 +11,8 @@ use Rattle.dsn_frame.specs.FrameFault.{frame_fault_code}
 use Rattle.dsn_frame.specs.Request.{Encodes, first_body_fault}
 use Rattle.dsn_frame.specs.declared.body_fault.BodyFault.{BodyFault}
 use Rattle.dsn_frame.specs.declared.frame_fault.FrameFault.{FrameFault}
-use Rattle.noticed_lib.specs.declared.spoken.Spoken.{Spoken}
-use Rattle.noticed_lib.specs.declared.spoken.Spoken.TheVariants as spoken
+use Rattle.dsn_frame.specs.declared.spoken.Spoken.{Spoken}
+use Rattle.dsn_frame.specs.declared.spoken.Spoken.TheVariants as spoken
 
 -- the next request of agent 0, after these; its number is how many there are
 abbrev pub next_request : List Request → Body → Request

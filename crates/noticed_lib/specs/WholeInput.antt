@@ -6,8 +6,8 @@ use Rattle.dsn_frame.specs.FrameBody.{IsFrameBody}
 use Rattle.dsn_frame.specs.Request.{Encodes}
 use Rattle.dsn_outcome.specs.History.{Limits}
 use Rattle.dsn_outcome.specs.Request.{Request, Body}
-use Rattle.noticed_lib.specs.declared.spoken.Spoken.{Spoken}
-use Rattle.noticed_lib.specs.declared.spoken.Spoken.TheVariants.{Reply, Refused}
+use Rattle.dsn_frame.specs.declared.spoken.Spoken.{Spoken}
+use Rattle.dsn_frame.specs.declared.spoken.Spoken.TheVariants.{Reply, Refused}
 
 -- each of these bodies encodes a request; the first has this number, and each other the next one
 abbrev pub EncodeInTurn : ℕ → List (List ℕ) → Type 0

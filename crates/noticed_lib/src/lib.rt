@@ -9,7 +9,6 @@ mod notes;
 mod outgoing;
 mod reading;
 mod run;
-mod spoken;
 #[cfg(test)]
 mod tests;
 mod turn;
@@ -17,6 +16,6 @@ mod whole_run;
 
 pub use batch_end::BatchEnd;
 pub use dsn_book::Limits;
+pub use dsn_frame::Spoken;
 pub use dsn_report::Site;
-pub use spoken::Spoken;
 pub use whole_run::batch;

@@ -4,8 +4,8 @@
 ghost use Rattle.std.specs.Prelude.{◌≡◌, ◌+◌, ◌≤◌, ◌++◌, length, decimal};
 ghost use Rattle.noticed_lib.specs.Notes.{answer_line, fault_line, unsent_line, open_line, key_words, reply_words, spoken_words};
 
-use crate::spoken::Spoken;
 use dsn_book::OpenLine;
+use dsn_frame::Spoken;
 use dsn_outcome::{Key, Letter, Reply, ShortText};
 
 /// The line of an answer.

@@ -6,10 +6,9 @@ ghost use Rattle.dsn_outcome.specs.Body.{body_of};
 ghost use Rattle.noticed_lib.specs.Run.{Stands, Asks, Answered};
 
 use crate::outgoing::Outgoing;
-use crate::spoken::Spoken;
 use crate::turn::Turn;
 use dsn_book::{Book, Step};
-use dsn_frame::decode_request;
+use dsn_frame::{Spoken, decode_request};
 use dsn_outcome::{Body, Drain, Request};
 use std::alloc::Global;
 

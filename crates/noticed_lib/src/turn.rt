@@ -1,5 +1,5 @@
 //! The answer to one frame.
-use crate::spoken::Spoken;
+use dsn_frame::Spoken;
 
 /// What a frame is answered, and whether the session is over then.
 #[derive(Clone, Copy, Debug, PartialEq, Eq)]

@@ -6,6 +6,7 @@ use dsn_outcome::Reply;
 pub enum Spoken {
     /// What became of the request.
     Reply(Reply),
-    /// The number of the refusal: the frame's body is no request, or has a number out of turn.
+    /// The number of the refusal: the frame's body is no request, has a number out of turn, or
+    /// can't be asked any more.
     Refused(u32),
 }

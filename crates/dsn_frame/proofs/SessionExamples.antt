@@ -1,0 +1,59 @@
+-- Worked examples of sessions, made by the definitions.
+use Rattle.std.proofs.Common.{◌≡◌, ℕ, List, [], ◌∷◌, ◌++◌, refl, lit<, lit≤}
+use Rattle.std.specs.Prelude.{Some, None}
+use Rattle.dsn_outcome.specs.declared.answer.Reply.TheVariants.{Logged, Sealed}
+use Rattle.dsn_frame.specs.Frame.{frame}
+use Rattle.dsn_frame.specs.Request.{first_body_fault}
+use Rattle.dsn_frame.specs.Session.{Input, Connection, faulty, out_of_turn, used_up, asked, given_up_after, written, unwritten, begun, taken, stopped, well, too_many, IsSession}
+use Rattle.dsn_frame.specs.declared.body_fault.BodyFault.TheVariants.{Version}
+use Rattle.dsn_frame.specs.declared.spoken.Spoken.TheVariants.{Reply, Refused}
+use Rattle.dsn_frame.proofs.Examples.{append_body, flush_body, append_asked, flush_asked, append_is_encoded, flush_is_encoded}
+
+-- a frame of one byte, which is refused
+garbage : List ℕ
+garbage = 0 ∷ []
+
+-- one append and one flush are asked, on a connection to a daemon of which nothing was asked before
+one_append_one_flush :
+    IsSession Connection 2 0 (Some (frame append_body ++ frame flush_body)) (Some []) (append_body ∷ flush_body ∷ [])
+    (append_asked ∷ flush_asked ∷ []) (Reply (Logged 0) ∷ Reply (Sealed 1) ∷ []) None
+one_append_one_flush =
+    let first = taken [] [] (append_asked ∷ []) [] (Reply (Logged 0) ∷ []) append_body None None begun (lit< tt) (lit≤ tt, lit≤ tt)
+    (asked append_asked (Logged 0) append_is_encoded (lit< tt)) (written _ None) in
+    let second = taken (append_body ∷ []) (append_asked ∷ []) (flush_asked ∷ []) (Reply (Logged 0) ∷ []) (Reply (Sealed 1) ∷ []) flush_body None None first (lit< tt) (lit≤ tt, lit≤ tt)
+    (asked flush_asked (Sealed 1) flush_is_encoded (lit< tt)) (written _ None) in
+    record { made = None; takes = second; left = Some []; read = refl; ends = well refl refl refl }
+
+-- the same frames after the one request that there may be: the append is refused, and the flush isn't read
+used_up_before :
+    IsSession Connection 1 1 (Some (frame append_body ++ frame flush_body)) (Some []) (append_body ∷ []) [] (Refused 44 ∷ []) (Some 47)
+used_up_before =
+    let first = taken [] [] [] [] (Refused 44 ∷ []) append_body None None begun (lit< tt) (lit≤ tt, lit≤ tt) (used_up append_asked append_is_encoded refl) (written _ None) in
+    record { made = None; takes = first; left = Some (frame flush_body); read = refl; ends = too_many refl flush_body refl (lit≤ tt, lit≤ tt) refl }
+
+-- a refused body leaves the session as it was; the append that follows it has the number of its request, not of its
+-- frame, and ends it
+number_out_of_turn :
+    IsSession Input 9 0 (Some (frame garbage ++ (frame append_body ++ frame flush_body))) (Some (frame flush_body)) (garbage ∷ append_body ∷ []) [] (Refused 21 ∷ Refused 46 ∷ []) (Some 46)
+unfolding garbage first_body_fault
+number_out_of_turn =
+    let first = taken [] [] [] [] (Refused 21 ∷ []) garbage None None begun (lit< tt) (lit≤ tt, lit≤ tt) (faulty Version refl) (written _ None) in
+    let second = taken (garbage ∷ []) [] [] (Refused 21 ∷ []) (Refused 46 ∷ []) append_body (Some 46) (Some 46) first (lit< tt) (lit≤ tt, lit≤ tt)
+    (out_of_turn 0 append_asked append_is_encoded (λ same. let never : 0 ≡ 1 = same in cc)) (written _ (Some 46)) in
+    record { made = Some 46; takes = second; left = Some (frame flush_body); read = refl; ends = stopped 46 refl refl }
+
+-- an answer that couldn't be written stands among the answers, and ends the session
+answer_unwritten :
+    IsSession Connection 9 3 (Some (frame append_body ++ frame flush_body)) (Some (frame flush_body)) (append_body ∷ []) (append_asked ∷ []) (Reply (Logged 0) ∷ []) (Some 35)
+answer_unwritten =
+    let first = taken [] [] (append_asked ∷ []) [] (Reply (Logged 0) ∷ []) append_body None (Some 35) begun (lit< tt) (lit≤ tt, lit≤ tt)
+    (asked append_asked (Logged 0) append_is_encoded (lit< tt)) (unwritten _ None) in
+    record { made = Some 35; takes = first; left = Some (frame flush_body); read = refl; ends = stopped 35 refl refl }
+
+-- the daemon gave up after the append was asked: it has no answer
+given_up_at_append :
+    IsSession Connection 9 0 (Some (frame append_body)) (Some []) (append_body ∷ []) (append_asked ∷ []) [] (Some 41)
+given_up_at_append =
+    let first = taken [] [] (append_asked ∷ []) [] [] append_body (Some 41) (Some 41) begun (lit< tt) (lit≤ tt, lit≤ tt)
+    (given_up_after append_asked append_is_encoded (lit< tt) refl) (written _ (Some 41)) in
+    record { made = Some 41; takes = first; left = Some []; read = refl; ends = stopped 41 refl refl }

@@ -2,14 +2,17 @@
 -- project's profile, version 1).
 use Rattle.std.specs.Prelude.{◌≡◌, ℕ, Bool, true, false, ◌&&◌, ◌==◌, nat_le, List, [], ◌∷◌, length, Option, Some, None, is_some, slice_get, option_and_then}
 use Rattle.std.specs.Option.{option_map, option_map_or}
+use Rattle.dsn_outcome.specs.Action.{action_byte}
 use Rattle.dsn_outcome.specs.Draft.{Draft}
 use Rattle.dsn_outcome.specs.Outcome.{Outcome, Fields, IsOutcomeOf, first_outcome_fault, first_failed, is_none_or, unless_empty}
-use Rattle.dsn_outcome.specs.Request.{Body, Append, Flush, Discard}
-use Rattle.dsn_outcome.specs.Service.{service_of_byte}
+use Rattle.dsn_outcome.specs.Request.{Body, Append, Flush, Discard, Bye}
+use Rattle.dsn_outcome.specs.Service.{service_byte, service_of_byte}
 use Rattle.dsn_outcome.specs.Stamp.{last_moment}
 use Rattle.dsn_outcome.specs.Text.{is_queue_id, is_address, is_envelope_id}
 use Rattle.dsn_outcome.specs.declared.key.Key.{Key}
+use Rattle.dsn_outcome.specs.declared.service.Service.{Service}
 use Rattle.dsn_frame.specs.BodyFault.{outcome_refusal}
+use Rattle.dsn_frame.specs.Frame.{frame}
 use Rattle.dsn_frame.specs.Wire.{Head, FlushFields, WireBody, AppendFields, FlushFieldsOf, DiscardFields, head_of, body_bytes, Fits, body_at}
 use Rattle.dsn_frame.specs.declared.body_fault.BodyFault.{BodyFault}
 use Rattle.dsn_frame.specs.declared.body_fault.BodyFault.TheVariants as faults
@@ -104,3 +107,49 @@ pub record Encodes (bytes : List ℕ) (number : ℕ) (body : Body) : Type 0 wher
   pub number_is : number ≡ (head_of wire).number
   pub accepted : first_field_fault wire ≡ None
   pub stands_for : StandsFor wire body
+
+-- ---- how a request is written
+
+-- a text that is there, or the empty one
+abbrev pub text_or_empty : Option (List ℕ) → List ℕ
+text_or_empty None = []
+text_or_empty (Some text) = text
+
+abbrev pub head_for : ℕ → Service → List ℕ → Head
+head_for number service id = record { number = number; service = service_byte service; id = id }
+
+-- an outcome's texts are written as it keeps them, so its diagnostic and its reason clean
+abbrev pub fields_for : Outcome → Fields
+fields_for outcome = record {
+  recipient = outcome.recipient;
+  original = text_or_empty outcome.original;
+  action = action_byte outcome.action;
+  status = outcome.status;
+  mta = text_or_empty outcome.mta;
+  diagnostic = text_or_empty outcome.diagnostic;
+  reason = text_or_empty outcome.reason;
+}
+
+abbrev pub flush_fields_for : Draft → FlushFields
+flush_fields_for draft = record {
+  moment = draft.moment;
+  arrival = draft.arrival;
+  return_path = text_or_empty draft.return_path;
+  envelope_id = text_or_empty draft.envelope_id;
+  header = draft.header;
+}
+
+-- the fields that are written of a body with this number; a goodbye has none
+unfoldable pub fields_written : ℕ → Body → Option WireBody
+fields_written number (Append id outcome) = Some (AppendFields (head_for number outcome.service id) (fields_for outcome))
+fields_written number (Flush key draft) = Some (FlushFieldsOf (head_for number key.service key.id) (flush_fields_for draft))
+fields_written number (Discard key) = Some (DiscardFields (head_for number key.service key.id))
+fields_written number Bye = None
+
+-- the bytes that are written of a body; of a goodbye none
+unfoldable pub request_body : ℕ → Body → List ℕ
+request_body number body = option_map_or body_bytes (fields_written number body) []
+
+-- a request's frame
+unfoldable pub request_bytes : ℕ → Body → List ℕ
+request_bytes number body = frame (request_body number body)

@@ -110,7 +110,7 @@ fn read_body<S: Source>(alloc: Global, source: &mut S, size: usize) -> Result<Ve
 }
 
 /// The number that four bytes are, the highest first.
-fn number_in(bytes: &[u8]) -> u32
+pub(crate) fn number_in(bytes: &[u8]) -> u32
     requires { length bytes.now ≡ 4 }
     ensures value { result ≡ from_be_bytes w32 bytes.now }
     ensures written { bytes.now ≡ to_be_bytes w32 result }

@@ -1,6 +1,7 @@
 //! The wire format of requests: frames, and the bodies that they carry.
 #![tactic(auto)]
 
+mod answer;
 mod answer_fault;
 mod body_fault;
 mod decode;
@@ -12,6 +13,7 @@ mod parts;
 mod reading;
 mod spoken;
 
+pub use answer::{decode_answer, encode_answer};
 pub use answer_fault::AnswerFault;
 pub use body_fault::BodyFault;
 pub use decode::decode_request;

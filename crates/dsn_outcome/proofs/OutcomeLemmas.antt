@@ -1,6 +1,6 @@
 -- Outcomes: what it means that their fields have no fault.
 use Rattle.std.proofs.Common.{◌≡◌, ℕ, ◌≤◌, Bool, true, false, List, [], ◌∷◌, length, refl}
-use Rattle.std.specs.Prelude.{Option, Some, None, IsTrue, if◌then◌else◌}
+use Rattle.std.specs.Prelude.{◌≢◌, Option, Some, None, IsTrue, if◌then◌else◌}
 use Rattle.std.specs.Option.{option_map_or}
 use Rattle.std.proofs.lemmas.Bool.{leb-true}
 use Rattle.dsn_outcome.specs.Action.{action_of_byte}
@@ -64,6 +64,11 @@ is_clean-unless_empty : (text : List ℕ) → length text ≤ 800 → IsTrue (is
 is_clean-unless_empty [] short = refl
 is_clean-unless_empty (byte ∷ rest) short = IsClean-clean_text (byte ∷ rest) short
 
+-- a text that is there has a byte
+said-unless_empty : (text : List ℕ) → unless_empty (clean_text text) ≢ Some []
+said-unless_empty [] none = cc
+said-unless_empty (byte ∷ rest) empty = cc
+
 -- the outcome of fields without a fault is legal
 pub legal-IsOutcomeOf : (service : Service) (fields : Fields) (outcome : Outcome) → Passes service fields → IsOutcomeOf service fields outcome → IsLegalOutcome outcome
 legal-IsOutcomeOf service fields outcome passes of = record {
@@ -74,5 +79,7 @@ legal-IsOutcomeOf service fields outcome passes of = record {
   class_fits = rw of.status_is (rw of.action_is at passes.class);
   mta_legal = rw of.mta_is passes.mta;
   diagnostic_clean = rw of.diagnostic_is (is_clean-unless_empty fields.diagnostic passes.diagnostic);
+  diagnostic_said = rw of.diagnostic_is (said-unless_empty fields.diagnostic);
   reason_clean = rw of.reason_is (is_clean-unless_empty fields.reason passes.reason);
+  reason_said = rw of.reason_is (said-unless_empty fields.reason);
 }

@@ -1,5 +1,5 @@
 -- Outcomes: what became of one recipient, and which of them are legal (RFC 3464 section 2.3).
-use Rattle.std.specs.Prelude.{◌≡◌, ℕ, Bool, true, false, ◌||◌, ◌==◌, List, [], ◌∷◌, length, Option, Some, None, IsTrue, if◌then◌else◌, nat_le}
+use Rattle.std.specs.Prelude.{◌≡◌, ◌≢◌, ℕ, Bool, true, false, ◌||◌, ◌==◌, List, [], ◌∷◌, length, Option, Some, None, IsTrue, if◌then◌else◌, nat_le}
 use Rattle.std.specs.Option.{option_map_or}
 use Rattle.dsn_outcome.specs.Action.{action_of_byte}
 use Rattle.dsn_outcome.specs.Text.{is_address, is_mta_name, is_clean, clean_text}
@@ -98,7 +98,8 @@ abbrev pub is_none_or : (List ℕ → Bool) → Option (List ℕ) → Bool
 is_none_or test text = option_map_or test text true
 
 -- a legal outcome (RFC 3464 sections 2.3.1 to 2.3.6): the service takes the action, the status is a code
--- whose class fits the action, and each text is within its bounds
+-- whose class fits the action, and each text is within its bounds; a diagnostic or a reason that is there says
+-- something
 pub record IsLegalOutcome (outcome : Outcome) : Type 0 where
   pub recipient_legal : IsTrue (is_address outcome.recipient)
   pub original_legal : IsTrue (is_none_or is_address outcome.original)
@@ -107,4 +108,6 @@ pub record IsLegalOutcome (outcome : Outcome) : Type 0 where
   pub class_fits : IsTrue (fits_class outcome.action (status_class outcome.status))
   pub mta_legal : IsTrue (is_none_or is_mta_name outcome.mta)
   pub diagnostic_clean : IsTrue (is_none_or is_clean outcome.diagnostic)
+  pub diagnostic_said : outcome.diagnostic ≢ Some []
   pub reason_clean : IsTrue (is_none_or is_clean outcome.reason)
+  pub reason_said : outcome.reason ≢ Some []

@@ -1,30 +1,232 @@
--- The search for a boundary's number, one number at a time.
-use Rattle.std.proofs.Common.{◌≡◌, ℕ, zero, suc, ◌+◌, ◌-◌, ◌<◌, Bool, true, false, List, refl, sym, ap, ◌∙◌, arith, add-one}
-use Rattle.std.specs.List.{list_any}
+-- What one line of a header tells of the boundary's number, and how the table of the numbers that are ruled out grows.
+use Rattle.std.proofs.Common.{◌≡◌, ℕ, suc, cond, ◌+◌, ◌/◌, ◌%◌, ◌<◌, inl, inr, Bool, true, false, ◌||◌, List, [], ◌∷◌, ◌++◌, length, length-append, append_assoc, take, drop, map, get_or, codes, refl, sym, ap, subst, ◌∙◌, arith, if◌then◌else◌, slice_set}
+use Rattle.std.specs.Prelude.{not, position, ◌==◌, nat_eq, IfSome, IfNone, IsTrue, IsFalse, Option, Some, None}
+use Rattle.std.specs.List.{list_any, position_or_len, starts_with}
+use Rattle.std.proofs.lemmas.Bool.{false_from_ne_true, false≢true}
+use Rattle.std.proofs.lemmas.Bool.Decides.{Decides-eqb, eqb_tells, leb_tells}
+use Rattle.std.proofs.Math.Seq.{take-append_seam}
+use Rattle.std.proofs.lemmas.List.{append_cancel_left, get_or-set_same, get_or-set_other}
+use Rattle.std.proofs.lemmas.List.Quantifiers.{position-Some}
+use Rattle.std.proofs.lemmas.List.Sums.{fails_before_first}
+use Rattle.std.proofs.lemmas.Slice.Eq.{starts_is}
 use Rattle.dsn_outcome.specs.Letter.{Letter}
-use Rattle.dsn_report.specs.Boundary.{boundary_text, first_failing, is_delimiter, is_ruled_out, returned_lines}
+use Rattle.dsn_outcome.specs.Text.{is_printable}
+use Rattle.dsn_report.specs.Boundary.{IsBoundaryNumber, boundary_front, boundary_text, four_digits, header_lines, is_dashed, is_delimiter, is_ruled_out, returned_lines, rules_out, shown_byte, shown_line}
 
--- the search stops at a number that fails the test
-pub first_failing-stop : (test : ℕ → Bool) (number tries : ℕ) → test number ≡ false → first_failing test number tries ≡ number
-unfolding first_failing
-first_failing-stop test number zero fails = refl
-first_failing-stop test number (suc tries) fails = rw fails refl
+-- a text that begins with another
+pub begins-with : (front text : List ℕ) → starts_with nat_eq text front ≡ true → text ≡ front ++ drop (length front) text
+begins-with front text is = (starts_is Decides-eqb text front true (sym is)).0 refl
 
--- it goes on after one that passes
-pub first_failing-more : (test : ℕ → Bool) (number last : ℕ) → number < last → test number ≡ true
-    → first_failing test number (last - number) ≡ first_failing test (number + 1) (last - (number + 1))
-unfolding first_failing
-first_failing-more test number last more passes =
-    let left : last - number ≡ suc (last - (number + 1)) = omega arith in
-    rw (left, passes, add-one) refl
+pub starts-with : (front text rest : List ℕ) → text ≡ front ++ rest → starts_with nat_eq text front ≡ true
+starts-with front text rest e = (starts_is Decides-eqb text front (starts_with nat_eq text front) refl).1 rest e
 
--- what one pass over the header tells of a number
-pub ruled_out-tells : (letter : Letter) (boundary header : List ℕ) (number : ℕ) (told answer : Bool)
-    → told ≡ list_any (is_delimiter boundary) (returned_lines header) → boundary ≡ boundary_text letter number → header ≡ letter.draft.header → told ≡ answer
-    → is_ruled_out letter number ≡ answer
-unfolding is_ruled_out
-ruled_out-tells letter boundary header number told answer e b h t =
-    ap (λ b. list_any (is_delimiter b) (returned_lines letter.draft.header)) (sym b)
-    ∙ ap (λ h. list_any (is_delimiter boundary) (returned_lines h)) (sym h)
-    ∙ sym e
-    ∙ t
+-- the same beginning of both decides nothing
+starts_with-append : (front text needle : List ℕ) → starts_with nat_eq (front ++ text) (front ++ needle) ≡ starts_with nat_eq text needle
+starts_with-append [] text needle = refl
+starts_with-append (byte ∷ front) text needle = rw ((Decides-eqb byte byte).1 refl) (starts_with-append front text needle)
+
+-- a delimiter's line begins with two dashes and the boundary
+pub delimiter-begins : (boundary line : List ℕ) → is_delimiter boundary line ≡ true → line ≡ (codes "--" ++ boundary) ++ drop (length (codes "--" ++ boundary)) line
+delimiter-begins boundary line is = begins-with (codes "--" ++ boundary) line is
+
+delimiter-boundary : (boundary line : List ℕ) → is_delimiter boundary line ≡ true → take (length boundary) (drop 2 line) ≡ boundary
+delimiter-boundary boundary line is =
+    ap (λ l. take (length boundary) (drop 2 l)) (delimiter-begins boundary line is)
+    ∙ take-append_seam boundary (drop (length (codes "--" ++ boundary)) line)
+
+-- two numbers with the same digits are the same
+four_digits-once : (j k : ℕ) → j < 10000 → k < 10000 → four_digits j ≡ four_digits k → j ≡ k
+four_digits-once j k p q e =
+    let thousands : 48 + j / 1000 ≡ 48 + k / 1000 = cc in
+    let hundreds : 48 + j / 100 % 10 ≡ 48 + k / 100 % 10 = cc in
+    let tens : 48 + j / 10 % 10 ≡ 48 + k / 10 % 10 = cc in
+    let ones : 48 + j % 10 ≡ 48 + k % 10 = cc in
+    omega arith
+
+-- a line rules out one number at most
+pub delimiter-once : (front line : List ℕ) (j k : ℕ) → j < 10000 → k < 10000
+    → is_delimiter (front ++ four_digits j) line ≡ true → is_delimiter (front ++ four_digits k) line ≡ true → j ≡ k
+delimiter-once front line j k p q is also =
+    let long : length (front ++ four_digits j) ≡ length (front ++ four_digits k) = length-append front (four_digits j) ∙ sym (length-append front (four_digits k)) in
+    four_digits-once j k p q
+    (append_cancel_left front (four_digits j) (four_digits k)
+    (sym (delimiter-boundary (front ++ four_digits j) line is)
+    ∙ ap (λ n. take n (drop 2 line)) long
+    ∙ delimiter-boundary (front ++ four_digits k) line also))
+
+-- a text with another byte in the place of a digit begins with no number
+pub no-number : (text : List ℕ) (place : ℕ) (digit : ℕ → ℕ) → ((k : ℕ) → k < 10000 → digit k < 10)
+    → ((k : ℕ) (rest : List ℕ) → get_or (four_digits k ++ rest) place 0 ≡ 48 + digit k)
+    → ((value : ℕ) → value < 10 → get_or text place 0 ≡ 48 + value → ⊥)
+    → (k : ℕ) → k < 10000 → starts_with nat_eq text (four_digits k) ≡ false
+no-number text place digit low stands other k below =
+    false_from_ne_true _ (λ is.
+    other (digit k) (low k below) (ap (λ t. get_or t place 0) (begins-with (four_digits k) text is) ∙ stands k (drop 4 text)))
+
+-- after two dashes and the boundary's front a line rules out the number that follows
+delimiter-after : (front line inner rest : List ℕ) (k : ℕ) → line ≡ codes "--" ++ inner → inner ≡ front ++ rest
+    → is_delimiter (front ++ four_digits k) line ≡ starts_with nat_eq rest (four_digits k)
+delimiter-after front line inner rest k outer e =
+    rw (outer, e) (starts_with-append (codes "--") (front ++ rest) (front ++ four_digits k) ∙ starts_with-append front rest (four_digits k))
+
+pub rules-out-some : (front line inner rest : List ℕ) (told : Option ℕ) → line ≡ codes "--" ++ inner → inner ≡ front ++ rest
+    → IfSome told (λ k. (k < 10000) × IsTrue (starts_with nat_eq rest (four_digits k)))
+    → IfSome told (λ k. (k < 10000) × IsTrue (is_delimiter (front ++ four_digits k) line))
+rules-out-some front line inner rest None outer e some = tt
+rules-out-some front line inner rest (Some k) outer e some = (some.0, delimiter-after front line inner rest k outer e ∙ some.1)
+
+pub rules-out-none : (front line inner rest : List ℕ) (told : Option ℕ) → line ≡ codes "--" ++ inner → inner ≡ front ++ rest
+    → IfNone told ((k : ℕ) → k < 10000 → IsFalse (starts_with nat_eq rest (four_digits k)))
+    → IfNone told ((k : ℕ) → k < 10000 → IsFalse (is_delimiter (front ++ four_digits k) line))
+rules-out-none front line inner rest None outer e none = λ k below. delimiter-after front line inner rest k outer e ∙ none k below
+rules-out-none front line inner rest (Some k) outer e none = tt
+
+-- a line without the boundary's front after its dashes rules out no number
+pub no-front : (front line inner : List ℕ) → line ≡ codes "--" ++ inner → ((rest : List ℕ) → inner ≡ front ++ rest → ⊥)
+    → (k : ℕ) → is_delimiter (front ++ four_digits k) line ≡ false
+no-front front line inner outer other k =
+    false_from_ne_true _ (λ is.
+    other (four_digits k ++ drop (length (front ++ four_digits k)) inner)
+    (begins-with (front ++ four_digits k) inner (sym (starts_with-append (codes "--") inner (front ++ four_digits k)) ∙ ap (is_delimiter (front ++ four_digits k)) (sym outer) ∙ is)
+    ∙ append_assoc front (four_digits k) _))
+
+-- a byte that is shown as a dash is one
+shown-dash : (byte : ℕ) → shown_byte byte ≡ 45 → byte ≡ 45
+shown-dash byte shown = here (is_printable byte || (byte == 9)) shown
+  where
+    here : (plain : Bool) → (if plain then byte else 63) ≡ 45 → byte ≡ 45
+    here true e = e
+    here false e = absurd (omega (arith, e))
+
+-- a line that doesn't begin with two dashes is no delimiter as it is shown
+pub not-dashed : (boundary line : List ℕ) → is_dashed line ≡ false → is_delimiter boundary (shown_line line) ≡ false
+not-dashed boundary line other = false_from_ne_true _ (λ is. dashed line other (delimiter-begins boundary (shown_line line) is))
+  where
+    dashed : (line : List ℕ) → is_dashed line ≡ false → shown_line line ≡ (codes "--" ++ boundary) ++ drop (length (codes "--" ++ boundary)) (shown_line line) → ⊥
+    dashed [] other e = cc
+    dashed (a ∷ []) other e = cc
+    dashed (a ∷ b ∷ more) other e =
+        let first : a ≡ 45 = shown-dash a (ap (λ l. get_or l 0 0) e) in
+        let second : b ≡ 45 = shown-dash b (ap (λ l. get_or l 1 0) e) in
+        false≢true (sym other ∙ rw (first, second) refl)
+
+or-parts-false : (a b : Bool) → (a || b) ≡ false → (a ≡ false) × (b ≡ false)
+or-parts-false true b e = absurd (false≢true (sym e))
+or-parts-false false b e = (refl, e)
+
+-- lines that don't begin with two dashes rule out nothing
+pub none-dashed : (boundary : List ℕ) (lines : List (List ℕ)) → list_any is_dashed lines ≡ false → list_any (is_delimiter boundary) (map shown_line lines) ≡ false
+none-dashed boundary [] none = refl
+none-dashed boundary (line ∷ lines) none =
+    let parts = or-parts-false (is_dashed line) (list_any is_dashed lines) none in
+    rw (not-dashed boundary line parts.0, none-dashed boundary lines parts.1) refl
+
+-- what the table and the lines that are left tell of a number, once a line is read
+or-true : (a : Bool) → (a || true) ≡ true
+or-true true = refl
+or-true false = refl
+
+pub marked-other : (all marked here rest : Bool) → all ≡ (marked || (here || rest)) → here ≡ false → all ≡ (marked || rest)
+marked-other all marked here rest told none = told ∙ rw none refl
+
+pub marked-here : (all marked here rest : Bool) → all ≡ (marked || (here || rest)) → here ≡ true → all ≡ true
+marked-here all marked here rest told some = told ∙ rw some (or-true marked)
+
+-- the table with one more number
+pub marked-more : (all here rest : Bool) (table : List Bool) (found number : ℕ) → found < length table → (here ≡ true → found ≡ number) → (found ≡ number → here ≡ true)
+    → all ≡ (get_or table number false || (here || rest)) → all ≡ (get_or (slice_set table found true) number false || rest)
+marked-more all here rest table found number room once back told = elim (eqb_tells number found) [
+  | inl same ↦
+      marked-here all (get_or table number false) here rest told (back (sym same.1))
+      ∙ ap (λ marked. marked || rest) (sym (ap (λ n. get_or (slice_set table found true) n false) same.1 ∙ get_or-set_same table found true false room))
+  | inr other ↦
+      marked-other all (get_or table number false) here rest told (false_from_ne_true here (λ is. other.1 (sym (once is))))
+      ∙ ap (λ marked. marked || rest) (sym (get_or-set_other table found number true false other.1))
+]
+
+-- a number that the next line doesn't rule out, and one that it does
+abbrev pub IsMarked : List ℕ → List ℕ → List Bool → List (List ℕ) → Type 0
+IsMarked front header table left =
+    (number : ℕ) → number < 2980
+    → rules_out front header number ≡ (get_or table number false || list_any (is_delimiter (front ++ four_digits number)) (map shown_line left))
+
+pub IsMarked-none : (front header line : List ℕ) (table : List Bool) (left rest : List (List ℕ)) → left ≡ line ∷ rest
+    → ((number : ℕ) → number < 2980 → is_delimiter (front ++ four_digits number) (shown_line line) ≡ false)
+    → IsMarked front header table left → IsMarked front header table rest
+IsMarked-none front header line table left rest e none so_far = λ number below.
+    marked-other (rules_out front header number) (get_or table number false) (is_delimiter (front ++ four_digits number) (shown_line line))
+    (list_any (is_delimiter (front ++ four_digits number)) (map shown_line rest))
+    (so_far number below ∙ ap (λ left. get_or table number false || list_any (is_delimiter (front ++ four_digits number)) (map shown_line left)) e)
+    (none number below)
+
+pub IsMarked-some : (front header line : List ℕ) (table : List Bool) (left rest : List (List ℕ)) (found : ℕ) → left ≡ line ∷ rest → length table ≡ 2980
+    → found < 2980 → is_delimiter (front ++ four_digits found) (shown_line line) ≡ true
+    → IsMarked front header table left → IsMarked front header (slice_set table found true) rest
+IsMarked-some front header line table left rest found e size low is so_far = λ number below.
+    marked-more (rules_out front header number) (is_delimiter (front ++ four_digits number) (shown_line line))
+    (list_any (is_delimiter (front ++ four_digits number)) (map shown_line rest)) table found number (omega arith)
+    (λ also. delimiter-once front (shown_line line) found number (omega arith) (omega arith) is also)
+    (λ same. subst (λ n. is_delimiter (front ++ four_digits n) (shown_line line) ≡ true) same is)
+    (so_far number below ∙ ap (λ left. get_or table number false || list_any (is_delimiter (front ++ four_digits number)) (map shown_line left)) e)
+
+-- where no element passes, each fails
+pub position-None : {X : Type 0} (p : X → Bool) (xs : List X) (d : X) → position p xs ≡ None → (k : ℕ) → k < length xs → p (get_or xs k d) ≡ false
+position-None p xs d none k below = elim (leb_tells (suc (position_or_len p xs)) (length xs)) [
+  | inl some ↦ absurd (some≢none (position_or_len p xs) (sym (ap (λ test. cond test (Some (position_or_len p xs)) None) some.0) ∙ none))
+  | inr none ↦ fails_before_first p xs k d (omega (arith, none.1, below))
+]
+  where
+    some≢none : (n : ℕ) → Some n ≡ None → ⊥
+    some≢none n e = cc
+
+-- a mark that doesn't stand free is set
+pub marked-true : (marked : Bool) → not marked ≡ false → marked ≡ true
+marked-true true e = refl
+marked-true false e = absurd (false≢true (sym e))
+
+pub marked-false : (marked : Bool) → not marked ≡ true → marked ≡ false
+marked-false false e = refl
+marked-false true e = absurd (false≢true e)
+
+-- the whole table tells of each number whether it is ruled out
+pub ruled_out-rules_out : (letter : Letter) (front header : List ℕ) (number : ℕ) → front ≡ boundary_front letter → header ≡ letter.draft.header
+    → rules_out front header number ≡ is_ruled_out letter number
+unfolding is_ruled_out boundary_text
+ruled_out-rules_out letter front header number f h = rw (f, h) refl
+
+abbrev pub IsTable : List ℕ → List ℕ → List Bool → Type 0
+IsTable front header table = (number : ℕ) → number < 2980 → get_or table number false ≡ rules_out front header number
+
+-- the first free number of the table is the boundary's
+pub IsBoundaryNumber-first : (letter : Letter) (front header : List ℕ) (table : List Bool) (number : ℕ) → front ≡ boundary_front letter → header ≡ letter.draft.header
+    → length table ≡ 2980 → IsTable front header table → position not table ≡ Some number → IsBoundaryNumber letter number
+IsBoundaryNumber-first letter front header table number f h size told first =
+    let found = position-Some not table number false first in
+    record {
+      free =
+          sym (ruled_out-rules_out letter front header number f h) ∙ sym (told number (omega (arith, found.0, size)))
+          ∙ marked-false (get_or table number false) found.1;
+      least = λ smaller below.
+          sym (ruled_out-rules_out letter front header smaller f h) ∙ sym (told smaller (omega (arith, found.0, size, below)))
+          ∙ marked-true (get_or table smaller false) (found.2 smaller below);
+    }
+
+-- a table with no free number rules out all of them
+pub all-ruled_out : (letter : Letter) (front header : List ℕ) (table : List Bool) → front ≡ boundary_front letter → header ≡ letter.draft.header
+    → length table ≡ 2980 → IsTable front header table → position not table ≡ None → (number : ℕ) → number < 2980 → is_ruled_out letter number ≡ true
+all-ruled_out letter front header table f h size told none number below =
+    sym (ruled_out-rules_out letter front header number f h) ∙ sym (told number below)
+    ∙ marked-true (get_or table number false) (position-None not table false none number (omega (arith, size, below)))
+
+-- a header with no line that begins with two dashes rules out no number
+pub none-ruled_out : (letter : Letter) (header : List ℕ) (number : ℕ) → header ≡ letter.draft.header → list_any is_dashed (header_lines header) ≡ false
+    → is_ruled_out letter number ≡ false
+unfolding is_ruled_out returned_lines
+none-ruled_out letter header number h none =
+    none-dashed (boundary_text letter number) (header_lines letter.draft.header) (ap (λ header. list_any is_dashed (header_lines header)) (sym h) ∙ none)
+
+pub IsBoundaryNumber-zero : (letter : Letter) (header : List ℕ) → header ≡ letter.draft.header → list_any is_dashed (header_lines header) ≡ false → IsBoundaryNumber letter 0
+IsBoundaryNumber-zero letter header h none = record {
+  free = none-ruled_out letter header 0 h none;
+  least = λ smaller below. absurd (omega (arith, below));
+}

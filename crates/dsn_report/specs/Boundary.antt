@@ -33,13 +33,25 @@ abbrev pub letter_name : Letter → List ℕ
 letter_name letter =
     (service_letter letter.key.service ∷ []) ++ codes "." ++ letter.key.id ++ codes "." ++ decimal letter.draft.moment
 
+-- what the boundaries of a letter begin with, whatever their number
+abbrev pub boundary_front : Letter → List ℕ
+boundary_front letter = letter_name letter ++ codes "."
+
 -- the boundary that has this number (this project's profile)
 unfoldable pub boundary_text : Letter → ℕ → List ℕ
-boundary_text letter number = letter_name letter ++ codes "." ++ four_digits number
+boundary_text letter number = boundary_front letter ++ four_digits number
 
 -- a line that would be taken for a delimiter (RFC 2046 section 5.1.1)
 abbrev pub is_delimiter : List ℕ → List ℕ → Bool
 is_delimiter boundary line = starts_with nat_eq line (codes "--" ++ boundary)
+
+-- a line that some boundary's delimiter could be: it begins with two dashes
+abbrev pub is_dashed : List ℕ → Bool
+is_dashed line = starts_with nat_eq line (codes "--")
+
+-- some returned line of a header is taken for a delimiter of the boundary that begins so and has this number
+abbrev pub rules_out : List ℕ → List ℕ → ℕ → Bool
+rules_out front header number = list_any (is_delimiter (front ++ four_digits number)) (returned_lines header)
 
 -- some returned line rules this number out
 unfoldable pub is_ruled_out : Letter → ℕ → Bool

@@ -11,6 +11,7 @@ mod notice_lines;
 mod notice_text;
 mod post_fault;
 mod poster;
+mod ruled_out;
 mod site;
 #[cfg(test)]
 mod tests;

@@ -1,6 +1,6 @@
 //! The name of a letter, and the boundaries made of it.
 ghost use Rattle.std.specs.Prelude.{◌≡◌, ◌+◌, ◌<◌, ◌≤◌, length};
-ghost use Rattle.dsn_report.specs.Boundary.{letter_name, boundary_text};
+ghost use Rattle.dsn_report.specs.Boundary.{letter_name, boundary_front, boundary_text};
 
 use dsn_outcome::{Letter, ShortText};
 
@@ -19,13 +19,22 @@ pub(crate) fn letter_name(letter: &Letter) -> ShortText
     name
 }
 
+/// What the letter's boundaries begin with, whatever their number.
+pub(crate) fn boundary_front(letter: &Letter) -> ShortText
+    ensures front { result ≡ boundary_front letter.now }
+    ensures short { length result ≤ 56 }
+{
+    let mut front = letter_name(letter);
+    front.push(b".");
+    front
+}
+
 /// The letter's boundary that has this number.
 pub(crate) fn boundary_text(letter: &Letter, number: u16) -> ShortText
     requires { number < 10000 }
     ensures { result ≡ boundary_text letter.now number }
 {
-    let mut boundary = letter_name(letter);
-    boundary.push(b".");
+    let mut boundary = boundary_front(letter);
     boundary.push(&[
         digit(number / 1000),
         digit(number / 100 % 10),

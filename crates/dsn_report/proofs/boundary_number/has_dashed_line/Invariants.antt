@@ -1,0 +1,9 @@
+-- The lines so far begin with something else.
+use Rattle.std.proofs.Common.{◌≡◌}
+use Rattle.std.specs.List.{list_any}
+use Rattle.dsn_report.specs.Boundary.{header_lines, is_dashed}
+use Rattle.dsn_report.specs.HeaderLines.{lines_left}
+use Rattle.dsn_report.proofs.boundary_number.has_dashed_line.Given as goal
+
+abbrev pub invariant-loop-line : goal.invariant-loop-line
+invariant-loop-line l = list_any is_dashed (header_lines l.header) ≡ list_any is_dashed (lines_left l.line-iterator)

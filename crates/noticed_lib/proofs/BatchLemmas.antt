@@ -1,6 +1,6 @@
 -- Batch: the parts of a run put together.
 use Rattle.std.proofs.Common.{◌≡◌, ℕ, Bool, true, false, List, [], refl, sym, Result, Ok, Err, rules}
-use Rattle.std.specs.Prelude.{Option, Some, is_none, is_ok, not, IfOk, IsPermutation}
+use Rattle.std.specs.Prelude.{Option, Some, None, is_none, is_ok, not, IfOk, IsPermutation}
 use Rattle.std.specs.Option.{option_map}
 use Rattle.std.specs.Result.{result_ok}
 use Rattle.std.specs.List.Sorted.{IsSortedByKey}
@@ -17,10 +17,11 @@ use Rattle.noticed_lib.specs.Harvest.{Harvested, Ended}
 use Rattle.dsn_outcome.specs.History.{history_after}
 use Rattle.std.proofs.KnownBytes.{Consumes-nil}
 use Rattle.noticed_lib.proofs.ReadingLemmas.{differ, not-false}
-use Rattle.noticed_lib.proofs.RunLemmas.{letters-none}
+use Rattle.noticed_lib.proofs.RunLemmas.{letters-none, replies-none}
 use Rattle.noticed_lib.proofs.WholeInputLemmas.{takes-all}
 use Rattle.noticed_lib.specs.Outgoing.{Delivered}
-use Rattle.noticed_lib.specs.Session.{begun, no_memory_for_book}
+use Rattle.dsn_frame.specs.Session.{begun, no_memory_for_book}
+use Rattle.noticed_lib.specs.Requests.{requests_from, requests_of}
 use Rattle.noticed_lib.specs.Notes.{answer_lines_from, notes_of}
 use Rattle.noticed_lib.specs.declared.batch_end.BatchEnd.{BatchEnd}
 use Rattle.noticed_lib.specs.declared.outgoing.Outgoing.{Outgoing}
@@ -64,16 +65,19 @@ module _ {R W N : Type 0} (remaining : R → Option (List ℕ)) (input_failures 
   -- a run that found no memory for its logs read nothing
   pub harvest-nothing : (input : R) (notes : N) (outgoing : Outgoing W) (lines : List OpenLine) → lines ≡ [] → Delivered contents outbox_failures host start outgoing []
       → Harvested remaining input_failures contents outbox_failures told notes_failures limits host start input input notes notes (Some 9) outgoing (Some lines)
-  unfolding answer_lines_from
+  unfolding answer_lines_from requests_from
   harvest-nothing input notes outgoing lines empty delivered = record {
+    frames = [];
     bodies = [];
-    requests = [];
     answers = [];
-    over = false;
-    session = begun;
-    left = remaining input;
-    read = Consumes-nil (remaining input);
-    ends = no_memory_for_book refl refl;
+    session = record {
+      made = None;
+      takes = begun;
+      left = remaining input;
+      read = Consumes-nil (remaining input);
+      ends = no_memory_for_book refl refl refl refl;
+    };
+    replies = replies-none limits;
     reading_cause = λ is. absurd (differ 9 14 refl is);
     delivered = rw (letters-none limits) delivered;
     logs_are = rw (lines-none limits, empty) (IsPermutation-refl [], sorted-none);
@@ -86,20 +90,17 @@ module _ {R W N : Type 0} (remaining : R → Option (List ℕ)) (input_failures 
 module _ {R W N : Type 0} (remaining : R → Option (List ℕ)) (input_failures : R → ℕ) (contents : W → Option (List ℕ)) (outbox_failures : W → ℕ) (told : N → Option (List ℕ)) (notes_failures : N → ℕ) (limits : Limits) (host : List ℕ) (input now : R) (start : W) (notes middle later : N) (fault : Option ℕ) (outgoing : Outgoing W) (logs : Option (List OpenLine)) (end : BatchEnd W) where
   -- what was read and how it ended are the whole run
   pub whole-batch : (harvest : Harvested remaining input_failures contents outbox_failures told notes_failures limits host start input now notes middle fault outgoing logs)
-      → Ended contents outbox_failures told notes_failures host start (sealed_letters (history_of limits harvest.requests)) fault logs middle later end
+      → Ended contents outbox_failures told notes_failures host start (sealed_letters (history_of limits (requests_of harvest.bodies))) fault logs middle later end
       → IsBatch remaining input_failures contents outbox_failures told notes_failures limits host input now start notes later end
   unfolding notes_of
   whole-batch harvest ended =
       let same : ended.before ≡ harvest.lost = same-bool harvest.lost ended.before (λ lost. ended.before_when (harvest.lost_only lost)) (λ before. harvest.lost_when (ended.before_only before)) in record {
+        frames = harvest.frames;
         bodies = harvest.bodies;
-        requests = harvest.requests;
         answers = harvest.answers;
-        over = harvest.over;
-        session = harvest.session;
-        left = harvest.left;
-        read = harvest.read;
         reading = fault;
-        ends = harvest.ends;
+        session = harvest.session;
+        replies = harvest.replies;
         reading_cause = harvest.reading_cause;
         outbox = ended.outbox;
         logs = logs;
@@ -113,5 +114,5 @@ module _ {R W N : Type 0} (remaining : R → Option (List ℕ)) (input_failures 
             AppendsFront-kept (told notes) (told middle) (told later) _ front kept;
         fault_is = ended.fault_is;
         status_is = ended.status_is;
-        takes_all = λ whole. takes-all limits (remaining input) harvest.left (remaining now) whole harvest.bodies harvest.requests harvest.answers harvest.over ended.lost fault end.fault harvest.session harvest.read harvest.ends ended.fault_is;
+        takes_all = λ whole wanted. takes-all limits (remaining input) (remaining now) whole wanted harvest.frames harvest.bodies harvest.answers ended.lost fault end.fault harvest.session ended.fault_is;
       }

@@ -13,7 +13,7 @@ use Rattle.dsn_report.specs.LineWriter.{counts_failure}
 use Rattle.dsn_report.specs.declared.post_fault.PostFault.{PostFault}
 use Rattle.dsn_report.specs.Outbox.{greeting, goodbye, mail_transaction, outbox_of}
 use Rattle.dsn_report.specs.Poster.{Poster, post_text, finish_text, post_fault, letter_handed_back}
-use Rattle.noticed_lib.specs.Outgoing.{written_of, are_some, AppendsAtLeast, AllWritten, FrontWritten, Delivered, IsOutbox}
+use Rattle.noticed_lib.specs.Outgoing.{written_of, are_some, AppendsAtLeast, FrontWritten, Delivered, IsOutbox}
 
 pub flat_map-more : {A : Type 0} (f : A → List ℕ) (xs : List A) (x : A) → flat_map f (xs ++ x ∷ []) ≡ flat_map f xs ++ f x
 flat_map-more f [] x = append-nil (f x)

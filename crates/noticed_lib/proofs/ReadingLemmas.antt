@@ -8,7 +8,7 @@ use Rattle.std.proofs.KnownBytes.{Appends-trans, Appends-nil, Consumes-trans, Co
 use Rattle.std.proofs.lemmas.List.{append-nil, length-append}
 use Rattle.dsn_outcome.specs.Failures.{counted, Failed}
 use Rattle.dsn_outcome.specs.History.{Limits}
-use Rattle.dsn_outcome.specs.Request.{Request}
+use Rattle.dsn_outcome.specs.Request.{Body}
 use Rattle.dsn_outcome.specs.Transfer.{AppendsFront}
 use Rattle.dsn_outcome.proofs.FailureLemmas.{Failed-counted}
 use Rattle.dsn_outcome.proofs.TransferLemmas.{Appends-front}
@@ -20,8 +20,10 @@ use Rattle.dsn_frame.specs.declared.frame_fault.FrameFault.TheVariants.{NoMemory
 use Rattle.noticed_lib.proofs.NotesLemmas.{answer_lines_from-more}
 use Rattle.noticed_lib.specs.Notes.{answer_line, answer_lines_from}
 use Rattle.noticed_lib.specs.Reading.{HeardSoFar, Heard}
-use Rattle.noticed_lib.specs.Run.{Stands, Answered}
-use Rattle.noticed_lib.specs.Session.{Session, begun, answered, Answers, Ends, told_out_of_turn, notes_failed}
+use Rattle.noticed_lib.specs.Run.{Stands, Answered, end_after}
+use Rattle.noticed_lib.specs.Requests.{requests_of}
+use Rattle.noticed_lib.proofs.RunLemmas.{replies-none, requests-more, requests-length}
+use Rattle.dsn_frame.specs.Session.{Input, SessionSoFar, begun, taken, Takes, GoesOn, written, unwritten, Ends, stopped, IsSession}
 use Rattle.noticed_lib.specs.declared.run.Run.{Run}
 use Rattle.dsn_frame.specs.declared.spoken.Spoken.{Spoken}
 use Rattle.noticed_lib.specs.declared.turn.Turn.{Turn}
@@ -85,29 +87,30 @@ Failed-read T Read old new is e = rw is (Failed-counted old)
 
 module _ {R W N : Type 0} (remaining : R → Option (List ℕ)) (input_failures : R → ℕ) (contents : W → Option (List ℕ)) (outbox_failures : W → ℕ) (told : N → Option (List ℕ)) (notes_failures : N → ℕ) (limits : Limits) (host : List ℕ) (start : W) where
   -- nothing was read so far
-  pub heard-nothing : (input : R) (run : Run W) (notes : N) → Stands contents outbox_failures limits host start run [] → HeardSoFar remaining input_failures contents outbox_failures told notes_failures limits host start 0 input input run notes notes
+  pub heard-nothing : (input : R) (run : Run W) (notes : N) → Stands contents outbox_failures limits host start run (requests_of []) → HeardSoFar remaining input_failures contents outbox_failures told notes_failures limits host start 0 input input run notes notes
   unfolding answer_lines_from
   heard-nothing input run notes stands = record {
+    frames = [];
     bodies = [];
-    requests = [];
     answers = [];
     session = begun;
+    replies = replies-none limits;
     stands = stands;
     read = Consumes-nil (remaining input);
     lines = Appends-nil (told notes);
     reading_good = refl;
     telling_good = refl;
-    bodies_counted = refl;
+    frames_counted = refl;
     answers_counted = refl;
   }
 
-  some-answered : (bodies : List (List ℕ)) (bytes : List ℕ) → 0 < length (bodies ++ bytes ∷ [])
-  some-answered bodies bytes = omega (arith, length-append bodies (bytes ∷ []))
-
   -- the session with one more frame
-  session-more : (bodies : List (List ℕ)) (requests later : List Request) (answers : List Spoken) (count : ℕ) (bytes : List ℕ) (answer : Spoken) (over : Bool) → length bodies ≡ count → Session limits bodies requests answers false → count < limits.requests → IsFrameBody bytes → Answers limits count bytes requests answer over later → Session limits (bodies ++ bytes ∷ []) later (answers ++ answer ∷ []) over
-  session-more bodies requests later answers count bytes answer over counted session few body answers' =
-      answered bodies requests later answers bytes answer over session (rw counted few) body (rw counted answers')
+  session-more : (frames : List (List ℕ)) (bodies more : List Body) (answers : List Spoken) (count : ℕ) (bytes : List ℕ) (answer : Spoken) (end last : Option ℕ) → length frames ≡ count → SessionSoFar Input limits.requests 0 frames bodies answers None → count < limits.requests → IsFrameBody bytes
+      → Takes Input limits.requests (length (requests_of bodies)) count bytes more (answer ∷ []) end → GoesOn Input (answer ∷ []) end last
+      → SessionSoFar Input limits.requests 0 (frames ++ bytes ∷ []) (bodies ++ more) (answers ++ answer ∷ []) last
+  session-more frames bodies more answers count bytes answer end last counted session few body takes goes =
+      let accepted : length (requests_of bodies) ≡ 0 + length bodies = omega (arith, requests-length 0 bodies) in
+      taken frames bodies more answers (answer ∷ []) bytes end last session (rw counted few) body (rw (counted, ← accepted) takes) goes
 
   -- the lines with one more line
   lines-more : (notes later last : N) (answers : List Spoken) (count : ℕ) (answer : Spoken) → length answers ≡ count → Appends (told notes) (told later) (answer_lines_from 0 answers) → Appends (told later) (told last) (answer_line count answer) → Appends (told notes) (told last) (answer_lines_from 0 (answers ++ answer ∷ []))
@@ -128,39 +131,44 @@ module _ {R W N : Type 0} (remaining : R → Option (List ℕ)) (input_failures 
   pub heard-more : (count : ℕ) (input now after : R) (run next : Run W) (notes later last : N) (bytes : List ℕ) (turn : Turn)
       → (so_far : HeardSoFar remaining input_failures contents outbox_failures told notes_failures limits host start count input now run notes later)
       → count < limits.requests → IsFrameBody bytes → Consumes (remaining now) (remaining after) (frame bytes) → input_failures after ≡ input_failures now
-      → Answered contents outbox_failures limits host start next so_far.requests count bytes turn → turn.over ≡ false
+      → Answered contents outbox_failures limits host start next (requests_of so_far.bodies) count bytes turn → turn.over ≡ false
       → Appends (told later) (told last) (answer_line count turn.answer) → notes_failures last ≡ notes_failures later
       → HeardSoFar remaining input_failures contents outbox_failures told notes_failures limits host start (count + 1) input after next notes last
-  heard-more count input now after run next notes later last bytes turn so_far few body read good answer goes_on line told_good = record {
-    bodies = so_far.bodies ++ bytes ∷ [];
-    requests = answer.later;
-    answers = so_far.answers ++ turn.answer ∷ [];
-    session = rw goes_on at (session-more so_far.bodies so_far.requests answer.later so_far.answers count bytes turn.answer turn.over so_far.bodies_counted so_far.session few body answer.answers);
-    stands = answer.stands;
-    read = read-more input now after so_far.bodies bytes so_far.read read;
-    lines = lines-more notes later last so_far.answers count turn.answer so_far.answers_counted so_far.lines line;
-    reading_good = good ∙ so_far.reading_good;
-    telling_good = told_good ∙ so_far.telling_good;
-    bodies_counted = length-more so_far.bodies bytes count so_far.bodies_counted;
-    answers_counted = length-more so_far.answers turn.answer count so_far.answers_counted;
-  }
+  heard-more count input now after run next notes later last bytes turn so_far few body read good answer goes_on line told_good =
+      let takes = rw goes_on at answer.takes in record {
+        frames = so_far.frames ++ bytes ∷ [];
+        bodies = so_far.bodies ++ answer.asked;
+        answers = so_far.answers ++ turn.answer ∷ [];
+        session = session-more so_far.frames so_far.bodies answer.asked so_far.answers count bytes turn.answer None None so_far.frames_counted so_far.session few body takes (written _ None);
+        replies = rw (requests-more so_far.bodies answer.asked) (answer.replies so_far.answers so_far.replies);
+        stands = rw (requests-more so_far.bodies answer.asked) answer.stands;
+        read = read-more input now after so_far.frames bytes so_far.read read;
+        lines = lines-more notes later last so_far.answers count turn.answer so_far.answers_counted so_far.lines line;
+        reading_good = good ∙ so_far.reading_good;
+        telling_good = told_good ∙ so_far.telling_good;
+        frames_counted = length-more so_far.frames bytes count so_far.frames_counted;
+        answers_counted = length-more so_far.answers turn.answer count so_far.answers_counted;
+      }
 
   -- the reading ended where no more frame was answered
   pub heard-end : (count : ℕ) (input now after : R) (run : Run W) (notes later : N) (fault : Option ℕ)
       → HeardSoFar remaining input_failures contents outbox_failures told notes_failures limits host start count input now run notes later
-      → Ends limits count false (remaining now) (remaining after) fault
+      → Ends Input limits.requests count None (remaining now) (remaining after) fault
       → (fault ≡ Some 33 → ⊥) → (fault ≡ Some 14 → Failed (input_failures now) (input_failures after))
       → Heard remaining input_failures contents outbox_failures told notes_failures limits host start input after run notes later fault
   heard-end count input now after run notes later fault so_far ends not_notes cause = record {
+    frames = so_far.frames;
     bodies = so_far.bodies;
-    requests = so_far.requests;
     answers = so_far.answers;
-    over = false;
-    session = so_far.session;
+    session = record {
+      made = None;
+      takes = so_far.session;
+      left = remaining now;
+      read = so_far.read;
+      ends = rw so_far.frames_counted ends;
+    };
+    replies = so_far.replies;
     stands = so_far.stands;
-    left = remaining now;
-    read = so_far.read;
-    ends = rw so_far.bodies_counted ends;
     lost = false;
     lines = record { sent = so_far.lines; count = so_far.telling_good };
     lost_when = λ is. absurd (not_notes is);
@@ -168,23 +176,34 @@ module _ {R W N : Type 0} (remaining : R → Option (List ℕ)) (input_failures 
     reading_cause = λ is. rw (sym so_far.reading_good) (cause is);
   }
 
+  -- the session that stopped at its last frame
+  session-stopped : (count : ℕ) (input now after : R) (run : Run W) (notes later : N) (bytes : List ℕ) (answer : Spoken) (more : List Body) (end : Option ℕ) (code : ℕ)
+      → (so_far : HeardSoFar remaining input_failures contents outbox_failures told notes_failures limits host start count input now run notes later)
+      → count < limits.requests → IsFrameBody bytes → Consumes (remaining now) (remaining after) (frame bytes)
+      → Takes Input limits.requests (length (requests_of so_far.bodies)) count bytes more (answer ∷ []) end → GoesOn Input (answer ∷ []) end (Some code)
+      → IsSession Input limits.requests 0 (remaining input) (remaining after) (so_far.frames ++ bytes ∷ []) (so_far.bodies ++ more) (so_far.answers ++ answer ∷ []) (Some code)
+  session-stopped count input now after run notes later bytes answer more end code so_far few body read takes goes = record {
+    made = Some code;
+    takes = session-more so_far.frames so_far.bodies more so_far.answers count bytes answer end (Some code) so_far.frames_counted so_far.session few body takes goes;
+    left = remaining after;
+    read = read-more input now after so_far.frames bytes so_far.read read;
+    ends = stopped code refl refl;
+  }
+
   -- the reading ended with an answer that could not be told
   pub heard-lost : (count : ℕ) (input now after : R) (run next : Run W) (notes later last : N) (bytes : List ℕ) (turn : Turn)
       → (so_far : HeardSoFar remaining input_failures contents outbox_failures told notes_failures limits host start count input now run notes later)
       → count < limits.requests → IsFrameBody bytes → Consumes (remaining now) (remaining after) (frame bytes) → input_failures after ≡ input_failures now
-      → Answered contents outbox_failures limits host start next so_far.requests count bytes turn
+      → Answered contents outbox_failures limits host start next (requests_of so_far.bodies) count bytes turn
       → AppendsFront (told later) (told last) (answer_line count turn.answer) → notes_failures last ≡ counted true (notes_failures later)
       → Heard remaining input_failures contents outbox_failures told notes_failures limits host start input after next notes last (Some 33)
   heard-lost count input now after run next notes later last bytes turn so_far few body read good answer front failed = record {
-    bodies = so_far.bodies ++ bytes ∷ [];
-    requests = answer.later;
+    frames = so_far.frames ++ bytes ∷ [];
+    bodies = so_far.bodies ++ answer.asked;
     answers = so_far.answers ++ turn.answer ∷ [];
-    over = turn.over;
-    session = session-more so_far.bodies so_far.requests answer.later so_far.answers count bytes turn.answer turn.over so_far.bodies_counted so_far.session few body answer.answers;
-    stands = answer.stands;
-    left = remaining after;
-    read = read-more input now after so_far.bodies bytes so_far.read read;
-    ends = notes_failed (some-answered so_far.bodies bytes) refl;
+    session = session-stopped count input now after run notes later bytes turn.answer answer.asked (end_after turn.over) 33 so_far few body read answer.takes (unwritten turn.answer (end_after turn.over));
+    replies = rw (requests-more so_far.bodies answer.asked) (answer.replies so_far.answers so_far.replies);
+    stands = rw (requests-more so_far.bodies answer.asked) answer.stands;
     lost = true;
     lines = record {
       sent = lines-lost notes later last so_far.answers count turn.answer so_far.answers_counted so_far.lines front;
@@ -199,20 +218,18 @@ module _ {R W N : Type 0} (remaining : R → Option (List ℕ)) (input_failures 
   pub heard-out-of-turn : (count : ℕ) (input now after : R) (run next : Run W) (notes later last : N) (bytes : List ℕ) (turn : Turn)
       → (so_far : HeardSoFar remaining input_failures contents outbox_failures told notes_failures limits host start count input now run notes later)
       → count < limits.requests → IsFrameBody bytes → Consumes (remaining now) (remaining after) (frame bytes) → input_failures after ≡ input_failures now
-      → Answered contents outbox_failures limits host start next so_far.requests count bytes turn → turn.over ≡ true
+      → Answered contents outbox_failures limits host start next (requests_of so_far.bodies) count bytes turn → turn.over ≡ true
       → Appends (told later) (told last) (answer_line count turn.answer) → notes_failures last ≡ notes_failures later
       → Heard remaining input_failures contents outbox_failures told notes_failures limits host start input after next notes last (Some 46)
   heard-out-of-turn count input now after run next notes later last bytes turn so_far few body read good answer over line told_good =
-      let lines = lines-more notes later last so_far.answers count turn.answer so_far.answers_counted so_far.lines line in record {
-        bodies = so_far.bodies ++ bytes ∷ [];
-        requests = answer.later;
+      let lines = lines-more notes later last so_far.answers count turn.answer so_far.answers_counted so_far.lines line in
+      let takes = rw over at answer.takes in record {
+        frames = so_far.frames ++ bytes ∷ [];
+        bodies = so_far.bodies ++ answer.asked;
         answers = so_far.answers ++ turn.answer ∷ [];
-        over = turn.over;
-        session = session-more so_far.bodies so_far.requests answer.later so_far.answers count bytes turn.answer turn.over so_far.bodies_counted so_far.session few body answer.answers;
-        stands = answer.stands;
-        left = remaining after;
-        read = read-more input now after so_far.bodies bytes so_far.read read;
-        ends = told_out_of_turn over refl;
+        session = session-stopped count input now after run notes later bytes turn.answer answer.asked (Some 46) 46 so_far few body read takes (written _ (Some 46));
+        replies = rw (requests-more so_far.bodies answer.asked) (answer.replies so_far.answers so_far.replies);
+        stands = rw (requests-more so_far.bodies answer.asked) answer.stands;
         lost = false;
         lines = record { sent = lines; count = told_good ∙ so_far.telling_good };
         lost_when = λ is. absurd (differ 46 33 refl is);

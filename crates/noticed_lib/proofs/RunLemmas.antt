@@ -1,22 +1,27 @@
 -- Runs: one request more, and one frame more.
-use Rattle.std.proofs.Common.{◌≡◌, ℕ, ◌+◌, false, List, [], ◌∷◌, ◌++◌, length, refl, ap, ◌∙◌, arith}
-use Rattle.std.specs.Prelude.{Option, Some, None, unwrap_or}
+use Rattle.std.proofs.Common.{◌≡◌, ℕ, suc, ◌+◌, ◌<◌, true, false, List, [], ◌∷◌, ◌++◌, length, refl, ap, sym, ◌∙◌, arith}
+use Rattle.std.specs.Prelude.{Option, Some, None, ◌==◌, map, unwrap_or}
+use Rattle.std.specs.List.{flat_map}
 use Rattle.dsn_frame.specs.BodyFault.{body_fault_code}
 use Rattle.dsn_frame.specs.Request.{Encodes, first_body_fault}
 use Rattle.dsn_frame.specs.declared.body_fault.BodyFault.{BodyFault}
 use Rattle.dsn_frame.specs.declared.body_fault.BodyFault.TheVariants.{NoMemory}
 use Rattle.std.specs.Option.{option_to_list}
-use Rattle.std.proofs.lemmas.List.{length-append}
+use Rattle.std.proofs.lemmas.Grind.{flat_map-append}
+use Rattle.std.proofs.lemmas.List.{append-nil, length-append, map-append}
 use Rattle.dsn_book.specs.Book.{Book, Represents}
 use Rattle.dsn_book.specs.Step.{letters_in}
-use Rattle.dsn_outcome.specs.History.{Limits, Exchange, exchange_of, history_of, history_after, letters_after, reply_to, answer_of, letter_of, sealed_letters}
+use Rattle.dsn_outcome.specs.History.{Limits, Exchange, exchange_of, history_of, history_after, letters_after, reply_to, answer_of, answers_to, letter_of, sealed_letters}
 use Rattle.dsn_outcome.specs.Letter.{Letter}
 use Rattle.dsn_outcome.specs.Request.{Request, Body}
 use Rattle.dsn_outcome.specs.declared.answer.Answer.{Answer}
-use Rattle.dsn_outcome.proofs.HistoryLaws.{history_more, letters_more}
+use Rattle.dsn_outcome.specs.declared.answer.Reply.{Reply}
+use Rattle.dsn_outcome.proofs.HistoryLaws.{history_more, letters_more, answers_mine}
+use Rattle.dsn_frame.specs.Session.{Input, Takes, faulty, out_of_memory, asked}
+use Rattle.dsn_frame.specs.declared.spoken.Spoken.{Spoken}
+use Rattle.noticed_lib.specs.Requests.{requests_from, requests_of, next_request, reply_of, AreReplies}
 use Rattle.noticed_lib.specs.Outgoing.{Delivered}
-use Rattle.noticed_lib.specs.Run.{Stands, Asks, Answered}
-use Rattle.noticed_lib.specs.Session.{next_request, Answers, faulty, out_of_memory, asked}
+use Rattle.noticed_lib.specs.Run.{Stands, Asks, Answered, end_after}
 use Rattle.noticed_lib.specs.declared.turn.Turn.{Turn}
 use Rattle.noticed_lib.specs.declared.outgoing.Outgoing.{Outgoing}
 use Rattle.noticed_lib.specs.declared.run.Run.{Run}
@@ -30,13 +35,74 @@ pub reply-answer_of : (limits : Limits) (history : List Exchange) (request : Req
 unfolding answer_of exchange_of
 reply-answer_of limits history request = refl
 
-refused-by : (limits : Limits) (position : ℕ) (bytes : List ℕ) (before : List Request) (fault : BodyFault) (first : Option BodyFault) → first_body_fault bytes ≡ first → fault ≡ unwrap_or first NoMemory → Answers limits position bytes before (spoken.Refused (body_fault_code fault)) false before
-refused-by limits position bytes before fault None none is = rw is (out_of_memory none)
-refused-by limits position bytes before fault (Some first) some is = rw is (faulty first some)
+mine : (limits : Limits) (history : List Exchange) (before : List Request) (body : Body) → ((exchange_of limits history (next_request before body)).request.agent == 0) ≡ true
+unfolding exchange_of
+mine limits history before body = refl
+
+-- ---- the requests of bodies
+
+-- the requests of more bodies follow on
+requests-append : (number : ℕ) (bodies more : List Body) → requests_from number (bodies ++ more) ≡ requests_from number bodies ++ requests_from (number + length bodies) more
+unfolding requests_from
+requests-append number [] more =
+    let same : number + 0 ≡ number = omega arith in
+    rw same refl
+requests-append number (first ∷ rest) more =
+    let same : (number + 1) + length rest ≡ number + suc (length rest) = omega arith in
+    rw (requests-append (number + 1) rest more, same) refl
+
+pub requests-length : (number : ℕ) (bodies : List Body) → length (requests_from number bodies) ≡ length bodies
+unfolding requests_from
+requests-length number [] = refl
+requests-length number (first ∷ rest) = ap (λ (n : ℕ). suc n) (requests-length (number + 1) rest)
+
+pub requests-more : (bodies more : List Body) → requests_of (bodies ++ more) ≡ requests_of bodies ++ requests_from (length (requests_of bodies)) more
+requests-more bodies more =
+    let same : 0 + length bodies ≡ length (requests_of bodies) = omega (arith, requests-length 0 bodies) in
+    rw (← same) (requests-append 0 bodies more)
+
+pub requests-one : (before : List Request) (body : Body) → before ++ requests_from (length before) (body ∷ []) ≡ before ++ next_request before body ∷ []
+unfolding requests_from
+requests-one before body = refl
+
+pub requests-same : (before : List Request) (number : ℕ) → before ++ requests_from number [] ≡ before
+unfolding requests_from
+requests-same before number = append-nil before
+
+-- ---- the replies
+
+pub replies-none : (limits : Limits) → AreReplies limits [] (requests_of [])
+unfolding history_after requests_from answers_to
+replies-none limits = record { replies = refl }
+
+-- a refusal is no reply
+pub replies-refused : (limits : Limits) (answers : List Spoken) (before : List Request) (number : ℕ) → AreReplies limits answers before → AreReplies limits (answers ++ spoken.Refused number ∷ []) before
+replies-refused limits answers before number are = record {
+  replies = flat_map-append reply_of answers (spoken.Refused number ∷ []) ∙ append-nil (flat_map reply_of answers) ∙ are.replies;
+}
+
+-- one more reply is that of one more request
+pub replies-asked : (limits : Limits) (answers : List Spoken) (before : List Request) (body : Body) → AreReplies limits answers before
+    → AreReplies limits (answers ++ spoken.Reply (reply_to limits (history_of limits before) (next_request before body)) ∷ []) (before ++ next_request before body ∷ [])
+replies-asked limits answers before body are =
+    let history = history_of limits before in
+    let request = next_request before body in
+    let exchange = exchange_of limits history request in
+    let reply = reply_to limits history request in
+    let told = flat_map-append reply_of answers (spoken.Reply reply ∷ []) in
+    let all : map (λ (a : Answer). a.reply) (answers_to 0 (history_of limits (before ++ request ∷ []))) ≡ map (λ (a : Answer). a.reply) (answers_to 0 history) ++ reply ∷ [] =
+    rw (history_more limits before request, answers_mine 0 history exchange (mine limits history before body), map-append (λ (a : Answer). a.reply) (answers_to 0 history) (answer_of exchange ∷ []), reply-answer_of limits history request) refl in
+    record { replies = told ∙ ap (λ (rs : List Reply). rs ++ reply ∷ []) are.replies ∙ sym all }
+
+-- ---- one frame's answer
+
+refused-by : (limit accepted position : ℕ) (bytes : List ℕ) (fault : BodyFault) (first : Option BodyFault) → first_body_fault bytes ≡ first → fault ≡ unwrap_or first NoMemory → Takes Input limit accepted position bytes [] (spoken.Refused (body_fault_code fault) ∷ []) None
+refused-by limit accepted position bytes fault None none is = rw is (out_of_memory none)
+refused-by limit accepted position bytes fault (Some first) some is = rw is (faulty first some)
 
 -- a refused body is answered by its first fault, or by want of memory
-pub refused-answer : (limits : Limits) (position : ℕ) (bytes : List ℕ) (before : List Request) (fault : BodyFault) → fault ≡ unwrap_or (first_body_fault bytes) NoMemory → Answers limits position bytes before (spoken.Refused (body_fault_code fault)) false before
-refused-answer limits position bytes before fault is = refused-by limits position bytes before fault (first_body_fault bytes) refl is
+pub refused-takes : (limit accepted position : ℕ) (bytes : List ℕ) (fault : BodyFault) → fault ≡ unwrap_or (first_body_fault bytes) NoMemory → Takes Input limit accepted position bytes [] (spoken.Refused (body_fault_code fault) ∷ []) None
+refused-takes limit accepted position bytes fault is = refused-by limit accepted position bytes fault (first_body_fault bytes) refl is
 
 -- no requests have no history and no letters
 pub history-none : (limits : Limits) → history_of limits [] ≡ []
@@ -78,18 +144,31 @@ module _ {W : Type 0} (contents : W → Option (List ℕ)) (failures : W → ℕ
 
   -- a request's answer is that of its frame
   pub answered-asked : (run : Run W) (requests : List Request) (body : Body) (turn : Turn) (number position : ℕ) (bytes : List ℕ)
-      → Encodes bytes number body → number ≡ position → Asks contents failures limits host start run requests body turn
+      → Encodes bytes number body → number ≡ position → length requests < limits.requests → Asks contents failures limits host start run requests body turn
       → Answered contents failures limits host start run requests position bytes turn
-  answered-asked run requests body turn number position bytes encoded same asks =
+  answered-asked run requests body turn number position bytes encoded same few asks =
       let here = rw same at encoded in record {
-        later = requests ++ next_request requests body ∷ [];
-        answers = rw (asks.answer_is, asks.goes_on) (asked body here);
-        stands = asks.stands;
+        asked = body ∷ [];
+        takes = rw (asks.answer_is, asks.goes_on) (asked body _ here few);
+        replies = λ answers are. rw (requests-one requests body, asks.answer_is) (replies-asked limits answers requests body are);
+        stands = rw (requests-one requests body) asks.stands;
       }
+
+  -- a frame that asks nothing leaves the run as it was
+  pub answered-refused : (run : Run W) (requests : List Request) (number position : ℕ) (bytes : List ℕ) (turn : Turn) (end : Option ℕ)
+      → turn.answer ≡ spoken.Refused number → end_after turn.over ≡ end → Takes Input limits.requests (length requests) position bytes [] (spoken.Refused number ∷ []) end
+      → Stands contents failures limits host start run requests → Answered contents failures limits host start run requests position bytes turn
+  answered-refused run requests number position bytes turn end answer_is over_is takes stands = record {
+    asked = [];
+    takes = rw (answer_is, over_is) takes;
+    replies = λ answers are. rw (requests-same requests (length requests), answer_is) (replies-refused limits answers requests number are);
+    stands = rw (requests-same requests (length requests)) stands;
+  }
 
   -- a book with no key and no letters on their way stand for no requests
   pub stands-nothing : (book : Book) (outgoing : Outgoing W) → book.limits ≡ limits → Represents book [] → Delivered contents failures host start outgoing []
-      → Stands contents failures limits host start (record { book = book; outgoing = outgoing; accepted = 0 }) []
+      → Stands contents failures limits host start (record { book = book; outgoing = outgoing; accepted = 0 }) (requests_of [])
+  unfolding requests_from
   stands-nothing book outgoing kept represents delivered = record {
     limits_kept = kept;
     book = rw (history-none limits) represents;

@@ -17,108 +17,121 @@ use Rattle.dsn_frame.specs.declared.body_fault.BodyFault.{BodyFault}
 use Rattle.dsn_frame.specs.declared.frame_fault.FrameFault.{FrameFault}
 use Rattle.dsn_frame.specs.declared.frame_fault.FrameFault.TheVariants.{NoMemory, TooLong, Empty, CutShort, Read}
 use Rattle.dsn_outcome.specs.History.{Limits}
-use Rattle.dsn_outcome.specs.Request.{Request, Body}
-use Rattle.noticed_lib.specs.Session.{next_request, Answers, faulty, out_of_memory, out_of_turn, asked, Session, begun, answered, Ends, well, cut, too_many, told_out_of_turn, notes_failed, no_memory_for_book}
-use Rattle.noticed_lib.specs.WholeInput.{EncodeInTurn, IsWholeInput, IsRequestOf, AreRequestsOf, IsReply, IsReplyOrNoMemory, IsOutside, none, no_memory, read_failed, notes_lost, TakesAll}
+use Rattle.dsn_outcome.specs.Request.{Body}
+use Rattle.dsn_frame.specs.Session.{Input, Connection, Takes, faulty, out_of_memory, out_of_turn, used_up, asked, given_up, given_up_after, GoesOn, written, unwritten, SessionSoFar, begun, taken, Ends, stopped, well, cut, too_many, no_memory_for_book, IsSession}
+use Rattle.noticed_lib.specs.WholeInput.{EncodeInTurn, IsWholeInput, IsReply, IsReplyOrNoMemory, IsOutside, none, no_memory, read_failed, notes_lost, TakesAll}
 use Rattle.dsn_frame.specs.declared.spoken.Spoken.{Spoken}
 
--- ---- lists with one more
+-- lists put together
+all-both : {X : Type 0} (P : X → Type 0) (xs ys : List X) → AllByRecursion P xs → AllByRecursion P ys → AllByRecursion P (xs ++ ys)
+all-both P [] ys first second = second
+all-both P (x ∷ xs) ys first second = (first.0, all-both P xs ys first.1 second)
 
-all-more : {X : Type 0} (P : X → Type 0) (xs : List X) (x : X) → AllByRecursion P xs → P x → AllByRecursion P (xs ++ x ∷ [])
-all-more P [] x all here = (here, tt)
-all-more P (y ∷ ys) x all here = (all.0, all-more P ys x all.1 here)
-
-all-before : {X : Type 0} (P : X → Type 0) (xs : List X) (x : X) → AllByRecursion P (xs ++ x ∷ []) → AllByRecursion P xs × P x
-all-before P [] x all = (tt, all.0)
-all-before P (y ∷ ys) x all =
-    let rest = all-before P ys x all.1 in
+all-parts : {X : Type 0} (P : X → Type 0) (xs ys : List X) → AllByRecursion P (xs ++ ys) → AllByRecursion P xs × AllByRecursion P ys
+all-parts P [] ys all = (tt, all)
+all-parts P (x ∷ xs) ys all =
+    let rest = all-parts P xs ys all.1 in
     ((all.0, rest.0), rest.1)
 
 place : (number count : ℕ) → (number + 1) + count ≡ number + suc count
 place number count = omega arith
 
+-- the first frames encode the first bodies in turn
+turn-front : (number : ℕ) (frames more : List (List ℕ)) (bodies : List Body) → EncodeInTurn number (frames ++ more) bodies → EncodeInTurn number frames (take (length frames) bodies)
+turn-front number [] more bodies turn = tt
+turn-front number (first ∷ rest) more [] turn = absurd turn
+turn-front number (first ∷ rest) more (body ∷ later) turn = (turn.0, turn-front (number + 1) rest more later turn.1)
+
 -- the bodies before the last one, and the last one
-turn-before : (number : ℕ) (bodies : List (List ℕ)) (more : List (List ℕ)) → EncodeInTurn number (bodies ++ more) → EncodeInTurn number bodies
-turn-before number [] more turn = tt
-turn-before number (first ∷ rest) more turn = (turn.0, turn-before (number + 1) rest more turn.1)
+record Turned (number : ℕ) (frames : List (List ℕ)) (bytes : List ℕ) (bodies : List Body) : Type 0 where
+  before : List Body
+  last : Body
+  parts : bodies ≡ before ++ last ∷ []
+  turn : EncodeInTurn number frames before
+  here : Encodes bytes (number + length frames) last
 
-turn-last : (number : ℕ) (bodies : List (List ℕ)) (bytes : List ℕ) → EncodeInTurn number (bodies ++ bytes ∷ []) → (body : Body) × Encodes bytes (number + length bodies) body
-turn-last number [] bytes turn =
+turned : (number : ℕ) (frames : List (List ℕ)) (bytes : List ℕ) (bodies : List Body) → EncodeInTurn number (frames ++ bytes ∷ []) bodies → Turned number frames bytes bodies
+turned number [] bytes [] turn = absurd turn
+turned number [] bytes (body ∷ []) turn =
     let same : number + 0 ≡ number = omega arith in
-    rw same turn.0
-turn-last number (first ∷ rest) bytes turn =
-    subst (λ (n : ℕ). (body : Body) × Encodes bytes n body) (place number (length rest)) (turn-last (number + 1) rest bytes turn.1)
-
--- the requests with one more, and how many they are
-requests-more : (number : ℕ) (bodies : List (List ℕ)) (requests : List Request) (bytes : List ℕ) (request : Request) → AreRequestsOf number bodies requests → IsRequestOf (number + length bodies) bytes request → AreRequestsOf number (bodies ++ bytes ∷ []) (requests ++ request ∷ [])
-requests-more number [] [] bytes request all last =
-    let same : number + 0 ≡ number = omega arith in
-    (subst (λ (n : ℕ). IsRequestOf n bytes request) same last, tt)
-requests-more number [] (one ∷ later) bytes request all last = absurd all
-requests-more number (first ∷ rest) [] bytes request all last = absurd all
-requests-more number (first ∷ rest) (one ∷ later) bytes request all last =
-    (all.0, requests-more (number + 1) rest later bytes request all.1 (subst (λ (n : ℕ). IsRequestOf n bytes request) (sym (place number (length rest))) last))
-
-requests-length : (number : ℕ) (bodies : List (List ℕ)) (requests : List Request) → AreRequestsOf number bodies requests → length requests ≡ length bodies
-requests-length number [] [] all = refl
-requests-length number [] (one ∷ later) all = absurd all
-requests-length number (first ∷ rest) [] all = absurd all
-requests-length number (first ∷ rest) (one ∷ later) all = ap (λ (n : ℕ). suc n) (requests-length (number + 1) rest later all.1)
+    record { before = []; last = body; parts = refl; turn = tt; here = rw same turn.0 }
+turned number [] bytes (body ∷ other ∷ later) turn = absurd turn.1
+turned number (first ∷ rest) bytes [] turn = absurd turn
+turned number (first ∷ rest) bytes (body ∷ later) turn =
+    let others = turned (number + 1) rest bytes later turn.1 in
+    record {
+      before = body ∷ others.before;
+      last = others.last;
+      parts = ap (λ (bs : List Body). body ∷ bs) others.parts;
+      turn = (turn.0, others.turn);
+      here = subst (λ (n : ℕ). Encodes bytes n others.last) (place number (length rest)) others.here;
+    }
 
 -- ---- the session
 
--- what the answer to a body that encodes a request with its place as number is
-record AnswersInTurn (position : ℕ) (bytes : List ℕ) (before : List Request) (answer : Spoken) (over : Bool) (later : List Request) : Type 0 where
-  goes_on : over ≡ false
-  good : IsReplyOrNoMemory answer
-  adds : IsReply answer → (body : Body) × Encodes bytes position body × (later ≡ before ++ next_request before body ∷ [])
+-- what a session makes of a frame that encodes a body with its place as number
+record TakesInTurn (body : Body) (asked : List Body) (told : List Spoken) (end : Option ℕ) : Type 0 where
+  goes_on : end ≡ None
+  good : AllByRecursion IsReplyOrNoMemory told
+  asks : AllByRecursion IsReply told → asked ≡ body ∷ []
+  few : length asked ≤ 1
 
 no-fault : (fault : BodyFault) (found : Option BodyFault) → found ≡ None → found ≡ Some fault → ⊥
 no-fault fault found nothing some = let never : None ≡ Some fault = sym nothing ∙ some in cc
 
-answers-in-turn : (limits : Limits) (position : ℕ) (bytes : List ℕ) (before : List Request) (body : Body) → Encodes bytes position body → (answer : Spoken) (over : Bool) (later : List Request) → Answers limits position bytes before answer over later → AnswersInTurn position bytes before answer over later
-answers-in-turn limits position bytes before body encodes answer over later (faulty fault is) = absurd (no-fault fault _ (encoded_is_accepted bytes position body encodes) is)
-answers-in-turn limits position bytes before body encodes answer over later (out_of_memory is) = record { goes_on = refl; good = refl; adds = λ never. absurd never }
-answers-in-turn limits position bytes before body encodes answer over later (out_of_turn number other encoded apart) = absurd (apart (encodes_one bytes number position other body encoded encodes).0)
-answers-in-turn limits position bytes before body encodes answer over later (asked other encoded) = record { goes_on = refl; good = tt; adds = λ _. (other, encoded, refl) }
+not-connected : Input ≡ Connection → ⊥
+not-connected same = cc
 
--- what a session over bodies that are requests in turn is
-record IsSessionInTurn (bodies : List (List ℕ)) (requests : List Request) (answers : List Spoken) (over : Bool) : Type 0 where
-  goes_on : over ≡ false
+takes-in-turn : (limit accepted position : ℕ) (bytes : List ℕ) (body : Body) → Encodes bytes position body → accepted < limit → (asks : List Body) (told : List Spoken) (end : Option ℕ) → Takes Input limit accepted position bytes asks told end → TakesInTurn body asks told end
+takes-in-turn limit accepted position bytes body encodes few asks told end (faulty fault is) = absurd (no-fault fault _ (encoded_is_accepted bytes position body encodes) is)
+takes-in-turn limit accepted position bytes body encodes few asks told end (out_of_memory is) = record { goes_on = refl; good = (refl, tt); asks = λ never. absurd never.0; few = omega arith }
+takes-in-turn limit accepted position bytes body encodes few asks told end (out_of_turn number other encoded apart) = absurd (apart (encodes_one bytes number position other body encoded encodes).0)
+takes-in-turn limit accepted position bytes body encodes few asks told end (used_up other encoded full) = absurd (omega (arith, few, full))
+takes-in-turn limit accepted position bytes body encodes few asks told end (asked other reply encoded room) =
+    let same : other ≡ body = (encodes_one bytes position position other body encoded encodes).1 in
+    record { goes_on = refl; good = (tt, tt); asks = λ _. ap (λ (b : Body). b ∷ []) same; few = omega arith }
+takes-in-turn limit accepted position bytes body encodes few asks told end (given_up other encoded connected) = absurd (not-connected connected)
+takes-in-turn limit accepted position bytes body encodes few asks told end (given_up_after other encoded room connected) = absurd (not-connected connected)
+
+-- what a session over frames that encode bodies in turn is
+record IsSessionInTurn (wanted : List Body) (frames : List (List ℕ)) (bodies : List Body) (answers : List Spoken) (made : Option ℕ) : Type 0 where
+  stops : (code : ℕ) → made ≡ Some code → code ≡ 33
   good : AllByRecursion IsReplyOrNoMemory answers
-  asks : AllByRecursion IsReply answers → AreRequestsOf 0 bodies requests
+  asks : AllByRecursion IsReply answers → bodies ≡ wanted
+  few : length bodies ≤ length frames
 
-next-is-request : (bodies : List (List ℕ)) (requests : List Request) (bytes : List ℕ) (body : Body) → length requests ≡ length bodies → Encodes bytes (length bodies) body → IsRequestOf (0 + length bodies) bytes (next_request requests body)
-next-is-request bodies requests bytes body same encoded =
-    let here : 0 + length bodies ≡ length bodies = omega arith in
-    record { agent_is = refl; number_is = same ∙ sym here; encoded = subst (λ (n : ℕ). Encodes bytes n body) (sym here) encoded }
+some-of : (a b : ℕ) → Some a ≡ Some b → a ≡ b
+some-of a b same = ap (λ (known : Option ℕ). unwrap_or known 0) same
 
-session-more : (limits : Limits) (bodies : List (List ℕ)) (requests later : List Request) (answers : List Spoken) (bytes : List ℕ) (answer : Spoken) (over : Bool) → IsSessionInTurn bodies requests answers false → AnswersInTurn (length bodies) bytes requests answer over later → IsSessionInTurn (bodies ++ bytes ∷ []) later (answers ++ answer ∷ []) over
-session-more limits bodies requests later answers bytes answer over before one = record {
-  goes_on = one.goes_on;
-  good = all-more IsReplyOrNoMemory answers answer before.good one.good;
-  asks = λ replies.
-      let parts = all-before IsReply answers answer replies in
-      let all = before.asks parts.0 in
-      let added = one.adds parts.1 in
-      let last = next-is-request bodies requests bytes added.0 (requests-length 0 bodies requests all) added.1 in
-      subst (λ (rs : List Request). AreRequestsOf 0 (bodies ++ bytes ∷ []) rs) (sym added.2) (requests-more 0 bodies requests bytes (next_request requests added.0) all last);
-}
+-- a session stops of itself nowhere, and so only where an answer could not be told
+stops-untold : (answers : List Spoken) (end last : Option ℕ) → end ≡ None → GoesOn Input answers end last → (code : ℕ) → last ≡ Some code → code ≡ 33
+stops-untold _ _ _ goes_on (written answers end) code is = let never : None ≡ Some code = sym goes_on ∙ is in cc
+stops-untold _ _ _ goes_on (unwritten answer end) code is = sym (some-of 33 code is)
 
--- a session answers bodies of frames alone
-session-legal : (limits : Limits) (bodies : List (List ℕ)) (requests : List Request) (answers : List Spoken) (over : Bool) → Session limits bodies requests answers over → AllByRecursion IsFrameBody bodies
-session-legal limits _ _ _ _ begun = tt
-session-legal limits _ _ _ _ (answered bodies requests later answers bytes answer over session few legal one) =
-    all-more IsFrameBody bodies bytes (session-legal limits bodies requests answers false session) legal
+-- a session answers the bodies of frames alone
+session-legal : (limit : ℕ) (frames : List (List ℕ)) (bodies : List Body) (answers : List Spoken) (made : Option ℕ) → SessionSoFar Input limit 0 frames bodies answers made → AllByRecursion IsFrameBody frames
+session-legal limit _ _ _ _ begun = tt
+session-legal limit _ _ _ _ (taken frames bodies more answers told bytes end last session few legal takes goes) =
+    all-both IsFrameBody frames (bytes ∷ []) (session-legal limit frames bodies answers None session) (legal, tt)
 
-session-in-turn : (limits : Limits) (bodies : List (List ℕ)) (requests : List Request) (answers : List Spoken) (over : Bool) → Session limits bodies requests answers over → EncodeInTurn 0 bodies → IsSessionInTurn bodies requests answers over
-session-in-turn limits _ _ _ _ begun turn = record { goes_on = refl; good = tt; asks = λ _. tt }
-session-in-turn limits _ _ _ _ (answered bodies requests later answers bytes answer over session few legal one) turn =
-    let before = session-in-turn limits bodies requests answers false session (turn-before 0 bodies (bytes ∷ []) turn) in
-    let last = turn-last 0 bodies bytes turn in
-    let here : 0 + length bodies ≡ length bodies = omega arith in
-    session-more limits bodies requests later answers bytes answer over before
-    (answers-in-turn limits (length bodies) bytes requests last.0 (subst (λ (n : ℕ). Encodes bytes n last.0) here last.1) answer over later one)
+session-in-turn : (limit : ℕ) (wanted : List Body) (frames : List (List ℕ)) (bodies : List Body) (answers : List Spoken) (made : Option ℕ) → SessionSoFar Input limit 0 frames bodies answers made → EncodeInTurn 0 frames wanted → IsSessionInTurn wanted frames bodies answers made
+session-in-turn limit [] _ _ _ _ begun turn = record { stops = λ code never. cc; good = tt; asks = λ _. refl; few = omega arith }
+session-in-turn limit (body ∷ later) _ _ _ _ begun turn = absurd turn
+session-in-turn limit wanted _ _ _ _ (taken frames bodies more answers told bytes end last session few legal takes goes) turn =
+    let parts = turned 0 frames bytes wanted turn in
+    let before = session-in-turn limit parts.before frames bodies answers None session parts.turn in
+    let same : 0 + length frames ≡ length frames = omega arith in
+    let here = subst (λ (n : ℕ). Encodes bytes n parts.last) same parts.here in
+    let room : 0 + length bodies < limit = omega (arith, before.few, few) in
+    let one = takes-in-turn limit (0 + length bodies) (length frames) bytes parts.last here room more told end takes in
+    record {
+      stops = stops-untold told end last one.goes_on goes;
+      good = all-both IsReplyOrNoMemory answers told before.good one.good;
+      asks = λ replies.
+          let both = all-parts IsReply answers told replies in
+          ap (λ (bs : List Body). bs ++ more) (before.asks both.0) ∙ ap (λ (bs : List Body). parts.before ++ bs) (one.asks both.1) ∙ sym parts.parts;
+      few = omega (arith, before.few, one.few, length-append bodies more, length-append frames (bytes ∷ []));
+    }
 
 -- ---- the frames
 
@@ -215,31 +228,34 @@ record EndsOutside (bodies some : List (List ℕ)) (fault : Option ℕ) : Type 0
   outside : IsOutside fault
   all : fault ≡ None → some ≡ bodies
 
-ends-outside : (limits : Limits) (bodies some : List (List ℕ)) (rest : List ℕ) (now : Option (List ℕ)) (over : Bool) → over ≡ false → length bodies ≤ limits.requests → AreLeft bodies some rest → (fault : Option ℕ) → Ends limits (length some) over (Some rest) now fault → EndsOutside bodies some fault
-ends-outside limits bodies some rest now over goes_on few left fault (well on before after) = record { outside = none; all = λ _. none-left bodies some left.more left.parts (sym left.frames ∙ before) }
-ends-outside limits bodies some rest now over goes_on few left fault (cut on stopped reads) = record {
-  outside = cut-outside stopped rest now reads (λ ends. no-end left.more stopped left.legal (subst (λ (text : List ℕ). FramesEnd text (Some stopped)) left.frames ends));
+ends-outside : (limits : Limits) (bodies some : List (List ℕ)) (rest : List ℕ) (now : Option (List ℕ)) (stop : Option ℕ) → ((code : ℕ) → stop ≡ Some code → code ≡ 33) → length bodies ≤ limits.requests → AreLeft bodies some rest → (fault : Option ℕ) → Ends Input limits.requests (length some) stop (Some rest) now fault → EndsOutside bodies some fault
+ends-outside limits bodies some rest now stop stops few left fault (stopped code is same) =
+    let lost : code ≡ 33 = stops code is in record {
+      outside = subst (λ (n : ℕ). IsOutside (Some n)) (sym lost) notes_lost;
+      all = λ none. absurd (some-none code none);
+    }
+ends-outside limits bodies some rest now stop stops few left fault (well on before after) = record { outside = none; all = λ _. none-left bodies some left.more left.parts (sym left.frames ∙ before) }
+ends-outside limits bodies some rest now stop stops few left fault (cut on stop_fault reads) = record {
+  outside = cut-outside stop_fault rest now reads (λ ends. no-end left.more stop_fault left.legal (subst (λ (text : List ℕ). FramesEnd text (Some stop_fault)) left.frames ends));
   all = λ is. absurd (some-none _ is);
 }
-ends-outside limits bodies some rest now over goes_on few left fault (too_many on bytes full legal read) = absurd (no-more limits bodies some rest bytes now few left full read)
-ends-outside limits bodies some rest now over goes_on few left fault (told_out_of_turn is same) = absurd (let never : false ≡ true = sym goes_on ∙ is in cc)
-ends-outside limits bodies some rest now over goes_on few left fault (notes_failed told same) = record { outside = notes_lost; all = λ is. absurd (some-none 33 is) }
-ends-outside limits bodies some rest now over goes_on few left fault (no_memory_for_book nothing same) = record { outside = no_memory; all = λ is. absurd (some-none 9 is) }
+ends-outside limits bodies some rest now stop stops few left fault (too_many on bytes full legal read) = absurd (no-more limits bodies some rest bytes now few left full read)
+ends-outside limits bodies some rest now stop stops few left fault (no_memory_for_book alone on nothing same) = record { outside = no_memory; all = λ is. absurd (some-none 9 is) }
 
 fault-outside : (lost : Bool) (reading fault : Option ℕ) → fault ≡ (if lost then Some 33 else reading) → IsOutside reading → IsOutside fault
 fault-outside true reading fault is outside = subst IsOutside (sym is) notes_lost
 fault-outside false reading fault is outside = subst IsOutside (sym is) outside
 
 -- a run takes all of a whole input
-pub takes-all : (limits : Limits) (known left now : Option (List ℕ)) (bodies some : List (List ℕ)) (requests : List Request) (answers : List Spoken) (over lost : Bool) (reading fault : Option ℕ)
-    → Session limits some requests answers over → Consumes known left (flat_map frame some) → Ends limits (length some) over left now reading
-    → fault ≡ (if lost then Some 33 else reading) → IsWholeInput limits known bodies → TakesAll bodies some requests answers reading fault
-takes-all limits known left now bodies some requests answers over lost reading fault session read ends is input =
-    let known_rest = known-left known left (flat_map frame some) (flat_map frame bodies) input.bytes read in
-    let rest = frames-left some bodies known_rest.0 (session-legal limits some requests answers over session) input.legal known_rest.2 in
-    let turn = turn-before 0 some rest.more (subst (EncodeInTurn 0) rest.parts input.in_turn) in
-    let good = session-in-turn limits some requests answers over session turn in
-    let ended = ends-outside limits bodies some known_rest.0 now over good.goes_on input.few rest reading (subst (λ (before : Option (List ℕ)). Ends limits (length some) over before now reading) known_rest.1 ends) in
+pub takes-all : (limits : Limits) (known now : Option (List ℕ)) (frames : List (List ℕ)) (wanted : List Body) (some : List (List ℕ)) (bodies : List Body) (answers : List Spoken) (lost : Bool) (reading fault : Option ℕ)
+    → IsSession Input limits.requests 0 known now some bodies answers reading
+    → fault ≡ (if lost then Some 33 else reading) → IsWholeInput limits known frames wanted → TakesAll frames wanted some bodies answers reading fault
+takes-all limits known now frames wanted some bodies answers lost reading fault session is input =
+    let known_rest = known-left known session.left (flat_map frame some) (flat_map frame frames) input.bytes session.read in
+    let rest = frames-left some frames known_rest.0 (session-legal limits.requests some bodies answers session.made session.takes) input.legal known_rest.2 in
+    let turn = turn-front 0 some rest.more wanted (subst (λ (all : List (List ℕ)). EncodeInTurn 0 all wanted) rest.parts input.in_turn) in
+    let good = session-in-turn limits.requests (take (length some) wanted) some bodies answers session.made session.takes turn in
+    let ended = ends-outside limits frames some known_rest.0 now session.made good.stops input.few rest reading (subst (λ (before : Option (List ℕ)). Ends Input limits.requests (length some) session.made before now reading) known_rest.1 session.ends) in
     record {
       reading_outside = ended.outside;
       fault_outside = fault-outside lost reading fault is ended.outside;

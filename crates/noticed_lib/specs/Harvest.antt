@@ -1,21 +1,16 @@
 -- Harvests: what the parts of a whole run hand to one another.
-use Rattle.std.specs.Prelude.{◌≡◌, ℕ, Bool, true, false, not, ◌||◌, List, length, Option, Some, is_some, is_none, MatchOption, IsPermutation, if◌then◌else◌}
-use Rattle.std.specs.Io.KnownBytes.{Consumes}
-use Rattle.std.specs.List.{flat_map}
-use Rattle.std.specs.List.Sorted.{IsSortedByKey}
-use Rattle.dsn_book.specs.OpenLine.{key_cmp, open_lines_after}
+use Rattle.std.specs.Prelude.{◌≡◌, ℕ, Bool, true, false, List, Option, Some, if◌then◌else◌}
 use Rattle.dsn_book.specs.declared.line.OpenLine.{OpenLine}
-use Rattle.dsn_frame.specs.Frame.{frame}
+use Rattle.dsn_frame.specs.Session.{Input, IsSession}
 use Rattle.dsn_outcome.specs.Failures.{Failed}
-use Rattle.dsn_outcome.specs.History.{Limits, Exchange, history_of, sealed_letters}
+use Rattle.dsn_outcome.specs.History.{Limits, history_of, sealed_letters}
 use Rattle.dsn_outcome.specs.Letter.{Letter}
-use Rattle.dsn_outcome.specs.Request.{Request}
-use Rattle.dsn_outcome.specs.Transfer.{AppendsFront}
+use Rattle.dsn_outcome.specs.Request.{Body}
 use Rattle.noticed_lib.specs.Batch.{AreOpenLines, status_of}
-use Rattle.noticed_lib.specs.Notes.{answer_lines_from, end_lines, notes_of}
+use Rattle.noticed_lib.specs.Notes.{answer_lines_from, end_lines}
 use Rattle.noticed_lib.specs.Outgoing.{Delivered, IsOutbox}
 use Rattle.noticed_lib.specs.declared.outgoing.Outgoing.{Outgoing}
-use Rattle.noticed_lib.specs.Session.{Session, Ends}
+use Rattle.noticed_lib.specs.Requests.{AreReplies, requests_of}
 use Rattle.noticed_lib.specs.Telling.{Told}
 use Rattle.noticed_lib.specs.declared.batch_end.BatchEnd.{BatchEnd}
 use Rattle.dsn_frame.specs.declared.spoken.Spoken.{Spoken}
@@ -23,17 +18,14 @@ use Rattle.dsn_frame.specs.declared.spoken.Spoken.{Spoken}
 module _ {R W N : Type 0} (remaining : R → Option (List ℕ)) (input_failures : R → ℕ) (contents : W → Option (List ℕ)) (outbox_failures : W → ℕ) (told : N → Option (List ℕ)) (notes_failures : N → ℕ) where
   -- what came of the reading
   pub record Harvested (limits : Limits) (host : List ℕ) (start : W) (input now : R) (notes later : N) (fault : Option ℕ) (outgoing : Outgoing W) (logs : Option (List OpenLine)) : Type 0 where
-    pub bodies : List (List ℕ)
-    pub requests : List Request
+    pub frames : List (List ℕ)
+    pub bodies : List Body
     pub answers : List Spoken
-    pub over : Bool
-    pub session : Session limits bodies requests answers over
-    pub left : Option (List ℕ)
-    pub read : Consumes (remaining input) left (flat_map frame bodies)
-    pub ends : Ends limits (length bodies) over left (remaining now) fault
+    pub session : IsSession Input limits.requests 0 (remaining input) (remaining now) frames bodies answers fault
+    pub replies : AreReplies limits answers (requests_of bodies)
     pub reading_cause : fault ≡ Some 14 → Failed (input_failures input) (input_failures now)
-    pub delivered : Delivered contents outbox_failures host start outgoing (sealed_letters (history_of limits requests))
-    pub logs_are : AreOpenLines (history_of limits requests) logs
+    pub delivered : Delivered contents outbox_failures host start outgoing (sealed_letters (history_of limits (requests_of bodies)))
+    pub logs_are : AreOpenLines (history_of limits (requests_of bodies)) logs
     pub lost : Bool
     pub lines : Told told notes_failures false lost notes later (answer_lines_from 0 answers)
     pub lost_when : fault ≡ Some 33 → lost ≡ true

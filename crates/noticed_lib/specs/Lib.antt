@@ -3,7 +3,7 @@ pub mod Harvest
 pub mod Notes
 pub mod Outgoing
 pub mod Reading
+pub mod Requests
 pub mod Run
-pub mod Session
 pub mod Telling
 pub mod WholeInput

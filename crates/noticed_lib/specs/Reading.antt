@@ -1,14 +1,15 @@
 -- Readings: what came of reading an input to its end.
-use Rattle.std.specs.Prelude.{◌≡◌, ℕ, Bool, false, true, List, length, Option, Some}
+use Rattle.std.specs.Prelude.{◌≡◌, ℕ, Bool, false, true, List, length, Option, Some, None}
 use Rattle.std.specs.Io.KnownBytes.{Appends, Consumes}
 use Rattle.std.specs.List.{flat_map}
 use Rattle.dsn_outcome.specs.Failures.{Failed}
 use Rattle.dsn_outcome.specs.History.{Limits}
-use Rattle.dsn_outcome.specs.Request.{Request}
+use Rattle.dsn_outcome.specs.Request.{Body}
 use Rattle.dsn_frame.specs.Frame.{frame}
+use Rattle.dsn_frame.specs.Session.{Input, SessionSoFar, IsSession}
 use Rattle.noticed_lib.specs.Notes.{answer_lines_from}
+use Rattle.noticed_lib.specs.Requests.{AreReplies, requests_of}
 use Rattle.noticed_lib.specs.Run.{Stands}
-use Rattle.noticed_lib.specs.Session.{Session, Ends}
 use Rattle.noticed_lib.specs.Telling.{Told}
 use Rattle.noticed_lib.specs.declared.run.Run.{Run}
 use Rattle.dsn_frame.specs.declared.spoken.Spoken.{Spoken}
@@ -16,30 +17,28 @@ use Rattle.dsn_frame.specs.declared.spoken.Spoken.{Spoken}
 module _ {R W N : Type 0} (remaining : R → Option (List ℕ)) (input_failures : R → ℕ) (contents : W → Option (List ℕ)) (outbox_failures : W → ℕ) (told : N → Option (List ℕ)) (notes_failures : N → ℕ) where
   -- so many frames were read and answered, and nothing failed
   pub record HeardSoFar (limits : Limits) (host : List ℕ) (start : W) (count : ℕ) (input now : R) (run : Run W) (notes later : N) : Type 0 where
-    pub bodies : List (List ℕ)
-    pub requests : List Request
+    pub frames : List (List ℕ)
+    pub bodies : List Body
     pub answers : List Spoken
-    pub session : Session limits bodies requests answers false
-    pub stands : Stands contents outbox_failures limits host start run requests
-    pub read : Consumes (remaining input) (remaining now) (flat_map frame bodies)
+    pub session : SessionSoFar Input limits.requests 0 frames bodies answers None
+    pub replies : AreReplies limits answers (requests_of bodies)
+    pub stands : Stands contents outbox_failures limits host start run (requests_of bodies)
+    pub read : Consumes (remaining input) (remaining now) (flat_map frame frames)
     pub lines : Appends (told notes) (told later) (answer_lines_from 0 answers)
     pub reading_good : input_failures now ≡ input_failures input
     pub telling_good : notes_failures later ≡ notes_failures notes
-    pub bodies_counted : length bodies ≡ count
+    pub frames_counted : length frames ≡ count
     pub answers_counted : length answers ≡ count
 
   -- what the whole input came to: a session, the end of the reading, and the lines of its answers, or a front of
   -- them where a line could not be written; a device is blamed only where it failed
   pub record Heard (limits : Limits) (host : List ℕ) (start : W) (input now : R) (run : Run W) (notes later : N) (fault : Option ℕ) : Type 0 where
-    pub bodies : List (List ℕ)
-    pub requests : List Request
+    pub frames : List (List ℕ)
+    pub bodies : List Body
     pub answers : List Spoken
-    pub over : Bool
-    pub session : Session limits bodies requests answers over
-    pub stands : Stands contents outbox_failures limits host start run requests
-    pub left : Option (List ℕ)
-    pub read : Consumes (remaining input) left (flat_map frame bodies)
-    pub ends : Ends limits (length bodies) over left (remaining now) fault
+    pub session : IsSession Input limits.requests 0 (remaining input) (remaining now) frames bodies answers fault
+    pub replies : AreReplies limits answers (requests_of bodies)
+    pub stands : Stands contents outbox_failures limits host start run (requests_of bodies)
     pub lost : Bool
     pub lines : Told told notes_failures false lost notes later (answer_lines_from 0 answers)
     pub lost_when : fault ≡ Some 33 → lost ≡ true

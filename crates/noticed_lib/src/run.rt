@@ -1,5 +1,5 @@
 //! One run of the daemon on one thread: frames in, letters out.
-ghost use Rattle.std.specs.Prelude.{◌≡◌, ℕ, ◌+◌, ◌<◌, ◌≤◌, List, Option};
+ghost use Rattle.std.specs.Prelude.{◌≡◌, ℕ, ◌+◌, ◌<◌, ◌≤◌, List, length, Option};
 ghost use Rattle.dsn_outcome.specs.History.{Limits as Bounds};
 ghost use Rattle.dsn_outcome.specs.Request.{Request as Asked};
 ghost use Rattle.dsn_outcome.specs.Body.{body_of};
@@ -27,7 +27,7 @@ impl<W: Drain> Run<W> {
     pub(crate) fn answer(&mut self, alloc: Global, position: u32, bytes: &[u8]) -> Turn
         requires { self.old.accepted < 1000000 }
         ensures counted { self.new.accepted ≤ self.old.accepted + 1 }
-        ensures answered { (limits : Bounds) (host : List ℕ) (start : W) (requests : List Asked) → Stands W.contents W.failures limits host start self.old requests → Answered W.contents W.failures limits host start self.new requests position bytes.now result }
+        ensures answered { (limits : Bounds) (host : List ℕ) (start : W) (requests : List Asked) → Stands W.contents W.failures limits host start self.old requests → length requests < limits.requests → Answered W.contents W.failures limits host start self.new requests position bytes.now result }
     {
         let (number, body) = match decode_request(alloc, bytes) {
             Ok(read) => read,

@@ -1,7 +1,8 @@
-use Rattle.std.proofs.Common.{◌≡◌, ◌∙◌, refl, sym, List, ℕ, arith, ◌<◌}
+use Rattle.std.proofs.Common.{◌≡◌, ◌∙◌, refl, sym, List, length, ℕ, arith, ◌<◌}
 use Rattle.std.specs.Prelude.{Option}
-use Rattle.noticed_lib.specs.Session.{well, cut, too_many}
+use Rattle.dsn_frame.specs.Session.{well, cut, too_many}
 use Rattle.noticed_lib.proofs.ReadingLemmas.{heard-nothing, heard-more, heard-end, heard-lost, heard-out-of-turn, frame_fault_code-not-notes, Failed-read, differ, none-differs, OnErr-is_err, OnOk-is_err, counted-after, same-after}
+use Rattle.noticed_lib.specs.Requests.{requests_of}
 use Rattle.noticed_lib.proofs.reading.read_all.Goals as goal
 
 pub loop-position-init : goal.loop-position-init
@@ -26,11 +27,12 @@ returns-then-is_err g c = λ limits host start same stands.
     let read = rw c.in-Ok-Some.field-0-is at c.in-Ok-Some.ensures.next in
     let so_far = c.loop-position.invariant.1 limits host start same stands in
     let few : c.loop-position.position < limits.requests = omega (arith, same, c.loop-position-test.true) in
+    let room : length (requests_of so_far.bodies) < limits.requests = omega (arith, few, so_far.stands.count, c.loop-position.invariant.0) in
     let line = c.bytes.ensures.same ∙ c.answer_line.ensures in
     let failed = sym c.is_err.ensures.value ∙ c.if-is_err.true in
     heard-lost _ _ _ _ _ _ limits host start _ _ _ _ _ _ _ _ _ c.body.result.now c.answer-turn.result so_far few
     (rw c.body.ensures.same read.0) (rw c.body.ensures.same read.1) c.in-Ok-Some.ensures.count
-    (c.answer-turn.ensures.answered limits host start so_far.requests so_far.stands)
+    (c.answer-turn.ensures.answered limits host start (requests_of so_far.bodies) so_far.stands room)
     (rw (← line) (OnErr-is_err c.send.result _ failed c.send.ensures.front)) (counted-after _ _ _ failed c.send.ensures.count)
 
 pub returns-then-turn : goal.returns-then-turn
@@ -38,11 +40,12 @@ returns-then-turn g c = λ limits host start same stands.
     let read = rw c.in-Ok-Some.field-0-is at c.in-Ok-Some.ensures.next in
     let so_far = c.loop-position.invariant.1 limits host start same stands in
     let few : c.loop-position.position < limits.requests = omega (arith, same, c.loop-position-test.true) in
+    let room : length (requests_of so_far.bodies) < limits.requests = omega (arith, few, so_far.stands.count, c.loop-position.invariant.0) in
     let line = c.bytes.ensures.same ∙ c.answer_line.ensures in
     let fine = sym c.is_err.ensures.value ∙ c.if-is_err.false in
     heard-out-of-turn _ _ _ _ _ _ limits host start _ _ _ _ _ _ _ _ _ c.body.result.now c.answer-turn.result so_far few
     (rw c.body.ensures.same read.0) (rw c.body.ensures.same read.1) c.in-Ok-Some.ensures.count
-    (c.answer-turn.ensures.answered limits host start so_far.requests so_far.stands)
+    (c.answer-turn.ensures.answered limits host start (requests_of so_far.bodies) so_far.stands room)
     c.if-turn.true (rw (← line) (OnOk-is_err c.send.result _ fine c.send.ensures.sent)) (same-after _ _ _ fine c.send.ensures.count)
 
 pub loop-position-preserved : goal.loop-position-preserved
@@ -52,11 +55,12 @@ loop-position-preserved g c = (
       let read = rw c.in-Ok-Some.field-0-is at c.in-Ok-Some.ensures.next in
       let so_far = c.loop-position.invariant.1 limits host start same stands in
       let few : c.loop-position.position < limits.requests = omega (arith, same, c.loop-position-test.true) in
+      let room : length (requests_of so_far.bodies) < limits.requests = omega (arith, few, so_far.stands.count, c.loop-position.invariant.0) in
       let line = c.bytes.ensures.same ∙ c.answer_line.ensures in
       let fine = sym c.is_err.ensures.value ∙ c.if-is_err.false in
       heard-more _ _ _ _ _ _ limits host start _ _ _ _ _ _ _ _ _ c.body.result.now c.answer-turn.result so_far few
       (rw c.body.ensures.same read.0) (rw c.body.ensures.same read.1) c.in-Ok-Some.ensures.count
-      (c.answer-turn.ensures.answered limits host start so_far.requests so_far.stands)
+      (c.answer-turn.ensures.answered limits host start (requests_of so_far.bodies) so_far.stands room)
       c.if-turn.false (rw (← line) (OnOk-is_err c.send.result _ fine c.send.ensures.sent)) (same-after _ _ _ fine c.send.ensures.count),
 )
 

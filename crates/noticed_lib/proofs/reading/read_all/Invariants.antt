@@ -1,11 +1,12 @@
 use Rattle.std.proofs.Common.{◌≡◌, ℕ, ◌≤◌, [], List}
 use Rattle.dsn_outcome.specs.History.{Limits}
 use Rattle.noticed_lib.specs.Reading.{HeardSoFar}
+use Rattle.noticed_lib.specs.Requests.{requests_of}
 use Rattle.noticed_lib.specs.Run.{Stands}
 use Rattle.noticed_lib.proofs.reading.read_all.Given as goal
 
 abbrev pub invariant-loop-position : goal.invariant-loop-position
 invariant-loop-position g l =
     (l.run.accepted ≤ l.position) ×
-    ((limits : Limits) (host : List ℕ) (start : g.row.W.Denot) → limits.requests ≡ l.requests → Stands g.W.Drain.contents g.W.Drain.failures limits host start l.initial.run [] →
+    ((limits : Limits) (host : List ℕ) (start : g.row.W.Denot) → limits.requests ≡ l.requests → Stands g.W.Drain.contents g.W.Drain.failures limits host start l.initial.run (requests_of []) →
     HeardSoFar g.R.Source.remaining g.R.Source.failures g.W.Drain.contents g.W.Drain.failures g.N.Drain.contents g.N.Drain.failures limits host start l.position l.initial.input l.input l.run l.initial.notes l.notes)

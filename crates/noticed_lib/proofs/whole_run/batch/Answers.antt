@@ -1,5 +1,6 @@
 use Rattle.std.proofs.Common.{sym}
 use Rattle.dsn_outcome.specs.History.{history_of, sealed_letters}
+use Rattle.noticed_lib.specs.Requests.{requests_of}
 use Rattle.noticed_lib.proofs.BatchLemmas.{whole-batch, harvest-nothing}
 use Rattle.noticed_lib.proofs.whole_run.batch.Goals as goal
 
@@ -8,11 +9,11 @@ returns-in-Ok g c =
     let limits = c.args.limits.now in
     let harvest = c.read_into-harvest.ensures limits c.args.site c.args.outbox (sym c.requests.ensures.value) c.in-Ok.ensures.limits c.in-Ok.ensures.stands c.new-outgoing.ensures in
     whole-batch _ _ _ _ _ _ limits c.args.site _ _ c.args.outbox _ _ _ _ _ _ _ harvest
-    (c.end.ensures c.args.site c.args.outbox (sealed_letters (history_of limits harvest.requests)) harvest.delivered)
+    (c.end.ensures c.args.site c.args.outbox (sealed_letters (history_of limits (requests_of harvest.bodies))) harvest.delivered)
 
 pub returns-in-Err : goal.returns-in-Err
 returns-in-Err g c =
     let limits = c.args.limits.now in
     let harvest = harvest-nothing _ _ _ _ _ _ limits c.args.site c.args.outbox c.args.input.now c.args.notes.now _ _ c.new-in-Err.ensures.items c.new-outgoing.ensures in
     whole-batch _ _ _ _ _ _ limits c.args.site _ _ c.args.outbox _ _ _ _ _ _ _ harvest
-    (c.end-in-Err.ensures c.args.site c.args.outbox (sealed_letters (history_of limits harvest.requests)) harvest.delivered)
+    (c.end-in-Err.ensures c.args.site c.args.outbox (sealed_letters (history_of limits (requests_of harvest.bodies))) harvest.delivered)

@@ -6,14 +6,11 @@ use Rattle.noticed_lib.proofs.whole_run.read_into.Goals as goal
 pub returns : goal.returns
 returns g c = λ limits host start same kept represents delivered.
     let heard = c.read_all-fault.ensures limits host start same (stands-nothing _ _ limits host start _ _ kept represents delivered) in record {
+      frames = heard.frames;
       bodies = heard.bodies;
-      requests = heard.requests;
       answers = heard.answers;
-      over = heard.over;
       session = heard.session;
-      left = heard.left;
-      read = heard.read;
-      ends = heard.ends;
+      replies = heard.replies;
       reading_cause = heard.reading_cause;
       delivered = heard.stands.letters;
       logs_are = AreOpenLines-listed _ c.open_lines-logs.result _ (rw (← open_lines-represented _ _ heard.stands.book) c.open_lines-logs.ensures.lines) c.open_lines-logs.ensures.order;

@@ -1,5 +1,6 @@
 mod AnswerExamples
 pub mod BodyLaws
+pub mod EncodingLaws
 mod Examples
 pub mod Existence
 pub mod FieldLaws

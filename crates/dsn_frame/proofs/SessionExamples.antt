@@ -1,6 +1,6 @@
 -- Worked examples of sessions, made by the definitions.
-use Rattle.std.proofs.Common.{◌≡◌, ℕ, List, [], ◌∷◌, ◌++◌, refl, lit<, lit≤}
-use Rattle.std.specs.Prelude.{Some, None}
+use Rattle.std.proofs.Common.{ℕ, List, [], ◌∷◌, ◌++◌, refl, lit<, lit≤}
+use Rattle.std.specs.Prelude.{◌≢◌, Some, None}
 use Rattle.dsn_outcome.specs.declared.answer.Reply.TheVariants.{Logged, Sealed}
 use Rattle.dsn_frame.specs.Frame.{frame}
 use Rattle.dsn_frame.specs.Request.{first_body_fault}
@@ -31,6 +31,9 @@ used_up_before =
     let first = taken [] [] [] [] (Refused 44 ∷ []) append_body None None begun (lit< tt) (lit≤ tt, lit≤ tt) (used_up append_asked append_is_encoded refl) (written _ None) in
     record { made = None; takes = first; left = Some (frame flush_body); read = refl; ends = too_many refl flush_body refl (lit≤ tt, lit≤ tt) refl }
 
+zero_is_not_one : ◌≢◌ {A = ℕ} 0 1
+zero_is_not_one same = cc
+
 -- a refused body leaves the session as it was; the append that follows it has the number of its request, not of its
 -- frame, and ends it
 number_out_of_turn :
@@ -39,7 +42,7 @@ unfolding garbage first_body_fault
 number_out_of_turn =
     let first = taken [] [] [] [] (Refused 21 ∷ []) garbage None None begun (lit< tt) (lit≤ tt, lit≤ tt) (faulty Version refl) (written _ None) in
     let second = taken (garbage ∷ []) [] [] (Refused 21 ∷ []) (Refused 46 ∷ []) append_body (Some 46) (Some 46) first (lit< tt) (lit≤ tt, lit≤ tt)
-    (out_of_turn 0 append_asked append_is_encoded (λ same. let never : 0 ≡ 1 = same in cc)) (written _ (Some 46)) in
+    (out_of_turn 0 append_asked append_is_encoded zero_is_not_one) (written _ (Some 46)) in
     record { made = Some 46; takes = second; left = Some (frame flush_body); read = refl; ends = stopped 46 refl refl }
 
 -- an answer that couldn't be written stands among the answers, and ends the session

@@ -1,6 +1,6 @@
 -- Requests in bytes: which body some bytes stand for, and why they are refused where they stand for none (this
 -- project's profile, version 1).
-use Rattle.std.specs.Prelude.{◌≡◌, ℕ, Bool, true, false, ◌&&◌, ◌==◌, nat_le, List, [], ◌∷◌, length, Option, Some, None, is_some, slice_get, option_and_then}
+use Rattle.std.specs.Prelude.{◌≡◌, ℕ, Bool, true, false, ◌&&◌, ◌==◌, nat_le, List, [], ◌∷◌, length, ◌≤◌, Option, Some, None, is_some, slice_get, option_and_then}
 use Rattle.std.specs.Option.{option_map, option_map_or}
 use Rattle.dsn_outcome.specs.Action.{action_byte}
 use Rattle.dsn_outcome.specs.Draft.{Draft}
@@ -13,7 +13,7 @@ use Rattle.dsn_outcome.specs.declared.key.Key.{Key}
 use Rattle.dsn_outcome.specs.declared.service.Service.{Service}
 use Rattle.dsn_frame.specs.BodyFault.{outcome_refusal}
 use Rattle.dsn_frame.specs.Frame.{frame}
-use Rattle.dsn_frame.specs.Wire.{Head, FlushFields, WireBody, AppendFields, FlushFieldsOf, DiscardFields, head_of, body_bytes, Fits, body_at}
+use Rattle.dsn_frame.specs.Wire.{Head, FlushFields, WireBody, AppendFields, FlushFieldsOf, DiscardFields, head_of, own_bytes, body_bytes, Fits, body_at}
 use Rattle.dsn_frame.specs.declared.body_fault.BodyFault.{BodyFault}
 use Rattle.dsn_frame.specs.declared.body_fault.BodyFault.TheVariants as faults
 
@@ -145,6 +145,15 @@ fields_written number (Append id outcome) = Some (AppendFields (head_for number 
 fields_written number (Flush key draft) = Some (FlushFieldsOf (head_for number key.service key.id) (flush_fields_for draft))
 fields_written number (Discard key) = Some (DiscardFields (head_for number key.service key.id))
 fields_written number Bye = None
+
+-- fields that are written of a body: a frame holds them, no check fails, and they stand for the body
+pub record IsWritten (number : ℕ) (body : Body) (wire : WireBody) : Type 0 where
+  pub number_is : (head_of wire).number ≡ number
+  pub fits : Fits wire
+  pub id_short : length (head_of wire).id ≤ 32
+  pub own_short : length (own_bytes wire) ≤ 60000
+  pub accepted : first_field_fault wire ≡ None
+  pub stands_for : StandsFor wire body
 
 -- the bytes that are written of a body; of a goodbye none
 unfoldable pub request_body : ℕ → Body → List ℕ

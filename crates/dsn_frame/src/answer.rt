@@ -3,13 +3,11 @@ ghost use Rattle.std.specs.Prelude.{◌≡◌, ◌≢◌, ℕ, ◌≤◌, true, 
 ghost use Rattle.dsn_frame.specs.Spoken.{FitsAnswer, answer_body, answer_bytes, first_answer_fault, is_without_value, reply_kind, reply_value, spoken_kind, spoken_value};
 ghost use Rattle.dsn_frame.specs.declared.spoken.Spoken.{Spoken as Said};
 
+use crate::VERSION;
 use crate::answer_fault::AnswerFault;
 use crate::frame::number_in;
 use crate::spoken::Spoken;
 use dsn_outcome::Reply;
-
-/// The version of the format.
-const VERSION: u8 = 1;
 
 /// How many bytes an answer's body has.
 const BODY: usize = 10;
@@ -25,7 +23,9 @@ pub fn encode_answer(number: u32, answer: &Spoken) -> [u8; 14]
     let (kind, value) = fields_of(*answer);
     let [n0, n1, n2, n3] = number.to_be_bytes();
     let [v0, v1, v2, v3] = value.to_be_bytes();
-    [0, 0, 0, BODY as u8, VERSION, kind, n0, n1, n2, n3, v0, v1, v2, v3]
+    [
+        0, 0, 0, BODY as u8, VERSION, kind, n0, n1, n2, n3, v0, v1, v2, v3,
+    ]
 }
 
 /// The place of the frame that is answered, and the answer. A fault is the first one in the order of
@@ -40,7 +40,10 @@ pub fn decode_answer(bytes: &[u8]) -> Result<(u32, Spoken), AnswerFault>
     if bytes.first().is_some_and(|version| *version != VERSION) {
         return Err(AnswerFault::Version);
     }
-    if bytes.get(1).is_some_and(|kind| *kind < 1 || REFUSED < *kind) {
+    if bytes
+        .get(1)
+        .is_some_and(|kind| *kind < 1 || REFUSED < *kind)
+    {
         return Err(AnswerFault::Kind);
     }
     if bytes.len() < BODY {

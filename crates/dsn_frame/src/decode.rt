@@ -11,12 +11,9 @@ use crate::optional::{
     is_optional_address, is_optional_envelope_id, optional_address, optional_envelope_id,
 };
 use crate::parts::{BodyParts, FlushParts, HeadParts};
-use crate::reading;
+use crate::{VERSION, reading};
 use dsn_outcome::{Body, Draft, Key, Outcome, QueueId, RawHeader, Service, Stamp};
 use std::alloc::Global;
-
-/// The version of the format.
-const VERSION: u8 = 1;
 
 /// The request that a body stands for, with its number on the connection. It is never a goodbye.
 /// A fault is the first one in the order of `BodyFault`'s variants; memory is taken once none is

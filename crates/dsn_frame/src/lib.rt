@@ -5,6 +5,7 @@ mod answer;
 mod answer_fault;
 mod body_fault;
 mod decode;
+mod encode;
 mod frame;
 mod frame_fault;
 mod laws;
@@ -12,12 +13,17 @@ mod optional;
 mod parts;
 mod reading;
 mod spoken;
+mod writing;
 
 pub use answer::{decode_answer, encode_answer};
 pub use answer_fault::AnswerFault;
 pub use body_fault::BodyFault;
 pub use decode::decode_request;
+pub use encode::encode_request;
 pub use frame::{Frame, LONGEST_BODY, read_frame};
 pub use frame_fault::FrameFault;
 pub use laws::{bodies_are_requests_or_refused, inputs_are_frames_and_an_end};
 pub use spoken::Spoken;
+
+/// The version of the format: the first byte of each body.
+const VERSION: u8 = 1;

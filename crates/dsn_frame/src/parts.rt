@@ -41,7 +41,7 @@ pub(crate) enum BodyParts<'a> {
 impl<'a> BodyParts<'a> {
     ghost use Rattle.std.specs.Prelude.{◌≡◌};
     ghost use Rattle.dsn_frame.specs.BodyParts.{head_in, wire_body_in};
-    ghost use Rattle.dsn_frame.specs.Wire.{head_of};
+    ghost use Rattle.dsn_frame.specs.Wire.{head_of, kind_of};
 
     /// What the body begins with.
     pub(crate) fn head(self) -> HeadParts<'a>
@@ -50,6 +50,17 @@ impl<'a> BodyParts<'a> {
         match self {
             BodyParts::Append(head, _) | BodyParts::Flush(head, _) | BodyParts::Discard(head) =>
                 head,
+        }
+    }
+
+    /// The byte of the body's kind.
+    pub(crate) fn kind(self) -> u8
+        ensures { result ≡ kind_of (wire_body_in self.entry) }
+    {
+        match self {
+            BodyParts::Append(..) => 1,
+            BodyParts::Flush(..) => 2,
+            BodyParts::Discard(_) => 3,
         }
     }
 }

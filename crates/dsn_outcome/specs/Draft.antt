@@ -1,5 +1,8 @@
 -- Drafts: what a flush says of the notice that it asks for, before the outcomes are added.
-use Rattle.std.specs.Prelude.{ℕ, List, Option}
+use Rattle.std.specs.Prelude.{ℕ, ◌≤◌, List, length, Option, IsTrue}
+use Rattle.dsn_outcome.specs.Outcome.{is_none_or}
+use Rattle.dsn_outcome.specs.Stamp.{last_moment}
+use Rattle.dsn_outcome.specs.Text.{is_address, is_envelope_id}
 
 -- moment and arrival in whole seconds since 1970; no return path means the null path (RFC 5321 section 4.5.5);
 -- the header is the returned header as it came
@@ -9,3 +12,11 @@ pub record Draft : Type 0 where
   pub return_path : Option (List ℕ)
   pub envelope_id : Option (List ℕ)
   pub header : List ℕ
+
+-- a legal draft: each moment has a date of four digits of years, and each text is within its bounds
+pub record IsLegalDraft (draft : Draft) : Type 0 where
+  pub moment_dated : draft.moment ≤ last_moment
+  pub arrival_dated : draft.arrival ≤ last_moment
+  pub return_path_legal : IsTrue (is_none_or is_address draft.return_path)
+  pub envelope_id_legal : IsTrue (is_none_or is_envelope_id draft.envelope_id)
+  pub header_short : length draft.header ≤ 32768

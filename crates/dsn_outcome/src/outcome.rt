@@ -72,7 +72,8 @@ impl Outcome {
 
     /// The service whose log it belongs to.
     pub fn service(&self) -> Service
-        ensures { result ≡ self.now.service }
+        ensures same { result ≡ self.now.service }
+        ensures legal { IsLegalOutcome self.now }
     {
         self.service
     }

@@ -1,0 +1,19 @@
+use Rattle.std.proofs.Common.{◌≡◌, ap, ◌∙◌}
+use Rattle.dsn_outcome.specs.Node.{outcome_of}
+use Rattle.dsn_frame.proofs.EncodingLaws.{append_written, flush_written, discard_written}
+use Rattle.dsn_frame.proofs.encode.parts_of.Goals as goal
+
+pub returns-in-Append-clause-written : goal.returns-in-Append-clause-written
+returns-in-Append-clause-written c =
+    let same : c.outcome-outcome.result.now ≡ outcome_of c.in-Append.node.value = c.outcome-outcome.ensures ∙ ap outcome_of c.deref.ensures in
+    rw (c.in-Append.is, c.head_parts-head.ensures.same, c.append_parts.ensures, c.service.ensures.same, same)
+    (append_written c.args.number c.in-Append.id (outcome_of c.in-Append.node.value) c.ranges.number.fits c.head_parts-head.ensures.legal (rw same at c.service.ensures.legal))
+
+pub returns-in-Flush-clause-written : goal.returns-in-Flush-clause-written
+returns-in-Flush-clause-written c =
+    rw (c.in-Flush.is, c.head_parts-head-in-Flush.ensures.same, c.flush_parts.ensures.same)
+    (flush_written c.args.number c.in-Flush.key c.in-Flush.draft c.ranges.number.fits c.head_parts-head-in-Flush.ensures.legal c.flush_parts.ensures.legal)
+
+pub returns-in-Discard-clause-written : goal.returns-in-Discard-clause-written
+returns-in-Discard-clause-written c =
+    rw (c.in-Discard.is, c.head_parts.ensures.same) (discard_written c.args.number c.in-Discard.key c.ranges.number.fits c.head_parts.ensures.legal)

@@ -1,0 +1,143 @@
+//! Requests to frames.
+ghost use Rattle.std.specs.Prelude.{◌≡◌, ◌≢◌, Some, IfOk, IsTrue};
+ghost use Rattle.std.specs.Option.{option_copied};
+ghost use Rattle.dsn_outcome.specs.Body.{body_of};
+ghost use Rattle.dsn_outcome.specs.Draft.{IsLegalDraft};
+ghost use Rattle.dsn_outcome.specs.Outcome.{is_none_or};
+ghost use Rattle.dsn_outcome.specs.Parts.{fields_of};
+ghost use Rattle.dsn_outcome.specs.Request.{Bye as Goodbye};
+ghost use Rattle.dsn_outcome.specs.Text.{IsQueueId, is_address, is_envelope_id};
+ghost use Rattle.dsn_frame.specs.BodyParts.{head_in, flush_fields_in, wire_body_in};
+ghost use Rattle.dsn_frame.specs.FrameBody.{IsFrameBody};
+ghost use Rattle.dsn_frame.specs.Request.{Encodes, IsWritten, fields_for, fields_written, flush_fields_for, head_for, request_body, request_bytes, text_or_empty};
+
+use crate::parts::{BodyParts, FlushParts, HeadParts};
+use crate::writing::{body_len, push_frame};
+use dsn_outcome::{
+    Address, Body, Clean, Draft, EnvelopeId, MtaName, NoMemory, Outcome, Parts, QueueId, Service,
+};
+use std::alloc::Global;
+
+/// The whole frame of a request: its length, and a body that encodes this number and this request.
+/// A diagnostic and a reason are written as the outcome keeps them, clean. Memory for the frame is
+/// taken at once, so `NoMemory` comes before a byte is written.
+#[tactic(auto, using(crate::proofs::EncodingLaws::written_encodes, crate::proofs::EncodingLaws::written_fits), unfolding(crate::specs::Request::request_body, crate::specs::Request::request_bytes))]
+pub fn encode_request(alloc: Global, number: u32, body: &Body) -> Result<Vec<u8>, NoMemory>
+    requires { body_of body.now ≢ Goodbye }
+    ensures written { IfOk result (λ frame. frame.items ≡ request_bytes number (body_of body.now)) }
+    ensures whole { IsFrameBody (request_body number (body_of body.now)) }
+    ensures encoded { Encodes (request_body number (body_of body.now)) number (body_of body.now) }
+{
+    let parts = parts_of(number, body);
+    let size = body_len(parts);
+    let Ok(mut frame) = Vec::with_capacity(alloc, 4 + size) else {
+        return Err(NoMemory);
+    };
+    push_frame(&mut frame, parts);
+    Ok(frame)
+}
+
+/// The fields of a request.
+#[tactic(auto, unfolding(crate::specs::Request::fields_written))]
+fn parts_of(number: u32, body: &Body) -> BodyParts<'_>
+    requires { body_of body.now ≢ Goodbye }
+    ensures fields { fields_written number (body_of body.now) ≡ Some (wire_body_in result) }
+    ensures written { IsWritten number (body_of body.now) (wire_body_in result) }
+{
+    match body {
+        Body::Append(id, node) => {
+            let outcome = node.outcome();
+            let head = head_parts(number, outcome.service(), id);
+            BodyParts::Append(head, append_parts(outcome))
+        }
+        Body::Flush(key, draft) => {
+            let head = head_parts(number, key.service, &key.id);
+            BodyParts::Flush(head, flush_parts(draft))
+        }
+        Body::Discard(key) => BodyParts::Discard(head_parts(number, key.service, &key.id)),
+        Body::Bye => unreachable!(),
+    }
+}
+
+/// What the body of a request about this message begins with.
+fn head_parts(number: u32, service: Service, id: &QueueId) -> HeadParts<'_>
+    ensures same { head_in result ≡ head_for number service id.now }
+    ensures legal { IsQueueId id.now }
+{
+    HeadParts {
+        number,
+        service: service.byte(),
+        id: id.bytes(),
+    }
+}
+
+/// The fields of an outcome.
+fn append_parts(outcome: &Outcome) -> Parts<'_>
+    ensures { fields_of result ≡ fields_for outcome.now }
+{
+    Parts {
+        recipient: outcome.recipient().bytes(),
+        original: address_text(outcome.original()),
+        action: outcome.action().byte(),
+        status: outcome.status().bytes(),
+        mta: mta_text(outcome.mta()),
+        diagnostic: clean_text(outcome.diagnostic()),
+        reason: clean_text(outcome.reason()),
+    }
+}
+
+/// The fields of a flush.
+fn flush_parts(draft: &Draft) -> FlushParts<'_>
+    ensures same { flush_fields_in result ≡ flush_fields_for draft.now }
+    ensures legal { IsLegalDraft draft.now }
+{
+    FlushParts {
+        moment: draft.moment().seconds(),
+        arrival: draft.arrival().seconds(),
+        return_path: address_text(draft.return_path()),
+        envelope_id: envelope_id_text(draft.envelope_id()),
+        header: draft.header().bytes(),
+    }
+}
+
+/// The address, or the empty text.
+fn address_text(address: Option<&Address>) -> &[u8]
+    ensures same { result.now ≡ text_or_empty (option_copied address.entry) }
+    ensures legal { IsTrue (is_none_or is_address (option_copied address.entry)) }
+{
+    match address {
+        Some(address) => address.bytes(),
+        None => b"",
+    }
+}
+
+/// The envelope id, or the empty text.
+fn envelope_id_text(id: Option<&EnvelopeId>) -> &[u8]
+    ensures same { result.now ≡ text_or_empty (option_copied id.entry) }
+    ensures legal { IsTrue (is_none_or is_envelope_id (option_copied id.entry)) }
+{
+    match id {
+        Some(id) => id.bytes(),
+        None => b"",
+    }
+}
+
+/// The remote system's name, or the empty text.
+fn mta_text(name: Option<&MtaName>) -> &[u8]
+    ensures { result.now ≡ text_or_empty (option_copied name.entry) }
+{
+    match name {
+        Some(name) => name.bytes(),
+        None => b"",
+    }
+}
+
+/// The diagnostic or reason, or the empty text.
+fn clean_text(text: Option<&Clean>) -> &[u8]
+    ensures { result.now ≡ text_or_empty (option_copied text.entry) }
+{
+    match text {
+        Some(text) => text.bytes(),
+        None => b"",
+    }
+}

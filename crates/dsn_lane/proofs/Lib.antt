@@ -1,0 +1,3 @@
+pub mod AgentLemmas
+mod Examples
+pub mod RuleLemmas

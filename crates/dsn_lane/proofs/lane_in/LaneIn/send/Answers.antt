@@ -1,0 +1,12 @@
+-- A send keeps the rule: its item is the next of the end's agent.
+use Rattle.std.proofs.Common.{ap, sym, ◌∙◌, length}
+use Rattle.dsn_lane.proofs.RuleLemmas.{sends}
+use Rattle.dsn_lane.specs.Ends.{End}
+use Rattle.dsn_lane.proofs.lane_in.LaneIn.send.Goals as goal
+
+pub send_as-requires-clause-rule : goal.send_as-requires-clause-rule
+send_as-requires-clause-rule g c =
+    let is = sym c.self.view_is in (
+      sends _ _ _ _ _ _ _ c.self.invariant.1 (c.requires.agent ∙ ap (λ (e : End g.row.T.Denot). e.agent) is) (c.requires.number ∙ ap (λ (e : End g.row.T.Denot). length e.sent) is),
+      λ _ _ _ _. tt,
+    )

@@ -1,0 +1,70 @@
+-- Ends: what contracts see of a lane's ends, and what a lane has accepted.
+use Rattle.std.specs.Prelude.{◌≡◌, ℕ, zero, suc, List, [], ◌∷◌, length, All}
+use Rattle.atomic_table.specs.Seated.{TableId}
+use Rattle.atomic_table.specs.declared.badge.Badge.{Badge}
+use Rattle.crossbeam_channel.specs.Claims.{Pass, view}
+use Rattle.crossbeam_channel.specs.declared.flavors.array.Key.{Key}
+use Rattle.dsn_outcome.specs.Agents.{from_agent}
+use Rattle.dsn_lane.specs.Lane.{IsNumbered}
+use Rattle.dsn_lane.specs.declared.token.Sending.{Sending}
+use Rattle.dsn_lane.specs.declared.token.Taking.{Taking}
+use Rattle.dsn_lane.specs.declared.token.Token.{Token}
+use Rattle.dsn_lane.specs.declared.token.Token.TheVariants.{Sends, Takes, Spent}
+
+-- which lane it is: no two lanes share it
+pub record Identity (T : Type 0) : Type 0 where
+  pub table : TableId
+  pub items : Badge (Key T)
+
+-- a sending end: its lane, its agent, and what it has sent
+pub record End (T : Type 0) : Type 0 where
+  pub lane : Identity T
+  pub agent : ℕ
+  pub sent : List T
+
+-- the receiving end: its lane, whose agents are those from `first` on that are below `past`, and what it has taken
+pub record Out (T : Type 0) : Type 0 where
+  pub lane : Identity T
+  pub first : ℕ
+  pub past : ℕ
+  pub taken : List T
+
+module _ {T : Type 0} where
+  -- what a pass stands for
+  abbrev pub sending : Token T → Sending T
+  sending (Sends end) = end
+  sending (Takes known) = record { agent = 0; sent = [] }
+  sending Spent = record { agent = 0; sent = [] }
+
+  abbrev pub taking : Token T → Taking T
+  taking (Takes known) = known
+  taking (Sends end) = record { made = 0; taken = []; back = [] }
+  taking Spent = record { made = 0; taken = []; back = [] }
+
+  -- what contracts see of an end, by its pass
+  abbrev pub lane_of : Pass T (Token T) → Identity T
+  lane_of pass = record { table = pass.table_id; items = pass.me.0.of }
+
+  abbrev pub end_of : Pass T (Token T) → End T
+  end_of pass = record { lane = lane_of pass; agent = (sending (view pass)).agent; sent = (sending (view pass)).sent }
+
+  abbrev pub out_of : Pass T (Token T) → Out T
+  out_of pass =
+      record { lane = lane_of pass; first = length (taking (view pass)).back; past = (taking (view pass)).made; taken = (taking (view pass)).taken }
+
+  -- so many agents from one on, which have sent nothing
+  abbrev pub fresh : ℕ → ℕ → List (Sending T)
+  fresh first zero = []
+  fresh first (suc more) = record { agent = first; sent = [] } ∷ fresh (suc first) more
+
+  -- the ends of so many agents from one on, in their order, which have sent nothing
+  abbrev pub fresh_ends : Identity T → ℕ → ℕ → List (End T)
+  fresh_ends lane first zero = []
+  fresh_ends lane first (suc more) = record { lane = lane; agent = first; sent = [] } ∷ fresh_ends lane (suc first) more
+
+  -- what a lane with these ends has accepted: of each end's agent, what that end has sent; of no other agent, anything;
+  -- of each agent, items that are numbered from 0
+  pub record IsAccepted (agent number : T → ℕ) (ends : List (End T)) (items : List T) : Type 0 where
+    pub each : All (λ (end : End T). from_agent agent end.agent items ≡ end.sent) ends
+    pub others : (a : ℕ) → from_agent (λ (end : End T). end.agent) a ends ≡ [] → from_agent agent a items ≡ []
+    pub numbered : (a : ℕ) → IsNumbered number (from_agent agent a items)

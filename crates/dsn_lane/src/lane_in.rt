@@ -1,0 +1,65 @@
+//! The sending end of a lane.
+ghost use Rattle.std.specs.Prelude.{◌≡◌, ◌<◌, List, ◌∷◌, [], ◌++◌, length, OnOk, IfErr};
+ghost use Rattle.dsn_lane.specs.Lane.{IsNumbered};
+
+use crate::lost::Lost;
+use crate::rule::{Adds, LaneRule};
+use crate::token::Token;
+use crossbeam_channel::{Pass, RuledSender};
+use dsn_outcome::Carried;
+use std::marker::Model;
+use std::sync::Wait;
+
+/// The end of a lane by which one agent sends. Contracts see its lane, its agent and the items
+/// that it has sent, in order.
+#[derive(Drop)]
+pub struct LaneIn<T: Carried> {
+    sender: RuledSender<T, Token<T>, LaneRule>,
+    pass: Pass<T, Token<T>>,
+    count: u32,
+}
+
+impl<T: Carried> Model for LaneIn<T> {
+    ghost use Rattle.std.specs.Prelude.{◌≡◌, length};
+    ghost use Rattle.crossbeam_channel.specs.Claims.{view as knows, IsSeatAt};
+    ghost use Rattle.crossbeam_channel.specs.Ends.{sends_on};
+    ghost use Rattle.dsn_lane.specs.declared.token.Token.TheVariants.{Sends};
+    ghost use Rattle.dsn_lane.specs.Lane.{IsNumbered};
+    ghost use Rattle.dsn_lane.specs.Ends.{End, end_of, sending};
+
+    ghost Value = { End T };
+
+    ghost view = { λ e. end_of e.pass };
+
+    ghost invariant = { λ e. IsSeatAt (sends_on e.sender) e.pass × (knows e.pass ≡ Sends (sending (knows e.pass))) × (e.count ≡ length (end_of e.pass).sent) };
+}
+
+impl<T: Carried> LaneIn<T> {
+    /// How many items it has sent.
+    pub fn count(&self) -> u32
+        ensures { result ≡ length self.now.sent }
+    {
+        self.count
+    }
+
+    /// Sends an item, and waits while the lane is full. `Lost` comes only where the receiving end
+    /// is gone; it hands the item back.
+    pub fn send(&mut self, rt: &impl Wait, item: T) -> Result<(), Lost<T>>
+        requires agent { T.agent item ≡ self.old.agent }
+        requires number { T.number item ≡ length self.old.sent }
+        requires room { length self.old.sent < 4294967295 }
+        ensures ok { OnOk result (self.new.sent ≡ self.old.sent ++ item ∷ []) }
+        ensures lost { IfErr result (λ lost. (lost.item ≡ item) × (self.new.sent ≡ self.old.sent)) }
+        ensures same { (self.new.lane ≡ self.old.lane) × (self.new.agent ≡ self.old.agent) }
+    {
+        match self.sender.send_as::<Adds, _>(rt, &mut self.pass, item) {
+            Ok(()) => {
+                self.count += 1;
+                Ok(())
+            }
+            Err(refused) => Err(Lost {
+                item: refused.into_inner(),
+            }),
+        }
+    }
+}

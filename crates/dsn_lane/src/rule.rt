@@ -1,0 +1,83 @@
+//! The rule of a lane and the steps on it, as the channel's calls want them. None of these types
+//! has a value: they stand in the calls' types.
+
+use crate::token::Token;
+use crossbeam_channel::protocol::{Join, Lesson, Outcome, Protocol, Split};
+use dsn_outcome::Carried;
+
+/// The rule: accepted is taken followed by what waits, and each agent's part of it is what that
+/// agent sent.
+pub struct LaneRule;
+
+impl<T: Carried> Protocol<T, Token<T>> for LaneRule {
+    ghost use Rattle.dsn_lane.specs.Lane.{IsLane};
+    ghost use Rattle.dsn_lane.specs.Step.{opened};
+
+    ghost holds = { IsLane T.agent T.number };
+
+    ghost first = { opened };
+}
+
+/// An agent's pass is split off the receiving end's.
+pub struct SplitOff;
+
+impl<T> Split<Token<T>> for SplitOff {
+    ghost use Rattle.dsn_lane.specs.Step.{after_split, split_off};
+
+    ghost left = { after_split };
+
+    ghost right = { split_off };
+}
+
+/// The receiving end takes a sending end back.
+pub struct TakeBack;
+
+impl<T> Join<Token<T>> for TakeBack {
+    ghost use Rattle.dsn_lane.specs.Step.{after_join};
+    ghost use Rattle.dsn_lane.specs.declared.token.Token.TheVariants.{Spent};
+
+    ghost both = { after_join };
+
+    ghost spent = { Spent };
+}
+
+/// A send, which adds its item at the back.
+pub struct Adds;
+
+impl<T> Outcome<T, Token<T>> for Adds {
+    ghost use Rattle.std.specs.Prelude.{◌≡◌};
+    ghost use Rattle.dsn_lane.specs.Step.{after_send};
+
+    ghost then = { λ before item after. after ≡ after_send before item };
+}
+
+impl<T> Lesson<T, Token<T>> for Adds {
+    ghost use Rattle.std.specs.Prelude.{⊤};
+
+    ghost fact = { λ token waiting. ⊤ };
+}
+
+/// A receive, which takes the item at the front.
+pub struct Removes;
+
+impl<T: Carried> Outcome<T, Token<T>> for Removes {
+    ghost use Rattle.std.specs.Prelude.{◌≡◌};
+    ghost use Rattle.dsn_lane.specs.Step.{after_take, IsNext};
+
+    ghost then = { λ before item after. (after ≡ after_take before item) × IsNext T.agent T.number before item };
+}
+
+impl<T> Lesson<T, Token<T>> for Removes {
+    ghost use Rattle.std.specs.Prelude.{⊤};
+
+    ghost fact = { λ token waiting. ⊤ };
+}
+
+/// A look at what waits, once the ends have come back.
+pub struct Settles;
+
+impl<T: Carried> Lesson<T, Token<T>> for Settles {
+    ghost use Rattle.dsn_lane.specs.Step.{IsSettled};
+
+    ghost fact = { IsSettled T.agent T.number };
+}

@@ -1,3 +1,4 @@
 pub mod AgentLemmas
+pub mod EndLemmas
 mod Examples
 pub mod RuleLemmas

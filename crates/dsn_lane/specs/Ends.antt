@@ -1,9 +1,11 @@
 -- Ends: what contracts see of a lane's ends, and what a lane has accepted.
-use Rattle.std.specs.Prelude.{◌≡◌, ℕ, zero, suc, List, [], ◌∷◌, length, All}
+use Rattle.std.specs.Prelude.{◌≡◌, ℕ, zero, suc, ◌%◌, ◌^◌, List, [], ◌∷◌, length, All}
 use Rattle.atomic_table.specs.Seated.{TableId}
 use Rattle.atomic_table.specs.declared.badge.Badge.{Badge}
 use Rattle.crossbeam_channel.specs.Claims.{Pass, view}
+use Rattle.crossbeam_channel.specs.declared.flavors.array.Doing.{Doing}
 use Rattle.crossbeam_channel.specs.declared.flavors.array.Key.{Key}
+use Rattle.crossbeam_channel.specs.declared.flavors.array.Rows.{Rows}
 use Rattle.dsn_outcome.specs.Agents.{from_agent}
 use Rattle.dsn_lane.specs.Lane.{IsNumbered}
 use Rattle.dsn_lane.specs.declared.token.Sending.{Sending}
@@ -41,9 +43,12 @@ module _ {T : Type 0} where
   taking (Sends end) = record { made = 0; taken = []; back = [] }
   taking Spent = record { made = 0; taken = []; back = [] }
 
-  -- what contracts see of an end, by its pass
+  -- what contracts see of an end, by its pass; a channel's own passes are of its lane
   abbrev pub lane_of : Pass T (Token T) → Identity T
   lane_of pass = record { table = pass.table_id; items = pass.me.0.of }
+
+  abbrev pub lane_at : {M Q L A : Type 0} → Rows (Badge (Key T)) (Doing T (Token T)) Q M (Key T) L A → Identity T
+  lane_at channel = record { table = channel.stamps.shared.table_id; items = channel.stamps.shared.key }
 
   abbrev pub end_of : Pass T (Token T) → End T
   end_of pass = record { lane = lane_of pass; agent = (sending (view pass)).agent; sent = (sending (view pass)).sent }
@@ -61,6 +66,19 @@ module _ {T : Type 0} where
   abbrev pub fresh_ends : Identity T → ℕ → ℕ → List (End T)
   fresh_ends lane first zero = []
   fresh_ends lane first (suc more) = record { lane = lane; agent = first; sent = [] } ∷ fresh_ends lane (suc first) more
+
+  -- what a sending end keeps: its count, and that its items are its agent's, numbered from 0
+  pub record IsSending (agent number : T → ℕ) (end : Sending T) (count : ℕ) : Type 0 where
+    pub counted : count ≡ length end.sent
+    pub mine : from_agent agent end.agent end.sent ≡ end.sent
+    pub numbered : IsNumbered number end.sent
+
+  -- what the receiving end keeps while the lane is open: that the ends that came back are those of the agents below the
+  -- first, unused; its count, which wraps; and that what it took of each agent is numbered from 0
+  pub record IsReceiving (agent number : T → ℕ) (known : Taking T) (count : ℕ) : Type 0 where
+    pub passed : known.back ≡ fresh 0 (length known.back)
+    pub counted : count ≡ length known.taken % 2 ^ 64
+    pub numbered : (a : ℕ) → IsNumbered number (from_agent agent a known.taken)
 
   -- what a lane with these ends has accepted: of each end's agent, what that end has sent; of no other agent, anything;
   -- of each agent, items that are numbered from 0

@@ -1,12 +1,18 @@
 //! The sending end of a lane.
-ghost use Rattle.std.specs.Prelude.{◌≡◌, ◌<◌, List, ◌∷◌, [], ◌++◌, length, OnOk, IfErr};
+ghost use Rattle.std.specs.Prelude.{◌≡◌, ◌<◌, List, ◌∷◌, [], ◌++◌, length, OnOk, IfOk, IfErr};
+ghost use Rattle.crossbeam_channel.specs.Claims.{view, IsSeatAt};
+ghost use Rattle.crossbeam_channel.specs.Ends.{sends_on};
+ghost use Rattle.dsn_outcome.specs.Agents.{from_agent};
+ghost use Rattle.dsn_lane.specs.declared.token.Token.TheVariants.{Takes};
+ghost use Rattle.dsn_lane.specs.Ends.{lane_at, taking};
 ghost use Rattle.dsn_lane.specs.Lane.{IsNumbered};
+ghost use Rattle.dsn_lane.specs.Step.{after_split};
 
 use crate::lost::Lost;
-use crate::rule::{Adds, LaneRule};
+use crate::rule::{Adds, LaneRule, SplitOff};
 use crate::token::Token;
 use crossbeam_channel::{Pass, RuledSender};
-use dsn_outcome::Carried;
+use dsn_outcome::{Carried, NoMemory};
 use std::marker::Model;
 use std::sync::Wait;
 
@@ -14,27 +20,49 @@ use std::sync::Wait;
 /// that it has sent, in order.
 #[derive(Drop)]
 pub struct LaneIn<T: Carried> {
-    sender: RuledSender<T, Token<T>, LaneRule>,
-    pass: Pass<T, Token<T>>,
-    count: u32,
+    pub(crate) sender: RuledSender<T, Token<T>, LaneRule>,
+    pub(crate) pass: Pass<T, Token<T>>,
+    // How many items it has sent.
+    pub(crate) count: u32,
 }
 
 impl<T: Carried> Model for LaneIn<T> {
-    ghost use Rattle.std.specs.Prelude.{◌≡◌, length};
+    ghost use Rattle.std.specs.Prelude.{◌≡◌};
     ghost use Rattle.crossbeam_channel.specs.Claims.{view as knows, IsSeatAt};
     ghost use Rattle.crossbeam_channel.specs.Ends.{sends_on};
     ghost use Rattle.dsn_lane.specs.declared.token.Token.TheVariants.{Sends};
-    ghost use Rattle.dsn_lane.specs.Lane.{IsNumbered};
-    ghost use Rattle.dsn_lane.specs.Ends.{End, end_of, sending};
+    ghost use Rattle.dsn_lane.specs.Ends.{End, IsSending, end_of, sending};
 
     ghost Value = { End T };
 
     ghost view = { λ e. end_of e.pass };
 
-    ghost invariant = { λ e. IsSeatAt (sends_on e.sender) e.pass × (knows e.pass ≡ Sends (sending (knows e.pass))) × (e.count ≡ length (end_of e.pass).sent) };
+    ghost invariant = { λ e. IsSeatAt (sends_on e.sender) e.pass × (knows e.pass ≡ Sends (sending (knows e.pass))) × IsSending T.agent T.number (sending (knows e.pass)) e.count };
 }
 
 impl<T: Carried> LaneIn<T> {
+    // The end of the next agent, whose pass is split off the receiving end's.
+    pub(crate) fn split_off(
+        sender: &RuledSender<T, Token<T>, LaneRule>,
+        pass: &mut Pass<T, Token<T>>,
+    ) -> Result<LaneIn<T>, NoMemory>
+        requires channel { IsSeatAt (sends_on sender.now) pass.old }
+        requires receiver { view pass.old ≡ Takes (taking (view pass.old)) }
+        ensures channel { IsSeatAt (sends_on sender.now) pass.new }
+        ensures receiver { IfOk result (λ _. view pass.new ≡ after_split (view pass.old)) }
+        ensures end { IfOk result (λ end. end ≡ record { lane = lane_at (sends_on sender.now); agent = (taking (view pass.old)).made; sent = [] }) }
+    {
+        let Ok(own) = sender.try_clone() else {
+            return Err(NoMemory);
+        };
+        let token = sender.another::<SplitOff>(pass);
+        Ok(LaneIn {
+            sender: own,
+            pass: token,
+            count: 0,
+        })
+    }
+
     /// How many items it has sent.
     pub fn count(&self) -> u32
         ensures { result ≡ length self.now.sent }
@@ -50,6 +78,7 @@ impl<T: Carried> LaneIn<T> {
         requires room { length self.old.sent < 4294967295 }
         ensures ok { OnOk result (self.new.sent ≡ self.old.sent ++ item ∷ []) }
         ensures lost { IfErr result (λ lost. (lost.item ≡ item) × (self.new.sent ≡ self.old.sent)) }
+        ensures numbered { (from_agent T.agent self.new.agent self.new.sent ≡ self.new.sent) × IsNumbered T.number self.new.sent }
         ensures same { (self.new.lane ≡ self.old.lane) × (self.new.agent ≡ self.old.agent) }
     {
         match self.sender.send_as::<Adds, _>(rt, &mut self.pass, item) {

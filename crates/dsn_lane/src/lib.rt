@@ -4,10 +4,16 @@
 
 mod lane_end;
 mod lane_in;
+mod lane_left;
+mod lane_out;
 mod lost;
+mod open;
 mod rule;
 mod token;
 
 pub use lane_end::LaneEnd;
 pub use lane_in::LaneIn;
+pub use lane_left::LaneLeft;
+pub use lane_out::LaneOut;
 pub use lost::Lost;
+pub use open::open_lane;

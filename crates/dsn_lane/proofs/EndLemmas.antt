@@ -1,0 +1,173 @@
+-- Ends: what each end keeps through its steps.
+use Rattle.std.proofs.Common.{◌≡◌, ◌≢◌, ℕ, zero, suc, ◌+◌, ◌<◌, ◌≤◌, ◌%◌, ◌^◌, List, [], ◌∷◌, ◌++◌, length, refl, ap, sym, ◌∙◌, subst, length-append, eq-eqb, ne_eqb, lt_of_not-le, arith}
+use Rattle.std.proofs.Math.Nat.{mod-add-mod}
+use native.Mathlib.Decide.{ℕ_discrete, dec_le}
+use Rattle.dsn_outcome.specs.Agents.{from_agent}
+use Rattle.dsn_lane.proofs.AgentLemmas.{mine, not_mine, more_mine, more_not_mine, numbered_more, numbered_none}
+use Rattle.dsn_lane.specs.Ends.{Identity, End, Out, IsSending, IsReceiving, sending, taking, fresh, fresh_ends}
+use Rattle.dsn_lane.specs.Lane.{IsNumbered, back_from}
+use Rattle.dsn_lane.specs.Step.{after_send, after_take, after_join, after_split, split_off, IsNext}
+use Rattle.dsn_lane.specs.declared.token.Sending.{Sending}
+use Rattle.dsn_lane.specs.declared.token.Taking.{Taking}
+use Rattle.dsn_lane.specs.declared.token.Token.{Token}
+use Rattle.dsn_lane.specs.declared.token.Token.TheVariants.{Sends, Takes, Spent}
+
+-- ---- agents that have sent nothing
+
+fresh_suc : {T : Type 0} (first more : ℕ) → fresh {T = T} first (suc more) ≡ fresh first more ++ record { agent = first + more; sent = [] } ∷ []
+fresh_suc {T} first zero = ap (λ (n : ℕ). record { agent = n; sent = let none : List T = [] in none } ∷ []) (omega arith)
+fresh_suc {T} first (suc more) =
+    ap (λ (rest : List (Sending T)). record { agent = first; sent = [] } ∷ rest) (fresh_suc {T = T} (suc first) more ∙ ap (λ (n : ℕ). fresh {T = T} (suc first) more ++ record { agent = n; sent = [] } ∷ []) (omega arith))
+
+-- one more agent stands behind the others
+pub fresh_more : {T : Type 0} (first more : ℕ) → fresh {T = T} first (more + 1) ≡ fresh first more ++ record { agent = first + more; sent = [] } ∷ []
+fresh_more {T} first more = let one : more + 1 ≡ suc more = omega arith in ap (fresh {T = T} first) one ∙ fresh_suc {T = T} first more
+
+pub length-fresh : (T : Type 0) (first more : ℕ) → length (fresh {T = T} first more) ≡ more
+length-fresh T first zero = refl
+length-fresh T first (suc more) = let rest = length-fresh T (suc first) more in omega arith
+
+-- none of them is below the first
+fresh_none : {T : Type 0} (a first more : ℕ) → a < first → from_agent (λ (end : Sending T). end.agent) a (fresh first more) ≡ []
+fresh_none a first zero below = refl
+fresh_none {T} a first (suc more) below = rw (ne_eqb first a (λ same. absurd (omega arith))) (fresh_none {T = T} a (suc first) more (omega arith))
+
+-- each of them is one
+fresh_one : {T : Type 0} (a first more : ℕ) → first ≤ a → a < first + more → from_agent (λ (end : Sending T). end.agent) a (fresh first more) ≡ record { agent = a; sent = [] } ∷ []
+fresh_one a first zero from below = absurd (omega arith)
+fresh_one {T} a first (suc more) from below =
+    elim (ℕ_discrete first a) [
+      | yes same ↦ rw (eq-eqb first a same) (λ i. record { agent = same i; sent = [] } ∷ fresh_none {T = T} a (suc first) more (omega arith) i)
+      | no other ↦ rw (ne_eqb first a other) (fresh_one {T = T} a (suc first) more (omega (arith, other)) (omega arith))
+    ]
+
+-- ---- a send
+
+keeps_sending_at : {T : Type 0} (agent number : T → ℕ) (end : Sending T) (count : ℕ) (item : T) → agent item ≡ end.agent → number item ≡ length end.sent → IsSending agent number end count → IsSending agent number (record { agent = end.agent; sent = end.sent ++ item ∷ [] }) (count + 1)
+keeps_sending_at {T} agent number end count item is next before = record {
+  counted = let was = before.counted in omega (arith, length-append end.sent (item ∷ []));
+  mine = more_mine agent end.agent end.sent item is ∙ ap (λ (front : List T). front ++ item ∷ []) before.mine;
+  numbered = numbered_more number end.sent item before.numbered next;
+}
+
+-- the token of a sending end, after a send
+pub keeps_sending : {T : Type 0} (agent number : T → ℕ) (old new : Token T) (count : ℕ) (item : T) → old ≡ Sends (sending old) → new ≡ after_send old item → agent item ≡ (sending old).agent → number item ≡ length (sending old).sent → IsSending agent number (sending old) count → (new ≡ Sends (sending new)) × IsSending agent number (sending new) (count + 1)
+keeps_sending {T} agent number old new count item is step own next before =
+    let end : Sending T = sending old in
+    let now : new ≡ after_send (Sends end) item = step ∙ ap (λ (it : Token T). after_send it item) is in
+    subst (λ (it : Token T). (it ≡ Sends (sending it)) × IsSending agent number (sending it) (count + 1)) (sym now) (refl, keeps_sending_at agent number end count item own next before)
+
+-- ---- a take
+
+numbered_taken : {T : Type 0} (agent number : T → ℕ) (taken : List T) (item : T) → ((a : ℕ) → IsNumbered number (from_agent agent a taken)) → number item ≡ length (from_agent agent (agent item) taken) → (a : ℕ) → IsNumbered number (from_agent agent a (taken ++ item ∷ []))
+numbered_taken agent number taken item before next a =
+    elim (ℕ_discrete (agent item) a) [
+      | yes same ↦ subst (IsNumbered number) (sym (more_mine agent a taken item same)) (numbered_more number (from_agent agent a taken) item (before a) (next ∙ ap (λ (b : ℕ). length (from_agent agent b taken)) same))
+      | no other ↦ subst (IsNumbered number) (sym (more_not_mine agent a taken item other)) (before a)
+    ]
+
+keeps_receiving_at : {T : Type 0} (agent number : T → ℕ) (known : Taking T) (count : ℕ) (item : T) → IsReceiving agent number known count → IsNext agent number (Takes known) item → IsReceiving agent number (taking (after_take (Takes known) item)) ((count + 1) % 2 ^ 64)
+keeps_receiving_at agent number known count item before next = record {
+  passed = before.passed;
+  counted =
+      ap (λ (n : ℕ). (n + 1) % 2 ^ 64) before.counted
+      ∙ (mod-add-mod (length known.taken) (2 ^ 64) 1 ∙ ap (λ (n : ℕ). n % 2 ^ 64) (sym (length-append known.taken (item ∷ []))));
+  numbered = numbered_taken agent number known.taken item before.numbered next.1;
+}
+
+-- the token of the receiving end, after a take
+pub keeps_receiving : {T : Type 0} (agent number : T → ℕ) (old new : Token T) (count : ℕ) (item : T) → old ≡ Takes (taking old) → new ≡ after_take old item → IsNext agent number old item → IsReceiving agent number (taking old) count → (new ≡ Takes (taking new)) × IsReceiving agent number (taking new) ((count + 1) % 2 ^ 64)
+keeps_receiving {T} agent number old new count item is step next before =
+    let known : Taking T = taking old in
+    let told : IsNext agent number (Takes known) item = subst (λ (it : Token T). IsNext agent number it item) is next in
+    let now : new ≡ after_take (Takes known) item = step ∙ ap (λ (it : Token T). after_take it item) is in
+    subst (λ (it : Token T). (it ≡ Takes (taking it)) × IsReceiving agent number (taking it) ((count + 1) % 2 ^ 64)) (sym now) (refl, keeps_receiving_at agent number known count item before told)
+
+-- an item that is taken is of an agent with an end
+pub agent_within : {T : Type 0} (agent number : T → ℕ) (token : Token T) (count : ℕ) (item : T) → token ≡ Takes (taking token) → IsNext agent number token item → IsReceiving agent number (taking token) count → (length (taking token).back ≤ agent item) × (agent item < (taking token).made)
+agent_within {T} agent number token count item is next before =
+    let known : Taking T = taking token in
+    let told : IsNext agent number (Takes known) item = subst (λ (it : Token T). IsNext agent number it item) is next in
+    let a : ℕ = agent item in
+    let first : ℕ = length known.back in (
+      elim (dec_le first a) [
+        | yes from ↦ from
+        | no below ↦ let less = lt_of_not-le below in
+            absurd (told.2 (ap (from_agent (λ (end : Sending T). end.agent) a) before.passed ∙ fresh_one {T = T} a 0 first (omega arith) (omega arith)))
+      ],
+      told.0,
+    )
+
+-- ---- the ends of a lane that is new
+
+ends_suc : {T : Type 0} (lane : Identity T) (first more : ℕ) → fresh_ends lane first (suc more) ≡ fresh_ends lane first more ++ record { lane = lane; agent = first + more; sent = [] } ∷ []
+ends_suc {T} lane first zero = ap (λ (n : ℕ). record { lane = lane; agent = n; sent = let none : List T = [] in none } ∷ []) (omega arith)
+ends_suc {T} lane first (suc more) =
+    ap (λ (rest : List (End T)). record { lane = lane; agent = first; sent = [] } ∷ rest) (ends_suc lane (suc first) more ∙ ap (λ (n : ℕ). fresh_ends lane (suc first) more ++ record { lane = lane; agent = n; sent = [] } ∷ []) (omega arith))
+
+-- one more end stands behind the others
+pub ends_more : {T : Type 0} (lane : Identity T) (first more : ℕ) → fresh_ends lane first (more + 1) ≡ fresh_ends lane first more ++ record { lane = lane; agent = first + more; sent = [] } ∷ []
+ends_more lane first more = let one : more + 1 ≡ suc more = omega arith in ap (fresh_ends lane first) one ∙ ends_suc lane first more
+
+-- ---- agents that are passed over
+
+abbrev passed : {T : Type 0} → ℕ → Token T
+passed n = Takes (record { made = n; taken = []; back = fresh 0 n })
+
+passed_suc : {T : Type 0} (n : ℕ) → after_join (after_split (passed {T = T} n)) (split_off (passed {T = T} n)) ≡ passed {T = T} (n + 1)
+passed_suc {T} n =
+    let made : suc n ≡ n + 1 = omega arith in
+    let zeroth : n ≡ 0 + n = omega arith in
+    let none : List T = [] in
+    let back : fresh {T = T} 0 n ++ record { agent = n; sent = none } ∷ [] ≡ fresh {T = T} 0 (n + 1) =
+    ap (λ (m : ℕ). fresh {T = T} 0 n ++ record { agent = m; sent = none } ∷ []) zeroth ∙ sym (fresh_more {T = T} 0 n)
+    in
+    λ i. Takes (record { made = made i; taken = none; back = back i })
+
+-- one more agent is passed over: its pass is split off and joined
+pub passed_more : {T : Type 0} (n : ℕ) (old left right : Token T) → old ≡ Takes (record { made = n; taken = []; back = fresh 0 n }) → left ≡ after_split old → right ≡ split_off old → after_join left right ≡ Takes (record { made = n + 1; taken = []; back = fresh 0 (n + 1) })
+passed_more {T} n old left right is split off =
+    let splits : left ≡ after_split (passed {T = T} n) = split ∙ ap after_split is in
+    let offs : right ≡ split_off (passed {T = T} n) = off ∙ ap split_off is in
+    (λ i. after_join (splits i) (offs i)) ∙ passed_suc {T = T} n
+
+-- ---- opening a lane
+
+-- the receiving end of a lane with nothing in it, whose agents go from `first` on and are below `past`
+abbrev new_token : {T : Type 0} → ℕ → ℕ → Token T
+new_token first past = Takes (record { made = past; taken = []; back = fresh 0 first })
+
+-- one more agent has an end
+pub made_more : {T : Type 0} (first more : ℕ) (old new : Token T) → old ≡ Takes (record { made = first + more; taken = []; back = fresh 0 first }) → new ≡ after_split old → new ≡ Takes (record { made = first + (more + 1); taken = []; back = fresh 0 first })
+made_more {T} first more old new is split =
+    let next : suc (first + more) ≡ first + (more + 1) = omega arith in
+    split ∙ (ap after_split is ∙ ap (new_token {T = T} first) next)
+
+-- the next agent's end stands behind the others
+pub ends_pushed : {T : Type 0} (lane : Identity T) (first more : ℕ) (token : Token T) (end : End T) (old new : List (End T)) → token ≡ Takes (record { made = first + more; taken = []; back = fresh 0 first }) → end ≡ record { lane = lane; agent = (taking token).made; sent = [] } → old ≡ fresh_ends lane first more → new ≡ old ++ end ∷ [] → new ≡ fresh_ends lane first (more + 1)
+ends_pushed {T} lane first more token end old new is end_is before pushed =
+    let made : (taking token).made ≡ first + more = ap (λ (it : Token T). (taking it).made) is in
+    let none : List T = [] in
+    let last : end ≡ record { lane = lane; agent = first + more; sent = none } = end_is ∙ ap (λ (n : ℕ). record { lane = lane; agent = n; sent = none }) made in
+    pushed ∙ ((λ i. before i ++ last i ∷ []) ∙ sym (ends_more lane first more))
+
+receiving_at : {T : Type 0} (agent number : T → ℕ) (first past : ℕ) → IsReceiving agent number (taking (new_token {T = T} first past)) 0
+receiving_at {T} agent number first past = record {
+  passed = ap (fresh {T = T} 0) (sym (length-fresh T 0 first));
+  counted = refl;
+  numbered = λ a. numbered_none number;
+}
+
+-- a receiving end that has taken nothing
+pub new_receiving : {T : Type 0} (agent number : T → ℕ) (first past : ℕ) (token : Token T) → token ≡ Takes (record { made = past; taken = []; back = fresh 0 first }) → (token ≡ Takes (taking token)) × IsReceiving agent number (taking token) 0
+new_receiving {T} agent number first past token is =
+    subst (λ (it : Token T). (it ≡ Takes (taking it)) × IsReceiving agent number (taking it) 0) (sym is) (refl, receiving_at agent number first past)
+
+abbrev out : {T : Type 0} → Identity T → ℕ → ℕ → List T → Out T
+out lane first past taken = record { lane = lane; first = first; past = past; taken = taken }
+
+-- what contracts see of it
+pub new_out : {T : Type 0} (lane : Identity T) (first past : ℕ) (token : Token T) → token ≡ Takes (record { made = past; taken = []; back = fresh 0 first }) → out lane (length (taking token).back) (taking token).made (taking token).taken ≡ out lane first past []
+new_out {T} lane first past token is =
+    let none : List T = [] in
+    ap (λ (it : Token T). out lane (length (taking it).back) (taking it).made (taking it).taken) is ∙ ap (λ (n : ℕ). out lane n past none) (length-fresh T 0 first)

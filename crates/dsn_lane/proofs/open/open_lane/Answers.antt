@@ -1,0 +1,24 @@
+-- A lane with nothing in it meets the rule, and each agent's end is split off in its turn.
+use Rattle.std.proofs.Common.{rules, arith, ◌≡◌, ◌+◌, ℕ, [], ap, ◌∙◌}
+use Rattle.dsn_lane.proofs.EndLemmas.{ends_pushed, made_more, new_out, new_receiving}
+use Rattle.dsn_lane.proofs.RuleLemmas.{opens}
+use Rattle.dsn_lane.specs.Ends.{lane_of}
+use Rattle.dsn_lane.proofs.open.open_lane.Goals as goal
+
+pub bounded_with-requires-clause-rule : goal.bounded_with-requires-clause-rule
+bounded_with-requires-clause-rule g c = opens _ _
+
+pub loop-preserved : goal.loop-preserved
+loop-preserved g c =
+    let pushed = ends_pushed _ _ _ _ _ _ _ c.loop.invariant.1 c.in_ok-split_off.ensures.end c.loop.invariant.2 c.push_reserved.ensures.items in
+    (search rules, made_more _ _ _ _ c.loop.invariant.1 c.in_ok-split_off.ensures.receiver, pushed, search rules, search rules)
+
+pub invariant_of-out : goal.invariant_of-out
+invariant_of-out g c =
+    let kept = new_receiving g.T.Carried.agent g.T.Carried.number _ _ _ c.loop.invariant.1 in
+    (search rules, kept.0, kept.1)
+
+pub returns-clause-out : goal.returns-clause-out
+returns-clause-out g c =
+    let all : c.loop.counter ≡ c.args.agents = search rules in
+    new_out (lane_of c.loop.pass) _ _ _ c.loop.invariant.1 ∙ ap (λ (n : ℕ). record { lane = lane_of c.loop.pass; first = c.args.first; past = c.args.first + n; taken = [] }) all

@@ -1,0 +1,68 @@
+//! The receiving end of a lane.
+ghost use Rattle.std.specs.Prelude.{◌≡◌, ℕ, ◌<◌, ◌≤◌, List, ◌∷◌, [], ◌++◌, length, IfOk, OnErr};
+ghost use Rattle.dsn_outcome.specs.Agents.{from_agent};
+ghost use Rattle.dsn_lane.specs.Lane.{IsNumbered};
+
+use crate::lane_end::LaneEnd;
+use crate::lane_left::LaneLeft;
+use crate::rule::{LaneRule, Removes};
+use crate::token::Token;
+use crossbeam_channel::{Pass, RuledReceiver};
+use dsn_outcome::Carried;
+use std::marker::Model;
+use std::snapshot::Snapshot;
+use std::sync::Wait;
+
+/// The end of a lane that takes what the agents send. Contracts see its lane, its agents, from
+/// `first` on and below `past`, and the items that it has taken, in order.
+#[derive(Drop)]
+pub struct LaneOut<T: Carried> {
+    pub(crate) receiver: RuledReceiver<T, Token<T>, LaneRule>,
+    pub(crate) pass: Pass<T, Token<T>>,
+    // How many items it has taken. The count wraps; at the close it is exact.
+    pub(crate) count: u64,
+}
+
+impl<T: Carried> Model for LaneOut<T> {
+    ghost use Rattle.std.specs.Prelude.{◌≡◌};
+    ghost use Rattle.crossbeam_channel.specs.Claims.{view as knows, IsSeatAt};
+    ghost use Rattle.crossbeam_channel.specs.Ends.{receives_on};
+    ghost use Rattle.dsn_lane.specs.declared.token.Token.TheVariants.{Takes};
+    ghost use Rattle.dsn_lane.specs.Ends.{Out, IsReceiving, out_of, taking};
+
+    ghost Value = { Out T };
+
+    ghost view = { λ o. out_of o.pass };
+
+    ghost invariant = { λ o. IsSeatAt (receives_on o.receiver) o.pass × (knows o.pass ≡ Takes (taking (knows o.pass))) × IsReceiving T.agent T.number (taking (knows o.pass)) o.count };
+}
+
+impl<T: Carried> LaneOut<T> {
+    /// Takes the item at the front, and waits while there is none. `LaneEnd` comes only where
+    /// nothing waits; it is meant for the time when all sending ends are gone.
+    pub fn take(&mut self, rt: &impl Wait) -> Result<T, LaneEnd>
+        ensures item { IfOk result (λ item. self.new.taken ≡ self.old.taken ++ item ∷ []) }
+        ensures agent { IfOk result (λ item. (self.old.first ≤ T.agent item) × (T.agent item < self.old.past)) }
+        ensures number { IfOk result (λ item. T.number item ≡ length (from_agent T.agent (T.agent item) self.old.taken)) }
+        ensures end { OnErr result (self.new.taken ≡ self.old.taken) }
+        ensures numbered { (a : ℕ) → IsNumbered T.number (from_agent T.agent a self.new.taken) }
+        ensures same { (self.new.lane ≡ self.old.lane) × (self.new.first ≡ self.old.first) × (self.new.past ≡ self.old.past) }
+    {
+        match self.receiver.recv_as::<Removes, _>(rt, &mut self.pass) {
+            Ok(item) => {
+                self.count = self.count.wrapping_add(1);
+                Ok(item)
+            }
+            Err(_) => Err(LaneEnd),
+        }
+    }
+
+    /// Gives the receiving end up: from then on no send is accepted for good.
+    pub fn leave(self) -> LaneLeft<T>
+        ensures { result.out.value ≡ self }
+    {
+        LaneLeft {
+            out: Snapshot::of(&self),
+        }
+    }
+}

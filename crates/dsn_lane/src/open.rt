@@ -1,0 +1,70 @@
+//! A lane, from its first step on.
+ghost use Rattle.std.specs.Prelude.{◌≡◌, ◌+◌, ◌≤◌, [], IfOk, vec_capacity};
+ghost use Rattle.crossbeam_channel.specs.Claims.{view, IsSeatAt};
+ghost use Rattle.crossbeam_channel.specs.Ends.{sends_on};
+ghost use Rattle.dsn_lane.specs.declared.token.Token.TheVariants.{Takes};
+ghost use Rattle.dsn_lane.specs.Ends.{fresh, fresh_ends};
+ghost use Rattle.dsn_lane.specs.Step.{opened};
+
+use crate::lane_in::LaneIn;
+use crate::lane_out::LaneOut;
+use crate::rule::{LaneRule, SplitOff, TakeBack};
+use crate::token::Token;
+use crossbeam_channel::{Pass, RuledSender, bounded_with};
+use dsn_outcome::{Carried, NoMemory};
+use std::alloc::Global;
+use std::sync::Wait;
+
+/// A lane that holds at most `capacity` items, with an end for each of `agents` agents from
+/// `first` on, in their order, and the receiving end. `NoMemory` comes only where memory was
+/// refused.
+pub fn open_lane<T: Carried>(
+    _rt: &impl Wait,
+    alloc: Global,
+    first: u32,
+    agents: u32,
+    capacity: u32,
+) -> Result<(Vec<LaneIn<T>>, LaneOut<T>), NoMemory>
+    requires agents { (1 ≤ agents) × (first + agents ≤ 16) }
+    requires capacity { (1 ≤ capacity) × (capacity ≤ 1024) }
+    ensures ends { IfOk result (λ lane. lane.0.items ≡ fresh_ends lane.1.lane first agents) }
+    ensures room { IfOk result (λ lane. agents ≤ vec_capacity lane.0) }
+    ensures out { IfOk result (λ lane. lane.1 ≡ record { lane = lane.1.lane; first = first; past = first + agents; taken = [] }) }
+{
+    let Ok(mut ends) = Vec::with_capacity(alloc, agents as usize) else {
+        return Err(NoMemory);
+    };
+    let Ok((sender, receiver, mut pass)) = bounded_with::<T, Token<T>, LaneRule, Global>(
+        alloc,
+        capacity as usize,
+    ) else {
+        return Err(NoMemory);
+    };
+    pass_over(&sender, &mut pass, first);
+    for _ in 0..agents {
+        ends.push_reserved(LaneIn::split_off(&sender, &mut pass)?);
+    }
+    let out = LaneOut {
+        receiver,
+        pass,
+        count: 0,
+    };
+    Ok((ends, out))
+}
+
+// Passes over the agents below the first: a pass is split off for each, and joined again unused.
+fn pass_over<T: Carried>(
+    sender: &RuledSender<T, Token<T>, LaneRule>,
+    pass: &mut Pass<T, Token<T>>,
+    first: u32,
+)
+    requires channel { IsSeatAt (sends_on sender.now) pass.old }
+    requires receiver { view pass.old ≡ opened }
+    ensures channel { IsSeatAt (sends_on sender.now) pass.new }
+    ensures receiver { view pass.new ≡ Takes (record { made = first; taken = []; back = fresh 0 first }) }
+{
+    for _ in 0..first {
+        let unused = sender.another::<SplitOff>(pass);
+        sender.absorb::<TakeBack>(pass, unused);
+    }
+}

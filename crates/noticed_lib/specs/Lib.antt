@@ -1,5 +1,6 @@
 pub mod Batch
 pub mod Harvest
+pub mod MemoryRun
 pub mod Notes
 pub mod Outgoing
 pub mod Reading

@@ -5,6 +5,7 @@ mod batch_end;
 mod ending;
 #[cfg(test)]
 mod fakes;
+mod memory_run;
 mod notes;
 mod outgoing;
 mod reading;
@@ -18,4 +19,5 @@ pub use batch_end::BatchEnd;
 pub use dsn_book::Limits;
 pub use dsn_frame::Spoken;
 pub use dsn_report::Site;
+pub use memory_run::{MemoryRun, batch_bytes};
 pub use whole_run::batch;

@@ -1,9 +1,9 @@
 //! Inputs that are cut, and devices that fail.
 use super::input::{BOB, BOUNCE, Input, ONE_MESSAGE, TO_ANN};
 use super::outboxes::{EMPTY, ONE_NOTICE};
-use super::{Ran, program_limits, run, run_within};
+use super::{program_limits, run, run_within};
 use crate::fakes::{PieceReader, PieceWriter};
-use crate::{Limits, Site, batch};
+use crate::{Limits, MemoryRun, Site, batch};
 use dsn_outcome::Plain;
 use std::test::Fail;
 
@@ -22,7 +22,7 @@ fn run_on(
     reader: PieceReader<'_>,
     outbox: PieceWriter,
     notes: PieceWriter,
-) -> Result<Ran, Fail> {
+) -> Result<MemoryRun, Fail> {
     let limits = program_limits()?;
     let site = Site::new(rt.alloc(), b"mx.example.net")?;
     let mut source = Plain::new(reader);
@@ -35,17 +35,18 @@ fn run_on(
         Plain::new(outbox),
         &mut notes,
     );
-    Ok(Ran {
+    Ok(MemoryRun {
         outbox: end.outbox.into_inner().held,
         notes: notes.into_inner().held,
         whole: end.whole,
         fault: end.fault,
+        unsent: end.unsent,
         status: end.status,
     })
 }
 
 /// A run over whole devices, whose reader gives so many bytes a call.
-fn run_in_pieces(rt: &HostRuntime, input: &[u8], most: usize) -> Result<Ran, Fail> {
+fn run_in_pieces(rt: &HostRuntime, input: &[u8], most: usize) -> Result<MemoryRun, Fail> {
     let reader = PieceReader {
         rest: input,
         most,

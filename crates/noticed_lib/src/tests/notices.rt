@@ -1,13 +1,14 @@
 //! Inputs that put notices into the outbox.
 use super::input::{BOB, BOUNCE, DEFER, FlushTexts, Input, ONE_MESSAGE, TO_ANN};
 use super::outboxes::{ALL_FIELDS, COLLISION, ONE_NOTICE, TWO_SERVICES};
-use super::{Ran, run};
+use super::run;
+use crate::MemoryRun;
 use dsn_outcome::Parts;
 use std::process::Abort;
 use std::test::Fail;
 
 /// A run whose outbox, notes and status are these.
-fn expect_outbox(rt: &impl Abort, ran: &Ran, outbox: &[u8], notes: &[u8]) {
+fn expect_outbox(rt: &impl Abort, ran: &MemoryRun, outbox: &[u8], notes: &[u8]) {
     assert_eq!(rt; ran.outbox.as_slice(), outbox);
     assert_eq!(rt; ran.notes.as_slice(), notes);
     assert_eq!(rt; ran.status, 0);

@@ -1,14 +1,14 @@
 //! Inputs that are answered without a notice, or refused.
 use super::input::{BOB, BOUNCE, DEFER, FAILED, FlushTexts, Input, ONE_MESSAGE, TO_ANN, TRACE};
 use super::outboxes::EMPTY;
-use super::{Ran, run, run_within};
-use crate::{Limits, Site};
+use super::{run, run_within};
+use crate::{Limits, MemoryRun, Site};
 use dsn_outcome::Parts;
 use std::process::Abort;
 use std::test::Fail;
 
 /// A run that writes no notice, whose notes and status are these.
-fn expect_notes(rt: &impl Abort, ran: &Ran, notes: &[u8], status: u8) {
+fn expect_notes(rt: &impl Abort, ran: &MemoryRun, notes: &[u8], status: u8) {
     assert_eq!(rt; ran.notes.as_slice(), notes);
     assert_eq!(rt; ran.status, status, "after {notes:?}");
     assert_eq!(rt; ran.outbox.as_slice(), EMPTY.as_slice(), "after {notes:?}");

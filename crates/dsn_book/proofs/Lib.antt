@@ -1,4 +1,8 @@
 pub mod BookLemmas
 pub mod EntryLemmas
+pub mod HalvingLemmas
+pub mod IndexLemmas
+pub mod KeyOrderLemmas
+pub mod ListLemmas
 pub mod OpenLineLemmas
 pub mod StepLemmas

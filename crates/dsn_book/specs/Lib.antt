@@ -1,5 +1,7 @@
 pub mod Book
 pub mod Entry
+pub mod Index
 pub mod Limits
 pub mod OpenLine
 pub mod Step
+pub mod Table

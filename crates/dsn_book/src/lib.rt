@@ -4,9 +4,11 @@
 
 mod book;
 mod entry;
+mod index;
 mod limits;
 mod line;
 mod step;
+mod table;
 
 pub use book::Book;
 pub use limits::{Limits, MOST_ENTRIES, MOST_LOGS, MOST_REQUESTS};

@@ -11,7 +11,7 @@ use Rattle.dsn_outcome.specs.Outcome.{Outcome, Fields, IsLegalOutcome, IsOutcome
 use Rattle.dsn_outcome.specs.Request.{Body, Append, Flush, Discard}
 use Rattle.dsn_outcome.specs.Service.{service_byte, service_of_byte}
 use Rattle.dsn_outcome.specs.Status.{is_status_code}
-use Rattle.dsn_outcome.specs.Text.{is_text, is_printable, is_queue_id, is_address, is_mta_name, is_envelope_id, is_clean, clean_text, is_letter_or_digit, is_address_byte, is_visible}
+use Rattle.dsn_outcome.specs.Text.{is_text, is_printable, is_queue_id, is_address, is_mta_name, is_envelope_id, is_remark, clean_text, is_letter_or_digit, is_address_byte, is_visible}
 use Rattle.dsn_outcome.specs.declared.action.Action.{Action}
 use Rattle.dsn_outcome.specs.declared.action.Action.TheVariants.{Failed, Delayed, Delivered, Relayed, Expanded}
 use Rattle.dsn_outcome.specs.declared.key.Key.{Key}
@@ -54,7 +54,7 @@ clean-kept (byte ∷ rest) all =
     let parts = and_parts (is_printable byte) (list_all is_printable rest) all in
     rw (parts.0, clean-kept rest parts.1) refl
 
-clean-optional : (text : Option (List ℕ)) → is_none_or is_clean text ≡ true → clean_text (text_or_empty text) ≡ text_or_empty text
+clean-optional : (text : Option (List ℕ)) → is_none_or is_remark text ≡ true → clean_text (text_or_empty text) ≡ text_or_empty text
 clean-optional None legal = refl
 clean-optional (Some text) legal = clean-kept text (and_parts _ _ legal).1
 
@@ -77,8 +77,8 @@ action-back Expanded = refl
 outcome-accepted : (outcome : Outcome) → IsLegalOutcome outcome → first_outcome_fault outcome.service (fields_for outcome) ≡ None
 unfolding first_outcome_fault
 outcome-accepted outcome legal =
-    let diagnostic : nat_le (length (text_or_empty outcome.diagnostic)) 800 ≡ true = le-leb _ _ (optional-short is_clean 800 (text-short is_printable 0 800) outcome.diagnostic legal.diagnostic_clean) in
-    let reason : nat_le (length (text_or_empty outcome.reason)) 800 ≡ true = le-leb _ _ (optional-short is_clean 800 (text-short is_printable 0 800) outcome.reason legal.reason_clean) in
+    let diagnostic : nat_le (length (text_or_empty outcome.diagnostic)) 800 ≡ true = le-leb _ _ (optional-short is_remark 800 (text-short is_printable 1 800) outcome.diagnostic legal.diagnostic_clean) in
+    let reason : nat_le (length (text_or_empty outcome.reason)) 800 ≡ true = le-leb _ _ (optional-short is_remark 800 (text-short is_printable 1 800) outcome.reason legal.reason_clean) in
     let original = back outcome.original (said is_address refl outcome.original legal.original_legal) in
     let mta = back outcome.mta (said is_mta_name refl outcome.mta legal.mta_legal) in
     rw (legal.recipient_legal, original, legal.original_legal, action-back outcome.action, legal.action_taken, legal.status_legal, legal.class_fits, mta, legal.mta_legal, diagnostic, reason) refl
@@ -91,8 +91,8 @@ outcome-back outcome legal = record {
   action_is = action-back outcome.action;
   status_is = refl;
   mta_is = sym (back outcome.mta (said is_mta_name refl outcome.mta legal.mta_legal));
-  diagnostic_is = sym (rw (clean-optional outcome.diagnostic legal.diagnostic_clean) (back outcome.diagnostic legal.diagnostic_said));
-  reason_is = sym (rw (clean-optional outcome.reason legal.reason_clean) (back outcome.reason legal.reason_said));
+  diagnostic_is = sym (rw (clean-optional outcome.diagnostic legal.diagnostic_clean) (back outcome.diagnostic (said is_remark refl outcome.diagnostic legal.diagnostic_clean)));
+  reason_is = sym (rw (clean-optional outcome.reason legal.reason_clean) (back outcome.reason (said is_remark refl outcome.reason legal.reason_clean)));
 }
 
 -- how long they are
@@ -110,8 +110,8 @@ outcome-short outcome legal = record {
   original = optional-short is_address 256 (text-short is_address_byte 1 256) outcome.original legal.original_legal;
   status = status-short outcome.status legal.status_legal;
   mta = optional-short is_mta_name 255 (text-short is_visible 1 255) outcome.mta legal.mta_legal;
-  diagnostic = optional-short is_clean 800 (text-short is_printable 0 800) outcome.diagnostic legal.diagnostic_clean;
-  reason = optional-short is_clean 800 (text-short is_printable 0 800) outcome.reason legal.reason_clean;
+  diagnostic = optional-short is_remark 800 (text-short is_printable 1 800) outcome.diagnostic legal.diagnostic_clean;
+  reason = optional-short is_remark 800 (text-short is_printable 1 800) outcome.reason legal.reason_clean;
 }
 
 -- ---- lengths

@@ -1,13 +1,13 @@
 -- Outcomes: what it means that their fields have no fault.
-use Rattle.std.proofs.Common.{◌≡◌, ℕ, ◌≤◌, Bool, true, false, List, [], ◌∷◌, length, refl}
-use Rattle.std.specs.Prelude.{◌≢◌, Option, Some, None, IsTrue, if◌then◌else◌}
+use Rattle.std.proofs.Common.{◌≡◌, ℕ, ◌≤◌, Bool, true, false, List, [], ◌∷◌, length, refl, arith}
+use Rattle.std.specs.Prelude.{Option, Some, None, IsTrue, if◌then◌else◌}
 use Rattle.std.specs.Option.{option_map_or}
 use Rattle.std.proofs.lemmas.Bool.{leb-true}
 use Rattle.dsn_outcome.specs.Action.{action_of_byte}
 use Rattle.dsn_outcome.specs.Outcome.{Fields, Outcome, first_failed, first_outcome_fault, outcome_checks, unless_empty, is_none_or, takes, fits_class, IsLegalOutcome, IsOutcomeOf}
 use Rattle.dsn_outcome.specs.Status.{is_status_code, status_class}
-use Rattle.dsn_outcome.specs.Text.{is_address, is_mta_name, is_clean, clean_text}
-use Rattle.dsn_outcome.proofs.TextLemmas.{IsClean-clean_text}
+use Rattle.dsn_outcome.specs.Text.{is_address, is_mta_name, is_remark, clean_text}
+use Rattle.dsn_outcome.proofs.TextLemmas.{is_remark-clean_text}
 use Rattle.dsn_outcome.specs.declared.service.Service.{Service}
 
 -- every check of a list passes
@@ -60,14 +60,9 @@ passes-none service fields none =
     }
 
 -- a cleaned text that is short enough, if there is one
-is_clean-unless_empty : (text : List ℕ) → length text ≤ 800 → IsTrue (is_none_or is_clean (unless_empty (clean_text text)))
-is_clean-unless_empty [] short = refl
-is_clean-unless_empty (byte ∷ rest) short = IsClean-clean_text (byte ∷ rest) short
-
--- a text that is there has a byte
-said-unless_empty : (text : List ℕ) → unless_empty (clean_text text) ≢ Some []
-said-unless_empty [] none = cc
-said-unless_empty (byte ∷ rest) empty = cc
+is_remark-unless_empty : (text : List ℕ) → length text ≤ 800 → IsTrue (is_none_or is_remark (unless_empty (clean_text text)))
+is_remark-unless_empty [] short = refl
+is_remark-unless_empty (byte ∷ rest) short = is_remark-clean_text (byte ∷ rest) (omega arith) short
 
 -- the outcome of fields without a fault is legal
 pub legal-IsOutcomeOf : (service : Service) (fields : Fields) (outcome : Outcome) → Passes service fields → IsOutcomeOf service fields outcome → IsLegalOutcome outcome
@@ -78,8 +73,6 @@ legal-IsOutcomeOf service fields outcome passes of = record {
   status_legal = rw of.status_is passes.status;
   class_fits = rw of.status_is (rw of.action_is at passes.class);
   mta_legal = rw of.mta_is passes.mta;
-  diagnostic_clean = rw of.diagnostic_is (is_clean-unless_empty fields.diagnostic passes.diagnostic);
-  diagnostic_said = rw of.diagnostic_is (said-unless_empty fields.diagnostic);
-  reason_clean = rw of.reason_is (is_clean-unless_empty fields.reason passes.reason);
-  reason_said = rw of.reason_is (said-unless_empty fields.reason);
+  diagnostic_clean = rw of.diagnostic_is (is_remark-unless_empty fields.diagnostic passes.diagnostic);
+  reason_clean = rw of.reason_is (is_remark-unless_empty fields.reason passes.reason);
 }

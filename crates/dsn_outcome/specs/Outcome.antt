@@ -1,8 +1,8 @@
 -- Outcomes: what became of one recipient, and which of them are legal (RFC 3464 section 2.3).
-use Rattle.std.specs.Prelude.{◌≡◌, ◌≢◌, ℕ, Bool, true, false, ◌||◌, ◌==◌, List, [], ◌∷◌, length, Option, Some, None, IsTrue, if◌then◌else◌, nat_le}
+use Rattle.std.specs.Prelude.{◌≡◌, ℕ, Bool, true, false, ◌||◌, ◌==◌, List, [], ◌∷◌, length, Option, Some, None, IsTrue, if◌then◌else◌, nat_le}
 use Rattle.std.specs.Option.{option_map_or}
 use Rattle.dsn_outcome.specs.Action.{action_of_byte}
-use Rattle.dsn_outcome.specs.Text.{is_address, is_mta_name, is_clean, clean_text}
+use Rattle.dsn_outcome.specs.Text.{is_address, is_mta_name, is_remark, clean_text}
 use Rattle.dsn_outcome.specs.Status.{is_status_code, status_class}
 use Rattle.dsn_outcome.specs.declared.action.Action.{Action}
 use Rattle.dsn_outcome.specs.declared.action.Action.TheVariants.{Failed, Delayed, Delivered, Relayed, Expanded}
@@ -107,7 +107,5 @@ pub record IsLegalOutcome (outcome : Outcome) : Type 0 where
   pub status_legal : IsTrue (is_status_code outcome.status)
   pub class_fits : IsTrue (fits_class outcome.action (status_class outcome.status))
   pub mta_legal : IsTrue (is_none_or is_mta_name outcome.mta)
-  pub diagnostic_clean : IsTrue (is_none_or is_clean outcome.diagnostic)
-  pub diagnostic_said : outcome.diagnostic ≢ Some []
-  pub reason_clean : IsTrue (is_none_or is_clean outcome.reason)
-  pub reason_said : outcome.reason ≢ Some []
+  pub diagnostic_clean : IsTrue (is_none_or is_remark outcome.diagnostic)
+  pub reason_clean : IsTrue (is_none_or is_remark outcome.reason)

@@ -58,6 +58,10 @@ is_envelope_id = is_text is_printable 1 100
 abbrev pub is_clean : List ℕ → Bool
 is_clean = is_text is_printable 0 800
 
+-- one that is there says something: an empty one means that there is none
+abbrev pub is_remark : List ℕ → Bool
+is_remark = is_text is_printable 1 800
+
 -- the bytes of a diagnostic or a reason are kept, but that `?` stands for each that is not printable
 abbrev pub clean_byte : ℕ → ℕ
 clean_byte byte = if is_printable byte then byte else 63

@@ -1,5 +1,5 @@
 -- A notice divides into its parts.
-use Rattle.std.proofs.Common.{◌≡◌, ℕ, Bool, true, false, ◌||◌, List, [], ◌∷◌, ◌++◌, Option, Some, None, length, take, codes, refl, sym, ap, ◌∙◌, arith, append_assoc, append-nil, length-append, nat_eq}
+use Rattle.std.proofs.Common.{◌≡◌, ℕ, ◌≤◌, map, Bool, true, false, ◌||◌, List, [], ◌∷◌, ◌++◌, Option, Some, None, length, take, codes, refl, sym, ap, ◌∙◌, arith, append_assoc, append-nil, length-append, nat_eq}
 use Rattle.std.specs.List.{list_any, flat_map}
 use Rattle.std.specs.Cmp.Lexicographic.{unequal}
 use Rattle.std.proofs.lemmas.Bool.{true≢false}
@@ -14,8 +14,12 @@ use Rattle.dsn_outcome.specs.declared.service.Service.TheVariants.{Bounce, Defer
 use Rattle.dsn_report.proofs.BoundaryLaw.{boundary_number-is}
 use Rattle.dsn_report.specs.Boundary.{boundary_of, is_delimiter, is_ruled_out, returned_lines}
 use Rattle.dsn_report.specs.DeliveryStatus.{line_if_any, per_message_fields, per_recipient_fields, recipient_group, delivery_status}
-use Rattle.dsn_report.specs.Multipart.{DivisionLaw, divide, divide_more, body_of, part_lines, returned_parts, notice_parts, is_last_delimiter}
-use Rattle.dsn_report.specs.Notice.{notice_header, part_header, part_of, outcome_lines, notification, opening_of, returned_part, lines_with_boundary, notice_lines}
+use Rattle.dsn_report.specs.Multipart.{DividesIntoParts, divide, divide_more, body_of, multipart_of, multipart_of_pieces, part_lines, returned_parts, notice_parts, is_last_delimiter}
+use Rattle.dsn_report.specs.Notice.{notice_header, part_header, part_of, outcome_lines, notification, opening_of, returned_part, lines_with_boundary, notice_lines, notice_of}
+use Rattle.dsn_report.specs.Lines.{text_of_pieces}
+use Rattle.dsn_report.specs.WellFormed.{IsWellFormed}
+use Rattle.dsn_report.proofs.LinesLemmas.{notice_lines-legal}
+use Rattle.dsn_report.proofs.PieceLemmas.{has_line_bytes-legal, map-text_of_pieces, pieces-lines}
 
 -- ---- lines that are no delimiters
 
@@ -89,7 +93,7 @@ none-status boundary host letter =
     (none-message boundary host letter)
     (none-flat_map boundary recipient_group letter.outcomes (none-recipient boundary))
 
-none-part : (boundary description content_type : List ℕ) (body : List (List ℕ)) → NoneDelimits boundary body → NoneDelimits boundary (part_lines description content_type body)
+none-part : (boundary description content_type : List ℕ) (body : List (List ℕ)) → NoneDelimits boundary body → NoneDelimits boundary (part_lines description content_type body ++ [] ∷ [])
 unfolding part_lines
 none-part boundary description content_type body none = none-append boundary body ([] ∷ []) none refl
 
@@ -127,49 +131,62 @@ unfolding divide divide_more
 divide-delimiter boundary rest = rw (delimiter-plain boundary, last-isnt boundary) refl
 
 part-is : (boundary description content_type : List ℕ) (body rest : List (List ℕ))
-    → part_of boundary description content_type body ++ rest ≡ (codes "--" ++ boundary) ∷ (part_lines description content_type body ++ rest)
+    → part_of boundary description content_type body ++ rest ≡ (codes "--" ++ boundary) ∷ ((part_lines description content_type body ++ [] ∷ []) ++ rest)
 unfolding part_of part_header part_lines
 part-is boundary description content_type body rest = refl
 
-divide-part : (boundary description content_type : List ℕ) (body rest : List (List ℕ)) (parts : List (List (List ℕ))) → NoneDelimits boundary body
-    → divide boundary rest ≡ record { before = []; parts = parts; after = Some [] }
-    → divide boundary (part_of boundary description content_type body ++ rest) ≡ record { before = []; parts = part_lines description content_type body ∷ parts; after = Some [] }
-divide-part boundary description content_type body rest parts none later =
-    let lines = part_lines description content_type body in
+divide-part : (boundary description content_type : List ℕ) (body rest : List (List ℕ)) (parts : List (List (List ℕ))) (tail : List (List ℕ)) → NoneDelimits boundary body
+    → divide boundary rest ≡ record { before = []; parts = parts; after = Some tail }
+    → divide boundary (part_of boundary description content_type body ++ rest)
+    ≡ record { before = []; parts = (part_lines description content_type body ++ [] ∷ []) ∷ parts; after = Some tail }
+divide-part boundary description content_type body rest parts tail none later =
+    let lines = part_lines description content_type body ++ [] ∷ [] in
     ap (divide boundary) (part-is boundary description content_type body rest)
     ∙ divide-delimiter boundary (lines ++ rest)
     ∙ rw (divide-front boundary lines rest (none-part boundary description content_type body none), later, append-nil) refl
 
-divide-last : (boundary : List ℕ) → divide boundary ((codes "--" ++ boundary ++ codes "--") ∷ []) ≡ record { before = []; parts = []; after = Some [] }
+divide-last : (boundary : List ℕ) (tail : List (List ℕ)) → divide boundary ((codes "--" ++ boundary ++ codes "--") ∷ tail) ≡ record { before = []; parts = []; after = Some tail }
 unfolding divide divide_more
-divide-last boundary = rw (delimiter-is boundary (codes "--"), last-is boundary) refl
+divide-last boundary tail = rw (delimiter-is boundary (codes "--"), last-is boundary) refl
 
-divide-returned : (boundary : List ℕ) (ls : List (List ℕ)) → NoneDelimits boundary ls
-    → divide boundary (returned_part boundary ls ++ (codes "--" ++ boundary ++ codes "--") ∷ []) ≡ record { before = []; parts = returned_parts ls; after = Some [] }
+divide-returned : (boundary : List ℕ) (ls tail : List (List ℕ)) → NoneDelimits boundary ls
+    → divide boundary (returned_part boundary ls ++ ((codes "--" ++ boundary ++ codes "--") ∷ tail))
+    ≡ record { before = []; parts = map (λ part. part ++ [] ∷ []) (returned_parts ls); after = Some tail }
 unfolding returned_part returned_parts
-divide-returned boundary [] none = divide-last boundary
-divide-returned boundary (line ∷ ls) none =
-    divide-part boundary (codes "Undelivered Message Headers") (codes "text/rfc822-headers") (line ∷ ls) ((codes "--" ++ boundary ++ codes "--") ∷ []) [] none (divide-last boundary)
+divide-returned boundary [] tail none = divide-last boundary tail
+divide-returned boundary (line ∷ ls) tail none =
+    divide-part boundary (codes "Undelivered Message Headers") (codes "text/rfc822-headers") (line ∷ ls) ((codes "--" ++ boundary ++ codes "--") ∷ tail) [] tail none (divide-last boundary tail)
 
 -- the body of a notice is its parts and the last delimiter
-body-is : (host : List ℕ) (letter : Letter) (boundary : List ℕ) → body_of (lines_with_boundary host letter boundary) ≡
+body-is : (host : List ℕ) (letter : Letter) (boundary : List ℕ) (tail : List (List ℕ)) → body_of (lines_with_boundary host letter boundary ++ tail) ≡
     part_of boundary (codes "Notification") (codes "text/plain; charset=us-ascii") (notification host letter)
     ++ (part_of boundary (codes "Delivery report") (codes "message/delivery-status") (delivery_status host letter)
-    ++ (returned_part boundary (returned_lines letter.draft.header) ++ (codes "--" ++ boundary ++ codes "--") ∷ []))
+    ++ (returned_part boundary (returned_lines letter.draft.header) ++ ((codes "--" ++ boundary ++ codes "--") ∷ tail)))
 unfolding body_of lines_with_boundary notice_header
-body-is host letter boundary =
+body-is host letter boundary tail =
     let person = part_of boundary (codes "Notification") (codes "text/plain; charset=us-ascii") (notification host letter) in
     let program = part_of boundary (codes "Delivery report") (codes "message/delivery-status") (delivery_status host letter) in
     let returned = returned_part boundary (returned_lines letter.draft.header) in
     let end = (codes "--" ++ boundary ++ codes "--") ∷ [] in
-    append_assoc (person ++ program) returned end ∙ append_assoc person program (returned ++ end)
+    append_assoc (person ++ program ++ returned) end tail
+    ∙ append_assoc (person ++ program) returned (end ++ tail)
+    ∙ append_assoc person program (returned ++ (end ++ tail))
 
-pub division_law : DivisionLaw
+notice-divides : (host : List ℕ) (letter : Letter) → length letter.draft.header ≤ 32768 → (tail : List (List ℕ))
+    → divide (boundary_of letter) (body_of (notice_lines host letter ++ tail))
+    ≡ record { before = []; parts = map (λ part. part ++ [] ∷ []) (notice_parts host letter); after = Some tail }
 unfolding notice_lines notice_parts is_ruled_out
-division_law host letter short =
+notice-divides host letter short tail =
     let boundary = boundary_of letter in
     let free = (boundary_number-is letter short).free in
-    ap (divide boundary) (body-is host letter boundary)
-    ∙ divide-part boundary (codes "Notification") (codes "text/plain; charset=us-ascii") (notification host letter) _ _ (none-notification boundary host letter)
-    (divide-part boundary (codes "Delivery report") (codes "message/delivery-status") (delivery_status host letter) _ _ (none-status boundary host letter)
-    (divide-returned boundary (returned_lines letter.draft.header) free))
+    ap (divide boundary) (body-is host letter boundary tail)
+    ∙ divide-part boundary (codes "Notification") (codes "text/plain; charset=us-ascii") (notification host letter) _ _ tail (none-notification boundary host letter)
+    (divide-part boundary (codes "Delivery report") (codes "message/delivery-status") (delivery_status host letter) _ _ tail (none-status boundary host letter)
+    (divide-returned boundary (returned_lines letter.draft.header) tail free))
+
+pub division_law : (host : List ℕ) (letter : Letter) → IsWellFormed host letter → DividesIntoParts host letter
+unfolding multipart_of notice_of text_of_pieces
+division_law host letter formed =
+    ap (λ pieces. multipart_of_pieces (divide (boundary_of letter) (body_of pieces))) (pieces-lines (notice_lines host letter) (has_line_bytes-legal (notice_lines host letter) (notice_lines-legal host letter formed)))
+    ∙ ap multipart_of_pieces (notice-divides host letter formed.header_short ([] ∷ []))
+    ∙ ap (λ parts. record { preamble = []; parts = parts; epilogue = Some [] }) (map-text_of_pieces (notice_parts host letter))

@@ -1,21 +1,22 @@
 -- A notice's second part is a delivery status.
-use Rattle.std.proofs.Common.{◌≡◌, ◌≢◌, ℕ, Bool, true, List, [], ◌∷◌, ◌++◌, Option, Some, None, map, codes, refl, sym, ap, subst, ◌∙◌}
+use Rattle.std.proofs.Common.{◌≡◌, ◌≢◌, ℕ, Bool, true, false, ◌||◌, List, [], ◌∷◌, ◌++◌, Option, Some, None, map, codes, refl, sym, ap, subst, ◌∙◌}
 use Rattle.std.specs.Prelude.{IsTrue, IsSomeAnd, option_map, is_some}
 use Rattle.std.proofs.lemmas.List.Elements.{All-map}
-use Rattle.std.proofs.lemmas.List.Folds.{list_all-append}
-use Rattle.std.specs.List.{AllZip, list_all, flat_map}
+use Rattle.std.proofs.lemmas.List.Folds.{list_all-append, list_any-append}
+use Rattle.std.proofs.lemmas.Bool.{false≢true}
+use Rattle.std.specs.List.{AllZip, list_all, list_any, flat_map}
 use Rattle.dsn_outcome.specs.Action.{action_word}
 use Rattle.dsn_outcome.specs.declared.action.Action.{Action}
 use Rattle.dsn_outcome.specs.declared.action.Action.TheVariants.{Failed, Delayed, Delivered, Relayed, Expanded}
 use Rattle.dsn_outcome.specs.Letter.{Letter}
 use Rattle.dsn_outcome.specs.Outcome.{Outcome, IsLegalOutcome, is_none_or}
 use Rattle.dsn_outcome.specs.Status.{is_status_code}
-use Rattle.dsn_outcome.specs.Text.{is_printable, is_address, is_mta_name, is_clean, is_envelope_id}
+use Rattle.dsn_outcome.specs.Text.{is_printable, is_address, is_mta_name, is_remark, is_envelope_id}
 use Rattle.dsn_report.proofs.DateText.{shown-append, shown-date}
-use Rattle.dsn_report.proofs.PlainLemmas.{address-plain, mta-plain, clean-plain, envelope_id-plain, status-plain, host-plain}
+use Rattle.dsn_report.proofs.PlainLemmas.{address-plain, mta-plain, remark-plain, envelope_id-plain, status-plain, host-plain}
 use Rattle.dsn_outcome.specs.Stamp.{date_text}
 use Rattle.dsn_report.specs.DeliveryStatus.{line_if_any, per_message_fields, per_recipient_fields, recipient_group, delivery_status}
-use Rattle.dsn_report.specs.Grammar.{Field, field_line, value_of, is_choice_of, IsMessageGroup, IsRecipientGroup, TellsOutcome, TellsMessage, GrammarLaw, per_message_names, per_recipient_names, has_plain_values, is_action_word}
+use Rattle.dsn_report.specs.Grammar.{Field, field_line, value_of, is_choice_of, IsMessageGroup, IsRecipientGroup, TellsOutcome, TellsMessage, EmptyLogLaw, ReportsOutcomes, per_message_names, per_recipient_names, has_plain_values, is_action_word}
 use Rattle.dsn_report.specs.WellFormed.{IsWellFormed}
 
 -- a field of this name and value
@@ -195,7 +196,7 @@ recipient-plain outcome legal =
     let mta = plain-if-any (codes "Remote-MTA") (codes "dns; ") outcome.mta refl
     (optional-printable is_mta_name (λ text e. (mta-plain text e).printable) outcome.mta legal.mta_legal) in
     let diagnostic = plain-if-any (codes "Diagnostic-Code") (codes "smtp; ") outcome.diagnostic refl
-    (optional-printable is_clean (λ text e. (clean-plain text e).printable) outcome.diagnostic legal.diagnostic_clean) in
+    (optional-printable is_remark (λ text e. (remark-plain text e).printable) outcome.diagnostic legal.diagnostic_clean) in
     let later = plain-append (field_if_any (codes "Remote-MTA") (codes "dns; ") outcome.mta) (field_if_any (codes "Diagnostic-Code") (codes "smtp; ") outcome.diagnostic) mta diagnostic in
     plain-append (field_if_any (codes "Original-Recipient") (codes "rfc822; ") outcome.original) _ original
     (rw ((address-plain outcome.recipient legal.recipient_legal).printable, word-printable outcome.action, (status-plain outcome.status legal.status_legal).printable, later) refl)
@@ -252,7 +253,7 @@ each-tells : (outcomes : List Outcome) → AllZip TellsOutcome outcomes (map rec
 each-tells [] = tt
 each-tells (outcome ∷ outcomes) = (group-tells outcome, each-tells outcomes)
 
-pub grammar_law : GrammarLaw
+pub grammar_law : (host : List ℕ) (letter : Letter) → IsWellFormed host letter → ReportsOutcomes host letter
 grammar_law host letter formed = record {
   message = message_fields host letter;
   recipients = map recipient_fields letter.outcomes;
@@ -265,3 +266,33 @@ grammar_law host letter formed = record {
   tells_message = tells-message host letter;
   tells_outcomes = each-tells letter.outcomes;
 }
+
+-- ---- an empty log
+
+abbrev is_empty_line : List ℕ → Bool
+is_empty_line [] = true
+is_empty_line (byte ∷ rest) = false
+
+none-empty : (host : List ℕ) (letter : Letter) → letter.outcomes ≡ [] → list_any is_empty_line (delivery_status host letter) ≡ false
+unfolding delivery_status per_message_fields line_if_any
+none-empty host letter empty = rw empty (here letter.draft.envelope_id)
+  where
+    here : (id : Option (List ℕ))
+        → list_any is_empty_line (line_if_any (codes "Original-Envelope-Id: ") id ++ (codes "Reporting-MTA: dns; " ++ host) ∷ (codes "Arrival-Date: " ++ date_text letter.draft.arrival) ∷ [] ++ []) ≡ false
+    here None = refl
+    here (Some id) = refl
+
+some-empty : (before : List (List ℕ)) (after : List (List ℕ)) → list_any is_empty_line (before ++ ([] ∷ after)) ≡ true
+some-empty before after = list_any-append is_empty_line before ([] ∷ after) ∙ here (list_any is_empty_line before)
+  where
+    here : (empty : Bool) → (empty || true) ≡ true
+    here true = refl
+    here false = refl
+
+pub empty_log_law : EmptyLogLaw
+empty_log_law host letter message [] empty status = status.some_recipient refl
+empty_log_law host letter message (group ∷ groups) empty status =
+    false≢true
+    (sym (none-empty host letter empty)
+    ∙ ap (list_any is_empty_line) status.laid_out
+    ∙ some-empty (map field_line message) (map field_line group ++ flat_map (λ group. [] ∷ map field_line group) groups))

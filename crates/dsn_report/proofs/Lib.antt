@@ -8,6 +8,8 @@ mod Examples
 mod GrammarLemmas
 pub mod HeaderLemmas
 pub mod LineWriterLemmas
+mod ReaderExamples
 mod RoomLemmas
 mod PlainLemmas
 mod LinesLemmas
+mod PieceLemmas

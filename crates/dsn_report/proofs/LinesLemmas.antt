@@ -18,15 +18,15 @@ use Rattle.dsn_outcome.specs.Letter.{Letter}
 use Rattle.dsn_outcome.specs.Outcome.{Outcome, IsLegalOutcome, is_none_or}
 use Rattle.dsn_outcome.specs.Service.{service_letter}
 use Rattle.dsn_outcome.specs.Stamp.{date_text, civil_after, weekday_after, day_names, month_names, last_moment}
-use Rattle.dsn_outcome.specs.Text.{is_printable, is_address, is_queue_id, is_mta_name, is_clean, is_envelope_id}
+use Rattle.dsn_outcome.specs.Text.{is_printable, is_address, is_queue_id, is_mta_name, is_remark, is_envelope_id}
 use Rattle.dsn_report.proofs.DateText.{printable-between, shown-date}
 use Rattle.dsn_report.specs.WellFormed.{IsWellFormed}
-use Rattle.dsn_report.specs.Notice.{subject_of, opening_of, notice_header, part_header, part_of, outcome_lines, notification, returned_part, lines_with_boundary, notice_lines}
+use Rattle.dsn_report.specs.Notice.{subject_of, opening_of, notice_header, part_header, part_of, outcome_lines, notification, returned_part, lines_with_boundary, notice_lines, notice_of}
 use Rattle.dsn_report.specs.DeliveryStatus.{line_if_any, per_message_fields, per_recipient_fields, recipient_group, delivery_status}
 use Rattle.dsn_report.proofs.BoundaryLaw.{boundary_number-few}
-use Rattle.dsn_report.proofs.PlainLemmas.{IsPlain, and-parts, address-plain, mta-plain, envelope_id-plain, clean-plain, id-plain, host-plain, status-plain}
+use Rattle.dsn_report.proofs.PlainLemmas.{IsPlain, and-parts, address-plain, mta-plain, envelope_id-plain, remark-plain, id-plain, host-plain, status-plain}
 use Rattle.dsn_report.specs.Boundary.{letter_name, boundary_of, boundary_number, boundary_text, four_digits, shown_byte, shown_line, returned_lines, header_lines}
-use Rattle.dsn_report.specs.LegalLines.{LinesLaw, is_line_byte, is_legal_line}
+use Rattle.dsn_report.specs.LegalLines.{HasLegalLines, is_line_byte, is_legal_line}
 
 -- a text of at most so many bytes, each of which a line may hold
 pub record IsFit (most : ℕ) (text : List ℕ) : Type 0 where
@@ -131,7 +131,7 @@ fit-letter Bounce = fit-known 1 (66 ∷ []) refl refl
 fit-letter Defer = fit-known 1 (68 ∷ []) refl refl
 fit-letter Trace = fit-known 1 (84 ∷ []) refl refl
 
-fit-path : (path : Option (List ℕ)) → is_none_or is_address path ≡ true → IsFit 256 (unwrap_or path [])
+pub fit-path : (path : Option (List ℕ)) → is_none_or is_address path ≡ true → IsFit 256 (unwrap_or path [])
 fit-path None e = fit-known 256 [] refl refl
 fit-path (Some path) e = fit-plain (address-plain path e)
 
@@ -219,7 +219,7 @@ module _ (host : List ℕ) (letter : Letter) (formed : IsWellFormed host letter)
   outcome-legal outcome legal =
       legal-cons (fit-append (fit-append (fit-append (fit-append (fit-append (fit-append (fit-known 1 (codes "<") refl refl) (fit-plain (address-plain outcome.recipient legal.recipient_legal)))
       (fit-known 3 (codes ">: ") refl refl)) (fit-word outcome.action)) (fit-known 2 (codes " (") refl refl)) (fit-plain (status-plain outcome.status legal.status_legal))) (fit-known 1 (codes ")") refl refl)) (omega arith)
-      (legal-if-any (codes "    ") 4 800 is_clean outcome.reason (fit-known 4 (codes "    ") refl refl) (λ text e. fit-plain (clean-plain text e)) (omega arith) legal.reason_clean)
+      (legal-if-any (codes "    ") 4 800 is_remark outcome.reason (fit-known 4 (codes "    ") refl refl) (λ text e. fit-plain (remark-plain text e)) (omega arith) legal.reason_clean)
 
   notification-legal : AreLegal (notification host letter)
   unfolding notification
@@ -239,7 +239,7 @@ module _ (host : List ℕ) (letter : Letter) (formed : IsWellFormed host letter)
       (legal-cons (fit-append (fit-known 40 (codes "Action: ") refl refl) (fit-word outcome.action)) (omega arith)
       (legal-cons (fit-append (fit-known 40 (codes "Status: ") refl refl) (fit-plain (status-plain outcome.status legal.status_legal))) (omega arith) legal-none))))
       (legal-if-any (codes "Remote-MTA: dns; ") 40 255 is_mta_name outcome.mta (fit-known 40 (codes "Remote-MTA: dns; ") refl refl) (λ text e. fit-plain (mta-plain text e)) (omega arith) legal.mta_legal))
-      (legal-if-any (codes "Diagnostic-Code: smtp; ") 40 800 is_clean outcome.diagnostic (fit-known 40 (codes "Diagnostic-Code: smtp; ") refl refl) (λ text e. fit-plain (clean-plain text e)) (omega arith) legal.diagnostic_clean))
+      (legal-if-any (codes "Diagnostic-Code: smtp; ") 40 800 is_remark outcome.diagnostic (fit-known 40 (codes "Diagnostic-Code: smtp; ") refl refl) (λ text e. fit-plain (remark-plain text e)) (omega arith) legal.diagnostic_clean))
 
   status-legal : AreLegal (delivery_status host letter)
   unfolding delivery_status per_message_fields
@@ -270,5 +270,13 @@ module _ (host : List ℕ) (letter : Letter) (formed : IsWellFormed host letter)
       (returned-part-legal (returned_lines letter.draft.header) (record { all = returned_lines-legal letter.draft.header })))
       (legal-cons (fit-append (fit-append (fit-known 2 (codes "--") refl refl) fit-own) (fit-known 2 (codes "--") refl refl)) (omega arith) legal-none)
 
-pub lines_law : LinesLaw
-lines_law host letter formed = (notice-legal host letter formed).all
+pub notice_lines-legal : (host : List ℕ) (letter : Letter) → IsWellFormed host letter → list_all is_legal_line (notice_lines host letter) ≡ true
+notice_lines-legal host letter formed = (notice-legal host letter formed).all
+
+pub lines_law : (host : List ℕ) (letter : Letter) → IsWellFormed host letter → HasLegalLines (notice_of host letter)
+unfolding notice_of
+lines_law host letter formed = record {
+  lines = notice_lines host letter;
+  written = refl;
+  legal = notice_lines-legal host letter formed;
+}

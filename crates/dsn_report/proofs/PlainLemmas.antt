@@ -6,7 +6,7 @@ use Rattle.std.proofs.lemmas.Bool.{false≢true, leb-true}
 use Rattle.std.proofs.lemmas.Bool.Decides.{eqb_tells}
 use Rattle.dsn_outcome.proofs.StatusLemmas.{IsStatusCode-test, length-IsStatusCode}
 use Rattle.dsn_outcome.specs.Status.{is_status_code, is_class}
-use Rattle.dsn_outcome.specs.Text.{is_printable, is_visible, is_address_byte, is_letter_or_digit, is_digit, is_text, is_address, is_mta_name, is_envelope_id, is_clean, is_queue_id}
+use Rattle.dsn_outcome.specs.Text.{is_printable, is_visible, is_address_byte, is_letter_or_digit, is_digit, is_text, is_address, is_mta_name, is_envelope_id, is_remark, is_queue_id}
 use Rattle.dsn_report.proofs.DateText.{printable-between, shown-append}
 use Rattle.dsn_report.specs.Site.{is_host, is_host_byte}
 
@@ -97,8 +97,8 @@ mta-plain text e = text-plain is_visible visible-printable 1 255 text e
 pub envelope_id-plain : (text : List ℕ) → is_envelope_id text ≡ true → IsPlain 100 text
 envelope_id-plain text e = text-plain is_printable (λ byte e. e) 1 100 text e
 
-pub clean-plain : (text : List ℕ) → is_clean text ≡ true → IsPlain 800 text
-clean-plain text e = text-plain is_printable (λ byte e. e) 0 800 text e
+pub remark-plain : (text : List ℕ) → is_remark text ≡ true → IsPlain 800 text
+remark-plain text e = text-plain is_printable (λ byte e. e) 1 800 text e
 
 pub id-plain : (text : List ℕ) → is_queue_id text ≡ true → IsPlain 32 text
 id-plain text e = text-plain is_letter_or_digit id-printable 1 32 text e

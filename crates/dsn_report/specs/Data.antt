@@ -1,9 +1,10 @@
--- What the receiver of a mail transaction makes of its lines after DATA (RFC 5321 section 4.5.2).
-use Rattle.std.specs.Prelude.{◌≡◌, ℕ, Bool, List, [], ◌∷◌, ◌++◌, map, drop, codes, if◌then◌else◌, nat_eq}
+-- What the receiver of a mail transaction makes of its bytes (RFC 5321 section 4.5.2).
+use Rattle.std.specs.Prelude.{◌≡◌, ℕ, Bool, List, [], ◌∷◌, drop, codes, if◌then◌else◌, nat_eq}
 use Rattle.dsn_outcome.specs.Letter.{Letter}
 use lib.Pointwise.{pointwise}
-use Rattle.dsn_report.specs.Lines.{begins_with_dot, dot_stuffed}
-use Rattle.dsn_report.specs.Notice.{notice_lines}
+use Rattle.dsn_report.specs.Lines.{begins_with_dot, pieces_of_text, text_of_lines}
+use Rattle.dsn_report.specs.Notice.{notice_of}
+use Rattle.dsn_report.specs.Outbox.{mail_transaction}
 
 -- the line that ends the data
 abbrev pub ends_data : List ℕ → Bool
@@ -18,6 +19,15 @@ unfoldable pub message_lines : List (List ℕ) → List (List ℕ)
 message_lines [] = []
 message_lines (line ∷ rest) = if ends_data line then [] else without_dot line ∷ message_lines rest
 
--- the receiver gets the lines of the notice
-abbrev pub DotsLaw : Type 0
-DotsLaw = (host : List ℕ) (letter : Letter) → message_lines (map dot_stuffed (notice_lines host letter) ++ codes "." ∷ []) ≡ notice_lines host letter
+-- what follows the command DATA
+unfoldable pub data_after : List (List ℕ) → List (List ℕ)
+data_after [] = []
+data_after (line ∷ rest) = if pointwise nat_eq line (codes "DATA") then rest else data_after rest
+
+-- the message that the receiver gets, each of its lines ended by CRLF
+unfoldable pub message_of : List ℕ → List ℕ
+message_of transaction = text_of_lines (message_lines (data_after (pieces_of_text transaction)))
+
+-- the receiver of a letter's mail transaction gets the notice
+abbrev pub ReceivesNotice : List ℕ → Letter → Type 0
+ReceivesNotice host letter = message_of (mail_transaction host letter) ≡ notice_of host letter

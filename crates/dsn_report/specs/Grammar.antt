@@ -9,7 +9,6 @@ use Rattle.dsn_outcome.specs.Stamp.{date_text}
 use Rattle.dsn_outcome.specs.Status.{is_status_code}
 use Rattle.dsn_outcome.specs.Text.{is_printable}
 use Rattle.dsn_report.specs.DeliveryStatus.{delivery_status}
-use Rattle.dsn_report.specs.WellFormed.{IsWellFormed}
 
 -- a field: a name and a value
 pub record Field : Type 0 where
@@ -98,5 +97,8 @@ pub record ReportsOutcomes (host : List ℕ) (letter : Letter) : Type 0 where
   pub tells_message : TellsMessage host letter message
   pub tells_outcomes : AllZip TellsOutcome letter.outcomes recipients
 
-abbrev pub GrammarLaw : Type 0
-GrammarLaw = (host : List ℕ) (letter : Letter) → IsWellFormed host letter → ReportsOutcomes host letter
+-- a report of no outcome is no delivery status, however its lines are read
+abbrev pub EmptyLogLaw : Type 0
+EmptyLogLaw =
+    (host : List ℕ) (letter : Letter) (message : List Field) (recipients : List (List Field))
+    → letter.outcomes ≡ [] → IsDeliveryStatus (delivery_status host letter) message recipients → ⊥

@@ -1,10 +1,36 @@
 -- Lines: a message is a list of them, each ended by CRLF (RFC 5322 section 2.1).
-use Rattle.std.specs.Prelude.{ℕ, Bool, false, List, [], ◌∷◌, ◌++◌, ◌==◌, if◌then◌else◌}
+use Rattle.std.specs.Prelude.{ℕ, Bool, false, ◌&&◌, List, [], ◌∷◌, ◌++◌, ◌==◌, drop, if◌then◌else◌}
+use Rattle.std.specs.List.{onto_first}
 
 -- the text of some lines
 unfoldable pub text_of_lines : List (List ℕ) → List ℕ
 text_of_lines [] = []
 text_of_lines (line ∷ rest) = line ++ (13 ∷ 10 ∷ text_of_lines rest)
+
+abbrev pub begins_with_line_feed : List ℕ → Bool
+begins_with_line_feed [] = false
+begins_with_line_feed (byte ∷ rest) = byte == 10
+
+abbrev pub without_first_byte : List (List ℕ) → List (List ℕ)
+without_first_byte [] = []
+without_first_byte (piece ∷ rest) = drop 1 piece ∷ rest
+
+-- one byte more, before a text whose pieces are given
+unfoldable pub pieces_more : ℕ → List ℕ → List (List ℕ) → List (List ℕ)
+pieces_more byte rest pieces =
+    if (byte == 13) && begins_with_line_feed rest then [] ∷ without_first_byte pieces else onto_first byte pieces
+
+-- what a reader of a message makes of its bytes: the pieces between its CRLFs. What follows the last CRLF is the
+-- last piece, and an empty one where the text ends there. A CR or an LF alone is a byte of a piece
+unfoldable pub pieces_of_text : List ℕ → List (List ℕ)
+pieces_of_text [] = [] ∷ []
+pieces_of_text (byte ∷ rest) = pieces_more byte rest (pieces_of_text rest)
+
+-- the text of some pieces: a CRLF between each and the next
+unfoldable pub text_of_pieces : List (List ℕ) → List ℕ
+text_of_pieces [] = []
+text_of_pieces (piece ∷ []) = piece
+text_of_pieces (piece ∷ next ∷ rest) = piece ++ (13 ∷ 10 ∷ text_of_pieces (next ∷ rest))
 
 abbrev pub begins_with_dot : List ℕ → Bool
 begins_with_dot [] = false

@@ -1,14 +1,15 @@
--- How a mail program divides the body of a multipart message (RFC 2046 section 5.1.1). It knows the boundary and
--- nothing of who wrote the message.
-use Rattle.std.specs.Prelude.{◌≡◌, ℕ, ◌≤◌, Bool, List, [], ◌∷◌, ◌++◌, length, Option, Some, None, codes, if◌then◌else◌, nat_eq}
+-- How a mail program divides the body of a multipart message (RFC 2046 section 5.1.1). It knows the boundary and the
+-- message's bytes, and nothing of who wrote them.
+use Rattle.std.specs.Prelude.{◌≡◌, ℕ, Bool, List, [], ◌∷◌, ◌++◌, map, Option, Some, None, option_map, codes, if◌then◌else◌, nat_eq}
 use Rattle.std.specs.List.{starts_with}
 use Rattle.dsn_outcome.specs.Letter.{Letter}
 use Rattle.dsn_report.specs.Boundary.{boundary_of, is_delimiter, returned_lines}
 use Rattle.dsn_report.specs.DeliveryStatus.{delivery_status}
-use Rattle.dsn_report.specs.Notice.{notice_lines, notification}
+use Rattle.dsn_report.specs.Lines.{pieces_of_text, text_of_lines, text_of_pieces}
+use Rattle.dsn_report.specs.Notice.{notice_of, notification}
 
--- what stands before the first delimiter, the parts, and what stands after the last delimiter, if there is one. A
--- part's text is its lines, joined by CRLF: the end of its last line belongs to the delimiter that follows
+-- what stands before the first delimiter, the parts, and what stands after the last delimiter, if there is one, in
+-- the pieces between CRLFs
 pub record Division : Type 0 where
   pub before : List (List ℕ)
   pub parts : List (List (List ℕ))
@@ -31,20 +32,37 @@ unfoldable pub divide : List ℕ → List (List ℕ) → Division
 divide boundary [] = record { before = []; parts = []; after = None }
 divide boundary (line ∷ rest) = divide_more boundary line rest (divide boundary rest)
 
+-- the texts of a multipart message's parts, of what stands before them, and of what stands after them, if there is a
+-- last delimiter. The CRLF before a delimiter belongs to it
+pub record Multipart : Type 0 where
+  pub preamble : List ℕ
+  pub parts : List (List ℕ)
+  pub epilogue : Option (List ℕ)
+
+abbrev pub multipart_of_pieces : Division → Multipart
+multipart_of_pieces division = record {
+  preamble = text_of_pieces division.before;
+  parts = map text_of_pieces division.parts;
+  epilogue = option_map text_of_pieces division.after;
+}
+
 -- the body of a message: what follows its first empty line (RFC 5322 section 2.1)
 unfoldable pub body_of : List (List ℕ) → List (List ℕ)
 body_of [] = []
 body_of ([] ∷ rest) = rest
 body_of ((byte ∷ line) ∷ rest) = body_of rest
 
--- a part as it is written, an empty line last
+-- the message's bytes, divided at this boundary
+unfoldable pub multipart_of : List ℕ → List ℕ → Multipart
+multipart_of boundary text = multipart_of_pieces (divide boundary (body_of (pieces_of_text text)))
+
+-- the lines of a part as it is written
 unfoldable pub part_lines : List ℕ → List ℕ → List (List ℕ) → List (List ℕ)
 part_lines description content_type body =
     (codes "Content-Description: " ++ description)
     ∷ (codes "Content-Type: " ++ content_type)
     ∷ []
     ∷ body
-    ++ [] ∷ []
 
 -- the returned part, where there are returned lines
 unfoldable pub returned_parts : List (List ℕ) → List (List (List ℕ))
@@ -58,8 +76,8 @@ notice_parts host letter =
     ∷ part_lines (codes "Delivery report") (codes "message/delivery-status") (delivery_status host letter)
     ∷ returned_parts (returned_lines letter.draft.header)
 
--- a notice divides into its parts, with nothing before and nothing after them
-abbrev pub DivisionLaw : Type 0
-DivisionLaw =
-    (host : List ℕ) (letter : Letter) → length letter.draft.header ≤ 32768
-    → divide (boundary_of letter) (body_of (notice_lines host letter)) ≡ record { before = []; parts = notice_parts host letter; after = Some [] }
+-- who divides a notice's bytes at its boundary gets its parts, each with the end of its last line, and nothing before
+-- and nothing after them
+abbrev pub DividesIntoParts : List ℕ → Letter → Type 0
+DividesIntoParts host letter =
+    multipart_of (boundary_of letter) (notice_of host letter) ≡ record { preamble = []; parts = map text_of_lines (notice_parts host letter); epilogue = Some [] }

@@ -1,26 +1,80 @@
-//! What holds of every notice. These functions do nothing: their contracts are the laws.
-ghost use Rattle.dsn_report.specs.Data.{DotsLaw};
-ghost use Rattle.dsn_report.specs.Grammar.{GrammarLaw};
-ghost use Rattle.dsn_report.specs.LegalLines.{LinesLaw};
-ghost use Rattle.dsn_report.specs.Multipart.{DivisionLaw};
+//! What holds of the notice of every letter. These functions change nothing: their contracts are the
+//! laws. They read their arguments, since what a type keeps is known of a value that is read.
+ghost use Rattle.std.specs.Prelude.{All, IsTrue};
+ghost use Rattle.dsn_outcome.specs.Outcome.{IsLegalOutcome, is_none_or};
+ghost use Rattle.dsn_outcome.specs.Text.{is_envelope_id};
+ghost use Rattle.dsn_report.specs.Data.{ReceivesNotice};
+ghost use Rattle.dsn_report.specs.Grammar.{EmptyLogLaw, ReportsOutcomes};
+ghost use Rattle.dsn_report.specs.LegalLines.{HasLegalLines};
+ghost use Rattle.dsn_report.specs.Multipart.{DividesIntoParts};
+ghost use Rattle.dsn_report.specs.Notice.{notice_of};
+ghost use Rattle.dsn_report.specs.WellFormed.{IsWellFormed};
 
-/// Who takes the added dots away gets the lines of the notice.
-pub fn dots_law()
-    ensures { DotsLaw }
-{}
+use crate::site::Site;
+use dsn_outcome::Letter;
+
+/// The receiver of a letter's mail transaction, who takes the added dots away, gets the notice.
+pub fn dots_law(site: &Site, letter: &Letter)
+    ensures { ReceivesNotice site.now letter.now }
+{
+    kept_by_types(site, letter);
+}
 
 /// Who divides a notice at its boundary gets its parts, with nothing before and nothing after
 /// them.
-pub fn division_law()
-    ensures { DivisionLaw }
-{}
+pub fn division_law(site: &Site, letter: &Letter)
+    ensures { DividesIntoParts site.now letter.now }
+{
+    kept_by_types(site, letter);
+}
 
 /// The second part of a notice is a delivery status, with one group for each outcome.
-pub fn grammar_law()
-    ensures { GrammarLaw }
+pub fn grammar_law(site: &Site, letter: &Letter)
+    ensures { ReportsOutcomes site.now letter.now }
+{
+    kept_by_types(site, letter);
+}
+
+/// A report of no outcome would be no delivery status: the grammar asks for a recipient's group.
+pub fn empty_log_law()
+    ensures { EmptyLogLaw }
 {}
 
-/// Each line of a notice has at most 998 bytes, each a tab or printable.
-pub fn lines_law()
-    ensures { LinesLaw }
-{}
+/// A notice is lines, each ended by CRLF, of at most 998 bytes, each a tab or printable.
+pub fn lines_law(site: &Site, letter: &Letter)
+    ensures { HasLegalLines (notice_of site.now letter.now) }
+{
+    kept_by_types(site, letter);
+}
+
+/// What the types of a site and of a letter keep.
+fn kept_by_types(site: &Site, letter: &Letter)
+    ensures { IsWellFormed site.now letter.now }
+{
+    site.bytes();
+    letter.key().id.bytes();
+    letter.moment().seconds();
+    letter.arrival().seconds();
+    letter.return_path().bytes();
+    letter.header().bytes();
+    legal_envelope_id(letter);
+    legal_outcomes(letter);
+}
+
+/// An envelope id is one wherever it is there.
+fn legal_envelope_id(letter: &Letter)
+    ensures { IsTrue (is_none_or is_envelope_id letter.now.draft.envelope_id) }
+{
+    if let Some(id) = letter.envelope_id() {
+        id.bytes();
+    }
+}
+
+/// Each outcome of a letter is legal.
+fn legal_outcomes(letter: &Letter)
+    ensures { All IsLegalOutcome letter.now.outcomes }
+{
+    for outcome in letter.outcomes() {
+        outcome.service();
+    }
+}

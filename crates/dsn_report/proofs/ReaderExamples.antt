@@ -1,0 +1,40 @@
+-- Worked examples of how a reader takes a message apart, computed by the definitions.
+use Rattle.std.proofs.Common.{◌≡◌, ℕ, List, [], ◌∷◌, ◌++◌, refl}
+use Rattle.std.specs.Prelude.{codes, Some, None}
+use Rattle.dsn_report.specs.Data.{data_after, message_lines, message_of}
+use Rattle.dsn_report.specs.Lines.{pieces_more, pieces_of_text, text_of_lines, text_of_pieces}
+use Rattle.dsn_report.specs.Multipart.{body_of, divide, divide_more, multipart_of}
+
+-- the end of a line
+abbrev crlf : List ℕ
+crlf = 13 ∷ 10 ∷ []
+
+-- only CR and LF side by side end a line
+pieces : pieces_of_text (codes "a" ++ crlf ++ 98 ∷ 13 ∷ 99 ∷ 10 ∷ 100 ∷ [] ++ crlf) ≡ codes "a" ∷ (98 ∷ 13 ∷ 99 ∷ 10 ∷ 100 ∷ []) ∷ [] ∷ []
+unfolding pieces_of_text pieces_more
+pieces = refl
+
+no_end : pieces_of_text (codes "a" ++ 13 ∷ 13 ∷ 10 ∷ 98 ∷ []) ≡ (97 ∷ 13 ∷ []) ∷ codes "b" ∷ []
+unfolding pieces_of_text pieces_more
+no_end = refl
+
+-- two parts, with text before and after them; the header's line that looks like a delimiter is none
+two_parts :
+    multipart_of (codes "B") (codes "--B: y" ++ crlf ++ crlf ++ codes "pre" ++ crlf ++ codes "--B" ++ crlf ++ codes "T: x" ++ crlf ++ crlf ++ codes "one" ++ crlf ++ crlf
+    ++ codes "--B more" ++ crlf ++ codes "two" ++ crlf ++ codes "--B--" ++ crlf ++ codes "post" ++ crlf) ≡
+    record { preamble = codes "pre"; parts = (codes "T: x" ++ crlf ++ crlf ++ codes "one" ++ crlf) ∷ codes "two" ∷ []; epilogue = Some (codes "post" ++ crlf) }
+unfolding multipart_of divide divide_more body_of pieces_of_text pieces_more text_of_pieces
+two_parts = refl
+
+-- a message that was cut short has no last delimiter
+cut_short :
+    multipart_of (codes "B") (crlf ++ codes "--B" ++ crlf ++ codes "one" ++ crlf ++ codes "--B") ≡ record { preamble = []; parts = codes "one" ∷ [] ∷ []; epilogue = None }
+unfolding multipart_of divide divide_more body_of pieces_of_text pieces_more text_of_pieces
+cut_short = refl
+
+-- one dot is taken from each line that begins with one, up to a line of one dot
+dots_taken :
+    message_of (codes "MAIL FROM:<>" ++ crlf ++ codes "RCPT TO:<a>" ++ crlf ++ codes "DATA" ++ crlf ++ codes "..x" ++ crlf ++ codes ".y" ++ crlf ++ codes "z." ++ crlf ++ codes "." ++ crlf ++ codes "QUIT" ++ crlf) ≡
+    codes ".x" ++ crlf ++ codes "y" ++ crlf ++ codes "z." ++ crlf
+unfolding message_of data_after message_lines pieces_of_text pieces_more text_of_lines
+dots_taken = refl

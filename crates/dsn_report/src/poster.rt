@@ -1,5 +1,5 @@
 //! Posting notices to an outbox, one mail transaction after another.
-ghost use Rattle.std.specs.Prelude.{◌≡◌, true, false, not, IsTrue, IsFalse, OnOk, OnErr, IfErr, is_err};
+ghost use Rattle.std.specs.Prelude.{◌≡◌, true, false, not, IsTrue, IsFalse, Err, OnOk, OnErr, IfErr, is_err};
 ghost use Rattle.std.specs.Io.KnownBytes.{Appends};
 ghost use Rattle.dsn_outcome.specs.Transfer.{AppendsFront};
 ghost use Rattle.dsn_report.specs.LineWriter.{counts_failure};
@@ -65,10 +65,15 @@ impl<W: Drain> Poster<W> {
         ensures sent { OnOk result (Appends (W.contents self.old.outbox) (W.contents self.new.outbox) (post_text self.old letter)) }
         ensures front { OnErr result (AppendsFront (W.contents self.old.outbox) (W.contents self.new.outbox) (post_text self.old letter)) }
         ensures fault { IfErr result (λ fault. fault ≡ post_fault self.old.failed letter) }
-        ensures nothing { IsTrue self.old.failed → self.new ≡ self.old }
         ensures failed { self.new.failed ≡ is_err result }
         ensures greeted { OnOk result (self.new.greeted ≡ true) }
         ensures host { self.new.host ≡ self.old.host }
+
+        // Once it has failed, a letter comes back at once and nothing is written.
+        ensures later { IsTrue self.old.failed → (result ≡ Err (PostFault.Failed letter)) × (self.new ≡ self.old) }
+
+        // It fails where the outbox does: the outbox's count of failures rises there, unless it stands at its end,
+        // and nowhere else.
         ensures count { W.failures self.new.outbox ≡ counts_failure self.old.failed (is_err result) (W.failures self.old.outbox) }
         ensures steady { W.steady self.old.outbox → W.steady self.new.outbox × (W.failures self.new.outbox ≡ W.failures self.old.outbox) }
     {
@@ -91,6 +96,8 @@ impl<W: Drain> Poster<W> {
         ensures sent { IsTrue result.whole → Appends (W.contents self.outbox) (W.contents result.outbox) (finish_text self) }
         ensures front { IsFalse result.whole → AppendsFront (W.contents self.outbox) (W.contents result.outbox) (finish_text self) }
         ensures nothing { IsTrue self.failed → result ≡ record { outbox = self.outbox; whole = false } }
+
+        // Where nothing failed before, `whole` is false exactly where the outbox fails now.
         ensures count { W.failures result.outbox ≡ counts_failure self.failed (not result.whole) (W.failures self.outbox) }
         ensures steady { W.steady self.outbox → W.steady result.outbox × (W.failures result.outbox ≡ W.failures self.outbox) }
     {

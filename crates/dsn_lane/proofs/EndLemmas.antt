@@ -32,8 +32,13 @@ fresh_none : {T : Type 0} (a first more : ℕ) → a < first → from_agent (λ 
 fresh_none a first zero below = refl
 fresh_none {T} a first (suc more) below = rw (ne_eqb first a (λ same. absurd (omega arith))) (fresh_none {T = T} a (suc first) more (omega arith))
 
+-- none of them is past the last
+pub fresh_past : {T : Type 0} (a first more : ℕ) → first + more ≤ a → from_agent (λ (end : Sending T). end.agent) a (fresh first more) ≡ []
+fresh_past a first zero past = refl
+fresh_past {T} a first (suc more) past = rw (ne_eqb first a (λ same. absurd (omega arith))) (fresh_past {T = T} a (suc first) more (omega arith))
+
 -- each of them is one
-fresh_one : {T : Type 0} (a first more : ℕ) → first ≤ a → a < first + more → from_agent (λ (end : Sending T). end.agent) a (fresh first more) ≡ record { agent = a; sent = [] } ∷ []
+pub fresh_one : {T : Type 0} (a first more : ℕ) → first ≤ a → a < first + more → from_agent (λ (end : Sending T). end.agent) a (fresh first more) ≡ record { agent = a; sent = [] } ∷ []
 fresh_one a first zero from below = absurd (omega arith)
 fresh_one {T} a first (suc more) from below =
     elim (ℕ_discrete first a) [
@@ -68,6 +73,7 @@ numbered_taken agent number taken item before next a =
 
 keeps_receiving_at : {T : Type 0} (agent number : T → ℕ) (known : Taking T) (count : ℕ) (item : T) → IsReceiving agent number known count → IsNext agent number (Takes known) item → IsReceiving agent number (taking (after_take (Takes known) item)) ((count + 1) % 2 ^ 64)
 keeps_receiving_at agent number known count item before next = record {
+  agents = before.agents;
   passed = before.passed;
   counted =
       ap (λ (n : ℕ). (n + 1) % 2 ^ 64) before.counted
@@ -151,17 +157,18 @@ ends_pushed {T} lane first more token end old new is end_is before pushed =
     let last : end ≡ record { lane = lane; agent = first + more; sent = none } = end_is ∙ ap (λ (n : ℕ). record { lane = lane; agent = n; sent = none }) made in
     pushed ∙ ((λ i. before i ++ last i ∷ []) ∙ sym (ends_more lane first more))
 
-receiving_at : {T : Type 0} (agent number : T → ℕ) (first past : ℕ) → IsReceiving agent number (taking (new_token {T = T} first past)) 0
-receiving_at {T} agent number first past = record {
+receiving_at : {T : Type 0} (agent number : T → ℕ) (first past : ℕ) → first < past → past ≤ 16 → IsReceiving agent number (taking (new_token {T = T} first past)) 0
+receiving_at {T} agent number first past some few = record {
+  agents = let back = length-fresh T 0 first in (omega arith, few);
   passed = ap (fresh {T = T} 0) (sym (length-fresh T 0 first));
   counted = refl;
   numbered = λ a. numbered_none number;
 }
 
 -- a receiving end that has taken nothing
-pub new_receiving : {T : Type 0} (agent number : T → ℕ) (first past : ℕ) (token : Token T) → token ≡ Takes (record { made = past; taken = []; back = fresh 0 first }) → (token ≡ Takes (taking token)) × IsReceiving agent number (taking token) 0
-new_receiving {T} agent number first past token is =
-    subst (λ (it : Token T). (it ≡ Takes (taking it)) × IsReceiving agent number (taking it) 0) (sym is) (refl, receiving_at agent number first past)
+pub new_receiving : {T : Type 0} (agent number : T → ℕ) (first past : ℕ) (token : Token T) → first < past → past ≤ 16 → token ≡ Takes (record { made = past; taken = []; back = fresh 0 first }) → (token ≡ Takes (taking token)) × IsReceiving agent number (taking token) 0
+new_receiving {T} agent number first past token some few is =
+    subst (λ (it : Token T). (it ≡ Takes (taking it)) × IsReceiving agent number (taking it) 0) (sym is) (refl, receiving_at agent number first past some few)
 
 abbrev out : {T : Type 0} → Identity T → ℕ → ℕ → List T → Out T
 out lane first past taken = record { lane = lane; first = first; past = past; taken = taken }

@@ -1,4 +1,6 @@
 pub mod AgentLemmas
+pub mod CloseLemmas
 pub mod EndLemmas
 mod Examples
 pub mod RuleLemmas
+pub mod SumLemmas

@@ -12,7 +12,7 @@ use Rattle.crossbeam_channel.specs.Fifo.{Pushes, Pops, Forks, Merges, Learns}
 use Rattle.dsn_outcome.specs.Agents.{from_agent}
 use Rattle.dsn_lane.proofs.AgentLemmas.{get_seam, mine, not_mine, more, more_mine, more_not_mine, seam_mine, numbered_more, numbered_none}
 use Rattle.dsn_lane.specs.Lane.{IsLane, IsNumbered, Knows, back_from}
-use Rattle.dsn_lane.specs.Step.{opened, after_split, split_off, after_send, after_take, after_join, IsNext, Settles, IsSettled}
+use Rattle.dsn_lane.specs.Step.{opened, after_split, split_off, after_send, after_take, after_join, known_after, IsNext, Settles, IsSettled}
 use Rattle.dsn_lane.specs.declared.token.Sending.{Sending}
 use Rattle.dsn_lane.specs.declared.token.Taking.{Taking}
 use Rattle.dsn_lane.specs.declared.token.Token.{Token}
@@ -240,7 +240,7 @@ module _ {T : Type 0} (agent number : T → ℕ) where
   -- ---- joining a pass at the close
 
   abbrev with_back : Taking T → Sending T → Taking T
-  with_back receiver end = record { made = receiver.made; taken = receiver.taken; back = receiver.back ++ end ∷ [] }
+  with_back receiver end = known_after receiver (end ∷ [])
 
   back_stays : (receiver : Taking T) (end : Sending T) (a : ℕ) → end.agent ≢ a → back_from a (with_back receiver end) ≡ back_from a receiver
   back_stays receiver end a other = more_not_mine (λ (e : Sending T). e.agent) a receiver.back end other

@@ -1,5 +1,5 @@
 -- Ends: what contracts see of a lane's ends, and what a lane has accepted.
-use Rattle.std.specs.Prelude.{◌≡◌, ℕ, zero, suc, ◌%◌, ◌^◌, List, [], ◌∷◌, length, All}
+use Rattle.std.specs.Prelude.{◌≡◌, ℕ, zero, suc, ◌<◌, ◌≤◌, ◌%◌, ◌^◌, List, [], ◌∷◌, length, All}
 use Rattle.atomic_table.specs.Seated.{TableId}
 use Rattle.atomic_table.specs.declared.badge.Badge.{Badge}
 use Rattle.crossbeam_channel.specs.Claims.{Pass, view}
@@ -57,6 +57,10 @@ module _ {T : Type 0} where
   out_of pass =
       record { lane = lane_of pass; first = length (taking (view pass)).back; past = (taking (view pass)).made; taken = (taking (view pass)).taken }
 
+  -- what a sending end knows, by what contracts see of it
+  abbrev pub sending_of : End T → Sending T
+  sending_of end = record { agent = end.agent; sent = end.sent }
+
   -- so many agents from one on, which have sent nothing
   abbrev pub fresh : ℕ → ℕ → List (Sending T)
   fresh first zero = []
@@ -73,9 +77,10 @@ module _ {T : Type 0} where
     pub mine : from_agent agent end.agent end.sent ≡ end.sent
     pub numbered : IsNumbered number end.sent
 
-  -- what the receiving end keeps while the lane is open: that the ends that came back are those of the agents below the
-  -- first, unused; its count, which wraps; and that what it took of each agent is numbered from 0
+  -- what the receiving end keeps while the lane is open: that it has up to sixteen agents; that the ends that came back are
+  -- those of the agents below the first, unused; its count, which wraps; and that what it took of each agent is numbered from 0
   pub record IsReceiving (agent number : T → ℕ) (known : Taking T) (count : ℕ) : Type 0 where
+    pub agents : (length known.back < known.made) × (known.made ≤ 16)
     pub passed : known.back ≡ fresh 0 (length known.back)
     pub counted : count ≡ length known.taken % 2 ^ 64
     pub numbered : (a : ℕ) → IsNumbered number (from_agent agent a known.taken)

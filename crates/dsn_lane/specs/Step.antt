@@ -35,9 +35,13 @@ module _ {T : Type 0} where
   after_take (Sends end) item = Sends end
   after_take Spent item = Spent
 
+  -- what the receiving end knows with these ends taken back
+  abbrev pub known_after : Taking T → List (Sending T) → Taking T
+  known_after known ends = record { made = known.made; taken = known.taken; back = known.back ++ ends }
+
   -- joining a pass: the receiving end takes a sending end back
   abbrev pub after_join : Token T → Token T → Token T
-  after_join (Takes known) (Sends end) = Takes (record { made = known.made; taken = known.taken; back = known.back ++ end ∷ [] })
+  after_join (Takes known) (Sends end) = Takes (known_after known (end ∷ []))
   after_join (Takes known) other = Takes known
   after_join (Sends end) other = Sends end
   after_join Spent other = Spent

@@ -2,18 +2,22 @@
 //! what was sent, what was taken and what waits.
 #![tactic(auto)]
 
+mod close;
 mod lane_end;
 mod lane_in;
 mod lane_left;
 mod lane_out;
+mod lane_shut;
 mod lost;
 mod open;
 mod rule;
 mod token;
 
+pub use close::close_lane;
 pub use lane_end::LaneEnd;
 pub use lane_in::LaneIn;
 pub use lane_left::LaneLeft;
 pub use lane_out::LaneOut;
+pub use lane_shut::LaneShut;
 pub use lost::Lost;
 pub use open::open_lane;

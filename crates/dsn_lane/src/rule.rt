@@ -74,9 +74,9 @@ impl<T> Lesson<T, Token<T>> for Removes {
 }
 
 /// A look at what waits, once the ends have come back.
-pub struct Settles;
+pub struct ReadsOff;
 
-impl<T: Carried> Lesson<T, Token<T>> for Settles {
+impl<T: Carried> Lesson<T, Token<T>> for ReadsOff {
     ghost use Rattle.dsn_lane.specs.Step.{IsSettled};
 
     ghost fact = { IsSettled T.agent T.number };

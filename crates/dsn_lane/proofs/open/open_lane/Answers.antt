@@ -15,7 +15,7 @@ loop-preserved g c =
 
 pub invariant_of-out : goal.invariant_of-out
 invariant_of-out g c =
-    let kept = new_receiving g.T.Carried.agent g.T.Carried.number _ _ _ c.loop.invariant.1 in
+    let kept = new_receiving g.T.Carried.agent g.T.Carried.number _ _ _ (search rules) (search rules) c.loop.invariant.1 in
     (search rules, kept.0, kept.1)
 
 pub returns-clause-out : goal.returns-clause-out

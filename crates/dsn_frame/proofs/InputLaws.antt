@@ -67,10 +67,10 @@ none_ends input (Some rest) CutShort none not_read not_memory =
 
 -- ---- one list of frames
 
-front_declares : (body rest : List ℕ) → IsFrameBody body → declared_length (frame body ++ rest) ≡ length body
+pub front_declares : (body rest : List ℕ) → IsFrameBody body → declared_length (frame body ++ rest) ≡ length body
 front_declares body rest legal = declared (length body) (body ++ rest) (omega arith)
 
-front_length : (body rest : List ℕ) → length (frame body ++ rest) ≡ 4 + (length body + length rest)
+pub front_length : (body rest : List ℕ) → length (frame body ++ rest) ≡ 4 + (length body + length rest)
 front_length body rest = omega (arith, length-append (frame body) rest, length-append (to_be_bytes w32 (length body)) body)
 
 -- no frame stands where the frames end
@@ -92,7 +92,7 @@ ends_with_no_frame rest body more (Some Read) ends legal is = absurd ends
 ends_with_no_frame rest body more (Some NoMemory) ends legal is = absurd ends
 
 -- two frames at the front of one input are the same
-same_front : (a b x y : List ℕ) → IsFrameBody a → IsFrameBody b → frame a ++ x ≡ frame b ++ y → (a ≡ b) × (x ≡ y)
+pub same_front : (a b x y : List ℕ) → IsFrameBody a → IsFrameBody b → frame a ++ x ≡ frame b ++ y → (a ≡ b) × (x ≡ y)
 same_front a b x y legal_a legal_b is =
     let same : length a ≡ length b = sym (front_declares a x legal_a) ∙ ap declared_length is ∙ front_declares b y legal_b in
     let after : a ++ x ≡ b ++ y = ap (drop 4) is in (

@@ -7,7 +7,7 @@ use Rattle.std.specs.List.{flat_map, AllByRecursion}
 use Rattle.std.proofs.lemmas.List.{append-nil, length-append, take_at, drop_at}
 use Rattle.std.proofs.lemmas.List.Concat.{flat_map-cons}
 use Rattle.dsn_frame.proofs.FrameLaws.{declared}
-use Rattle.dsn_frame.proofs.InputLaws.{none_ends, one_reading}
+use Rattle.dsn_frame.proofs.InputLaws.{front_length, same_front, none_ends, one_reading}
 use Rattle.dsn_frame.proofs.RequestLaws.{encodes_one, encoded_is_accepted}
 use Rattle.dsn_frame.specs.Frame.{frame, declared_length, AreFramesOf, FramesEnd, ReadsNone}
 use Rattle.dsn_frame.specs.FrameBody.{IsFrameBody}
@@ -135,21 +135,6 @@ session-in-turn limit wanted _ _ _ _ (taken frames bodies more answers told byte
 
 -- ---- the frames
 
-front-declares : (body rest : List ℕ) → IsFrameBody body → declared_length (frame body ++ rest) ≡ length body
-front-declares body rest legal = declared (length body) (body ++ rest) (omega arith)
-
-front-length : (body rest : List ℕ) → length (frame body ++ rest) ≡ 4 + (length body + length rest)
-front-length body rest = omega (arith, length-append (frame body) rest, length-append (to_be_bytes w32 (length body)) body)
-
--- two frames at the front of one text are the same
-same-front : (a b x y : List ℕ) → IsFrameBody a → IsFrameBody b → frame a ++ x ≡ frame b ++ y → (a ≡ b) × (x ≡ y)
-same-front a b x y legal_a legal_b is =
-    let same : length a ≡ length b = sym (front-declares a x legal_a) ∙ ap declared_length is ∙ front-declares b y legal_b in
-    let after : a ++ x ≡ b ++ y = ap (drop 4) is in (
-      sym (take_at a x (length a) refl) ∙ ap (take (length a)) after ∙ take_at b y (length a) (sym same),
-      sym (drop_at a x (length a) refl) ∙ ap (drop (length a)) after ∙ drop_at b y (length a) (sym same),
-    )
-
 frames-cons : (body : List ℕ) (bodies : List (List ℕ)) (rest : List ℕ) → flat_map frame (body ∷ bodies) ++ rest ≡ frame body ++ (flat_map frame bodies ++ rest)
 frames-cons body bodies rest = ap (λ (text : List ℕ). text ++ rest) (flat_map-cons frame body bodies) ∙ append_assoc (frame body) (flat_map frame bodies) rest
 
@@ -163,11 +148,11 @@ record AreLeft (bodies some : List (List ℕ)) (rest : List ℕ) : Type 0 where
 frames-left : (some bodies : List (List ℕ)) (rest : List ℕ) → AllByRecursion IsFrameBody some → AllByRecursion IsFrameBody bodies → flat_map frame bodies ≡ flat_map frame some ++ rest → AreLeft bodies some rest
 frames-left [] bodies rest legal_some legal is = record { more = bodies; parts = refl; frames = sym is; legal = legal }
 frames-left (a ∷ some) [] rest legal_some legal is =
-    let long = front-length a (flat_map frame some ++ rest) in
+    let long = front_length a (flat_map frame some ++ rest) in
     absurd (omega (arith, ap length (is ∙ frames-cons a some rest), long))
 frames-left (a ∷ some) (b ∷ bodies) rest legal_some legal is =
     let fronts = sym (frames-cons a some rest) ∙ sym is ∙ flat_map-cons frame b bodies in
-    let same = same-front a b (flat_map frame some ++ rest) (flat_map frame bodies) legal_some.0 legal.0 fronts in
+    let same = same_front a b (flat_map frame some ++ rest) (flat_map frame bodies) legal_some.0 legal.0 fronts in
     let left = frames-left some bodies rest legal_some.1 legal.1 (sym same.1) in
     record {
       more = left.more;
@@ -201,11 +186,11 @@ some-none number same = cc
 none-left : (bodies some more : List (List ℕ)) → bodies ≡ some ++ more → flat_map frame more ≡ [] → some ≡ bodies
 none-left bodies some [] parts nothing = sym (append-nil some) ∙ sym parts
 none-left bodies some (first ∷ rest) parts nothing =
-    absurd (omega (arith, front-length first (flat_map frame rest), ap length (sym (flat_map-cons frame first rest) ∙ nothing)))
+    absurd (omega (arith, front_length first (flat_map frame rest), ap length (sym (flat_map-cons frame first rest) ∙ nothing)))
 
 -- a frame that is left is one more body
 one-left : (bodies some more : List (List ℕ)) (bytes rest : List ℕ) → bodies ≡ some ++ more → flat_map frame more ≡ frame bytes ++ rest → length some < length bodies
-one-left bodies some [] bytes rest parts is = absurd (omega (arith, front-length bytes rest, ap length is))
+one-left bodies some [] bytes rest parts is = absurd (omega (arith, front_length bytes rest, ap length is))
 one-left bodies some (first ∷ more) bytes rest parts is = omega (arith, ap length parts, length-append some (first ∷ more))
 
 -- where frames are left a reading is cut short from outside

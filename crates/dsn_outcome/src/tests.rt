@@ -225,12 +225,12 @@ fn letters_are_taken_in_order(rt: HostRuntime) -> Result<(), Fail> {
 #[test]
 fn many_letters_are_freed(rt: HostRuntime) -> Result<(), Fail> {
     let mut letters = Letters::new();
-    for seconds in 0..100_000 {
+    for seconds in 0..1_000_000 {
         letters.push(letter(rt.alloc(), seconds)?);
     }
-    assert_eq!(rt; letters.len(), 100_000);
+    assert_eq!(rt; letters.len(), 1_000_000);
     assert_eq!(rt; popped(&mut letters), Some(0));
-    letters.push(letter(rt.alloc(), 100_000)?);
+    letters.push(letter(rt.alloc(), 1_000_000)?);
     drop(letters);
     Ok(())
 }

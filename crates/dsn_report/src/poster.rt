@@ -70,7 +70,8 @@ impl<W: Drain> Poster<W> {
         ensures host { self.new.host ≡ self.old.host }
 
         // Once it has failed, a letter comes back at once and nothing is written.
-        ensures later { IsTrue self.old.failed → (result ≡ Err (PostFault.Failed letter)) × (self.new ≡ self.old) }
+        ensures later { IsTrue self.old.failed → result ≡ Err (PostFault.Failed letter) }
+        ensures nothing { IsTrue self.old.failed → self.new ≡ self.old }
 
         // It fails where the outbox does: the outbox's count of failures rises there, unless it stands at its end,
         // and nowhere else.

@@ -1,5 +1,5 @@
 //! Reading an input to its end, one frame after another.
-ghost use Rattle.std.specs.Prelude.{◌≡◌, ℕ, ◌≤◌, [], List, Option};
+ghost use Rattle.std.specs.Prelude.{◌≡◌, ℕ, [], List, Option};
 ghost use Rattle.dsn_outcome.specs.History.{Limits as Bounds};
 ghost use Rattle.noticed_lib.specs.Reading.{Heard};
 ghost use Rattle.noticed_lib.specs.Requests.{requests_of};
@@ -26,8 +26,7 @@ pub(crate) fn read_all<R: Source, W: Drain, N: Drain>(
     run: &mut Run<W>,
     notes: &mut N,
 ) -> Option<u32>
-    requires few { requests ≤ 1000000 }
-    requires begun { run.old.accepted ≡ 0 }
+    requires { run.old.accepted ≡ 0 }
     ensures { (limits : Bounds) (host : List ℕ) (start : W) → limits.requests ≡ requests → Stands W.contents W.failures limits host start run.old (requests_of []) →
         Heard R.remaining R.failures W.contents W.failures N.contents N.failures limits host start input.old input.new run.new notes.old notes.new result }
 {

@@ -1,5 +1,5 @@
 //! One run of the daemon on one thread: frames in, letters out.
-ghost use Rattle.std.specs.Prelude.{◌≡◌, ℕ, ◌+◌, ◌<◌, ◌≤◌, List, length, Option};
+ghost use Rattle.std.specs.Prelude.{◌≡◌, ℕ, ◌+◌, ◌^◌, ◌<◌, ◌≤◌, List, length, Option};
 ghost use Rattle.dsn_outcome.specs.History.{Limits as Bounds};
 ghost use Rattle.dsn_outcome.specs.Request.{Request as Asked};
 ghost use Rattle.dsn_outcome.specs.Body.{body_of};
@@ -25,7 +25,7 @@ pub(crate) struct Run<W> {
 impl<W: Drain> Run<W> {
     /// Answers the frame that stands at this place of the input.
     pub(crate) fn answer(&mut self, alloc: Global, position: u32, bytes: &[u8]) -> Turn
-        requires { self.old.accepted < 1000000 }
+        requires { self.old.accepted + 1 < 2 ^ 32 }
         ensures counted { self.new.accepted ≤ self.old.accepted + 1 }
         ensures answered { (limits : Bounds) (host : List ℕ) (start : W) (requests : List Asked) → Stands W.contents W.failures limits host start self.old requests → length requests < limits.requests → Answered W.contents W.failures limits host start self.new requests position bytes.now result }
     {
@@ -49,7 +49,7 @@ impl<W: Drain> Run<W> {
 
     /// Takes a request, posts the letter that it seals, and gives the reply.
     fn ask(&mut self, body: Body) -> Turn
-        requires { self.old.accepted < 1000000 }
+        requires { self.old.accepted + 1 < 2 ^ 32 }
         ensures counted { self.new.accepted ≤ self.old.accepted + 1 }
         ensures asked { (limits : Bounds) (host : List ℕ) (start : W) (requests : List Asked) → Stands W.contents W.failures limits host start self.old requests → Asks W.contents W.failures limits host start self.new requests (body_of body) result }
     {

@@ -68,7 +68,6 @@ fn read_into<R: Source, W: Drain, N: Drain>(
     input: &mut R,
     notes: &mut N,
 ) -> Harvest<W>
-    requires few { requests ≤ 1000000 }
     ensures { (limits : Bounds) (host : List ℕ) (start : W) → limits.requests ≡ requests → book.limits ≡ limits → Represents book [] → Delivered W.contents W.failures host start outgoing [] →
         Harvested R.remaining R.failures W.contents W.failures N.contents N.failures limits host start input.old input.new notes.old notes.new result.fault result.outgoing (option_map (λ lines. lines.items) (result_ok result.logs)) }
 {

@@ -1,6 +1,8 @@
 //! Inputs that put notices into the outbox.
 use super::input::{BOB, BOUNCE, DEFER, FlushTexts, Input, ONE_MESSAGE, TO_ANN};
-use super::outboxes::{ALL_FIELDS, COLLISION, ONE_NOTICE, TWO_SERVICES};
+use super::outboxes::{
+    AFTER_GROUPS, ALL_FIELDS, BEFORE_GROUPS, BEFORE_LINES, COLLISION, ONE_NOTICE, TWO_SERVICES,
+};
 use super::run;
 use crate::MemoryRun;
 use dsn_outcome::Parts;
@@ -112,5 +114,80 @@ fn two_services_one_message(rt: HostRuntime) -> Result<(), Fail> {
     input.flush(&rt, DEFER, b"X1", &TO_ANN)?;
     let notes = b"0 logged 0\n1 logged 0\n2 sealed 1\n3 sealed 1\n";
     expect_outbox(&rt, &run(&rt, &input.bytes)?, TWO_SERVICES, notes);
+    Ok(())
+}
+
+/// The pieces, one after another.
+fn joined(rt: &HostRuntime, pieces: &[&[u8]]) -> Result<Vec<u8>, Fail> {
+    let mut text = Vec::new(rt.alloc());
+    for piece in pieces {
+        text.extend_from_slice(piece)?;
+    }
+    Ok(text)
+}
+
+/// A whole log, each outcome with all texts: the notice tells all of them, oldest first.
+#[test]
+fn thousand_outcomes(rt: HostRuntime) -> Result<(), Fail> {
+    let mut input = Input::new(&rt);
+    let mut outbox = joined(&rt, &[BEFORE_LINES])?;
+    let mut groups = joined(&rt, &[BEFORE_GROUPS])?;
+    for number in 0..1_000u16 {
+        let digits = [
+            b'0' + (number / 100 % 10) as u8,
+            b'0' + (number / 10 % 10) as u8,
+            b'0' + (number % 10) as u8,
+        ];
+        let recipient = joined(&rt, &[b"r", &digits, b"@example.org"])?;
+        let original = joined(&rt, &[b"o", &digits, b"@example.org"])?;
+        let mta = joined(&rt, &[b"mail", &digits, b".example.org"])?;
+        let diagnostic = joined(&rt, &[b"550 no user r", &digits])?;
+        let reason = joined(&rt, &[b"there is no r", &digits])?;
+        let parts = Parts {
+            recipient: &recipient,
+            original: &original,
+            action: 1,
+            status: b"5.1.1",
+            mta: &mta,
+            diagnostic: &diagnostic,
+            reason: &reason,
+        };
+        input.append(&rt, BOUNCE, b"A1B2C3", &parts)?;
+        outbox.extend_from_slice(&joined(
+            &rt,
+            &[
+                b"<",
+                &recipient,
+                b">: failed (5.1.1)\r\n    ",
+                &reason,
+                b"\r\n",
+            ],
+        )?)?;
+        groups.extend_from_slice(&joined(
+            &rt,
+            &[
+                b"\r\nOriginal-Recipient: rfc822; ",
+                &original,
+                b"\r\nFinal-Recipient: rfc822; ",
+                &recipient,
+                b"\r\nAction: failed\r\nStatus: 5.1.1\r\nRemote-MTA: dns; ",
+                &mta,
+                b"\r\nDiagnostic-Code: smtp; ",
+                &diagnostic,
+                b"\r\n",
+            ],
+        )?)?;
+    }
+    input.flush(&rt, BOUNCE, b"A1B2C3", &TO_ANN)?;
+    outbox.extend_from_slice(&groups)?;
+    outbox.extend_from_slice(AFTER_GROUPS)?;
+    let ran = run(&rt, &input.bytes)?;
+    assert_eq!(rt; ran.outbox.as_slice(), outbox.as_slice());
+    assert!(rt;
+        ran.notes
+            .as_slice()
+            .ends_with(b"999 logged 999\n1000 sealed 1000\n")
+    );
+    assert_eq!(rt; ran.status, 0);
     Ok(())
 }

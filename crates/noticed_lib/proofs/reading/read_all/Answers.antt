@@ -7,7 +7,7 @@ use Rattle.noticed_lib.proofs.reading.read_all.Goals as goal
 
 pub loop-position-init : goal.loop-position-init
 loop-position-init g c =
-    (omega (arith, c.requires.begun), λ limits host start same stands. heard-nothing _ _ _ _ _ _ limits host start _ _ _ stands)
+    (omega (arith, c.requires), λ limits host start same stands. heard-nothing _ _ _ _ _ _ limits host start _ _ _ stands)
 
 pub returns-in-Ok-None : goal.returns-in-Ok-None
 returns-in-Ok-None g c = λ limits host start same stands.

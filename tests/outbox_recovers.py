@@ -1,0 +1,64 @@
+#!/usr/bin/env python3
+"""Checks that an outbox that failed once gets nothing more, though it works again: not by a later letter, and not at the end.
+
+The outbox is a pipe that doesn't block and is full at the first letter, so that its write fails; then it is emptied.
+"""
+import os
+import subprocess
+import sys
+from pathlib import Path
+
+sys.path.insert(0, str(Path(__file__).parent / "support"))
+from running import HOST, LIMIT, Checks, frames_module, program  # noqa: E402
+
+FRAMES = frames_module()
+
+
+def full_pipe():
+    """The two ends of a pipe that doesn't block, filled to its end, and how many bytes are in it."""
+    reading, writing = os.pipe()
+    os.set_blocking(writing, False)
+    filled = 0
+    for size in (65536, 1):
+        try:
+            while True:
+                filled += os.write(writing, b"x" * size)
+        except BlockingIOError:
+            pass
+    return reading, writing, filled
+
+
+def message(number: int, queue_id: bytes, header: bytes) -> bytes:
+    """The frames of one message, the first of them with this number."""
+    return FRAMES.append(number, 1, queue_id, b"x@y", 1, b"5.0.0") + FRAMES.flush(number + 1, 1, queue_id, header=header)
+
+
+def check(checks: Checks, what: str, header: bytes):
+    """Runs three messages, empties the outbox after the first of them, and looks at what reaches it then."""
+    reading, writing, filled = full_pipe()
+    ran = subprocess.Popen([program(), "batch", HOST], stdin=subprocess.PIPE, stdout=writing, stderr=subprocess.PIPE)
+    os.close(writing)
+    ran.stdin.write(message(0, b"K1", header))
+    ran.stdin.flush()
+    notes = ran.stderr.readline() + ran.stderr.readline()
+    held = 0
+    while held < filled:
+        held += len(os.read(reading, filled - held))
+    ran.stdin.write(message(2, b"K2", header) + message(4, b"K3", b""))
+    ran.stdin.close()
+    notes += ran.stderr.read()
+    with os.fdopen(reading, "rb") as outbox:
+        checks.equal(f"{what}: the outbox after its failure", outbox.read(), b"")
+    answers = b"0 logged 0\n1 sealed 1\n2 logged 0\n3 sealed 1\n4 logged 0\n5 sealed 1\n"
+    checks.equal(f"{what}: notes", notes, answers + b"fault 31\nunsent B K1\nunsent B K2\nunsent B K3\n")
+    checks.equal(f"{what}: status", ran.wait(timeout=LIMIT), 1)
+
+
+def main():
+    checks = Checks("an outbox that fails once and then works gets nothing more")
+    check(checks, "short letters", b"")
+    check(checks, "letters of 33 KiB", 32 * (1023 * b"a" + b"\n"))
+    checks.done()
+
+
+main()

@@ -1,5 +1,6 @@
-//! Readers and writers for tests, which take and give bytes in pieces and fail where they are told.
-ghost use Rattle.std.specs.Prelude.{Some};
+//! Readers and writers for tests, which take and give bytes in pieces, fail where they are told, or
+//! never end.
+ghost use Rattle.std.specs.Prelude.{Some, None};
 
 use std::io;
 use std::io::{ErrorKind, Read, Write};
@@ -24,6 +25,49 @@ impl Read for PieceReader<'_> {
         self.good -= 1;
         let room = buffer.len().min(self.most.max(1));
         self.rest.read(&mut buffer[..room])
+    }
+}
+
+/// A reader that gives one frame for ever, a byte a call; each time with the next number, from 0.
+#[derive(Drop)]
+pub struct EndlessFrames<'a> {
+    pub frame: &'a [u8],
+    pub number: u32,
+    pub given: usize,
+}
+
+/// Where a frame has its number: after the length, the version and the kind.
+const NUMBER: usize = 6;
+
+impl EndlessFrames<'_> {
+    /// The byte at this place of the frame that is being given.
+    fn byte(&self) -> u8 {
+        let number = self.number.to_be_bytes();
+        let within = self
+            .given
+            .checked_sub(NUMBER)
+            .and_then(|at| number.get(at).copied());
+        within
+            .or_else(|| self.frame.get(self.given).copied())
+            .unwrap_or(0)
+    }
+}
+
+impl Read for EndlessFrames<'_> {
+    ghost remaining = { λ _. None };
+
+    fn read(&mut self, buffer: &mut [u8]) -> io::Result<usize> {
+        let byte = self.byte();
+        let Some(first) = buffer.first_mut() else {
+            return Ok(0);
+        };
+        *first = byte;
+        self.given = self.given.wrapping_add(1);
+        if self.given >= self.frame.len() {
+            self.given = 0;
+            self.number = self.number.wrapping_add(1);
+        }
+        Ok(1)
     }
 }
 

@@ -1,8 +1,8 @@
 //! Inputs that are cut, and devices that fail.
 use super::input::{BOB, BOUNCE, Input, ONE_MESSAGE, TO_ANN};
 use super::outboxes::{EMPTY, ONE_NOTICE};
-use super::{program_limits, run, run_within};
-use crate::fakes::{PieceReader, PieceWriter};
+use super::{program_limits, run};
+use crate::fakes::{EndlessFrames, PieceReader, PieceWriter};
 use crate::{Limits, MemoryRun, Site, batch};
 use dsn_outcome::Plain;
 use std::test::Fail;
@@ -89,15 +89,23 @@ fn input_cut(rt: HostRuntime) -> Result<(), Fail> {
 
 #[test]
 fn flushes_without_end(rt: HostRuntime) -> Result<(), Fail> {
-    let mut input = Input::new(&rt);
-    for _ in 0..9 {
-        input.flush(&rt, BOUNCE, b"K1", &TO_ANN)?;
-    }
+    let mut flush = Input::new(&rt);
+    flush.flush(&rt, BOUNCE, b"K1", &TO_ANN)?;
     let limits = Limits::new(4_096, 1_000, 3).ok_or("the limits")?;
-    let ran = run_within(&rt, limits, &input.bytes)?;
-    let notes = b"0 nothing\n1 closed\n2 closed\nfault 47\n";
-    assert_eq!(rt; ran.notes.as_slice(), notes.as_slice());
-    assert_eq!(rt; ran.status, 1);
+    let site = Site::new(rt.alloc(), b"mx.example.net")?;
+    let mut source = Plain::new(EndlessFrames {
+        frame: &flush.bytes,
+        number: 0,
+        given: 0,
+    });
+    let mut notes = Plain::new(Vec::new(rt.alloc()));
+    let outbox = Plain::new(Vec::new(rt.alloc()));
+    let end = batch(rt.alloc(), &limits, site, &mut source, outbox, &mut notes);
+    let lines = b"0 nothing\n1 closed\n2 closed\nfault 47\n";
+    assert_eq!(rt; notes.into_inner().as_slice(), lines.as_slice());
+    assert_eq!(rt; end.outbox.into_inner().as_slice(), EMPTY.as_slice());
+    assert_eq!(rt; end.fault, Some(47));
+    assert_eq!(rt; end.status, 1);
     Ok(())
 }
 

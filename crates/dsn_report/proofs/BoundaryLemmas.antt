@@ -2,7 +2,8 @@
 use Rattle.std.proofs.Common.{◌≡◌, ℕ, suc, cond, ◌+◌, ◌/◌, ◌%◌, ◌<◌, inl, inr, Bool, true, false, ◌||◌, List, [], ◌∷◌, ◌++◌, length, length-append, append_assoc, take, drop, map, get_or, codes, refl, sym, ap, subst, ◌∙◌, arith, if◌then◌else◌, slice_set}
 use Rattle.std.specs.Prelude.{not, position, ◌==◌, nat_eq, IfSome, IfNone, IsTrue, IsFalse, Option, Some, None}
 use Rattle.std.specs.List.{list_any, position_or_len, starts_with}
-use Rattle.std.proofs.lemmas.Bool.{false_from_ne_true, false≢true}
+use Rattle.std.proofs.lemmas.Bool.{false_from_ne_true, false≢true, not-false, not-true, or_parts}
+use Rattle.std.proofs.Math.Bool.{or-true}
 use Rattle.std.proofs.lemmas.Bool.Decides.{Decides-eqb, eqb_tells, leb_tells}
 use Rattle.std.proofs.Math.Seq.{take-append_seam}
 use Rattle.std.proofs.lemmas.List.{append_cancel_left, get_or-set_same, get_or-set_other}
@@ -110,22 +111,14 @@ not-dashed boundary line other = false_from_ne_true _ (λ is. dashed line other 
         let second : b ≡ 45 = shown-dash b (ap (λ l. get_or l 1 0) e) in
         false≢true (sym other ∙ rw (first, second) refl)
 
-or-parts-false : (a b : Bool) → (a || b) ≡ false → (a ≡ false) × (b ≡ false)
-or-parts-false true b e = absurd (false≢true (sym e))
-or-parts-false false b e = (refl, e)
-
 -- lines that don't begin with two dashes rule out nothing
 pub none-dashed : (boundary : List ℕ) (lines : List (List ℕ)) → list_any is_dashed lines ≡ false → list_any (is_delimiter boundary) (map shown_line lines) ≡ false
 none-dashed boundary [] none = refl
 none-dashed boundary (line ∷ lines) none =
-    let parts = or-parts-false (is_dashed line) (list_any is_dashed lines) none in
+    let parts = or_parts (is_dashed line) (list_any is_dashed lines) none in
     rw (not-dashed boundary line parts.0, none-dashed boundary lines parts.1) refl
 
 -- what the table and the lines that are left tell of a number, once a line is read
-or-true : (a : Bool) → (a || true) ≡ true
-or-true true = refl
-or-true false = refl
-
 pub marked-other : (all marked here rest : Bool) → all ≡ (marked || (here || rest)) → here ≡ false → all ≡ (marked || rest)
 marked-other all marked here rest told none = told ∙ rw none refl
 
@@ -179,15 +172,6 @@ position-None p xs d none k below = elim (leb_tells (suc (position_or_len p xs))
     some≢none : (n : ℕ) → Some n ≡ None → ⊥
     some≢none n e = cc
 
--- a mark that doesn't stand free is set
-pub marked-true : (marked : Bool) → not marked ≡ false → marked ≡ true
-marked-true true e = refl
-marked-true false e = absurd (false≢true (sym e))
-
-pub marked-false : (marked : Bool) → not marked ≡ true → marked ≡ false
-marked-false false e = refl
-marked-false true e = absurd (false≢true e)
-
 -- the whole table tells of each number whether it is ruled out
 pub ruled_out-rules_out : (letter : Letter) (front header : List ℕ) (number : ℕ) → front ≡ boundary_front letter → header ≡ letter.draft.header
     → rules_out front header number ≡ is_ruled_out letter number
@@ -205,10 +189,10 @@ IsBoundaryNumber-first letter front header table number f h size told first =
     record {
       free =
           sym (ruled_out-rules_out letter front header number f h) ∙ sym (told number (omega (arith, found.0, size)))
-          ∙ marked-false (get_or table number false) found.1;
+          ∙ not-true (get_or table number false) found.1;
       least = λ smaller below.
           sym (ruled_out-rules_out letter front header smaller f h) ∙ sym (told smaller (omega (arith, found.0, size, below)))
-          ∙ marked-true (get_or table smaller false) (found.2 smaller below);
+          ∙ not-false (get_or table smaller false) (found.2 smaller below);
     }
 
 -- a table with no free number rules out all of them
@@ -216,7 +200,7 @@ pub all-ruled_out : (letter : Letter) (front header : List ℕ) (table : List Bo
     → length table ≡ 2980 → IsTable front header table → position not table ≡ None → (number : ℕ) → number < 2980 → is_ruled_out letter number ≡ true
 all-ruled_out letter front header table f h size told none number below =
     sym (ruled_out-rules_out letter front header number f h) ∙ sym (told number below)
-    ∙ marked-true (get_or table number false) (position-None not table false none number (omega (arith, size, below)))
+    ∙ not-false (get_or table number false) (position-None not table false none number (omega (arith, size, below)))
 
 -- a header with no line that begins with two dashes rules out no number
 pub none-ruled_out : (letter : Letter) (header : List ℕ) (number : ℕ) → header ≡ letter.draft.header → list_any is_dashed (header_lines header) ≡ false

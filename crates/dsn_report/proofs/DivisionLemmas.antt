@@ -1,8 +1,8 @@
 -- A notice divides into its parts.
-use Rattle.std.proofs.Common.{◌≡◌, ℕ, ◌≤◌, map, Bool, true, false, ◌||◌, List, [], ◌∷◌, ◌++◌, Option, Some, None, length, take, codes, refl, sym, ap, ◌∙◌, arith, append_assoc, append-nil, length-append, nat_eq}
+use Rattle.std.proofs.Common.{◌≡◌, ℕ, ◌≤◌, map, true, false, List, [], ◌∷◌, ◌++◌, Option, Some, None, length, take, codes, refl, sym, ap, ◌∙◌, arith, append_assoc, append-nil, length-append, nat_eq}
 use Rattle.std.specs.List.{list_any, flat_map}
 use Rattle.std.specs.Cmp.Lexicographic.{unequal}
-use Rattle.std.proofs.lemmas.Bool.{true≢false}
+use Rattle.std.proofs.lemmas.Bool.{or_from, or_parts}
 use Rattle.std.proofs.lemmas.Bool.Decides.{Decides-eqb}
 use Rattle.std.proofs.lemmas.List.{length-take}
 use Rattle.std.proofs.lemmas.Slice.Eq.{starts_is}
@@ -26,18 +26,11 @@ use Rattle.dsn_report.proofs.PieceLemmas.{has_line_bytes-legal, map-text_of_piec
 abbrev NoneDelimits : List ℕ → List (List ℕ) → Type 0
 NoneDelimits boundary lines = list_any (is_delimiter boundary) lines ≡ false
 
-or-false : (a b : Bool) → (a || b) ≡ false → (a ≡ false) × (b ≡ false)
-or-false true b e = absurd (true≢false e)
-or-false false b e = (refl, e)
-
-or-both : (a b : Bool) → a ≡ false → b ≡ false → (a || b) ≡ false
-or-both a b p q = rw (p, q) refl
-
 none-append : (boundary : List ℕ) (xs ys : List (List ℕ)) → NoneDelimits boundary xs → NoneDelimits boundary ys → NoneDelimits boundary (xs ++ ys)
 none-append boundary [] ys p q = q
 none-append boundary (x ∷ xs) ys p q =
-    let both = or-false (is_delimiter boundary x) (list_any (is_delimiter boundary) xs) p in
-    or-both (is_delimiter boundary x) (list_any (is_delimiter boundary) (xs ++ ys)) both.0 (none-append boundary xs ys both.1 q)
+    let both = or_parts (is_delimiter boundary x) (list_any (is_delimiter boundary) xs) p in
+    or_from (is_delimiter boundary x) (list_any (is_delimiter boundary) (xs ++ ys)) both.0 (none-append boundary xs ys both.1 q)
 
 none-flat_map : {A : Type 0} (boundary : List ℕ) (f : A → List (List ℕ)) (xs : List A) → ((x : A) → NoneDelimits boundary (f x)) → NoneDelimits boundary (flat_map f xs)
 none-flat_map boundary f [] each = refl
@@ -62,7 +55,7 @@ none-outcome boundary outcome = none-if-any boundary 32 (codes "   ") outcome.re
 none-notification : (boundary host : List ℕ) (letter : Letter) → NoneDelimits boundary (notification host letter)
 unfolding notification
 none-notification boundary host letter =
-    or-both (is_delimiter boundary (opening_of letter.key.service)) (list_any (is_delimiter boundary) (flat_map outcome_lines letter.outcomes))
+    or_from (is_delimiter boundary (opening_of letter.key.service)) (list_any (is_delimiter boundary) (flat_map outcome_lines letter.outcomes))
     (none-opening boundary letter.key.service)
     (none-flat_map boundary outcome_lines letter.outcomes (none-outcome boundary))
 
@@ -122,7 +115,7 @@ divide-front : (boundary : List ℕ) (ls rest : List (List ℕ)) → NoneDelimit
 unfolding divide divide_more
 divide-front boundary [] rest none = refl
 divide-front boundary (line ∷ ls) rest none =
-    let both = or-false (is_delimiter boundary line) (list_any (is_delimiter boundary) ls) none in
+    let both = or_parts (is_delimiter boundary line) (list_any (is_delimiter boundary) ls) none in
     rw (both.0, divide-front boundary ls rest both.1) refl
 
 divide-delimiter : (boundary : List ℕ) (rest : List (List ℕ))

@@ -1,9 +1,10 @@
 -- A notice's second part is a delivery status.
-use Rattle.std.proofs.Common.{◌≡◌, ◌≢◌, ℕ, Bool, true, false, ◌||◌, List, [], ◌∷◌, ◌++◌, Option, Some, None, map, codes, refl, sym, ap, subst, ◌∙◌}
+use Rattle.std.proofs.Common.{◌≡◌, ◌≢◌, ℕ, Bool, true, false, List, [], ◌∷◌, ◌++◌, Option, Some, None, map, codes, refl, sym, ap, subst, ◌∙◌}
 use Rattle.std.specs.Prelude.{IsTrue, IsSomeAnd, option_map, is_some}
 use Rattle.std.proofs.lemmas.List.Elements.{All-map}
 use Rattle.std.proofs.lemmas.List.Folds.{list_all-append, list_any-append}
 use Rattle.std.proofs.lemmas.Bool.{false≢true}
+use Rattle.std.proofs.Math.Bool.{or-true}
 use Rattle.std.specs.List.{AllZip, list_all, list_any, flat_map}
 use Rattle.dsn_outcome.specs.Action.{action_word}
 use Rattle.dsn_outcome.specs.declared.action.Action.{Action}
@@ -283,11 +284,7 @@ none-empty host letter empty = rw empty (here letter.draft.envelope_id)
     here (Some id) = refl
 
 some-empty : (before : List (List ℕ)) (after : List (List ℕ)) → list_any is_empty_line (before ++ ([] ∷ after)) ≡ true
-some-empty before after = list_any-append is_empty_line before ([] ∷ after) ∙ here (list_any is_empty_line before)
-  where
-    here : (empty : Bool) → (empty || true) ≡ true
-    here true = refl
-    here false = refl
+some-empty before after = list_any-append is_empty_line before ([] ∷ after) ∙ or-true (list_any is_empty_line before)
 
 pub empty_log_law : EmptyLogLaw
 empty_log_law host letter message [] empty status = status.some_recipient refl

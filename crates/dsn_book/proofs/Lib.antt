@@ -1,5 +1,6 @@
 pub mod BookLemmas
 pub mod EntryLemmas
+mod Examples
 pub mod HalvingLemmas
 pub mod IndexLemmas
 pub mod KeyOrderLemmas

@@ -1,5 +1,5 @@
 #!/usr/bin/env python3
-"""Measures `noticed batch` on the workloads of bench/workloads.py: items, notices and MB a second, peak memory, reads
+"""Measures `noticed batch` on the workloads of bench/workloads.py: frames, notices and MB a second, peak memory, reads
 and writes (strace -c), user instructions an item (valgrind --tool=callgrind; those of an empty run are taken off),
 beside `cat` of the same input and a plain script (bench/plain.py), whose outbox must be the same.
 
@@ -80,8 +80,8 @@ def measure(workload, room: Path, empty) -> list:
     size, lines = outbox.stat().st_size, notes.read_bytes().count(b"\n")
     letters = outbox.read_bytes().count(b"\r\nMAIL FROM:<>\r\n")
     over = [] if outbox.read_bytes() == plain.read_bytes() else ["the plain script's outbox differs"]
-    print(f"{workload.name}: {workload.items} {workload.item}s, {len(workload.stream)} bytes in, {size} bytes out, {letters} notices, {lines} lines")
-    print(f"  {seconds:.2f} s: {workload.items / seconds:.0f} {workload.item}s, {letters / seconds:.0f} notices, {size / seconds / 1e6:.1f} MB out a second; cat {cat_seconds:.2f} s, plain script {plain_seconds:.2f} s")
+    print(f"{workload.name}: {workload.items} {workload.item}s in {workload.frames} frames of {len(workload.stream)} bytes; {size} bytes out, {letters} notices, {lines} lines")
+    print(f"  {seconds:.2f} s: {workload.frames / seconds:.0f} frames, {letters / seconds:.0f} notices, {size / seconds / 1e6:.1f} MB out a second; cat {cat_seconds:.2f} s, plain script {plain_seconds:.2f} s")
     memory = peak_memory(source)
     print(f"  peak memory {memory} KiB")
     if memory and letters == workload.items and memory * 1024 > KEPT:
@@ -95,8 +95,8 @@ def measure(workload, room: Path, empty) -> list:
     total = instructions(source)
     if total is not None and empty is not None:
         each = (total - empty) // workload.items
-        print(f"  {each} user instructions a {workload.item} (at most {workload.limit})")
-        over += [] if each <= workload.limit else [f"{each} instructions a {workload.item}"]
+        print(f"  {each} user instructions for each {workload.item} (at most {workload.limit})")
+        over += [] if each <= workload.limit else [f"{each} instructions for each {workload.item}"]
     sys.stdout.flush()
     return [f"{workload.name}: {what}" for what in over]
 

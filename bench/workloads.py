@@ -26,6 +26,7 @@ class Workload:
     items: int
     limit: int
     stream: bytes
+    frames: int
 
 
 class Stream:
@@ -97,7 +98,7 @@ def short_messages() -> Workload:
     for number in range(MESSAGES):
         stream.append(long_id(number), b"user%05d@example.org" % number)
         stream.flush(long_id(number), return_path=b"sender%05d@example.com" % number)
-    return Workload("short messages", "message", MESSAGES, 16_500, stream.bytes())
+    return Workload("short messages", "message", MESSAGES, 16_500, stream.bytes(), len(stream.parts))
 
 
 def long_messages() -> Workload:
@@ -107,7 +108,7 @@ def long_messages() -> Workload:
         for at in range(10):
             stream.append(long_id(number), b"user%02d-%05d@example.org" % (at, number), **texts_of(source))
         stream.flush(long_id(number), return_path=b"sender%05d@example.com" % number, envelope=b"envelope-%024d" % number, header=header_of(source, 2048))
-    return Workload("long messages", "message", MESSAGES, 155_000, stream.bytes())
+    return Workload("long messages", "message", MESSAGES, 155_000, stream.bytes(), len(stream.parts))
 
 
 def full_logs() -> Workload:
@@ -117,7 +118,7 @@ def full_logs() -> Workload:
         for at in range(ENTRIES):
             stream.append(long_id(number), b"user%04d@example.org" % at, **texts_of(source))
         stream.flush(long_id(number))
-    return Workload("full logs", "outcome", 4 * ENTRIES, 9_500, stream.bytes())
+    return Workload("full logs", "outcome", 4 * ENTRIES, 9_500, stream.bytes(), len(stream.parts))
 
 
 def full_table() -> Workload:
@@ -146,7 +147,7 @@ def full_table() -> Workload:
             stream.append(long_id(source.choice(full)), b"somebody.else@mail.example.org")
         else:
             stream.broken()
-    return Workload("full table", "frame", FRAMES, 5_000, stream.bytes())
+    return Workload("full table", "frame", FRAMES, 5_000, stream.bytes(), len(stream.parts))
 
 
 def headers(name: str, limit: int, header_for) -> Workload:
@@ -155,7 +156,7 @@ def headers(name: str, limit: int, header_for) -> Workload:
     for number in range(500):
         stream.append(short_id(number), b"somebody.else@mail.example.org")
         stream.flush(short_id(number), moment=0, arrival=0, header=header_for(short_id(number)))
-    return Workload(name, "header", 500, limit, stream.bytes())
+    return Workload(name, "header", 500, limit, stream.bytes(), len(stream.parts))
 
 
 def ruled_out(queue_id: bytes) -> bytes:

@@ -82,7 +82,7 @@ def main():
         checks.equal("a line that is missing", "", line)
     for line in [it for it in there if it not in wanted]:
         checks.equal("a line that says what isn't so", line, "")
-    checks.equal("the whole section", there, wanted)
+    checks.true("the section is as --write would write it", there == wanted)
     checks.done()
 
 

@@ -112,3 +112,6 @@ fn answer_from(kind: u8, value: u32) -> Option<Spoken>
     };
     Some(Spoken::Reply(reply))
 }
+
+#[cfg(test)]
+mod tests;

@@ -141,3 +141,6 @@ fn clean_text(text: Option<&Clean>) -> &[u8]
         None => b"",
     }
 }
+
+#[cfg(test)]
+mod tests;

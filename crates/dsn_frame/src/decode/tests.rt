@@ -1,4 +1,7 @@
 //! Bodies from outside: short ones, whole ones, and ones that are a byte away from a bound.
+mod bounds;
+mod near;
+
 use super::*;
 use dsn_outcome::Parts;
 use std::test::Fail;
@@ -39,7 +42,7 @@ fn head_bytes(rt: &HostRuntime, kind: u8, service: u8, id: &[u8]) -> Result<Vec<
 }
 
 /// The number of the refusal of a body, or 0.
-fn refusal(rt: &HostRuntime, bytes: &[u8]) -> u32 {
+fn refusal(rt: &impl AllocGlobal, bytes: &[u8]) -> u32 {
     match decode_request(rt.alloc(), bytes) {
         Ok(_) => 0,
         Err(fault) => fault.code(),
@@ -86,6 +89,14 @@ fn short_bodies(rt: HostRuntime) -> Result<(), Fail> {
     ] {
         assert_eq!(rt; refusal(&rt, bytes), want, "{bytes:?}");
     }
+    let discard = b"\x01\x03\0\0\0\0\x01\0\x02K1";
+    let (number, body) = decode_request(rt.alloc(), discard).ok().ok_or("a discard")?;
+    assert_eq!(rt; number, 0);
+    let Body::Discard(key) = body else {
+        return Err("no discard")?;
+    };
+    assert_eq!(rt; key.service, Service::Bounce);
+    assert_eq!(rt; key.id.bytes(), b"K1".as_slice());
     Ok(())
 }
 
@@ -142,108 +153,6 @@ fn statuses_refused(rt: HostRuntime) -> Result<(), Fail> {
 }
 
 #[test]
-fn bounds_of_a_recipient(rt: HostRuntime) -> Result<(), Fail> {
-    let long = vec![in rt.alloc(); b'a'; 257]?;
-    for (parts, want) in [
-        (
-            Parts {
-                recipient: &long[..256],
-                ..APPEND
-            },
-            0,
-        ),
-        (
-            Parts {
-                recipient: &long,
-                ..APPEND
-            },
-            1,
-        ),
-        (
-            Parts {
-                original: b"<",
-                ..APPEND
-            },
-            2,
-        ),
-        (
-            Parts {
-                original: b"<",
-                recipient: b"<",
-                ..APPEND
-            },
-            1,
-        ),
-    ] {
-        assert_eq!(rt; append_refusal(&rt, 1, parts)?, want);
-    }
-    Ok(())
-}
-
-#[test]
-fn bounds_of_a_reporting_mta(rt: HostRuntime) -> Result<(), Fail> {
-    let long = vec![in rt.alloc(); b'a'; 256]?;
-    for (parts, want) in [
-        (
-            Parts {
-                mta: b"a b",
-                ..APPEND
-            },
-            6,
-        ),
-        (
-            Parts {
-                mta: &long[..255],
-                ..APPEND
-            },
-            0,
-        ),
-        (
-            Parts {
-                mta: &long,
-                ..APPEND
-            },
-            6,
-        ),
-    ] {
-        assert_eq!(rt; append_refusal(&rt, 1, parts)?, want);
-    }
-    Ok(())
-}
-
-#[test]
-fn bounds_of_texts(rt: HostRuntime) -> Result<(), Fail> {
-    let long = vec![in rt.alloc(); b'a'; 801]?;
-    for (parts, want) in [
-        (
-            Parts {
-                diagnostic: &long[..800],
-                ..APPEND
-            },
-            0,
-        ),
-        (
-            Parts {
-                diagnostic: &long,
-                reason: &long,
-                ..APPEND
-            },
-            7,
-        ),
-        (
-            Parts {
-                reason: &long,
-                ..APPEND
-            },
-            8,
-        ),
-    ] {
-        assert_eq!(rt; append_refusal(&rt, 1, parts)?, want);
-    }
-    Ok(())
-}
-
-#[test]
 fn actions_and_services(rt: HostRuntime) -> Result<(), Fail> {
     for (service, action, status, want) in [
         (1, 2, b"5.0.0".as_slice(), 3),
@@ -262,120 +171,11 @@ fn actions_and_services(rt: HostRuntime) -> Result<(), Fail> {
 }
 
 #[test]
-fn bounds_of_moments(rt: HostRuntime) -> Result<(), Fail> {
-    for (parts, want) in [
-        (FLUSH, 0),
-        (
-            FlushParts {
-                moment: 253_402_300_799,
-                ..FLUSH
-            },
-            0,
-        ),
-        (
-            FlushParts {
-                moment: 253_402_300_800,
-                ..FLUSH
-            },
-            27,
-        ),
-    ] {
-        assert_eq!(rt; flush_refusal(&rt, parts)?, want);
-    }
-    Ok(())
-}
-
-#[test]
-fn bounds_of_a_header(rt: HostRuntime) -> Result<(), Fail> {
-    let long = vec![in rt.alloc(); b'a'; 32_769]?;
-    for (parts, want) in [
-        (
-            FlushParts {
-                arrival: 253_402_300_800,
-                header: &long,
-                ..FLUSH
-            },
-            27,
-        ),
-        (
-            FlushParts {
-                header: &long[..32_768],
-                ..FLUSH
-            },
-            0,
-        ),
-        (
-            FlushParts {
-                header: &long,
-                return_path: b"a b",
-                ..FLUSH
-            },
-            28,
-        ),
-    ] {
-        assert_eq!(rt; flush_refusal(&rt, parts)?, want);
-    }
-    Ok(())
-}
-
-#[test]
-fn bounds_of_an_envelope_id(rt: HostRuntime) -> Result<(), Fail> {
-    let long = vec![in rt.alloc(); b'a'; 101]?;
-    for (parts, want) in [
-        (
-            FlushParts {
-                return_path: b"a b",
-                envelope_id: &long,
-                ..FLUSH
-            },
-            29,
-        ),
-        (
-            FlushParts {
-                envelope_id: &long[..100],
-                ..FLUSH
-            },
-            0,
-        ),
-        (
-            FlushParts {
-                envelope_id: &long,
-                ..FLUSH
-            },
-            30,
-        ),
-        (
-            FlushParts {
-                envelope_id: b"a\tb",
-                ..FLUSH
-            },
-            30,
-        ),
-    ] {
-        assert_eq!(rt; flush_refusal(&rt, parts)?, want);
-    }
-    Ok(())
-}
-
-#[test]
 fn a_null_return_path_is_accepted(rt: HostRuntime) -> Result<(), Fail> {
     let parts = FlushParts {
         return_path: b"",
         ..FLUSH
     };
     assert_eq!(rt; flush_refusal(&rt, parts)?, 0);
-    Ok(())
-}
-
-#[test]
-fn bounds_of_a_queue_id(rt: HostRuntime) -> Result<(), Fail> {
-    for (id, want) in [
-        (b"".as_slice(), 26),
-        (b"012345678901234567890123456789aB".as_slice(), 0),
-        (b"012345678901234567890123456789aBc".as_slice(), 26),
-    ] {
-        let body = head_bytes(&rt, 3, 3, id)?;
-        assert_eq!(rt; refusal(&rt, &body), want, "{id:?}");
-    }
     Ok(())
 }

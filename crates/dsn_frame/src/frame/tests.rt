@@ -97,3 +97,26 @@ fn a_reader_that_fails(rt: HostRuntime) {
     );
     assert_eq!(rt; fault(&rt, b"\0\0\0\0", 4), 12, "a length alone decides");
 }
+
+/// How many reads it took to read the first frame by so many bytes a call.
+fn reads_of(rt: &HostRuntime, input: &[u8], most: usize) -> Result<usize, Fail> {
+    let mut source = source(input, most, 100_000);
+    let frame = read_frame(rt.alloc(), &mut source).ok().ok_or("no fault")?;
+    let frame = frame.ok_or("a frame")?;
+    if frame.body() != input.get(4..).ok_or("a length")? {
+        return Err("another body")?;
+    }
+    Ok(100_000usize.saturating_sub(source.into_inner().good))
+}
+
+#[test]
+fn a_reader_of_one_byte_a_call(rt: HostRuntime) -> Result<(), Fail> {
+    let mut input = vec![in rt.alloc(); 0, 1, 0, 0]?;
+    for at in 0..LONGEST_BODY {
+        input.push((at % 251) as u8)?;
+    }
+    assert_eq!(rt; reads_of(&rt, &input, 1)?, 65_540);
+    assert_eq!(rt; reads_of(&rt, &input, 65_536)?, 2);
+    assert_eq!(rt; reads_of(&rt, b"\0\0\0\x01a", 1)?, 5);
+    Ok(())
+}

@@ -1,0 +1,213 @@
+//! Bodies whose fields are as long as they may be, and one byte longer.
+use super::*;
+
+#[test]
+fn recipient(rt: HostRuntime) -> Result<(), Fail> {
+    let long = vec![in rt.alloc(); b'a'; 257]?;
+    for (parts, want) in [
+        (
+            Parts {
+                recipient: &long[..256],
+                ..APPEND
+            },
+            0,
+        ),
+        (
+            Parts {
+                recipient: &long,
+                ..APPEND
+            },
+            1,
+        ),
+        (
+            Parts {
+                original: b"<",
+                ..APPEND
+            },
+            2,
+        ),
+        (
+            Parts {
+                original: b"<",
+                recipient: b"<",
+                ..APPEND
+            },
+            1,
+        ),
+    ] {
+        assert_eq!(rt; append_refusal(&rt, 1, parts)?, want);
+    }
+    Ok(())
+}
+
+#[test]
+fn reporting_mta(rt: HostRuntime) -> Result<(), Fail> {
+    let long = vec![in rt.alloc(); b'a'; 256]?;
+    for (parts, want) in [
+        (
+            Parts {
+                mta: b"a b",
+                ..APPEND
+            },
+            6,
+        ),
+        (
+            Parts {
+                mta: &long[..255],
+                ..APPEND
+            },
+            0,
+        ),
+        (
+            Parts {
+                mta: &long,
+                ..APPEND
+            },
+            6,
+        ),
+    ] {
+        assert_eq!(rt; append_refusal(&rt, 1, parts)?, want);
+    }
+    Ok(())
+}
+
+#[test]
+fn texts(rt: HostRuntime) -> Result<(), Fail> {
+    let long = vec![in rt.alloc(); b'a'; 801]?;
+    for (parts, want) in [
+        (
+            Parts {
+                diagnostic: &long[..800],
+                ..APPEND
+            },
+            0,
+        ),
+        (
+            Parts {
+                diagnostic: &long,
+                reason: &long,
+                ..APPEND
+            },
+            7,
+        ),
+        (
+            Parts {
+                reason: &long,
+                ..APPEND
+            },
+            8,
+        ),
+    ] {
+        assert_eq!(rt; append_refusal(&rt, 1, parts)?, want);
+    }
+    Ok(())
+}
+
+#[test]
+fn moments(rt: HostRuntime) -> Result<(), Fail> {
+    for (parts, want) in [
+        (FLUSH, 0),
+        (
+            FlushParts {
+                moment: 253_402_300_799,
+                ..FLUSH
+            },
+            0,
+        ),
+        (
+            FlushParts {
+                moment: 253_402_300_800,
+                ..FLUSH
+            },
+            27,
+        ),
+    ] {
+        assert_eq!(rt; flush_refusal(&rt, parts)?, want);
+    }
+    Ok(())
+}
+
+#[test]
+fn header(rt: HostRuntime) -> Result<(), Fail> {
+    let long = vec![in rt.alloc(); b'a'; 32_769]?;
+    for (parts, want) in [
+        (
+            FlushParts {
+                arrival: 253_402_300_800,
+                header: &long,
+                ..FLUSH
+            },
+            27,
+        ),
+        (
+            FlushParts {
+                header: &long[..32_768],
+                ..FLUSH
+            },
+            0,
+        ),
+        (
+            FlushParts {
+                header: &long,
+                return_path: b"a b",
+                ..FLUSH
+            },
+            28,
+        ),
+    ] {
+        assert_eq!(rt; flush_refusal(&rt, parts)?, want);
+    }
+    Ok(())
+}
+
+#[test]
+fn envelope_id(rt: HostRuntime) -> Result<(), Fail> {
+    let long = vec![in rt.alloc(); b'a'; 101]?;
+    for (parts, want) in [
+        (
+            FlushParts {
+                return_path: b"a b",
+                envelope_id: &long,
+                ..FLUSH
+            },
+            29,
+        ),
+        (
+            FlushParts {
+                envelope_id: &long[..100],
+                ..FLUSH
+            },
+            0,
+        ),
+        (
+            FlushParts {
+                envelope_id: &long,
+                ..FLUSH
+            },
+            30,
+        ),
+        (
+            FlushParts {
+                envelope_id: b"a\tb",
+                ..FLUSH
+            },
+            30,
+        ),
+    ] {
+        assert_eq!(rt; flush_refusal(&rt, parts)?, want);
+    }
+    Ok(())
+}
+
+#[test]
+fn queue_id(rt: HostRuntime) -> Result<(), Fail> {
+    for (id, want) in [
+        (b"".as_slice(), 26),
+        (b"012345678901234567890123456789aB".as_slice(), 0),
+        (b"012345678901234567890123456789aBc".as_slice(), 26),
+    ] {
+        let body = head_bytes(&rt, 3, 3, id)?;
+        assert_eq!(rt; refusal(&rt, &body), want, "{id:?}");
+    }
+    Ok(())
+}

@@ -1,5 +1,6 @@
 pub mod CellLemmas
 pub mod Checks
+pub mod CloseRule
 mod Dates
 mod Examples
 pub mod FailureLemmas

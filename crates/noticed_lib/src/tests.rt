@@ -1,7 +1,6 @@
 //! Whole runs over memory: what an input puts into the outbox and the notes.
 mod devices;
 mod input;
-mod long_logs;
 mod notices;
 mod outboxes;
 mod sessions;

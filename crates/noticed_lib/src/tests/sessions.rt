@@ -152,6 +152,17 @@ fn open_logs_in_order(rt: HostRuntime) -> Result<(), Fail> {
 }
 
 #[test]
+fn keys_in_order(rt: HostRuntime) -> Result<(), Fail> {
+    let mut input = Input::new(&rt);
+    input.append(&rt, BOUNCE, b"K2", &FAILED)?;
+    input.append(&rt, BOUNCE, b"K10", &FAILED)?;
+    input.append(&rt, BOUNCE, b"K1", &FAILED)?;
+    let notes = b"0 logged 0\n1 logged 0\n2 logged 0\nopen B K1 1\nopen B K10 1\nopen B K2 1\n";
+    expect_notes(&rt, &run(&rt, &input.bytes)?, notes, 0);
+    Ok(())
+}
+
+#[test]
 fn number_out_of_turn(rt: HostRuntime) -> Result<(), Fail> {
     let mut input = Input::new(&rt);
     input.next = 5;

@@ -15,11 +15,8 @@ use Rattle.dsn_outcome.specs.Text.{is_printable}
 use Rattle.dsn_report.specs.Boundary.{IsBoundaryNumber, boundary_front, boundary_text, four_digits, header_lines, is_dashed, is_delimiter, is_ruled_out, returned_lines, rules_out, shown_byte, shown_line}
 
 -- a text that begins with another
-pub begins-with : (front text : List ℕ) → starts_with nat_eq text front ≡ true → text ≡ front ++ drop (length front) text
+begins-with : (front text : List ℕ) → starts_with nat_eq text front ≡ true → text ≡ front ++ drop (length front) text
 begins-with front text is = (starts_is Decides-eqb text front true (sym is)).0 refl
-
-pub starts-with : (front text rest : List ℕ) → text ≡ front ++ rest → starts_with nat_eq text front ≡ true
-starts-with front text rest e = (starts_is Decides-eqb text front (starts_with nat_eq text front) refl).1 rest e
 
 -- the same beginning of both decides nothing
 starts_with-append : (front text needle : List ℕ) → starts_with nat_eq (front ++ text) (front ++ needle) ≡ starts_with nat_eq text needle
@@ -100,7 +97,7 @@ shown-dash byte shown = here (is_printable byte || (byte == 9)) shown
     here false e = absurd (omega (arith, e))
 
 -- a line that doesn't begin with two dashes is no delimiter as it is shown
-pub not-dashed : (boundary line : List ℕ) → is_dashed line ≡ false → is_delimiter boundary (shown_line line) ≡ false
+not-dashed : (boundary line : List ℕ) → is_dashed line ≡ false → is_delimiter boundary (shown_line line) ≡ false
 not-dashed boundary line other = false_from_ne_true _ (λ is. dashed line other (delimiter-begins boundary (shown_line line) is))
   where
     dashed : (line : List ℕ) → is_dashed line ≡ false → shown_line line ≡ (codes "--" ++ boundary) ++ drop (length (codes "--" ++ boundary)) (shown_line line) → ⊥
@@ -112,21 +109,21 @@ not-dashed boundary line other = false_from_ne_true _ (λ is. dashed line other 
         false≢true (sym other ∙ rw (first, second) refl)
 
 -- lines that don't begin with two dashes rule out nothing
-pub none-dashed : (boundary : List ℕ) (lines : List (List ℕ)) → list_any is_dashed lines ≡ false → list_any (is_delimiter boundary) (map shown_line lines) ≡ false
+none-dashed : (boundary : List ℕ) (lines : List (List ℕ)) → list_any is_dashed lines ≡ false → list_any (is_delimiter boundary) (map shown_line lines) ≡ false
 none-dashed boundary [] none = refl
 none-dashed boundary (line ∷ lines) none =
     let parts = or_parts (is_dashed line) (list_any is_dashed lines) none in
     rw (not-dashed boundary line parts.0, none-dashed boundary lines parts.1) refl
 
 -- what the table and the lines that are left tell of a number, once a line is read
-pub marked-other : (all marked here rest : Bool) → all ≡ (marked || (here || rest)) → here ≡ false → all ≡ (marked || rest)
+marked-other : (all marked here rest : Bool) → all ≡ (marked || (here || rest)) → here ≡ false → all ≡ (marked || rest)
 marked-other all marked here rest told none = told ∙ rw none refl
 
-pub marked-here : (all marked here rest : Bool) → all ≡ (marked || (here || rest)) → here ≡ true → all ≡ true
+marked-here : (all marked here rest : Bool) → all ≡ (marked || (here || rest)) → here ≡ true → all ≡ true
 marked-here all marked here rest told some = told ∙ rw some (or-true marked)
 
 -- the table with one more number
-pub marked-more : (all here rest : Bool) (table : List Bool) (found number : ℕ) → found < length table → (here ≡ true → found ≡ number) → (found ≡ number → here ≡ true)
+marked-more : (all here rest : Bool) (table : List Bool) (found number : ℕ) → found < length table → (here ≡ true → found ≡ number) → (found ≡ number → here ≡ true)
     → all ≡ (get_or table number false || (here || rest)) → all ≡ (get_or (slice_set table found true) number false || rest)
 marked-more all here rest table found number room once back told = elim (eqb_tells number found) [
   | inl same ↦
@@ -163,7 +160,7 @@ IsMarked-some front header line table left rest found e size low is so_far = λ 
     (so_far number below ∙ ap (λ left. get_or table number false || list_any (is_delimiter (front ++ four_digits number)) (map shown_line left)) e)
 
 -- where no element passes, each fails
-pub position-None : {X : Type 0} (p : X → Bool) (xs : List X) (d : X) → position p xs ≡ None → (k : ℕ) → k < length xs → p (get_or xs k d) ≡ false
+position-None : {X : Type 0} (p : X → Bool) (xs : List X) (d : X) → position p xs ≡ None → (k : ℕ) → k < length xs → p (get_or xs k d) ≡ false
 position-None p xs d none k below = elim (leb_tells (suc (position_or_len p xs)) (length xs)) [
   | inl some ↦ absurd (some≢none (position_or_len p xs) (sym (ap (λ test. cond test (Some (position_or_len p xs)) None) some.0) ∙ none))
   | inr none ↦ fails_before_first p xs k d (omega (arith, none.1, below))
@@ -173,7 +170,7 @@ position-None p xs d none k below = elim (leb_tells (suc (position_or_len p xs))
     some≢none n e = cc
 
 -- the whole table tells of each number whether it is ruled out
-pub ruled_out-rules_out : (letter : Letter) (front header : List ℕ) (number : ℕ) → front ≡ boundary_front letter → header ≡ letter.draft.header
+ruled_out-rules_out : (letter : Letter) (front header : List ℕ) (number : ℕ) → front ≡ boundary_front letter → header ≡ letter.draft.header
     → rules_out front header number ≡ is_ruled_out letter number
 unfolding is_ruled_out boundary_text
 ruled_out-rules_out letter front header number f h = rw (f, h) refl
@@ -203,7 +200,7 @@ all-ruled_out letter front header table f h size told none number below =
     ∙ not-false (get_or table number false) (position-None not table false none number (omega (arith, size, below)))
 
 -- a header with no line that begins with two dashes rules out no number
-pub none-ruled_out : (letter : Letter) (header : List ℕ) (number : ℕ) → header ≡ letter.draft.header → list_any is_dashed (header_lines header) ≡ false
+none-ruled_out : (letter : Letter) (header : List ℕ) (number : ℕ) → header ≡ letter.draft.header → list_any is_dashed (header_lines header) ≡ false
     → is_ruled_out letter number ≡ false
 unfolding is_ruled_out returned_lines
 none-ruled_out letter header number h none =

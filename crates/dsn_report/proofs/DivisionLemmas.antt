@@ -182,4 +182,4 @@ unfolding multipart_of notice_of text_of_pieces
 division_law host letter formed =
     ap (λ pieces. multipart_of_pieces (divide (boundary_of letter) (body_of pieces))) (pieces-lines (notice_lines host letter) (has_line_bytes-legal (notice_lines host letter) (notice_lines-legal host letter formed)))
     ∙ ap multipart_of_pieces (notice-divides host letter formed.header_short ([] ∷ []))
-    ∙ ap (λ parts. record { preamble = []; parts = parts; epilogue = Some [] }) (map-text_of_pieces (notice_parts host letter))
+    ∙ ap (λ parts. record { preamble = None; parts = parts; epilogue = Some [] }) (map-text_of_pieces (notice_parts host letter))

@@ -22,13 +22,13 @@ no_end = refl
 two_parts :
     multipart_of (codes "B") (codes "--B: y" ++ crlf ++ crlf ++ codes "pre" ++ crlf ++ codes "--B" ++ crlf ++ codes "T: x" ++ crlf ++ crlf ++ codes "one" ++ crlf ++ crlf
     ++ codes "--B more" ++ crlf ++ codes "two" ++ crlf ++ codes "--B--" ++ crlf ++ codes "post" ++ crlf) ≡
-    record { preamble = codes "pre"; parts = (codes "T: x" ++ crlf ++ crlf ++ codes "one" ++ crlf) ∷ codes "two" ∷ []; epilogue = Some (codes "post" ++ crlf) }
+    record { preamble = Some (codes "pre"); parts = (codes "T: x" ++ crlf ++ crlf ++ codes "one" ++ crlf) ∷ codes "two" ∷ []; epilogue = Some (codes "post" ++ crlf) }
 unfolding multipart_of divide divide_more body_of pieces_of_text pieces_more text_of_pieces
 two_parts = refl
 
 -- a message that was cut short has no last delimiter
 cut_short :
-    multipart_of (codes "B") (crlf ++ codes "--B" ++ crlf ++ codes "one" ++ crlf ++ codes "--B") ≡ record { preamble = []; parts = codes "one" ∷ [] ∷ []; epilogue = None }
+    multipart_of (codes "B") (crlf ++ codes "--B" ++ crlf ++ codes "one" ++ crlf ++ codes "--B") ≡ record { preamble = None; parts = codes "one" ∷ [] ∷ []; epilogue = None }
 unfolding multipart_of divide divide_more body_of pieces_of_text pieces_more text_of_pieces
 cut_short = refl
 

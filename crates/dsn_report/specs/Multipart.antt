@@ -32,16 +32,20 @@ unfoldable pub divide : List ℕ → List (List ℕ) → Division
 divide boundary [] = record { before = []; parts = []; after = None }
 divide boundary (line ∷ rest) = divide_more boundary line rest (divide boundary rest)
 
--- the texts of a multipart message's parts, of what stands before them, and of what stands after them, if there is a
--- last delimiter. The CRLF before a delimiter belongs to it
+-- the texts of a multipart message's parts, of what stands before them, if the first delimiter isn't the first line,
+-- and of what stands after them, if there is a last delimiter. The CRLF before a delimiter belongs to it
 pub record Multipart : Type 0 where
-  pub preamble : List ℕ
+  pub preamble : Option (List ℕ)
   pub parts : List (List ℕ)
   pub epilogue : Option (List ℕ)
 
+abbrev pub text_if_any : List (List ℕ) → Option (List ℕ)
+text_if_any [] = None
+text_if_any (piece ∷ rest) = Some (text_of_pieces (piece ∷ rest))
+
 abbrev pub multipart_of_pieces : Division → Multipart
 multipart_of_pieces division = record {
-  preamble = text_of_pieces division.before;
+  preamble = text_if_any division.before;
   parts = map text_of_pieces division.parts;
   epilogue = option_map text_of_pieces division.after;
 }
@@ -80,4 +84,4 @@ notice_parts host letter =
 -- and nothing after them
 abbrev pub DividesIntoParts : List ℕ → Letter → Type 0
 DividesIntoParts host letter =
-    multipart_of (boundary_of letter) (notice_of host letter) ≡ record { preamble = []; parts = map text_of_lines (notice_parts host letter); epilogue = Some [] }
+    multipart_of (boundary_of letter) (notice_of host letter) ≡ record { preamble = None; parts = map text_of_lines (notice_parts host letter); epilogue = Some [] }

@@ -17,7 +17,7 @@ use dsn_outcome::Letter;
 pub fn dots_law(site: &Site, letter: &Letter)
     ensures { ReceivesNotice site.now letter.now }
 {
-    kept_by_types(site, letter);
+    well_formed_law(site, letter);
 }
 
 /// Who divides a notice at its boundary gets its parts, with nothing before and nothing after
@@ -25,14 +25,14 @@ pub fn dots_law(site: &Site, letter: &Letter)
 pub fn division_law(site: &Site, letter: &Letter)
     ensures { DividesIntoParts site.now letter.now }
 {
-    kept_by_types(site, letter);
+    well_formed_law(site, letter);
 }
 
 /// The second part of a notice is a delivery status, with one group for each outcome.
 pub fn grammar_law(site: &Site, letter: &Letter)
     ensures { ReportsOutcomes site.now letter.now }
 {
-    kept_by_types(site, letter);
+    well_formed_law(site, letter);
 }
 
 /// A report of no outcome would be no delivery status: the grammar asks for a recipient's group.
@@ -44,11 +44,11 @@ pub fn empty_log_law()
 pub fn lines_law(site: &Site, letter: &Letter)
     ensures { HasLegalLines (notice_of site.now letter.now) }
 {
-    kept_by_types(site, letter);
+    well_formed_law(site, letter);
 }
 
-/// What the types of a site and of a letter keep.
-fn kept_by_types(site: &Site, letter: &Letter)
+/// Every site and every letter is well formed: each text is legal, and each moment has a date.
+pub fn well_formed_law(site: &Site, letter: &Letter)
     ensures { IsWellFormed site.now letter.now }
 {
     site.bytes();

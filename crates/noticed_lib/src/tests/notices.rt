@@ -126,6 +126,67 @@ fn joined(rt: &HostRuntime, pieces: &[&[u8]]) -> Result<Vec<u8>, Fail> {
     Ok(text)
 }
 
+/// The texts of one of many outcomes, which all differ.
+#[derive(Drop)]
+struct Texts {
+    recipient: Vec<u8>,
+    original: Vec<u8>,
+    mta: Vec<u8>,
+    diagnostic: Vec<u8>,
+    reason: Vec<u8>,
+}
+
+/// The texts of the outcome with this number.
+fn numbered_texts(rt: &HostRuntime, number: u16) -> Result<Texts, Fail> {
+    let digits = [
+        b'0' + (number / 100 % 10) as u8,
+        b'0' + (number / 10 % 10) as u8,
+        b'0' + (number % 10) as u8,
+    ];
+    Ok(Texts {
+        recipient: joined(rt, &[b"r", &digits, b"@example.org"])?,
+        original: joined(rt, &[b"o", &digits, b"@example.org"])?,
+        mta: joined(rt, &[b"mail", &digits, b".example.org"])?,
+        diagnostic: joined(rt, &[b"550 no user r", &digits])?,
+        reason: joined(rt, &[b"there is no r", &digits])?,
+    })
+}
+
+/// What a notice says of an outcome with these texts in its first part.
+fn told_to_people(rt: &HostRuntime, texts: &Texts) -> Result<Vec<u8>, Fail> {
+    let Texts {
+        recipient,
+        reason,
+        ..
+    } = texts;
+    joined(
+        rt,
+        &[
+            b"<",
+            recipient,
+            b">: failed (5.1.1)\r\n    ",
+            reason,
+            b"\r\n",
+        ],
+    )
+}
+
+/// What a notice says of an outcome with these texts in its second part.
+fn told_to_programs(rt: &HostRuntime, texts: &Texts) -> Result<Vec<u8>, Fail> {
+    let pieces: [&[u8]; 9] = [
+        b"\r\nOriginal-Recipient: rfc822; ",
+        &texts.original,
+        b"\r\nFinal-Recipient: rfc822; ",
+        &texts.recipient,
+        b"\r\nAction: failed\r\nStatus: 5.1.1\r\nRemote-MTA: dns; ",
+        &texts.mta,
+        b"\r\nDiagnostic-Code: smtp; ",
+        &texts.diagnostic,
+        b"\r\n",
+    ];
+    joined(rt, &pieces)
+}
+
 /// A whole log, each outcome with all texts: the notice tells all of them, oldest first.
 #[test]
 fn thousand_outcomes(rt: HostRuntime) -> Result<(), Fail> {
@@ -133,61 +194,27 @@ fn thousand_outcomes(rt: HostRuntime) -> Result<(), Fail> {
     let mut outbox = joined(&rt, &[BEFORE_LINES])?;
     let mut groups = joined(&rt, &[BEFORE_GROUPS])?;
     for number in 0..1_000u16 {
-        let digits = [
-            b'0' + (number / 100 % 10) as u8,
-            b'0' + (number / 10 % 10) as u8,
-            b'0' + (number % 10) as u8,
-        ];
-        let recipient = joined(&rt, &[b"r", &digits, b"@example.org"])?;
-        let original = joined(&rt, &[b"o", &digits, b"@example.org"])?;
-        let mta = joined(&rt, &[b"mail", &digits, b".example.org"])?;
-        let diagnostic = joined(&rt, &[b"550 no user r", &digits])?;
-        let reason = joined(&rt, &[b"there is no r", &digits])?;
+        let texts = numbered_texts(&rt, number)?;
         let parts = Parts {
-            recipient: &recipient,
-            original: &original,
+            recipient: &texts.recipient,
+            original: &texts.original,
             action: 1,
             status: b"5.1.1",
-            mta: &mta,
-            diagnostic: &diagnostic,
-            reason: &reason,
+            mta: &texts.mta,
+            diagnostic: &texts.diagnostic,
+            reason: &texts.reason,
         };
         input.append(&rt, BOUNCE, b"A1B2C3", &parts)?;
-        outbox.extend_from_slice(&joined(
-            &rt,
-            &[
-                b"<",
-                &recipient,
-                b">: failed (5.1.1)\r\n    ",
-                &reason,
-                b"\r\n",
-            ],
-        )?)?;
-        groups.extend_from_slice(&joined(
-            &rt,
-            &[
-                b"\r\nOriginal-Recipient: rfc822; ",
-                &original,
-                b"\r\nFinal-Recipient: rfc822; ",
-                &recipient,
-                b"\r\nAction: failed\r\nStatus: 5.1.1\r\nRemote-MTA: dns; ",
-                &mta,
-                b"\r\nDiagnostic-Code: smtp; ",
-                &diagnostic,
-                b"\r\n",
-            ],
-        )?)?;
+        outbox.extend_from_slice(&told_to_people(&rt, &texts)?)?;
+        groups.extend_from_slice(&told_to_programs(&rt, &texts)?)?;
     }
     input.flush(&rt, BOUNCE, b"A1B2C3", &TO_ANN)?;
     outbox.extend_from_slice(&groups)?;
     outbox.extend_from_slice(AFTER_GROUPS)?;
     let ran = run(&rt, &input.bytes)?;
     assert_eq!(rt; ran.outbox.as_slice(), outbox.as_slice());
-    assert!(rt;
-        ran.notes
-            .as_slice()
-            .ends_with(b"999 logged 999\n1000 sealed 1000\n")
-    );
+    let last = b"999 logged 999\n1000 sealed 1000\n";
+    assert!(rt; ran.notes.as_slice().ends_with(last));
     assert_eq!(rt; ran.status, 0);
     Ok(())
 }

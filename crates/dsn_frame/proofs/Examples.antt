@@ -8,7 +8,7 @@ use Rattle.dsn_outcome.specs.declared.action.Action.TheVariants.{Failed}
 use Rattle.dsn_outcome.specs.declared.service.Service.TheVariants.{Bounce}
 use Rattle.dsn_frame.specs.BodyFault.{body_fault_code}
 use Rattle.dsn_frame.specs.Frame.{frame, AreFramesOf}
-use Rattle.dsn_frame.specs.Request.{first_body_fault, first_own_fault, StandsFor, Encodes}
+use Rattle.dsn_frame.specs.Request.{first_body_fault, first_own_fault, StandsFor, Encodes, fields_written, request_body}
 use Rattle.dsn_frame.specs.Wire.{AppendFields, FlushFieldsOf, number_at, number_bytes, text_at, text_bytes, head_at, head_bytes, append_at, append_bytes, flush_at, flush_bytes, own_at, body_at, body_bytes, own_bytes, FitsOwn}
 use Rattle.dsn_frame.specs.declared.frame_fault.FrameFault.TheVariants.{TooLong, Empty, CutShort}
 
@@ -121,6 +121,15 @@ flush_is_encoded = record {
   accepted = refl;
   stands_for = (record { service_is = refl; id_is = refl }, refl);
 }
+
+-- and what they ask is written as these bodies
+append_is_written : request_body 0 append_asked ≡ append_body
+unfolding request_body fields_written body_bytes own_bytes head_bytes append_bytes text_bytes number_bytes
+append_is_written = refl
+
+flush_is_written : request_body 1 flush_asked ≡ flush_body
+unfolding request_body fields_written body_bytes own_bytes head_bytes flush_bytes text_bytes number_bytes
+flush_is_written = refl
 
 -- the input of this agent is these two frames; where its last byte is missing, one frame, and a fault
 agent_input : List ℕ

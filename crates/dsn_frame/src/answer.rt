@@ -15,7 +15,7 @@ const BODY: usize = 10;
 /// The byte of a refusal.
 const REFUSED: u8 = 10;
 
-/// The frame of an answer to the frame at this place.
+/// The frame of an answer to the frame at this place: a length of 10, and the ten bytes of its body.
 #[tactic(auto, unfolding(crate::specs::Spoken::answer_bytes, crate::specs::Spoken::answer_body))]
 pub fn encode_answer(number: u32, answer: &Spoken) -> [u8; 14]
     ensures { result ≡ answer_bytes number answer.now }

@@ -1,4 +1,4 @@
-//! The wire format of requests: frames, and the bodies that they carry.
+//! The wire format of requests and answers: frames, and the bodies that they carry.
 #![tactic(auto)]
 
 mod answer;

@@ -1,6 +1,6 @@
 //! Fields, written one after another at the end of a text that has room for them.
-ghost use Rattle.std.specs.Prelude.{◌≡◌, ◌+◌, ◌<◌, ◌≤◌, ◌^◌, ◌∷◌, ◌++◌, [], length, vec_capacity};
-ghost use Rattle.std.specs.Int.{w16, w32, w64};
+ghost use Rattle.std.specs.Prelude.{◌≡◌, ◌+◌, ◌<◌, ◌≤◌, ◌^◌, ◌++◌, length, vec_capacity};
+ghost use Rattle.std.specs.Int.{w64};
 ghost use Rattle.dsn_outcome.specs.Parts.{fields_of};
 ghost use Rattle.dsn_frame.specs.BodyParts.{head_in, flush_fields_in, wire_body_in};
 ghost use Rattle.dsn_frame.specs.Frame.{frame};

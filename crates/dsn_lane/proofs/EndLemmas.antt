@@ -178,3 +178,21 @@ pub new_out : {T : Type 0} (lane : Identity T) (first past : ℕ) (token : Token
 new_out {T} lane first past token is =
     let none : List T = [] in
     ap (λ (it : Token T). out lane (length (taking it).back) (taking it).made (taking it).taken) is ∙ ap (λ (n : ℕ). out lane n past none) (length-fresh T 0 first)
+
+-- ---- the last of some ends
+
+pub snoc_injective : {A : Type 0} (xs ys : List A) (x y : A) → xs ++ x ∷ [] ≡ ys ++ y ∷ [] → (xs ≡ ys) × (x ≡ y)
+snoc_injective [] [] x y e = (refl, cc)
+snoc_injective [] (b ∷ []) x y e = absurd cc
+snoc_injective [] (b ∷ c ∷ ys) x y e = absurd cc
+snoc_injective (a ∷ []) [] x y e = absurd cc
+snoc_injective (a ∷ b ∷ xs) [] x y e = absurd cc
+snoc_injective (a ∷ xs) (b ∷ ys) x y e =
+    let rest : xs ++ x ∷ [] ≡ ys ++ y ∷ [] = cc in
+    let head : a ≡ b = cc in
+    let both = snoc_injective xs ys x y rest in ((λ i. head i ∷ both.0 i), both.1)
+
+-- without the last of the ends of a new lane, those of one agent less are left
+pub last_end : {T : Type 0} (lane : Identity T) (first more : ℕ) (all rest : List (End T)) (last : End T) → all ≡ fresh_ends lane first (more + 1) → all ≡ rest ++ last ∷ [] → (rest ≡ fresh_ends lane first more) × (last ≡ record { lane = lane; agent = first + more; sent = [] })
+last_end {T} lane first more all rest last fresh split =
+    snoc_injective rest (fresh_ends lane first more) last (record { lane = lane; agent = first + more; sent = let none : List T = [] in none }) (sym split ∙ (fresh ∙ ends_more lane first more))

@@ -4,3 +4,4 @@ pub mod EndLemmas
 mod Examples
 pub mod RuleLemmas
 pub mod SumLemmas
+pub mod TestLemmas

@@ -57,7 +57,7 @@ impl<T: Carried> LaneOut<T> {
         }
     }
 
-    /// Gives the receiving end up: from then on no send is accepted for good.
+    /// Gives the receiving end up, so that no agent waits for it.
     pub fn leave(self) -> LaneLeft<T>
         ensures { result.out.value ≡ self }
     {

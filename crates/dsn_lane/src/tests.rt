@@ -1,0 +1,7 @@
+//! Lanes by one thread and by many, what comes when an end is gone, and what a lane carries.
+mod ends_gone;
+mod hands;
+mod item;
+mod one_thread;
+mod requests;
+mod threads;

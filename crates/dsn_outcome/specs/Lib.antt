@@ -2,6 +2,7 @@ pub mod Action
 pub mod Agents
 pub mod Body
 pub mod Cell
+pub mod CloseRule
 pub mod Draft
 pub mod Failures
 pub mod History

@@ -18,6 +18,7 @@ mod envelope_id;
 #[cfg(test)]
 mod fakes;
 mod key;
+mod laws;
 mod letter;
 mod letters;
 mod links;
@@ -54,6 +55,7 @@ pub use draft::Draft;
 pub use drain::Drain;
 pub use envelope_id::{EnvelopeId, LONGEST_ENVELOPE_ID};
 pub use key::Key;
+pub use laws::closed_logs_stay_closed;
 pub use letter::Letter;
 pub use letters::Letters;
 pub use links::Outcomes;

@@ -1,5 +1,5 @@
 -- Runs over memory: what the bytes of an input put into an outbox and notes that are both empty before.
-use Rattle.std.specs.Prelude.{◌≡◌, ℕ, Bool, true, false, List, [], ◌++◌, Option, Some, if◌then◌else◌}
+use Rattle.std.specs.Prelude.{◌≡◌, ◌≢◌, ℕ, Bool, true, false, List, [], ◌++◌, Option, Some, if◌then◌else◌}
 use Rattle.dsn_book.specs.declared.line.OpenLine.{OpenLine}
 use Rattle.dsn_frame.specs.Session.{Input, IsSession}
 use Rattle.dsn_frame.specs.declared.spoken.Spoken.{Spoken}
@@ -23,7 +23,7 @@ pub record IsFront (front text : List ℕ) : Type 0 where
 abbrev pub letters_of : Limits → List Body → List Letter
 letters_of limits bodies = sealed_letters (history_of limits (requests_of bodies))
 
--- the bytes of the input have a session, and what it left unread; its replies are those of the history of the requests;
+-- the bytes of the input have a session, and what it left unread; no read fails; the session's replies are those of the history of the requests;
 -- the outbox is the text of the letters that this history sealed, or where it isn't whole a front of it that has the
 -- mails of all letters but the unsent ones; the notes are the lines of the answers and of the end, or a front of them
 -- where one was lost
@@ -34,6 +34,7 @@ pub record IsMemoryRun (limits : Limits) (host input : List ℕ) (end : MemoryRu
   pub reading : Option ℕ
   pub unread : List ℕ
   pub session : IsSession Input limits.requests 0 (Some input) (Some unread) frames bodies answers reading
+  pub readable : reading ≢ Some 14
   pub replies : AreReplies limits answers (requests_of bodies)
   pub posted : List Letter
   pub letters : letters_of limits bodies ≡ posted ++ end.unsent

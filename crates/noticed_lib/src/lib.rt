@@ -6,6 +6,7 @@ mod ending;
 #[cfg(test)]
 mod fakes;
 mod memory_run;
+mod memory_source;
 mod notes;
 mod outgoing;
 mod reading;

@@ -2,6 +2,7 @@
 ghost use Rattle.noticed_lib.specs.MemoryRun.{IsMemoryRun};
 
 use crate::batch_end::BatchEnd;
+use crate::memory_source::MemorySource;
 use crate::whole_run::batch;
 use dsn_book::Limits;
 use dsn_outcome::{Letters, Plain};
@@ -30,7 +31,7 @@ pub struct MemoryRun {
 pub fn batch_bytes(alloc: Global, limits: &Limits, site: Site, input: &[u8]) -> MemoryRun
     ensures { IsMemoryRun limits.now site input.now result }
 {
-    let mut source = Plain::new(input);
+    let mut source = MemorySource { rest: input };
     let mut notes = Plain::new(Vec::new(alloc));
     let outbox = Plain::new(Vec::new(alloc));
     let end = batch(alloc, limits, site, &mut source, outbox, &mut notes);

@@ -40,7 +40,10 @@ pub fn batch<R: Source, W: Drain, N: Drain>(
     outbox: W,
     notes: &mut N,
 ) -> BatchEnd<W>
-    ensures { IsBatch R.remaining R.failures W.contents W.failures N.contents N.failures limits.now site input.old input.new outbox notes.old notes.new result }
+    ensures run { IsBatch R.remaining R.failures W.contents W.failures N.contents N.failures limits.now site input.old input.new outbox notes.old notes.new result }
+
+    // A reader whose calls don't fail is not blamed.
+    ensures steady { R.steady input.old → R.failures input.new ≡ R.failures input.old }
 {
     let outgoing = Outgoing::new(site, outbox);
     match Book::new(alloc, *limits) {
@@ -68,8 +71,9 @@ fn read_into<R: Source, W: Drain, N: Drain>(
     input: &mut R,
     notes: &mut N,
 ) -> Harvest<W>
-    ensures { (limits : Bounds) (host : List ℕ) (start : W) → limits.requests ≡ requests → book.limits ≡ limits → Represents book [] → Delivered W.contents W.failures host start outgoing [] →
+    ensures harvest { (limits : Bounds) (host : List ℕ) (start : W) → limits.requests ≡ requests → book.limits ≡ limits → Represents book [] → Delivered W.contents W.failures host start outgoing [] →
         Harvested R.remaining R.failures W.contents W.failures N.contents N.failures limits host start input.old input.new notes.old notes.new result.fault result.outgoing (option_map (λ lines. lines.items) (result_ok result.logs)) }
+    ensures steady { R.steady input.old → R.failures input.new ≡ R.failures input.old }
 {
     let mut run = Run {
         book,

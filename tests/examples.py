@@ -1,7 +1,7 @@
 #!/usr/bin/env python3
 """Runs each stored example and compares outbox, notes and exit status with the stored ones, byte by byte.
 
-With arguments it runs the examples of those folders instead: tests/examples.py examples/later
+With arguments it runs the examples of those folders instead.
 """
 import sys
 from pathlib import Path

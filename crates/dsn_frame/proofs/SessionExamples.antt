@@ -24,7 +24,8 @@ one_append_one_flush =
     (asked flush_asked (Sealed 1) flush_is_encoded (lit< tt)) (written _ None) in
     record { made = None; takes = second; left = Some []; read = refl; ends = well refl refl refl }
 
--- the same frames after the one request that there may be: the append is refused, and the flush isn't read
+-- the same frames after the one request that there may be: the append is refused, and the flush is read and neither decoded
+-- nor answered
 used_up_before :
     IsSession Connection 1 1 (Some (frame append_body ++ frame flush_body)) (Some []) (append_body ∷ []) [] (Refused 44 ∷ []) (Some 47)
 used_up_before =

@@ -146,7 +146,8 @@ fields_written number (Flush key draft) = Some (FlushFieldsOf (head_for number k
 fields_written number (Discard key) = Some (DiscardFields (head_for number key.service key.id))
 fields_written number Bye = None
 
--- fields that are written of a body: a frame holds them, no check fails, and they stand for the body
+-- fields that are written of a body: no check fails, they stand for the body, and a frame holds them: a queue id has at
+-- most 32 bytes, and what follows it far less than the 65,536 of a frame (a returned header alone has at most 32,768)
 pub record IsWritten (number : ℕ) (body : Body) (wire : WireBody) : Type 0 where
   pub number_is : (head_of wire).number ≡ number
   pub fits : Fits wire

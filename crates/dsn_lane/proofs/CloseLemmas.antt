@@ -6,19 +6,19 @@ use Rattle.std.proofs.Math.Nat.{mod-eq_of_lt}
 use Rattle.std.proofs.lemmas.List.Elements.{All-cons, All-nil, filter-append}
 use Rattle.std.proofs.lemmas.List.Sums.{sum_by-cons, sum_by-append}
 use mathlib.Core.List.{IsPrefix}
-use native.Mathlib.Decide.{ℕ_discrete, dec_le}
+use native.Mathlib.Decide.{dec_le}
 use Rattle.crossbeam_channel.specs.Claims.{Pass, view}
 use Rattle.dsn_outcome.specs.Agents.{from_agent}
 use Rattle.dsn_lane.proofs.AgentLemmas.{seam_mine}
 use Rattle.dsn_lane.proofs.EndLemmas.{fresh_one, fresh_past, length-fresh}
 use Rattle.dsn_lane.proofs.SumLemmas.{sum_below, sum_below-same, by_agents, all_one, sum_by-one}
 use Rattle.dsn_lane.specs.Ends.{Identity, End, Out, IsAccepted, IsReceiving, fresh, lane_of, out_of, sending_of, taking}
-use Rattle.dsn_lane.specs.Lane.{IsNumbered, back_from}
-use Rattle.dsn_lane.specs.Step.{Settles, IsSettled, after_join, known_after}
+use Rattle.dsn_lane.specs.Lane.{back_from}
+use Rattle.dsn_lane.specs.Step.{Settles, after_join, known_after}
 use Rattle.dsn_lane.specs.declared.token.Sending.{Sending}
 use Rattle.dsn_lane.specs.declared.token.Taking.{Taking}
 use Rattle.dsn_lane.specs.declared.token.Token.{Token}
-use Rattle.dsn_lane.specs.declared.token.Token.TheVariants.{Sends, Takes, Spent}
+use Rattle.dsn_lane.specs.declared.token.Token.TheVariants.{Sends, Takes}
 
 -- ---- lists of ends
 

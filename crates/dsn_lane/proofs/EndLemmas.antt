@@ -1,16 +1,16 @@
 -- Ends: what each end keeps through its steps.
-use Rattle.std.proofs.Common.{◌≡◌, ◌≢◌, ℕ, zero, suc, ◌+◌, ◌<◌, ◌≤◌, ◌%◌, ◌^◌, List, [], ◌∷◌, ◌++◌, length, refl, ap, sym, ◌∙◌, subst, length-append, eq-eqb, ne_eqb, lt_of_not-le, arith}
+use Rattle.std.proofs.Common.{◌≡◌, ℕ, zero, suc, ◌+◌, ◌<◌, ◌≤◌, ◌%◌, ◌^◌, List, [], ◌∷◌, ◌++◌, length, refl, ap, sym, ◌∙◌, subst, length-append, eq-eqb, ne_eqb, lt_of_not-le, arith}
 use Rattle.std.proofs.Math.Nat.{mod-add-mod}
 use native.Mathlib.Decide.{ℕ_discrete, dec_le}
 use Rattle.dsn_outcome.specs.Agents.{from_agent}
-use Rattle.dsn_lane.proofs.AgentLemmas.{mine, not_mine, more_mine, more_not_mine, numbered_more, numbered_none}
+use Rattle.dsn_lane.proofs.AgentLemmas.{more_mine, more_not_mine, numbered_more, numbered_none}
 use Rattle.dsn_lane.specs.Ends.{Identity, End, Out, IsSending, IsReceiving, sending, taking, fresh, fresh_ends}
-use Rattle.dsn_lane.specs.Lane.{IsNumbered, back_from}
+use Rattle.dsn_lane.specs.Lane.{IsNumbered}
 use Rattle.dsn_lane.specs.Step.{after_send, after_take, after_join, after_split, split_off, IsNext}
 use Rattle.dsn_lane.specs.declared.token.Sending.{Sending}
 use Rattle.dsn_lane.specs.declared.token.Taking.{Taking}
 use Rattle.dsn_lane.specs.declared.token.Token.{Token}
-use Rattle.dsn_lane.specs.declared.token.Token.TheVariants.{Sends, Takes, Spent}
+use Rattle.dsn_lane.specs.declared.token.Token.TheVariants.{Sends, Takes}
 
 -- ---- agents that have sent nothing
 

@@ -1,15 +1,13 @@
 -- Lanes: two worked examples of the rule, on items that are pairs of an agent and a number.
 use Rattle.std.proofs.Common.{◌≡◌, ℕ, zero, suc, List, [], ◌∷◌, ◌++◌, ◌==◌, false, ◌≤◌, refl, sym, ap, ◌∙◌, subst, inl, ne_eqb, arith}
-use Rattle.std.specs.Prelude.{Some}
 use Rattle.std.specs.List.{slice_get}
 use mathlib.Core.Option.{some, some-injective, some-ne-none}
 use lib.ListN.{get_elem?}
 use Rattle.dsn_outcome.specs.Agents.{from_agent}
 use Rattle.dsn_lane.specs.Lane.{IsLane, IsNumbered, Knows, back_from}
-use Rattle.dsn_lane.specs.declared.token.Sending.{Sending}
 use Rattle.dsn_lane.specs.declared.token.Taking.{Taking}
 use Rattle.dsn_lane.specs.declared.token.Token.{Token}
-use Rattle.dsn_lane.specs.declared.token.Token.TheVariants.{Sends, Takes, Spent}
+use Rattle.dsn_lane.specs.declared.token.Token.TheVariants.{Sends, Takes}
 
 abbrev Item : Type 0
 Item = ℕ × ℕ

@@ -32,9 +32,9 @@ pub fn close_lane<T: Carried>(_rt: &impl Wait, ends: Vec<LaneIn<T>>, out: LaneOu
 {
     let before = (Snapshot::of(&ends), Snapshot::of(&out));
     let LaneOut {
-        receiver: _,
         mut pass,
         count: taken,
+        ..
     } = out;
     let sent = take_all_back(&mut pass, ends);
     LaneShut {

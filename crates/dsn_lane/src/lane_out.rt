@@ -1,6 +1,10 @@
 //! The receiving end of a lane.
 ghost use Rattle.std.specs.Prelude.{◌≡◌, ℕ, ◌<◌, ◌≤◌, List, ◌∷◌, [], ◌++◌, length, IfOk, OnErr};
+ghost use Rattle.crossbeam_channel.specs.Claims.{view, IsSeatAt};
+ghost use Rattle.crossbeam_channel.specs.Ends.{receives_on};
 ghost use Rattle.dsn_outcome.specs.Agents.{from_agent};
+ghost use Rattle.dsn_lane.specs.declared.token.Token.TheVariants.{Takes};
+ghost use Rattle.dsn_lane.specs.Ends.{IsReceiving, out_of, taking};
 ghost use Rattle.dsn_lane.specs.Lane.{IsNumbered};
 
 use crate::lane_end::LaneEnd;
@@ -38,6 +42,23 @@ impl<T: Carried> Model for LaneOut<T> {
 }
 
 impl<T: Carried> LaneOut<T> {
+    // The receiving end of a pass that has taken nothing.
+    pub(crate) fn new(
+        receiver: RuledReceiver<T, Token<T>, LaneRule>,
+        pass: Pass<T, Token<T>>,
+    ) -> LaneOut<T>
+        requires channel { IsSeatAt (receives_on receiver) pass }
+        requires token { view pass ≡ Takes (taking (view pass)) }
+        requires kept { IsReceiving T.agent T.number (taking (view pass)) 0 }
+        ensures { result ≡ out_of pass }
+    {
+        LaneOut {
+            receiver,
+            pass,
+            count: 0,
+        }
+    }
+
     /// Takes the item at the front, and waits while there is none. `LaneEnd` comes only where
     /// nothing waits; it is meant for the time when all sending ends are gone.
     pub fn take(&mut self, rt: &impl Wait) -> Result<T, LaneEnd>

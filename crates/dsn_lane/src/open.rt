@@ -44,12 +44,7 @@ pub fn open_lane<T: Carried>(
     for _ in 0..agents {
         ends.push_reserved(LaneIn::split_off(&sender, &mut pass)?);
     }
-    let out = LaneOut {
-        receiver,
-        pass,
-        count: 0,
-    };
-    Ok((ends, out))
+    Ok((ends, LaneOut::new(receiver, pass)))
 }
 
 // Passes over the agents below the first: a pass is split off for each, and joined again unused.

@@ -1,12 +1,8 @@
 -- Each end is taken back; with the last one the receiving end knows what all have sent.
-use Rattle.std.proofs.Common.{rules, arith, ◌≡◌, ℕ, All, length, ap, sym, ◌∙◌, subst}
-use Rattle.std.specs.List.{sum_by}
+use Rattle.std.proofs.Common.{rules, ◌≡◌, All, ap, ◌∙◌, subst}
 use Rattle.std.proofs.lemmas.List.Elements.{All-tail}
-use Rattle.std.proofs.lemmas.List.Sums.{sum_by-cons}
 use Rattle.crossbeam_channel.specs.Ends.{sends_on}
-use Rattle.std.proofs.lemmas.Grind.{common_steps}
 use Rattle.std.specs.Vec.Iter.{into_iter_items}
-use Rattle.crossbeam_channel.specs.Claims.{view}
 use Rattle.dsn_lane.proofs.CloseLemmas.{all_joined, few_more, joined_more, joined_takes, total_more}
 use Rattle.dsn_lane.proofs.RuleLemmas.{joins, settles}
 use Rattle.dsn_lane.specs.Ends.{End, lane_at, sending_of}

@@ -1,8 +1,8 @@
 -- A lane with nothing in it meets the rule, and each agent's end is split off in its turn.
-use Rattle.std.proofs.Common.{rules, arith, ◌≡◌, ◌+◌, ℕ, [], ap, ◌∙◌}
+use Rattle.std.proofs.Common.{rules, ◌≡◌, ◌+◌, ℕ, [], ap, subst, sym, ◌∙◌}
 use Rattle.dsn_lane.proofs.EndLemmas.{ends_pushed, made_more, new_out, new_receiving}
 use Rattle.dsn_lane.proofs.RuleLemmas.{opens}
-use Rattle.dsn_lane.specs.Ends.{lane_of}
+use Rattle.dsn_lane.specs.Ends.{Out, lane_of}
 use Rattle.dsn_lane.proofs.open.open_lane.Goals as goal
 
 pub bounded_with-requires-clause-rule : goal.bounded_with-requires-clause-rule
@@ -13,12 +13,14 @@ loop-preserved g c =
     let pushed = ends_pushed _ _ _ _ _ _ _ c.loop.invariant.1 c.in_ok-split_off.ensures.end c.loop.invariant.2 c.push_reserved.ensures.items in
     (search rules, made_more _ _ _ _ c.loop.invariant.1 c.in_ok-split_off.ensures.receiver, pushed, search rules, search rules)
 
-pub invariant_of-out : goal.invariant_of-out
-invariant_of-out g c =
-    let kept = new_receiving g.T.Carried.agent g.T.Carried.number _ _ _ (search rules) (search rules) c.loop.invariant.1 in
-    (search rules, kept.0, kept.1)
+pub new-requires-clause-token : goal.new-requires-clause-token
+new-requires-clause-token g c = (new_receiving g.T.Carried.agent g.T.Carried.number _ _ _ (search rules) (search rules) c.loop.invariant.1).0
+
+pub new-requires-clause-kept : goal.new-requires-clause-kept
+new-requires-clause-kept g c = (new_receiving g.T.Carried.agent g.T.Carried.number _ _ _ (search rules) (search rules) c.loop.invariant.1).1
 
 pub returns-clause-out : goal.returns-clause-out
 returns-clause-out g c =
     let all : c.loop.counter ≡ c.args.agents = search rules in
-    new_out (lane_of c.loop.pass) _ _ _ c.loop.invariant.1 ∙ ap (λ (n : ℕ). record { lane = lane_of c.loop.pass; first = c.args.first; past = c.args.first + n; taken = [] }) all
+    let made = new_out (lane_of c.loop.pass) _ _ _ c.loop.invariant.1 ∙ ap (λ (n : ℕ). record { lane = lane_of c.loop.pass; first = c.args.first; past = c.args.first + n; taken = [] }) all in
+    subst (λ (o : Out g.row.T.Denot). o ≡ record { lane = o.lane; first = c.args.first; past = c.args.first + c.args.agents; taken = [] }) (sym c.new.ensures) made

@@ -1,8 +1,8 @@
 -- A send keeps the rule: its item is the next of the end's agent.
-use Rattle.std.proofs.Common.{rules, ◌≡◌, ap, sym, ◌∙◌, length}
+use Rattle.std.proofs.Common.{rules, ap, sym, ◌∙◌, length}
 use Rattle.dsn_lane.proofs.EndLemmas.{keeps_sending}
 use Rattle.dsn_lane.proofs.RuleLemmas.{sends}
-use Rattle.dsn_lane.specs.Ends.{End, IsSending, sending}
+use Rattle.dsn_lane.specs.Ends.{End}
 use Rattle.dsn_lane.proofs.lane_in.LaneIn.send.Goals as goal
 
 pub send_as-requires-clause-rule : goal.send_as-requires-clause-rule

@@ -1,5 +1,5 @@
 -- A take keeps the rule, and the rule tells the item's agent and number.
-use Rattle.std.proofs.Common.{rules, ap, subst, ◌≤◌, ◌<◌}
+use Rattle.std.proofs.Common.{rules, subst, ◌≤◌, ◌<◌}
 use Rattle.dsn_lane.proofs.EndLemmas.{agent_within, keeps_receiving}
 use Rattle.dsn_lane.proofs.RuleLemmas.{takes}
 use Rattle.dsn_lane.specs.Ends.{Out}

@@ -31,6 +31,11 @@ pub record Out (T : Type 0) : Type 0 where
   pub past : ℕ
   pub taken : List T
 
+-- what was sent over a lane and taken: its ends as they were at its close
+pub record Lists (T : Type 0) : Type 0 where
+  pub ends : List (End T)
+  pub out : Out T
+
 module _ {T : Type 0} where
   -- what a pass stands for
   abbrev pub sending : Token T → Sending T
@@ -77,8 +82,9 @@ module _ {T : Type 0} where
     pub mine : from_agent agent end.agent end.sent ≡ end.sent
     pub numbered : IsNumbered number end.sent
 
-  -- what the receiving end keeps while the lane is open: that it has up to sixteen agents; that the ends that came back are
-  -- those of the agents below the first, unused; its count, which wraps; and that what it took of each agent is numbered from 0
+  -- what the receiving end keeps while the lane is open: that it has up to sixteen agents; that the ends
+  -- that came back are those of the agents below the first, unused; its count, which wraps; and that what
+  -- it took of each agent is numbered from 0
   pub record IsReceiving (agent number : T → ℕ) (known : Taking T) (count : ℕ) : Type 0 where
     pub agents : (length known.back < known.made) × (known.made ≤ 16)
     pub passed : known.back ≡ fresh 0 (length known.back)

@@ -47,7 +47,8 @@ module _ {T : Type 0} where
   after_join Spent other = Spent
 
   module _ (agent number : T → ℕ) where
-    -- what a receive tells of the item that it takes: its agent has an end, and did not come back empty-handed; its number is how many items of its agent were taken before
+    -- what a receive tells of the item that it takes: its agent has an end, which did not come back
+    -- empty-handed; its number is how many items of its agent were taken before
     abbrev pub IsNext : Token T → T → Type 0
     IsNext (Takes known) item =
         (agent item < known.made) × (number item ≡ length (from_agent agent (agent item) known.taken)) × (back_from (agent item) known ≡ record { agent = agent item; sent = [] } ∷ [] → ⊥)

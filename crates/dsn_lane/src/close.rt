@@ -10,13 +10,13 @@ ghost use Rattle.dsn_lane.specs.Ends.{IsAccepted, lane_at, lane_of, sending_of, 
 ghost use Rattle.dsn_lane.specs.Step.{Settles, after_join, known_after};
 
 use crate::lane_in::LaneIn;
+use crate::lane_lists::LaneLists;
 use crate::lane_out::LaneOut;
 use crate::lane_shut::LaneShut;
 use crate::rule::{LaneRule, ReadsOff, TakeBack};
 use crate::token::Token;
 use crossbeam_channel::{Pass, RuledSender};
 use dsn_outcome::Carried;
-use std::snapshot::Snapshot;
 use std::sync::Wait;
 
 /// Closes a lane, of which it takes the receiving end and all sending ends, in any order. What
@@ -28,9 +28,9 @@ pub fn close_lane<T: Carried>(_rt: &impl Wait, ends: Vec<LaneIn<T>>, out: LaneOu
     ensures waiting { result.taken + result.waiting ≡ sum_by (λ end. length end.sent) ends.items }
     ensures prefix { All (λ end. IsPrefix (from_agent T.agent end.agent out.taken) end.sent) ends.items }
     ensures accepted { (waiting : List T) × (length waiting ≡ result.waiting) × IsAccepted T.agent T.number ends.items (out.taken ++ waiting) }
-    ensures ends { (result.ends.value ≡ ends) × (result.out.value ≡ out) }
+    ensures lists { result.lists ≡ record { ends = ends.items; out = out } }
 {
-    let before = (Snapshot::of(&ends), Snapshot::of(&out));
+    let lists = LaneLists::of(&ends, &out);
     let LaneOut {
         mut pass,
         count: taken,
@@ -40,12 +40,11 @@ pub fn close_lane<T: Carried>(_rt: &impl Wait, ends: Vec<LaneIn<T>>, out: LaneOu
     LaneShut {
         taken,
         waiting: sent - taken,
-        ends: before.0,
-        out: before.1,
+        lists,
     }
 }
 
-// Takes all sending ends back, says how many items they had sent, and reads what waits.
+/// Takes all sending ends back, says how many items they had sent, and reads what waits.
 fn take_all_back<T: Carried>(pass: &mut Pass<T, Token<T>>, mut ends: Vec<LaneIn<T>>) -> u64
     requires channel { pass.old.me.1 ≡ [] }
     requires receiver { view pass.old ≡ Takes (taking (view pass.old)) }
@@ -71,7 +70,7 @@ fn take_all_back<T: Carried>(pass: &mut Pass<T, Token<T>>, mut ends: Vec<LaneIn<
     sent
 }
 
-// Takes a sending end back, and says how many items it had sent.
+/// Takes a sending end back, and says how many items it had sent.
 fn take_back<T: Carried>(
     sender: &RuledSender<T, Token<T>, LaneRule>,
     pass: &mut Pass<T, Token<T>>,

@@ -20,9 +20,11 @@ use std::sync::Wait;
 /// that it has sent, in order.
 #[derive(Drop)]
 pub struct LaneIn<T: Carried> {
+    /// The channel.
     pub(crate) sender: RuledSender<T, Token<T>, LaneRule>,
+    /// What the end knows.
     pub(crate) pass: Pass<T, Token<T>>,
-    // How many items it has sent.
+    /// How many items it has sent.
     pub(crate) count: u32,
 }
 
@@ -41,7 +43,8 @@ impl<T: Carried> Model for LaneIn<T> {
 }
 
 impl<T: Carried> LaneIn<T> {
-    // The end of the next agent, whose pass is split off the receiving end's.
+    /// The end of the next agent, whose pass is split off the receiving end's. `NoMemory` comes
+    /// only where there is no room for one more end.
     pub(crate) fn split_off(
         sender: &RuledSender<T, Token<T>, LaneRule>,
         pass: &mut Pass<T, Token<T>>,
@@ -70,8 +73,8 @@ impl<T: Carried> LaneIn<T> {
         self.count
     }
 
-    /// Sends an item, and waits while the lane is full. `Lost` comes only where the receiving end
-    /// is gone; it hands the item back.
+    /// Sends an item, and waits while the lane is full. `Lost` comes once the receiving end is
+    /// gone, and hands the item back; that it comes then, and not before, isn't proved.
     pub fn send(&mut self, rt: &impl Wait, item: T) -> Result<(), Lost<T>>
         requires agent { T.agent item ≡ self.old.agent }
         requires number { T.number item ≡ length self.old.sent }

@@ -1,12 +1,33 @@
 //! What is left of a receiving end that was given up.
+ghost use Rattle.std.specs.Prelude.{◌≡◌};
+
 use crate::lane_out::LaneOut;
 use dsn_outcome::Carried;
+use std::marker::Model;
 use std::snapshot::Snapshot;
 
 /// A receiving end that is gone. It has no bytes: contracts see the end as it was when it left,
 /// with all that it had taken.
 #[derive(Drop)]
 pub struct LaneLeft<T: Carried> {
-    /// The end as it left.
-    pub out: Snapshot<LaneOut<T>>,
+    out: Snapshot<LaneOut<T>>,
+}
+
+impl<T: Carried> Model for LaneLeft<T> {
+    ghost use Rattle.dsn_lane.specs.Ends.{Out};
+
+    ghost Value = { Out T };
+
+    ghost view = { λ l. l.out.value };
+}
+
+impl<T: Carried> LaneLeft<T> {
+    /// What a receiving end leaves.
+    pub(crate) fn of(out: &LaneOut<T>) -> LaneLeft<T>
+        ensures { result ≡ out.now }
+    {
+        LaneLeft {
+            out: Snapshot::of(out),
+        }
+    }
 }

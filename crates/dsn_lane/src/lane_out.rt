@@ -14,16 +14,17 @@ use crate::token::Token;
 use crossbeam_channel::{Pass, RuledReceiver};
 use dsn_outcome::Carried;
 use std::marker::Model;
-use std::snapshot::Snapshot;
 use std::sync::Wait;
 
 /// The end of a lane that takes what the agents send. Contracts see its lane, its agents, from
 /// `first` on and below `past`, and the items that it has taken, in order.
 #[derive(Drop)]
 pub struct LaneOut<T: Carried> {
+    /// The channel.
     pub(crate) receiver: RuledReceiver<T, Token<T>, LaneRule>,
+    /// What the end knows.
     pub(crate) pass: Pass<T, Token<T>>,
-    // How many items it has taken. The count wraps; at the close it is exact.
+    /// How many items it has taken. The count wraps; at the close it is exact.
     pub(crate) count: u64,
 }
 
@@ -42,7 +43,7 @@ impl<T: Carried> Model for LaneOut<T> {
 }
 
 impl<T: Carried> LaneOut<T> {
-    // The receiving end of a pass that has taken nothing.
+    /// The receiving end of a pass that has taken nothing.
     pub(crate) fn new(
         receiver: RuledReceiver<T, Token<T>, LaneRule>,
         pass: Pass<T, Token<T>>,
@@ -59,8 +60,8 @@ impl<T: Carried> LaneOut<T> {
         }
     }
 
-    /// Takes the item at the front, and waits while there is none. `LaneEnd` comes only where
-    /// nothing waits; it is meant for the time when all sending ends are gone.
+    /// Takes the item at the front, and waits while there is none. `LaneEnd` comes once all
+    /// sending ends are gone and nothing waits; that it comes then, and not before, isn't proved.
     pub fn take(&mut self, rt: &impl Wait) -> Result<T, LaneEnd>
         ensures item { IfOk result (λ item. self.new.taken ≡ self.old.taken ++ item ∷ []) }
         ensures agent { IfOk result (λ item. (self.old.first ≤ T.agent item) × (T.agent item < self.old.past)) }
@@ -80,10 +81,8 @@ impl<T: Carried> LaneOut<T> {
 
     /// Gives the receiving end up, so that no agent waits for it.
     pub fn leave(self) -> LaneLeft<T>
-        ensures { result.out.value ≡ self }
+        ensures { result ≡ self }
     {
-        LaneLeft {
-            out: Snapshot::of(&self),
-        }
+        LaneLeft::of(&self)
     }
 }

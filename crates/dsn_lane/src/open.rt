@@ -47,7 +47,7 @@ pub fn open_lane<T: Carried>(
     Ok((ends, LaneOut::new(receiver, pass)))
 }
 
-// Passes over the agents below the first: a pass is split off for each, and joined again unused.
+/// Passes over the agents below the first: a pass is split off for each, and joined again unused.
 fn pass_over<T: Carried>(
     sender: &RuledSender<T, Token<T>, LaneRule>,
     pass: &mut Pass<T, Token<T>>,

@@ -1,6 +1,6 @@
 -- The close rule: what holds of a key that is closed after a history (this project's profile).
-use Rattle.std.specs.Prelude.{◌≡◌, List, [], ◌∷◌, ◌++◌, Option, Some}
-use Rattle.dsn_outcome.specs.History.{Limits, Exchange, IsClosed, log_of, reply_to, exchange_of}
+use Rattle.std.specs.Prelude.{◌≡◌, List, [], ◌∷◌, ◌++◌, Some}
+use Rattle.dsn_outcome.specs.History.{Limits, Exchange, IsClosed, log_of, held_keys, reply_to, exchange_of, sealed_letters}
 use Rattle.dsn_outcome.specs.Request.{Request, key_of}
 use Rattle.dsn_outcome.specs.declared.answer.Reply.TheVariants.{Closed}
 use Rattle.dsn_outcome.specs.declared.key.Key.{Key}
@@ -17,3 +17,21 @@ AnswersClosed limits key history = (request : Request) → key_of request.body �
 abbrev pub TakesNoOutcome : Limits → Key → List Exchange → Type 0
 TakesNoOutcome limits key history =
     (request : Request) → log_of key (history ++ exchange_of limits history request ∷ []) ≡ log_of key history
+
+-- the next request, if it is about the key, leaves every log as it was
+abbrev pub LeavesEveryLog : Limits → Key → List Exchange → Type 0
+LeavesEveryLog limits key history =
+    (request : Request) → key_of request.body ≡ Some key →
+    (other : Key) → log_of other (history ++ exchange_of limits history request ∷ []) ≡ log_of other history
+
+-- the next request, if it is about the key, leaves the held keys as they were
+abbrev pub LeavesHeldKeys : Limits → Key → List Exchange → Type 0
+LeavesHeldKeys limits key history =
+    (request : Request) → key_of request.body ≡ Some key →
+    held_keys (history ++ exchange_of limits history request ∷ []) ≡ held_keys history
+
+-- the next request, if it is about the key, leaves the sealed letters as they were
+abbrev pub LeavesSealedLetters : Limits → Key → List Exchange → Type 0
+LeavesSealedLetters limits key history =
+    (request : Request) → key_of request.body ≡ Some key →
+    sealed_letters (history ++ exchange_of limits history request ∷ []) ≡ sealed_letters history

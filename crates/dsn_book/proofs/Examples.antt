@@ -1,7 +1,7 @@
 -- Worked examples of the order of keys, and of what an index makes of entries in order of first use.
-use Rattle.std.proofs.Common.{◌≡◌, ℕ, ◌≤◌, ◌^◌, ◌*◌, ◌+◌, List, [], ◌∷◌, refl, arith}
-use Rattle.std.specs.Prelude.{codes, ◌<◌}
-use Rattle.std.specs.declared.cmp.Ordering.TheVariants.{Less, Equal, Greater}
+use Rattle.std.proofs.Common.{◌≡◌, ℕ, List, [], ◌∷◌, refl}
+use Rattle.std.specs.Prelude.{codes}
+use Rattle.std.specs.declared.cmp.Ordering.TheVariants.{Less, Greater}
 use Rattle.dsn_outcome.specs.declared.key.Key.{Key}
 use Rattle.dsn_outcome.specs.declared.service.Service.TheVariants.{Bounce, Defer, Trace}
 use Rattle.dsn_book.specs.Entry.{entry_with}

@@ -23,12 +23,14 @@ impl Model for Cells {
 }
 
 impl Cells {
+    /// No letter.
     pub(crate) fn new() -> Self
         ensures { result ≡ [] }
     {
         Cells { first: None }
     }
 
+    /// Whether there is no letter.
     pub(crate) fn is_empty(&self) -> bool
         ensures { result ≡ (length self.now == 0) }
     {

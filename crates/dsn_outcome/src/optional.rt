@@ -23,6 +23,7 @@ pub(crate) fn is_optional_mta_name(text: &[u8]) -> bool
     text.is_empty() || MtaName::is_valid(text)
 }
 
+/// The address that a text is, or `None` for an empty text; the only fault is want of memory.
 pub(crate) fn optional_address(alloc: Global, text: &[u8]) -> Result<Option<Address>, OutcomeFault>
     requires { IsTrue (is_none_or is_address (unless_empty text.now)) }
     ensures kept { IfOk result (λ address. address ≡ unless_empty text.now) }
@@ -37,6 +38,8 @@ pub(crate) fn optional_address(alloc: Global, text: &[u8]) -> Result<Option<Addr
     }
 }
 
+/// The remote system's name that a text is, or `None` for an empty text; the only fault is want
+/// of memory.
 pub(crate) fn optional_mta_name(alloc: Global, text: &[u8]) -> Result<Option<MtaName>, OutcomeFault>
     requires { IsTrue (is_none_or is_mta_name (unless_empty text.now)) }
     ensures kept { IfOk result (λ name. name ≡ unless_empty text.now) }
@@ -51,6 +54,7 @@ pub(crate) fn optional_mta_name(alloc: Global, text: &[u8]) -> Result<Option<Mta
     }
 }
 
+/// A text made clean, or `None` for an empty text; the only fault is want of memory.
 pub(crate) fn optional_clean(alloc: Global, text: &[u8]) -> Result<Option<Clean>, OutcomeFault>
     requires { length text.now ≤ 800 }
     ensures kept { IfOk result (λ clean. clean ≡ unless_empty (clean_text text.now)) }

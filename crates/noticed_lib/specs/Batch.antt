@@ -27,9 +27,10 @@ status_of fault whole logs = if is_some fault || (not whole || is_none logs) the
 
 module _ {R W N : Type 0} (remaining : R → Option (List ℕ)) (input_failures : R → ℕ) (contents : W → Option (List ℕ)) (outbox_failures : W → ℕ) (told : N → Option (List ℕ)) (notes_failures : N → ℕ) where
   -- a run over an input: its frames, the bodies asked among them and the answers are a session, which ended so; the
-  -- replies are those of the history of the requests that the bodies make, as agent 0; the outbox has the notices of the letters that the requests' history sealed, or a front of their text after a failure; the
-  -- notes are the lines of the answers and of the end, or a front of them after a failure; and an input that is
-  -- requests in turn and nothing else is taken whole
+  -- replies are those of the history of the requests that the bodies make, as agent 0; the outbox has the notices of
+  -- the letters that the requests' history sealed, or a front of their text after a failure; the notes are the lines
+  -- of the answers and of the end, or a front of them after a failure; and an input that is requests in turn and
+  -- nothing else is taken whole
   pub record IsBatch (limits : Limits) (host : List ℕ) (input now : R) (start : W) (notes later : N) (end : BatchEnd W) : Type 0 where
     pub frames : List (List ℕ)
     pub bodies : List Body

@@ -33,7 +33,8 @@ abbrev pub IsReplyOrNoMemory : Spoken → Type 0
 IsReplyOrNoMemory (Reply reply) = Unit {0}
 IsReplyOrNoMemory (Refused number) = number ≡ 9
 
--- no fault, or one that is none of the input's bytes: want of memory, a read that failed, or notes that were not written
+-- no fault, or one that is none of the input's bytes: want of memory, a read that failed, or notes that were not
+-- written
 pub data IsOutside : Option ℕ → Type 0 where
   none : IsOutside None
   no_memory : IsOutside (Some 9)

@@ -1,17 +1,21 @@
--- The dots that a sender adds, a receiver takes away.
-use Rattle.std.proofs.Common.{◌≡◌, ℕ, Bool, true, false, List, [], ◌∷◌, ◌++◌, map, codes, refl, ap, ◌∙◌, if◌then◌else◌, inl, inr, append_assoc}
-use Rattle.std.specs.List.{list_all}
+-- The dots that a sender adds, a receiver takes away, of one message and of all those of a session.
+use Rattle.std.proofs.Common.{◌≡◌, ℕ, Bool, true, false, List, [], ◌∷◌, ◌++◌, Some, None, map, codes, refl, sym, ap, ◌∙◌, if◌then◌else◌, inl, inr, append_assoc, append-nil}
+use Rattle.std.specs.Prelude.{All}
+use Rattle.std.specs.List.{list_all, flat_map}
 use Rattle.std.proofs.lemmas.Bool.Decides.{eqb_tells}
+use Rattle.std.proofs.lemmas.List.Elements.{All-head, All-tail}
 use Rattle.std.proofs.lemmas.List.Folds.{list_all-append}
 use Rattle.dsn_outcome.specs.Letter.{Letter}
-use Rattle.dsn_report.proofs.LinesLemmas.{fit-append, fit-known, fit-path, notice_lines-legal}
+use Rattle.dsn_report.proofs.LineWriterLemmas.{text_of_lines-append}
+use Rattle.dsn_report.proofs.LinesLemmas.{fit-append, fit-known, fit-path, fit-plain, notice_lines-legal}
 use Rattle.dsn_report.proofs.PieceLemmas.{has_line_bytes, has_line_bytes-legal, pieces-lines}
-use Rattle.dsn_report.proofs.PlainLemmas.{and-parts}
-use Rattle.dsn_report.specs.Data.{ReceivesNotice, data_after, ends_data, message_lines, message_of, without_dot}
+use Rattle.dsn_report.proofs.PlainLemmas.{and-parts, host-plain}
+use Rattle.dsn_report.specs.Data.{ReceivesNotice, ReceivesNotices, data_after, ends_data, message_lines, message_of, messages_in, messages_of, without_dot}
 use Rattle.dsn_report.specs.LegalLines.{is_line_byte}
-use Rattle.dsn_report.specs.Lines.{begins_with_dot, dot_stuffed, text_of_lines}
+use Rattle.dsn_report.specs.Lines.{begins_with_dot, dot_stuffed, pieces_of_text, text_of_lines}
 use Rattle.dsn_report.specs.Notice.{notice_lines, notice_of}
-use Rattle.dsn_report.specs.Outbox.{mail_transaction, transaction_lines}
+use Rattle.dsn_report.specs.Outbox.{greeting, goodbye, mail_transaction, outbox_of, transaction_lines}
+use Rattle.dsn_report.specs.Site.{IsHost}
 use Rattle.dsn_report.specs.WellFormed.{IsWellFormed}
 
 -- up to the line that ends the data, each line comes back
@@ -50,3 +54,93 @@ dots_law host letter formed =
     ap (λ pieces. text_of_lines (message_lines (data_after pieces))) (pieces-lines (transaction_lines host letter) (transaction-bytes host letter formed))
     ∙ ap (λ lines. text_of_lines (message_lines lines)) (append_assoc (map dot_stuffed (notice_lines host letter)) (codes "." ∷ []) ([] ∷ []))
     ∙ ap text_of_lines (message_lines-dot_stuffed (notice_lines host letter) ([] ∷ []))
+
+-- ---- a whole session
+
+-- a message under way comes to its end
+messages_in-dot_stuffed : (message lines after : List (List ℕ))
+    → messages_in (Some message) (map dot_stuffed lines ++ (codes "." ∷ after)) ≡ (message ++ lines) ∷ messages_in None after
+unfolding messages_in dot_stuffed
+messages_in-dot_stuffed message [] after = ap (λ whole. whole ∷ messages_in None after) (sym (append-nil message))
+messages_in-dot_stuffed message (line ∷ rest) after =
+    here line
+    ∙ messages_in-dot_stuffed (message ++ line ∷ []) rest after
+    ∙ ap (λ whole. whole ∷ messages_in None after) (append_assoc message (line ∷ []) rest)
+  where
+    more : List (List ℕ)
+    more = map dot_stuffed rest ++ (codes "." ∷ after)
+
+    here : (line : List ℕ) → messages_in (Some message) (dot_stuffed line ∷ more) ≡ messages_in (Some (message ++ line ∷ [])) more
+    here [] = refl
+    here (byte ∷ bytes) = elim (eqb_tells byte 46) [
+      | inl dot ↦ rw dot.0 refl
+      | inr other ↦
+          let plain : dot_stuffed (byte ∷ bytes) ≡ byte ∷ bytes = rw other.0 refl in
+          ap (λ sent. messages_in (Some message) (sent ∷ more)) plain ∙ rw (other.0, messages_in) (rw other.0 refl)
+    ]
+
+messages_in-transaction : (host : List ℕ) (letter : Letter) (after : List (List ℕ))
+    → messages_in None (transaction_lines host letter ++ after) ≡ notice_lines host letter ∷ messages_in None after
+unfolding messages_in transaction_lines
+messages_in-transaction host letter after =
+    ap (messages_in (Some [])) (append_assoc (map dot_stuffed (notice_lines host letter)) (codes "." ∷ []) after)
+    ∙ messages_in-dot_stuffed [] (notice_lines host letter) after
+
+messages_in-transactions : (host : List ℕ) (letters : List Letter) (after : List (List ℕ))
+    → messages_in None (flat_map (transaction_lines host) letters ++ after) ≡ map (notice_lines host) letters ++ messages_in None after
+messages_in-transactions host [] after = refl
+messages_in-transactions host (letter ∷ letters) after =
+    ap (messages_in None) (append_assoc (transaction_lines host letter) (flat_map (transaction_lines host) letters) after)
+    ∙ messages_in-transaction host letter (flat_map (transaction_lines host) letters ++ after)
+    ∙ ap (λ more. notice_lines host letter ∷ more) (messages_in-transactions host letters after)
+
+-- the lines of the session
+abbrev outbox_lines : List ℕ → List Letter → List (List ℕ)
+outbox_lines host letters = (codes "EHLO " ++ host) ∷ flat_map (transaction_lines host) letters ++ codes "QUIT" ∷ []
+
+transactions-text : (host : List ℕ) (letters : List Letter) → flat_map (mail_transaction host) letters ≡ text_of_lines (flat_map (transaction_lines host) letters)
+unfolding mail_transaction text_of_lines
+transactions-text host [] = refl
+transactions-text host (letter ∷ letters) =
+    ap (λ more. text_of_lines (transaction_lines host letter) ++ more) (transactions-text host letters)
+    ∙ sym (text_of_lines-append (transaction_lines host letter) (flat_map (transaction_lines host) letters))
+
+outbox-text : (host : List ℕ) (letters : List Letter) → outbox_of host letters ≡ text_of_lines (outbox_lines host letters)
+unfolding outbox_of greeting goodbye
+outbox-text host letters =
+    let hello = (codes "EHLO " ++ host) ∷ [] in
+    let bye = codes "QUIT" ∷ [] in
+    let session = flat_map (transaction_lines host) letters in
+    ap (λ more. text_of_lines hello ++ more ++ text_of_lines bye) (transactions-text host letters)
+    ∙ ap (λ more. more ++ text_of_lines bye) (sym (text_of_lines-append hello session))
+    ∙ sym (text_of_lines-append (hello ++ session) bye)
+
+transactions-bytes : (host : List ℕ) (letters : List Letter) → All (IsWellFormed host) letters → has_line_bytes (flat_map (transaction_lines host) letters) ≡ true
+transactions-bytes host [] formed = refl
+transactions-bytes host (letter ∷ letters) formed =
+    list_all-append (list_all is_line_byte) (transaction_lines host letter) (flat_map (transaction_lines host) letters)
+    ∙ rw (
+      transaction-bytes host letter (All-head (IsWellFormed host) letter letters formed),
+      transactions-bytes host letters (All-tail (IsWellFormed host) letter letters formed),
+    ) refl
+
+outbox-bytes : (host : List ℕ) (letters : List Letter) → IsHost host → All (IsWellFormed host) letters → has_line_bytes (outbox_lines host letters) ≡ true
+outbox-bytes host letters legal formed =
+    let hello = fit-append (fit-known 5 (codes "EHLO ") refl refl) (fit-plain (host-plain host legal)) in
+    let session = flat_map (transaction_lines host) letters in
+    rw (hello.legal, list_all-append (list_all is_line_byte) session (codes "QUIT" ∷ []), transactions-bytes host letters formed) refl
+
+notices-text : (host : List ℕ) (letters : List Letter) → map text_of_lines (map (notice_lines host) letters) ≡ map (notice_of host) letters
+unfolding notice_of
+notices-text host [] = refl
+notices-text host (letter ∷ letters) = ap (λ more. text_of_lines (notice_lines host letter) ∷ more) (notices-text host letters)
+
+pub outbox_law : (host : List ℕ) (letters : List Letter) → IsHost host → All (IsWellFormed host) letters → ReceivesNotices host letters
+unfolding messages_of messages_in
+outbox_law host letters legal formed =
+    let session = flat_map (transaction_lines host) letters in
+    ap (λ text. map text_of_lines (messages_in None (pieces_of_text text))) (outbox-text host letters)
+    ∙ ap (λ pieces. map text_of_lines (messages_in None pieces)) (pieces-lines (outbox_lines host letters) (outbox-bytes host letters legal formed))
+    ∙ ap (λ lines. map text_of_lines (messages_in None lines)) (append_assoc session (codes "QUIT" ∷ []) ([] ∷ []))
+    ∙ ap (map text_of_lines) (messages_in-transactions host letters (codes "QUIT" ∷ [] ∷ []) ∙ append-nil (map (notice_lines host) letters))
+    ∙ notices-text host letters

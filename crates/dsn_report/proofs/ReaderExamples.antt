@@ -1,7 +1,7 @@
 -- Worked examples of how a reader takes a message apart, computed by the definitions.
 use Rattle.std.proofs.Common.{◌≡◌, ℕ, List, [], ◌∷◌, ◌++◌, refl}
 use Rattle.std.specs.Prelude.{codes, Some, None}
-use Rattle.dsn_report.specs.Data.{data_after, message_lines, message_of}
+use Rattle.dsn_report.specs.Data.{data_after, message_lines, message_of, messages_in, messages_of}
 use Rattle.dsn_report.specs.Lines.{pieces_more, pieces_of_text, text_of_lines, text_of_pieces}
 use Rattle.dsn_report.specs.Multipart.{body_of, divide, divide_more, multipart_of}
 
@@ -38,3 +38,11 @@ dots_taken :
     codes ".x" ++ crlf ++ codes "y" ++ crlf ++ codes "z." ++ crlf
 unfolding message_of data_after message_lines pieces_of_text pieces_more text_of_lines
 dots_taken = refl
+
+-- a session of two messages: a line DATA within a message begins none, and what was cut short is none
+two_messages :
+    messages_of (codes "EHLO h" ++ crlf ++ codes "DATA" ++ crlf ++ codes "..x" ++ crlf ++ codes "DATA" ++ crlf ++ codes "." ++ crlf ++ codes "y" ++ crlf ++ codes "DATA" ++ crlf ++ codes "." ++ crlf
+    ++ codes "DATA" ++ crlf ++ codes "z" ++ crlf) ≡
+    (codes ".x" ++ crlf ++ codes "DATA" ++ crlf) ∷ [] ∷ []
+unfolding messages_of messages_in pieces_of_text pieces_more text_of_lines
+two_messages = refl

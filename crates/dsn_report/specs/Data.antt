@@ -1,10 +1,14 @@
--- What the receiver of a mail transaction makes of its bytes (RFC 5321 section 4.5.2).
-use Rattle.std.specs.Prelude.{◌≡◌, ℕ, Bool, List, [], ◌∷◌, drop, codes, if◌then◌else◌, nat_eq}
+-- What the receiver of a mail transaction, or of a whole session, makes of its bytes (RFC 5321 section 4.5.2).
+use Rattle.std.specs.Prelude.{◌≡◌, ℕ, Bool, true, false, List, [], ◌∷◌, ◌++◌, map, Option, Some, None, drop, codes, if◌then◌else◌, nat_eq}
 use Rattle.dsn_outcome.specs.Letter.{Letter}
 use lib.Pointwise.{pointwise}
 use Rattle.dsn_report.specs.Lines.{begins_with_dot, pieces_of_text, text_of_lines}
 use Rattle.dsn_report.specs.Notice.{notice_of}
-use Rattle.dsn_report.specs.Outbox.{mail_transaction}
+use Rattle.dsn_report.specs.Outbox.{mail_transaction, outbox_of}
+
+-- the line that begins the data
+abbrev pub begins_data : List ℕ → Bool
+begins_data line = pointwise nat_eq line (codes "DATA")
 
 -- the line that ends the data
 abbrev pub ends_data : List ℕ → Bool
@@ -22,7 +26,7 @@ message_lines (line ∷ rest) = if ends_data line then [] else without_dot line 
 -- what follows the command DATA
 unfoldable pub data_after : List (List ℕ) → List (List ℕ)
 data_after [] = []
-data_after (line ∷ rest) = if pointwise nat_eq line (codes "DATA") then rest else data_after rest
+data_after (line ∷ rest) = if begins_data line then rest else data_after rest
 
 -- the message that the receiver gets, each of its lines ended by CRLF
 unfoldable pub message_of : List ℕ → List ℕ
@@ -31,3 +35,24 @@ message_of transaction = text_of_lines (message_lines (data_after (pieces_of_tex
 -- the receiver of a letter's mail transaction gets the notice
 abbrev pub ReceivesNotice : List ℕ → Letter → Type 0
 ReceivesNotice host letter = message_of (mail_transaction host letter) ≡ notice_of host letter
+
+-- the messages of a session's lines, by what has come of the message under way, if one is: the line DATA begins one,
+-- and the line that ends the data ends it. One that is cut short is none (RFC 5321 section 4.1.1.4)
+unfoldable pub messages_in : Option (List (List ℕ)) → List (List ℕ) → List (List (List ℕ))
+messages_in under_way [] = []
+messages_in None (line ∷ rest) = elim (begins_data line) [
+  | true ↦ messages_in (Some []) rest
+  | false ↦ messages_in None rest
+]
+messages_in (Some message) (line ∷ rest) = elim (ends_data line) [
+  | true ↦ message ∷ messages_in None rest
+  | false ↦ messages_in (Some (message ++ without_dot line ∷ [])) rest
+]
+
+-- the messages that the receiver of a whole session gets, each of their lines ended by CRLF
+unfoldable pub messages_of : List ℕ → List (List ℕ)
+messages_of session = map text_of_lines (messages_in None (pieces_of_text session))
+
+-- the receiver of an outbox gets the notice of each letter, in their order, and nothing else
+abbrev pub ReceivesNotices : List ℕ → List Letter → Type 0
+ReceivesNotices host letters = messages_of (outbox_of host letters) ≡ map (notice_of host) letters

@@ -3,7 +3,7 @@
 ghost use Rattle.std.specs.Prelude.{All, IsTrue};
 ghost use Rattle.dsn_outcome.specs.Outcome.{IsLegalOutcome, is_none_or};
 ghost use Rattle.dsn_outcome.specs.Text.{is_envelope_id};
-ghost use Rattle.dsn_report.specs.Data.{ReceivesNotice};
+ghost use Rattle.dsn_report.specs.Data.{ReceivesNotice, ReceivesNotices};
 ghost use Rattle.dsn_report.specs.Grammar.{EmptyLogLaw, ReportsOutcomes};
 ghost use Rattle.dsn_report.specs.LegalLines.{HasLegalLines};
 ghost use Rattle.dsn_report.specs.Multipart.{DividesIntoParts};
@@ -18,6 +18,15 @@ pub fn dots_law(site: &Site, letter: &Letter)
     ensures { ReceivesNotice site.now letter.now }
 {
     well_formed_law(site, letter);
+}
+
+/// The receiver of a whole outbox gets the notice of each of its letters, in their order, and
+/// nothing else.
+pub fn outbox_law(site: &Site, letters: &[Letter])
+    ensures { ReceivesNotices site.now letters.now }
+{
+    site.bytes();
+    well_formed_letters(site, letters);
 }
 
 /// Who divides a notice at its boundary gets its parts, with nothing before and nothing after
@@ -59,6 +68,15 @@ pub fn well_formed_law(site: &Site, letter: &Letter)
     letter.header().bytes();
     legal_envelope_id(letter);
     legal_outcomes(letter);
+}
+
+/// Each of some letters is well formed.
+fn well_formed_letters(site: &Site, letters: &[Letter])
+    ensures { All (IsWellFormed site.now) letters.now }
+{
+    for letter in letters {
+        well_formed_law(site, letter);
+    }
 }
 
 /// An envelope id is one wherever it is there.

@@ -19,7 +19,9 @@ mod transaction;
 mod wording;
 
 pub use boundary_number::boundary;
-pub use laws::{division_law, dots_law, empty_log_law, grammar_law, lines_law, well_formed_law};
+pub use laws::{
+    division_law, dots_law, empty_log_law, grammar_law, lines_law, outbox_law, well_formed_law,
+};
 pub use notice_text::notice;
 pub use post_fault::PostFault;
 pub use poster::{Ended, Poster};

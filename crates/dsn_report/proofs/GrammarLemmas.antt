@@ -14,10 +14,16 @@ use Rattle.dsn_outcome.specs.Outcome.{Outcome, IsLegalOutcome, is_none_or}
 use Rattle.dsn_outcome.specs.Status.{is_status_code}
 use Rattle.dsn_outcome.specs.Text.{is_printable, is_address, is_mta_name, is_remark, is_envelope_id}
 use Rattle.dsn_report.proofs.DateText.{shown-append, shown-date}
+use Rattle.dsn_report.proofs.DivisionLemmas.{division_law}
+use Rattle.dsn_report.proofs.LinesLemmas.{delivery_status-legal}
+use Rattle.dsn_report.proofs.PieceLemmas.{has_line_bytes-legal, pieces-lines}
 use Rattle.dsn_report.proofs.PlainLemmas.{address-plain, mta-plain, remark-plain, envelope_id-plain, status-plain, host-plain}
 use Rattle.dsn_outcome.specs.Stamp.{date_text}
 use Rattle.dsn_report.specs.DeliveryStatus.{line_if_any, per_message_fields, per_recipient_fields, recipient_group, delivery_status}
-use Rattle.dsn_report.specs.Grammar.{Field, field_line, value_of, is_choice_of, IsMessageGroup, IsRecipientGroup, TellsOutcome, TellsMessage, EmptyLogLaw, ReportsOutcomes, per_message_names, per_recipient_names, has_plain_values, is_action_word}
+use Rattle.dsn_report.specs.Grammar.{Field, field_line, value_of, is_choice_of, IsMessageGroup, IsRecipientGroup, TellsOutcome, TellsMessage, EmptyLogLaw, ReportsOutcomes, delivery_status_in, per_message_names, per_recipient_names, has_plain_values, is_action_word}
+use Rattle.dsn_report.specs.Boundary.{boundary_of}
+use Rattle.dsn_report.specs.Multipart.{body_of, multipart_of, notice_parts, part_lines}
+use Rattle.dsn_report.specs.Notice.{notice_of}
 use Rattle.dsn_report.specs.WellFormed.{IsWellFormed}
 
 -- a field of this name and value
@@ -254,8 +260,19 @@ each-tells : (outcomes : List Outcome) → AllZip TellsOutcome outcomes (map rec
 each-tells [] = tt
 each-tells (outcome ∷ outcomes) = (group-tells outcome, each-tells outcomes)
 
+-- a mail program finds the delivery status in the notice's bytes
+status-found : (host : List ℕ) (letter : Letter) → IsWellFormed host letter
+    → delivery_status_in (multipart_of (boundary_of letter) (notice_of host letter)) ≡ Some (delivery_status host letter ++ [] ∷ [])
+unfolding notice_parts part_lines body_of
+status-found host letter formed =
+    let lines = part_lines (codes "Delivery report") (codes "message/delivery-status") (delivery_status host letter) in
+    let legal = has_line_bytes-legal (delivery_status host letter) (delivery_status-legal host letter formed) in
+    ap delivery_status_in (division_law host letter formed)
+    ∙ ap (λ pieces. Some (body_of pieces)) (pieces-lines lines legal)
+
 pub grammar_law : (host : List ℕ) (letter : Letter) → IsWellFormed host letter → ReportsOutcomes host letter
 grammar_law host letter formed = record {
+  found = status-found host letter formed;
   message = message_fields host letter;
   recipients = map recipient_fields letter.outcomes;
   grammar = record {

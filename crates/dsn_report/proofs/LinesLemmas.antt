@@ -273,6 +273,9 @@ module _ (host : List ℕ) (letter : Letter) (formed : IsWellFormed host letter)
 pub notice_lines-legal : (host : List ℕ) (letter : Letter) → IsWellFormed host letter → list_all is_legal_line (notice_lines host letter) ≡ true
 notice_lines-legal host letter formed = (notice-legal host letter formed).all
 
+pub delivery_status-legal : (host : List ℕ) (letter : Letter) → IsWellFormed host letter → list_all is_legal_line (delivery_status host letter) ≡ true
+delivery_status-legal host letter formed = (status-legal host letter formed).all
+
 pub lines_law : (host : List ℕ) (letter : Letter) → IsWellFormed host letter → HasLegalLines (notice_of host letter)
 unfolding notice_of
 lines_law host letter formed = record {

@@ -2,6 +2,7 @@
 use Rattle.std.proofs.Common.{◌≡◌, ℕ, List, [], ◌∷◌, ◌++◌, refl}
 use Rattle.std.specs.Prelude.{codes, Some, None}
 use Rattle.dsn_report.specs.Data.{data_after, message_lines, message_of, messages_in, messages_of}
+use Rattle.dsn_report.specs.Grammar.{delivery_status_in}
 use Rattle.dsn_report.specs.Lines.{pieces_more, pieces_of_text, text_of_lines, text_of_pieces}
 use Rattle.dsn_report.specs.Multipart.{body_of, divide, divide_more, multipart_of}
 
@@ -46,3 +47,17 @@ two_messages :
     (codes ".x" ++ crlf ++ codes "DATA" ++ crlf) ∷ [] ∷ []
 unfolding messages_of messages_in pieces_of_text pieces_more text_of_lines
 two_messages = refl
+
+-- the second part's body begins after its first empty line, and has empty lines of its own
+status_found :
+    delivery_status_in (multipart_of (codes "B") (crlf ++ codes "--B" ++ crlf ++ crlf ++ codes "one" ++ crlf ++ codes "--B" ++ crlf ++ codes "T: x" ++ crlf ++ crlf
+    ++ codes "M: m" ++ crlf ++ crlf ++ codes "R: r" ++ crlf ++ crlf ++ codes "--B--" ++ crlf)) ≡
+    Some (codes "M: m" ∷ [] ∷ codes "R: r" ∷ [] ∷ [])
+unfolding multipart_of divide divide_more body_of pieces_of_text pieces_more text_of_pieces
+status_found = refl
+
+-- one part alone is no report
+no_second :
+    delivery_status_in (multipart_of (codes "B") (crlf ++ codes "--B" ++ crlf ++ crlf ++ codes "one" ++ crlf ++ codes "--B--" ++ crlf)) ≡ None
+unfolding multipart_of divide divide_more body_of pieces_of_text pieces_more text_of_pieces
+no_second = refl

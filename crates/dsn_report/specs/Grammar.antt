@@ -8,7 +8,11 @@ use Rattle.dsn_outcome.specs.Outcome.{Outcome}
 use Rattle.dsn_outcome.specs.Stamp.{date_text}
 use Rattle.dsn_outcome.specs.Status.{is_status_code}
 use Rattle.dsn_outcome.specs.Text.{is_printable}
+use Rattle.dsn_report.specs.Boundary.{boundary_of}
 use Rattle.dsn_report.specs.DeliveryStatus.{delivery_status}
+use Rattle.dsn_report.specs.Lines.{pieces_of_text}
+use Rattle.dsn_report.specs.Multipart.{Multipart, body_of, multipart_of}
+use Rattle.dsn_report.specs.Notice.{notice_of}
 
 -- a field: a name and a value
 pub record Field : Type 0 where
@@ -89,8 +93,21 @@ pub record TellsMessage (host : List ℕ) (letter : Letter) (fields : List Field
   pub reporter : value_of (codes "Reporting-MTA") fields ≡ Some (codes "dns; " ++ host)
   pub arrival : value_of (codes "Arrival-Date") fields ≡ Some (date_text letter.draft.arrival)
 
--- the second part of a notice meets the grammar, with one group for each outcome, in log order
+-- the second of some texts, if there are two
+abbrev pub second_of : List (List ℕ) → Option (List ℕ)
+second_of [] = None
+second_of (first ∷ []) = None
+second_of (first ∷ second ∷ rest) = Some second
+
+-- the delivery status that a mail program finds in a report: the pieces of its second part's body (RFC 6522 section
+-- 3), of which the last is what stands after the last line's end
+abbrev pub delivery_status_in : Multipart → Option (List (List ℕ))
+delivery_status_in report = option_map (λ part. body_of (pieces_of_text part)) (second_of report.parts)
+
+-- in the second part of a notice's bytes there are lines, each of them ended, that meet the grammar, with one group for
+-- each outcome, in log order
 pub record ReportsOutcomes (host : List ℕ) (letter : Letter) : Type 0 where
+  pub found : delivery_status_in (multipart_of (boundary_of letter) (notice_of host letter)) ≡ Some (delivery_status host letter ++ [] ∷ [])
   pub message : List Field
   pub recipients : List (List Field)
   pub grammar : IsDeliveryStatus (delivery_status host letter) message recipients

@@ -37,7 +37,8 @@ pub fn division_law(site: &Site, letter: &Letter)
     well_formed_law(site, letter);
 }
 
-/// The second part of a notice is a delivery status, with one group for each outcome.
+/// The second part of a notice, as a mail program finds it in the bytes, is a delivery status, with
+/// one group for each outcome.
 pub fn grammar_law(site: &Site, letter: &Letter)
     ensures { ReportsOutcomes site.now letter.now }
 {

@@ -97,7 +97,8 @@ bench: $(NOTICED)
 install: $(NOTICED)
 	@install -D -m 755 $(NOTICED) "$(DESTDIR)$(PREFIX)/bin/noticed"
 	install -D -m 644 docs/noticed.8 "$(DESTDIR)$(PREFIX)/share/man/man8/noticed.8"
-	echo "installed $(DESTDIR)$(PREFIX)/bin/noticed and its manual page"
+	install -D -m 644 docs/FORMATS.md "$(DESTDIR)$(PREFIX)/share/doc/noticed/FORMATS.md"
+	echo "installed $(DESTDIR)$(PREFIX)/bin/noticed, its manual page and FORMATS.md"
 
 # Removes what was built and what the prover kept: the next build proves everything again.
 clean:

@@ -1,15 +1,13 @@
 -- Whole inputs: a session over frames that are requests in turn answers them, and its reading ends at none of them.
-use Rattle.std.proofs.Common.{◌≡◌, ℕ, suc, ◌+◌, ◌<◌, ◌≤◌, Bool, false, true, List, [], ◌∷◌, ◌++◌, length, take, drop, refl, ap, sym, subst, ◌∙◌, append_assoc, arith}
+use Rattle.std.proofs.Common.{◌≡◌, ℕ, suc, ◌+◌, ◌<◌, ◌≤◌, Bool, false, true, List, [], ◌∷◌, ◌++◌, length, take, refl, ap, sym, subst, ◌∙◌, append_assoc, arith}
 use Rattle.std.specs.Prelude.{Option, Some, None, unwrap_or, if◌then◌else◌}
-use Rattle.std.specs.Int.{w32, to_be_bytes}
 use Rattle.std.specs.Io.KnownBytes.{Consumes}
 use Rattle.std.specs.List.{flat_map, AllByRecursion}
-use Rattle.std.proofs.lemmas.List.{append-nil, length-append, take_at, drop_at}
+use Rattle.std.proofs.lemmas.List.{append-nil, length-append}
 use Rattle.std.proofs.lemmas.List.Concat.{flat_map-cons}
-use Rattle.dsn_frame.proofs.FrameLaws.{declared}
 use Rattle.dsn_frame.proofs.InputLaws.{front_length, same_front, none_ends, one_reading}
 use Rattle.dsn_frame.proofs.RequestLaws.{encodes_one, encoded_is_accepted}
-use Rattle.dsn_frame.specs.Frame.{frame, declared_length, AreFramesOf, FramesEnd, ReadsNone}
+use Rattle.dsn_frame.specs.Frame.{frame, AreFramesOf, FramesEnd, ReadsNone}
 use Rattle.dsn_frame.specs.FrameBody.{IsFrameBody}
 use Rattle.dsn_frame.specs.FrameFault.{frame_fault_code}
 use Rattle.dsn_frame.specs.Request.{Encodes}

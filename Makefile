@@ -13,7 +13,7 @@ SHELL := /bin/sh
 .SHELLFLAGS := -euc
 .ONESHELL:
 .DELETE_ON_ERROR:
-.PHONY: all build demo check bench install clean
+.PHONY: all build demo check edits bench install clean
 
 all: build
 
@@ -89,6 +89,10 @@ check:
 	fi
 	echo "the gate and every script of tests/ passed"
 	echo "$$verdict"
+
+# Which functions the wrong edits change that the gate must see refused.
+edits:
+	@PYTHONDONTWRITEBYTECODE=1 python3 tests/support/edits.py
 
 # Measures the program on workloads made from a seed; not part of `make check`.
 bench: $(NOTICED)

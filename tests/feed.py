@@ -1,0 +1,145 @@
+#!/usr/bin/env python3
+"""Checks examples/feed.py: it hands each notice of an outbox to a mail server, one at a time, and leaves out what is
+refused; or to a submission program. The server is a small one of this script's own, and the outbox is the built
+program's."""
+import socket
+import subprocess
+import sys
+import tempfile
+import threading
+from pathlib import Path
+
+sys.path.insert(0, str(Path(__file__).parent / "support"))
+from running import EXAMPLES, LIMIT, Checks, batch, frames_module  # noqa: E402
+
+FEED = [sys.executable, str(EXAMPLES / "feed.py")]
+MESSAGES = 6
+
+frames = frames_module()
+
+
+def outbox_of(messages: int) -> bytes:
+    """An outbox of so many notices, each for a sender of its own; returned headers have lines that begin with a dot."""
+    made = b""
+    for at in range(messages):
+        made += frames.append(2 * at, 1, b"K%d" % at, b"bob@example.org", 1, b"5.1.1")
+        made += frames.flush(2 * at + 1, 1, b"K%d" % at, return_path=b"sender%d@example.com" % at, header=b".dots\n..\n.\n")
+    return batch(made).outbox
+
+
+def messages_of(outbox: bytes) -> list:
+    """The messages of an outbox as a receiver has them (RFC 5321 section 4.5.2)."""
+    parts = outbox.split(b"\r\nDATA\r\n")[1:]
+    lines = [part[: part.index(b"\r\n.\r\n")].split(b"\r\n") for part in parts]
+    return [b"".join(line.removeprefix(b".") + b"\r\n" for line in it) for it in lines]
+
+
+class MailServer:
+    """A mail server that takes connections until it is closed: it refuses each recipient of a set, hangs up after so
+    many messages, and keeps what it was told and given."""
+
+    def __init__(self, refused=(), hangs_up_after=None):
+        self.refused, self.hangs_up_after = refused, hangs_up_after
+        self.taken, self.commands = [], []
+        self.listener = socket.create_server(("127.0.0.1", 0))
+        self.address = "127.0.0.1:%d" % self.listener.getsockname()[1]
+        threading.Thread(target=self.accept, daemon=True).start()
+
+    def accept(self):
+        while True:
+            try:
+                connection, _ = self.listener.accept()
+            except OSError:
+                return
+            with connection, connection.makefile("rwb") as stream:
+                self.serve(stream)
+
+    def serve(self, stream):
+        """One connection: a reply to each command before the next is read."""
+        recipient, given = b"", 0
+        self.say(stream, b"220 test")
+        while line := stream.readline():
+            command = line.strip()
+            self.commands.append(command)
+            if command.upper().startswith(b"RCPT TO:<"):
+                recipient = command[9:-1]
+                self.say(stream, b"550 5.1.1 no such user" if recipient in self.refused else b"250 ok")
+            elif command.upper() == b"DATA":
+                self.say(stream, b"354 go on")
+                text = b"".join(iter(stream.readline, b".\r\n"))
+                lines = text.split(b"\r\n")[:-1]
+                self.taken.append((recipient, b"".join(it.removeprefix(b".") + b"\r\n" for it in lines)))
+                given += 1
+                self.say(stream, b"250 taken")
+                if given == self.hangs_up_after:
+                    return
+            else:
+                self.say(stream, b"221 bye" if command.upper() == b"QUIT" else b"250 ok")
+
+    @staticmethod
+    def say(stream, reply: bytes):
+        stream.write(reply + b"\r\n")
+        stream.flush()
+
+
+def feed(words, outbox: bytes):
+    """Runs the feeder on an outbox: its status and what it says."""
+    ran = subprocess.run([*FEED, *words], input=outbox, capture_output=True, timeout=LIMIT, check=False)
+    return ran.returncode, ran.stderr.decode().splitlines()
+
+
+def servers(checks: Checks, outbox: bytes):
+    """All notices are taken; every second is refused; the server hangs up after each."""
+    wanted = [(b"sender%d@example.com" % at, it) for at, it in enumerate(messages_of(outbox))]
+    for about, server in (("a server", MailServer()), ("one that hangs up", MailServer(hangs_up_after=1))):
+        checks.equal(f"{about}: end", feed([server.address], outbox), (0, [f"{MESSAGES} handed in, 0 left out"]))
+        checks.true(f"{about}: what it was given", server.taken == wanted)
+        senders = [it.upper() for it in server.commands if it.upper().startswith(b"MAIL")]
+        checks.true(f"{about}: the null sender", len(senders) >= MESSAGES and all(it.startswith(b"MAIL FROM:<>") for it in senders))
+    refused = {to for to, _ in wanted[1::2]}
+    server = MailServer(refused)
+    status, said = feed([server.address], outbox)
+    checks.true("every second recipient refused: what is taken", server.taken == wanted[::2])
+    checks.equal("its status and end", (status, said[-1:]), (1, ["3 handed in, 3 left out"]))
+    checks.equal("the keys left out", [it.split(":")[0] for it in said[:-1]], [f"left out B K{at}" for at in (1, 3, 5)])
+    status, said = feed(["127.0.0.1:1"], outbox)
+    checks.equal("no server", (status, said[-1:]), (1, [f"0 handed in, {MESSAGES} left out"]))
+
+
+def programs(checks: Checks, outbox: bytes):
+    """A submission program is run once for each notice; one that fails is said."""
+    with tempfile.TemporaryDirectory() as room:
+        program = Path(room) / "submit"
+        program.write_text(f'#!/bin/sh\nfor last; do :; done\necho "$@" >> {room}/arguments\ncat > {room}/$last\ncase $last in *3*) exit 75 ;; esac\n')
+        program.chmod(0o755)
+        status, said = feed([str(program), "-i"], outbox)
+        checks.equal("a program: end", (status, said[-1:]), (1, ["5 handed in, 1 left out"]))
+        checks.true("the key left out", said[0].startswith("left out B K3: "))
+        checks.equal("its arguments", (Path(room) / "arguments").read_text().splitlines()[0], "-i -f <> -- sender0@example.com")
+        for at, message in enumerate(messages_of(outbox)):
+            checks.true("a message", (Path(room) / f"sender{at}@example.com").read_bytes() == message.replace(b"\r\n", b"\n"))
+
+
+def cut(checks: Checks, outbox: bytes):
+    """What an outbox that was cut short has whole is handed in, and the status says that it was cut."""
+    whole = messages_of(outbox)
+    ends = [outbox.index(b"\r\n.\r\n", at) + 5 for at in (0, outbox.index(b"K1."))]
+    for size, count in ((0, 0), (10, 0), (ends[0], 1), (ends[1] - 1, 1), (ends[1], 2), (len(outbox) - 1, MESSAGES)):
+        server = MailServer()
+        status, said = feed([server.address], outbox[:size])
+        checks.equal(f"{size} bytes of an outbox", (status, said), (1, ["the outbox was cut short", f"{count} handed in, 0 left out"]))
+        checks.true("what is taken", [it for _, it in server.taken] == whole[:count])
+
+
+def main():
+    checks = Checks("feed: each notice of an outbox goes to a mail server, and what is refused is left out")
+    outbox = outbox_of(MESSAGES)
+    servers(checks, outbox)
+    programs(checks, outbox)
+    cut(checks, outbox)
+    for words in ([], ["--help"]):
+        checks.equal(f"arguments {words}", feed(words, outbox)[0], 2)
+    checks.done()
+
+
+main()

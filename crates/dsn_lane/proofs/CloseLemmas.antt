@@ -12,7 +12,7 @@ use Rattle.dsn_outcome.specs.Agents.{from_agent}
 use Rattle.dsn_lane.proofs.AgentLemmas.{seam_mine}
 use Rattle.dsn_lane.proofs.EndLemmas.{fresh_one, fresh_past, length-fresh}
 use Rattle.dsn_lane.proofs.SumLemmas.{sum_below, sum_below-same, by_agents, all_one, sum_by-one}
-use Rattle.dsn_lane.specs.Ends.{Identity, End, Out, IsAccepted, IsReceiving, fresh, lane_of, out_of, sending_of, taking}
+use Rattle.dsn_lane.specs.Ends.{Identity, End, Out, IsAccepted, IsReceiving, capacity_of, fresh, lane_of, out_of, sending_of, taking}
 use Rattle.dsn_lane.specs.Lane.{back_from}
 use Rattle.dsn_lane.specs.Step.{Settles, after_join, known_after}
 use Rattle.dsn_lane.specs.declared.token.Sending.{Sending}
@@ -90,12 +90,12 @@ module _ {T : Type 0} where
 
   -- ---- all ends have come back
 
-  pub record IsWhole (agent number : T → ℕ) (known : Taking T) (waiting : List T) (first : ℕ) (ends : List (End T)) : Type 0 where
-    pub settled : Settles agent number known waiting
+  pub record IsWhole (agent number : T → ℕ) (capacity : ℕ) (known : Taking T) (waiting : List T) (first : ℕ) (ends : List (End T)) : Type 0 where
+    pub settled : Settles agent number capacity known waiting
     pub back : known.back ≡ fresh 0 first ++ map sending_of ends
     pub all : first + length ends ≡ known.made
 
-  module _ (agent number : T → ℕ) (known : Taking T) (waiting : List T) (first : ℕ) (ends : List (End T)) (whole : IsWhole agent number known waiting first ends) where
+  module _ (agent number : T → ℕ) (capacity : ℕ) (known : Taking T) (waiting : List T) (first : ℕ) (ends : List (End T)) (whole : IsWhole agent number capacity known waiting first ends) where
     abbrev accepted : List T
     accepted = known.taken ++ waiting
 
@@ -186,68 +186,71 @@ module _ {T : Type 0} where
 -- what the receiving end knows once it has taken these ends back
 unfoldable pub after_joins : {T : Type 0} → Token T → List (End T) → Token T
 after_joins token [] = token
-after_joins token (end ∷ ends) = after_joins (after_join token (Sends (sending_of end))) ends
+after_joins token (end ∷ ends) = after_joins (after_join token (Sends end.lane.capacity (sending_of end))) ends
 
-pub after_joins-takes : {T : Type 0} (known : Taking T) (ends : List (End T)) → after_joins (Takes known) ends ≡ Takes (known_after known (map sending_of ends))
+pub after_joins-takes : {T : Type 0} (capacity : ℕ) (known : Taking T) (ends : List (End T)) → after_joins (Takes capacity known) ends ≡ Takes capacity (known_after known (map sending_of ends))
 unfolding after_joins
-after_joins-takes {T} known [] = ap (λ (back : List (Sending T)). Takes (record { made = known.made; taken = known.taken; back = back })) (sym (append-nil known.back))
-after_joins-takes {T} known (end ∷ ends) =
-    after_joins-takes (known_after known (sending_of end ∷ [])) ends
-    ∙ ap (λ (back : List (Sending T)). Takes (record { made = known.made; taken = known.taken; back = back })) (append_assoc known.back (sending_of end ∷ []) (map sending_of ends))
+after_joins-takes {T} capacity known [] = ap (λ (back : List (Sending T)). Takes capacity (record { made = known.made; taken = known.taken; back = back })) (sym (append-nil known.back))
+after_joins-takes {T} capacity known (end ∷ ends) =
+    after_joins-takes capacity (known_after known (sending_of end ∷ [])) ends
+    ∙ ap (λ (back : List (Sending T)). Takes capacity (record { made = known.made; taken = known.taken; back = back })) (append_assoc known.back (sending_of end ∷ []) (map sending_of ends))
 
 empty : {A : Type 0} (items : List A) → length items ≡ 0 → items ≡ []
 empty [] none = refl
 empty (item ∷ items) none = absurd (omega arith)
 
 -- what the receiving end knows, with the last end taken back too
-pub all_joined : {T : Type 0} (old before own after : Token T) (ends left : List (End T)) (last : End T) (all : List (End T)) → old ≡ Takes (taking old) → after_joins before left ≡ after_joins old ends → length left ≡ 0 → own ≡ Sends (sending_of last) → after ≡ after_join before own → all ≡ ends ++ last ∷ [] → after ≡ Takes (known_after (taking old) (map sending_of all))
+pub all_joined : {T : Type 0} (capacity most : ℕ) (old before own after : Token T) (ends left : List (End T)) (last : End T) (all : List (End T)) → old ≡ Takes capacity (taking old) → after_joins before left ≡ after_joins old ends → length left ≡ 0 → own ≡ Sends most (sending_of last) → after ≡ after_join before own → all ≡ ends ++ last ∷ [] → after ≡ Takes capacity (known_after (taking old) (map sending_of all))
 unfolding after_joins
-all_joined {T} old before own after ends left last all is joined none own_is after_is all_is =
+all_joined {T} capacity most old before own after ends left last all is joined none own_is after_is all_is =
     let done : before ≡ after_joins old ends = ap (after_joins before) (sym (empty left none)) ∙ joined in
     let known : Taking T = taking old in
-    let then : before ≡ Takes (known_after known (map sending_of ends)) = done ∙ (ap (λ (it : Token T). after_joins it ends) is ∙ after_joins-takes known ends) in
+    let then : before ≡ Takes capacity (known_after known (map sending_of ends)) = done ∙ (ap (λ (it : Token T). after_joins it ends) is ∙ after_joins-takes capacity known ends) in
     let back : (known.back ++ map sending_of ends) ++ sending_of last ∷ [] ≡ known.back ++ map sending_of all =
     append_assoc known.back (map sending_of ends) (sending_of last ∷ [])
     ∙ ap (λ (es : List (Sending T)). known.back ++ es) (sym (map-append sending_of ends (last ∷ [])) ∙ ap (map sending_of) (sym all_is))
     in
-    after_is ∙ ((λ i. after_join (then i) (own_is i)) ∙ ap (λ (es : List (Sending T)). Takes (record { made = known.made; taken = known.taken; back = es })) back)
+    after_is ∙ ((λ i. after_join (then i) (own_is i)) ∙ ap (λ (es : List (Sending T)). Takes capacity (record { made = known.made; taken = known.taken; back = es })) back)
 
 -- what a lane has come to: what was taken, what waits, and that both together are what its ends sent
 pub record IsShut {T : Type 0} (agent number : T → ℕ) (ends : List (End T)) (out : Out T) (count sent : ℕ) : Type 0 where
   pub taken : count ≡ length out.taken
   pub below : count ≤ sent
   pub total : count + (sent - count) ≡ sum_by (λ (end : End T). length end.sent) ends
+  pub capacity : sent - count ≤ out.lane.capacity
   pub prefix : All (λ (end : End T). IsPrefix (from_agent agent end.agent out.taken) end.sent) ends
   pub accepted : (waiting : List T) × (length waiting ≡ sent - count) × IsAccepted agent number ends (out.taken ++ waiting)
 
-shuts_at : {T : Type 0} (agent number : T → ℕ) (known : Taking T) (lane : Identity T) (ends : List (End T)) (taken sent : ℕ) (waiting : List T) → IsReceiving agent number known taken → Settles agent number (known_after known (map sending_of ends)) waiting → length known.back + length ends ≡ known.made → sent ≡ sum_by (λ (end : End T). length end.sent) ends → sent < 2 ^ 64 → IsShut agent number ends (record { lane = lane; first = length known.back; past = known.made; taken = known.taken }) taken sent
+shuts_at : {T : Type 0} (agent number : T → ℕ) (known : Taking T) (lane : Identity T) (ends : List (End T)) (taken sent : ℕ) (waiting : List T) → IsReceiving agent number known taken → Settles agent number lane.capacity (known_after known (map sending_of ends)) waiting → length known.back + length ends ≡ known.made → sent ≡ sum_by (λ (end : End T). length end.sent) ends → sent < 2 ^ 64 → IsShut agent number ends (record { lane = lane; first = length known.back; past = known.made; taken = known.taken }) taken sent
 shuts_at {T} agent number known lane ends taken sent waiting kept settled all total fits =
     let known' : Taking T = known_after known (map sending_of ends) in
     let first : ℕ = length known.back in
-    let whole : IsWhole agent number known' waiting first ends = record { settled = settled; back = ap (λ (es : List (Sending T)). es ++ map sending_of ends) kept.passed; all = all } in
-    let sum = accepted_sum agent number known' waiting first ends whole in
+    let whole : IsWhole agent number lane.capacity known' waiting first ends = record { settled = settled; back = ap (λ (es : List (Sending T)). es ++ map sending_of ends) kept.passed; all = all } in
+    let sum = accepted_sum agent number lane.capacity known' waiting first ends whole in
     let exact : length known.taken % 2 ^ 64 ≡ length known.taken = mod-eq_of_lt (omega arith) in
     let counted = kept.counted in
+    let within = settled.within in
     record {
       taken = counted ∙ exact;
       below = omega arith;
       total = omega arith;
-      prefix = taken_prefix agent number known' waiting first ends whole;
-      accepted = (waiting, omega arith, accepted_whole agent number known' waiting first ends whole);
+      capacity = omega arith;
+      prefix = taken_prefix agent number lane.capacity known' waiting first ends whole;
+      accepted = (waiting, omega arith, accepted_whole agent number lane.capacity known' waiting first ends whole);
     }
 
-pub shuts : {T : Type 0} (agent number : T → ℕ) (pass : Pass T (Token T)) (out : Out T) (ends : List (End T)) (taken sent : ℕ) → IsReceiving agent number (taking (view pass)) taken → (waiting : List T) × Settles agent number (known_after (taking (view pass)) (map sending_of ends)) waiting → out_of pass ≡ out → out.first + length ends ≡ out.past → sent ≡ sum_by (λ (end : End T). length end.sent) ends → sent < 2 ^ 64 → IsShut agent number ends out taken sent
+pub shuts : {T : Type 0} (agent number : T → ℕ) (pass : Pass T (Token T)) (out : Out T) (ends : List (End T)) (taken sent : ℕ) → IsReceiving agent number (taking (view pass)) taken → (waiting : List T) × Settles agent number (capacity_of (view pass)) (known_after (taking (view pass)) (map sending_of ends)) waiting → out_of pass ≡ out → out.first + length ends ≡ out.past → sent ≡ sum_by (λ (end : End T). length end.sent) ends → sent < 2 ^ 64 → IsShut agent number ends out taken sent
 shuts {T} agent number pass out ends taken sent kept settled is all total fits =
     let all' : (out_of pass).first + length ends ≡ (out_of pass).past = subst (λ (o : Out T). o.first + length ends ≡ o.past) (sym is) all in
     subst (λ (o : Out T). IsShut agent number ends o taken sent) is (shuts_at agent number (taking (view pass)) (lane_of pass) ends taken sent settled.0 kept settled.1 all' total fits)
 
 -- one more end is taken back
-pub joined_takes : {T : Type 0} (old new : Token T) (end : Sending T) → old ≡ Takes (taking old) → new ≡ after_join old (Sends end) → new ≡ Takes (taking new)
-joined_takes {T} old new end is step =
-    let now : new ≡ Takes (known_after (taking old) (end ∷ [])) = step ∙ ap (λ (it : Token T). after_join it (Sends end)) is in
-    subst (λ (it : Token T). it ≡ Takes (taking it)) (sym now) refl
+pub joined_takes : {T : Type 0} (capacity most : ℕ) (old new : Token T) (end : Sending T) → old ≡ Takes capacity (taking old) → new ≡ after_join old (Sends most end) → new ≡ Takes capacity (taking new)
+joined_takes {T} capacity most old new end is step =
+    let now : new ≡ Takes capacity (known_after (taking old) (end ∷ [])) = step ∙ ap (λ (it : Token T). after_join it (Sends most end)) is in
+    subst (λ (it : Token T). it ≡ Takes capacity (taking it)) (sym now) refl
 
-pub joined_more : {T : Type 0} (old new start : Token T) (end : End T) (left rest all : List (End T)) → new ≡ after_join old (Sends (sending_of end)) → left ≡ end ∷ rest → after_joins old left ≡ after_joins start all → after_joins new rest ≡ after_joins start all
+pub joined_more : {T : Type 0} (old new start : Token T) (end : End T) (left rest all : List (End T)) → new ≡ after_join old (Sends end.lane.capacity (sending_of end)) → left ≡ end ∷ rest → after_joins old left ≡ after_joins start all → after_joins new rest ≡ after_joins start all
 unfolding after_joins
 joined_more {T} old new start end left rest all step left_is before =
     ap (λ (it : Token T). after_joins it rest) step ∙ (sym (ap (after_joins old) left_is) ∙ before)

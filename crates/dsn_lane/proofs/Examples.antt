@@ -1,5 +1,5 @@
 -- Lanes: two worked examples of the rule, on items that are pairs of an agent and a number.
-use Rattle.std.proofs.Common.{◌≡◌, ℕ, zero, suc, List, [], ◌∷◌, ◌++◌, ◌==◌, false, ◌≤◌, refl, sym, ap, ◌∙◌, subst, inl, ne_eqb, arith}
+use Rattle.std.proofs.Common.{◌≡◌, ℕ, zero, suc, List, [], ◌∷◌, ◌++◌, ◌==◌, false, ◌≤◌, length, refl, sym, ap, ◌∙◌, subst, inl, ne_eqb, arith}
 use Rattle.std.specs.List.{slice_get}
 use mathlib.Core.Option.{some, some-injective, some-ne-none}
 use lib.ListN.{get_elem?}
@@ -22,7 +22,7 @@ number item = item.1
 abbrev item : ℕ → ℕ → Item
 item a n = (a, n)
 
--- two agents sent the items (0, 0), (1, 0), (0, 1) in this order, and the first was taken
+-- over a lane for two items, two agents sent (0, 0), (1, 0), (0, 1) in this order, and the first was taken
 abbrev sent : ℕ → List Item
 sent zero = item 0 0 ∷ item 0 1 ∷ []
 sent (suc zero) = item 1 0 ∷ []
@@ -32,7 +32,7 @@ abbrev receiver : Taking Item
 receiver = record { made = 2; taken = item 0 0 ∷ []; back = [] }
 
 abbrev tokens : List (Token Item)
-tokens = Takes receiver ∷ Sends (record { agent = 0; sent = sent 0 }) ∷ Sends (record { agent = 1; sent = sent 1 }) ∷ []
+tokens = Takes 2 receiver ∷ Sends 2 (record { agent = 0; sent = sent 0 }) ∷ Sends 2 (record { agent = 1; sent = sent 1 }) ∷ []
 
 abbrev waiting : List Item
 waiting = item 1 0 ∷ item 0 1 ∷ []
@@ -59,27 +59,33 @@ others zero past = absurd (omega arith)
 others (suc zero) past = absurd (omega arith)
 others (suc (suc a)) past = (refl, refl)
 
-passes : (pass : ℕ) (token : Token Item) → get_elem? tokens pass ≡ some token → Knows receiver 0 sent suc pass token
-passes zero token at = subst (λ (it : Token Item). Knows receiver 0 sent suc 0 it) (some-injective (Takes receiver) token at) (refl, refl)
+passes : (pass : ℕ) (token : Token Item) → get_elem? tokens pass ≡ some token → Knows 2 receiver 0 sent suc pass token
+passes zero token at = subst (λ (it : Token Item). Knows 2 receiver 0 sent suc 0 it) (some-injective (Takes 2 receiver) token at) (refl, refl, refl)
 passes (suc zero) token at =
-    subst (λ (it : Token Item). Knows receiver 0 sent suc 1 it) (some-injective (Sends (record { agent = 0; sent = sent 0 })) token at) (refl, refl, omega arith, refl)
+    subst (λ (it : Token Item). Knows 2 receiver 0 sent suc 1 it) (some-injective (Sends 2 (record { agent = 0; sent = sent 0 })) token at) (refl, refl, refl, omega arith, refl)
 passes (suc (suc zero)) token at =
-    subst (λ (it : Token Item). Knows receiver 0 sent suc 2 it) (some-injective (Sends (record { agent = 1; sent = sent 1 })) token at) (refl, refl, omega arith, refl)
+    subst (λ (it : Token Item). Knows 2 receiver 0 sent suc 2 it) (some-injective (Sends 2 (record { agent = 1; sent = sent 1 })) token at) (refl, refl, refl, omega arith, refl)
 passes (suc (suc (suc pass))) token at = absurd (some-ne-none token (sym at))
 
 -- such a lane meets the rule
 pub a_lane : IsLane agent number waiting tokens
 a_lane = record {
+  capacity = 2;
   receiver = receiver;
   reader = 0;
   sent = sent;
   seat = suc;
+  within = omega arith;
   accepted = accepted;
   numbered = numbered;
   others = others;
   back = λ a. inl refl;
   passes = passes;
 }
+
+-- no lane for one item holds two, whatever its ends know
+pub no_lane_overfull : (items : List Item) (ends : List (Token Item)) (lane : IsLane agent number (item 0 0 ∷ item 0 1 ∷ items) ends) → lane.capacity ≡ 1 → ⊥
+no_lane_overfull items ends lane one = let within : suc (suc (length items)) ≤ lane.capacity = lane.within in omega arith
 
 one_is_not_zero : (one : ℕ) → one ≡ 1 → one ≡ 0 → ⊥
 one_is_not_zero one is not = omega arith

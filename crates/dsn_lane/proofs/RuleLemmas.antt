@@ -1,5 +1,5 @@
 -- The rule: each step on a lane keeps it, and what a step tells is so.
-use Rattle.std.proofs.Common.{◌≡◌, ◌≢◌, ◌⊎◌, ℕ, zero, suc, ◌<◌, ◌==◌, cond, List, [], ◌∷◌, ◌++◌, length, set, refl, ap, sym, ◌∙◌, subst, inl, inr, ⊎_elim, eq-eqb, ne_eqb, append_assoc, lt_of_not-le, le_refl, arith}
+use Rattle.std.proofs.Common.{◌≡◌, ◌≢◌, ◌⊎◌, ℕ, zero, suc, ◌<◌, ◌≤◌, ◌==◌, cond, List, [], ◌∷◌, ◌++◌, length, set, refl, ap, sym, ◌∙◌, subst, inl, inr, ⊎_elim, eq-eqb, ne_eqb, append_assoc, length-append, lt_of_not-le, le_refl, arith}
 use Rattle.std.specs.Prelude.{Some}
 use Rattle.std.specs.List.{slice_get}
 use Rattle.std.proofs.lemmas.List.{append-nil}
@@ -11,7 +11,7 @@ use Rattle.crossbeam_channel.specs.Fifo.{Pushes, Pops, Forks, Merges, Learns}
 use Rattle.dsn_outcome.specs.Agents.{from_agent}
 use Rattle.dsn_lane.proofs.AgentLemmas.{get_seam, mine, not_mine, more, more_mine, more_not_mine, seam_mine, numbered_more, numbered_none}
 use Rattle.dsn_lane.specs.Lane.{IsLane, IsNumbered, Knows, back_from}
-use Rattle.dsn_lane.specs.Step.{opened, after_split, split_off, after_send, after_take, after_join, known_after, IsNext, Settles, IsSettled}
+use Rattle.dsn_lane.specs.Step.{opened, after_room, after_split, split_off, after_send, after_take, after_join, known_after, IsNext, Settles, IsSettled}
 use Rattle.dsn_lane.specs.declared.token.Sending.{Sending}
 use Rattle.dsn_lane.specs.declared.token.Taking.{Taking}
 use Rattle.dsn_lane.specs.declared.token.Token.{Token}
@@ -52,16 +52,18 @@ nil≢cons e = cc
 module _ {T : Type 0} (agent number : T → ℕ) where
   -- ---- making the lane
 
-  opened_passes : (pass : ℕ) (token : Token T) → get_elem? (opened {T = T} ∷ []) pass ≡ some token → Knows (record { made = 0; taken = []; back = [] }) 0 (λ a. []) (λ a. 0) pass token
-  opened_passes zero token at = subst (λ (it : Token T). Knows (record { made = 0; taken = []; back = [] }) 0 (λ a. []) (λ a. 0) 0 it) (some-injective (opened {T = T}) token at) (refl, refl)
+  opened_passes : (pass : ℕ) (token : Token T) → get_elem? (opened {T = T} ∷ []) pass ≡ some token → Knows 0 (record { made = 0; taken = []; back = [] }) 0 (λ a. []) (λ a. 0) pass token
+  opened_passes zero token at = subst (λ (it : Token T). Knows 0 (record { made = 0; taken = []; back = [] }) 0 (λ a. []) (λ a. 0) 0 it) (some-injective (opened {T = T}) token at) (refl, refl, refl)
   opened_passes (suc pass) token at = absurd (some-ne-none token (sym at))
 
   pub opens : IsLane agent number [] (opened ∷ [])
   opens = record {
+    capacity = 0;
     receiver = record { made = 0; taken = []; back = [] };
     reader = 0;
     sent = λ a. [];
     seat = λ a. 0;
+    within = omega arith;
     accepted = λ a. refl;
     numbered = λ a. numbered_none number;
     others = λ a past. (refl, refl);
@@ -78,23 +80,27 @@ module _ {T : Type 0} (agent number : T → ℕ) where
   sent_grows : (sent : ℕ → List T) (item : T) (a : ℕ) → agent item ≡ a → sent a ++ from_agent agent a (item ∷ []) ≡ sent a ++ item ∷ []
   sent_grows sent item a same = ap (λ (last : List T). sent a ++ last) (mine agent a item same)
 
-  send_knows : (receiver : Taking T) (reader : ℕ) (sent : ℕ → List T) (seat : ℕ → ℕ) (item : T) (pass p : ℕ) (token : Token T) → seat (agent item) ≡ pass → p ≢ pass → Knows receiver reader sent seat p token → Knows receiver reader (λ a. sent a ++ from_agent agent a (item ∷ [])) seat p token
-  send_knows receiver reader sent seat item pass p (Sends end) at other knows = (knows.0, sent_stays sent item end.agent (λ same. other (sym knows.0 ∙ (ap seat (sym same) ∙ at))) ∙ knows.1, knows.2, knows.3)
-  send_knows receiver reader sent seat item pass p (Takes known) at other knows = knows
-  send_knows receiver reader sent seat item pass p Spent at other knows = tt
+  send_knows : (capacity : ℕ) (receiver : Taking T) (reader : ℕ) (sent : ℕ → List T) (seat : ℕ → ℕ) (item : T) (pass p : ℕ) (token : Token T) → seat (agent item) ≡ pass → p ≢ pass → Knows capacity receiver reader sent seat p token → Knows capacity receiver reader (λ a. sent a ++ from_agent agent a (item ∷ [])) seat p token
+  send_knows capacity receiver reader sent seat item pass p (Sends most end) at other knows =
+      (knows.0, knows.1, sent_stays sent item end.agent (λ same. other (sym knows.1 ∙ (ap seat (sym same) ∙ at))) ∙ knows.2, knows.3, knows.4)
+  send_knows capacity receiver reader sent seat item pass p (Takes most known) at other knows = knows
+  send_knows capacity receiver reader sent seat item pass p Spent at other knows = tt
 
-  sends_at : (n pass : ℕ) (end : Sending T) (item : T) → agent item ≡ end.agent → number item ≡ length end.sent → Pushes (IsLane agent number) n pass (Sends end) item (λ w. w ≡ after_send (Sends end) item)
+  sends_at : (n pass : ℕ) (end : Sending T) (item : T) → agent item ≡ end.agent → number item ≡ length end.sent → Pushes (IsLane agent number) n pass (Sends n end) item (λ w. w ≡ after_send (Sends n end) item)
   sends_at n pass end item is next waiting tokens room h at =
-      let own = h.passes pass (Sends end) at in
+      let own = h.passes pass (Sends n end) at in
+      let most : n ≡ h.capacity = own.0 in
       let sent' : ℕ → List T = λ a. h.sent a ++ from_agent agent a (item ∷ []) in
-      let seat : h.seat (agent item) ≡ pass = ap h.seat is ∙ own.0 in
-      let grown : h.sent (agent item) ≡ end.sent = ap h.sent is ∙ own.1 in (
-        after_send (Sends end) item,
+      let seat : h.seat (agent item) ≡ pass = ap h.seat is ∙ own.1 in
+      let grown : h.sent (agent item) ≡ end.sent = ap h.sent is ∙ own.2 in (
+        after_send (Sends n end) item,
         record {
+          capacity = h.capacity;
           receiver = h.receiver;
           reader = h.reader;
           sent = sent';
           seat = h.seat;
+          within = omega (arith, length-append waiting (item ∷ []));
           accepted = λ a.
               ap (from_agent agent a) (sym (append_assoc h.receiver.taken waiting (item ∷ [])))
               ∙ (more agent a (h.receiver.taken ++ waiting) item ∙ ap (λ (front : List T). front ++ from_agent agent a (item ∷ [])) (h.accepted a));
@@ -104,34 +110,34 @@ module _ {T : Type 0} (agent number : T → ℕ) where
                 | no other ↦ subst (IsNumbered number) (sym (sent_stays h.sent item a other)) (h.numbered a)
               ];
           others = λ a past.
-              (sent_stays h.sent item a (λ same. let below : end.agent < h.receiver.made = own.2 in absurd (omega arith)) ∙ (h.others a past).0, (h.others a past).1);
+              (sent_stays h.sent item a (λ same. let below : end.agent < h.receiver.made = own.3 in absurd (omega arith)) ∙ (h.others a past).0, (h.others a past).1);
           back = λ a.
               elim (ℕ_discrete (agent item) a) [
-                | yes same ↦ inl (ap (λ (b : ℕ). back_from b h.receiver) (sym same ∙ is) ∙ own.3)
+                | yes same ↦ inl (ap (λ (b : ℕ). back_from b h.receiver) (sym same ∙ is) ∙ own.4)
                 | no other ↦ elim (h.back a) [
                   | inl none ↦ inl none
                   | inr one ↦ inr (one ∙ ap (λ (items : List T). record { agent = a; sent = items } ∷ []) (sym (sent_stays h.sent item a other)))
                 ]
               ];
           passes =
-              all_set (Knows h.receiver h.reader sent' h.seat) tokens pass (after_send (Sends end) item)
-              (own.0, sent_grows h.sent item end.agent is ∙ ap (λ (front : List T). front ++ item ∷ []) own.1, own.2, own.3)
-              (λ p token other there. send_knows h.receiver h.reader h.sent h.seat item pass p token seat other (h.passes p token there));
+              all_set (Knows h.capacity h.receiver h.reader sent' h.seat) tokens pass (after_send (Sends n end) item)
+              (own.0, own.1, sent_grows h.sent item end.agent is ∙ ap (λ (front : List T). front ++ item ∷ []) own.2, own.3, own.4)
+              (λ p token other there. send_knows h.capacity h.receiver h.reader h.sent h.seat item pass p token seat other (h.passes p token there));
         },
         refl,
       )
 
-  pub sends : (n pass : ℕ) (token : Token T) (end : Sending T) (item : T) → token ≡ Sends end → agent item ≡ end.agent → number item ≡ length end.sent → Pushes (IsLane agent number) n pass token item (λ w. w ≡ after_send token item)
+  pub sends : (n pass : ℕ) (token : Token T) (end : Sending T) (item : T) → token ≡ Sends n end → agent item ≡ end.agent → number item ≡ length end.sent → Pushes (IsLane agent number) n pass token item (λ w. w ≡ after_send token item)
   sends n pass token end item is own next =
       subst (λ (it : Token T). Pushes (IsLane agent number) n pass it item (λ w. w ≡ after_send it item)) (sym is) (sends_at n pass end item own next)
 
   -- ---- a receive that takes
 
-  take_knows : (receiver after : Taking T) (reader : ℕ) (sent : ℕ → List T) (seat : ℕ → ℕ) (pass p : ℕ) (token : Token T) → after.made ≡ receiver.made → after.back ≡ receiver.back → reader ≡ pass → p ≢ pass → Knows receiver reader sent seat p token → Knows after reader sent seat p token
-  take_knows receiver after reader sent seat pass p (Sends end) made back reads other knows =
-      (knows.0, knows.1, subst (λ (n : ℕ). end.agent < n) (sym made) knows.2, ap (λ (ends : List (Sending T)). from_agent (λ (e : Sending T). e.agent) end.agent ends) back ∙ knows.3)
-  take_knows receiver after reader sent seat pass p (Takes known) made back reads other knows = absurd (other (sym knows.0 ∙ reads))
-  take_knows receiver after reader sent seat pass p Spent made back reads other knows = tt
+  take_knows : (capacity : ℕ) (receiver after : Taking T) (reader : ℕ) (sent : ℕ → List T) (seat : ℕ → ℕ) (pass p : ℕ) (token : Token T) → after.made ≡ receiver.made → after.back ≡ receiver.back → reader ≡ pass → p ≢ pass → Knows capacity receiver reader sent seat p token → Knows capacity after reader sent seat p token
+  take_knows capacity receiver after reader sent seat pass p (Sends most end) made back reads other knows =
+      (knows.0, knows.1, knows.2, subst (λ (n : ℕ). end.agent < n) (sym made) knows.3, ap (λ (ends : List (Sending T)). from_agent (λ (e : Sending T). e.agent) end.agent ends) back ∙ knows.4)
+  take_knows capacity receiver after reader sent seat pass p (Takes most known) made back reads other knows = absurd (other (sym knows.1 ∙ reads))
+  take_knows capacity receiver after reader sent seat pass p Spent made back reads other knows = tt
 
   -- an item that waits at the front was sent by its agent, behind what was taken of that agent
   front_sent : (waiting : List T) (tokens : List (Token T)) (item : T) (h : IsLane agent number (item ∷ waiting) tokens) → slice_get (h.sent (agent item)) (length (from_agent agent (agent item) h.receiver.taken)) ≡ Some item
@@ -145,7 +151,7 @@ module _ {T : Type 0} (agent number : T → ℕ) where
   not_there items place item at none =
       let gone : slice_get {X = T} [] place ≡ Some item = subst (λ (xs : List T). slice_get xs place ≡ Some item) none at in absurd cc
 
-  is_next : (waiting : List T) (tokens : List (Token T)) (item : T) (h : IsLane agent number (item ∷ waiting) tokens) → IsNext agent number (Takes h.receiver) item
+  is_next : (waiting : List T) (tokens : List (Token T)) (item : T) (h : IsLane agent number (item ∷ waiting) tokens) → IsNext agent number (Takes h.capacity h.receiver) item
   is_next waiting tokens item h =
       let a : ℕ = agent item in
       let at = front_sent waiting tokens item h in
@@ -158,31 +164,67 @@ module _ {T : Type 0} (agent number : T → ℕ) where
         ],
       )
 
-  takes_at : (pass : ℕ) (known : Taking T) → Pops (IsLane agent number) pass (Takes known) (λ item w. (w ≡ after_take (Takes known) item) × IsNext agent number (Takes known) item)
-  takes_at pass known item waiting tokens h at =
-      let own = h.passes pass (Takes known) at in
+  takes_at : (capacity pass : ℕ) (known : Taking T) → Pops (IsLane agent number) pass (Takes capacity known) (λ item w. (w ≡ after_take (Takes capacity known) item) × IsNext agent number (Takes capacity known) item)
+  takes_at capacity pass known item waiting tokens h at =
+      let own = h.passes pass (Takes capacity known) at in
+      let held : suc (length waiting) ≤ h.capacity = h.within in
       let receiver' : Taking T = record { made = h.receiver.made; taken = h.receiver.taken ++ item ∷ []; back = h.receiver.back } in (
-        after_take (Takes known) item,
+        after_take (Takes capacity known) item,
         record {
+          capacity = h.capacity;
           receiver = receiver';
           reader = h.reader;
           sent = h.sent;
           seat = h.seat;
+          within = omega arith;
           accepted = λ a. ap (from_agent agent a) (append_assoc h.receiver.taken (item ∷ []) waiting) ∙ h.accepted a;
           numbered = h.numbered;
           others = h.others;
           back = h.back;
           passes =
-              all_set (Knows receiver' h.reader h.sent h.seat) tokens pass (after_take (Takes known) item)
-              (own.0, ap (λ (it : Taking T). record { made = it.made; taken = it.taken ++ item ∷ []; back = it.back }) own.1)
-              (λ p token other there. take_knows h.receiver receiver' h.reader h.sent h.seat pass p token refl refl own.0 other (h.passes p token there));
+              all_set (Knows h.capacity receiver' h.reader h.sent h.seat) tokens pass (after_take (Takes capacity known) item)
+              (own.0, own.1, ap (λ (it : Taking T). record { made = it.made; taken = it.taken ++ item ∷ []; back = it.back }) own.2)
+              (λ p token other there. take_knows h.capacity h.receiver receiver' h.reader h.sent h.seat pass p token refl refl own.1 other (h.passes p token there));
         },
-        (refl, subst (λ (it : Taking T). IsNext agent number (Takes it) item) own.1 (is_next waiting tokens item h)),
+        (refl, subst (λ (it : Taking T). IsNext agent number (Takes capacity it) item) own.2 (is_next waiting tokens item h)),
       )
 
-  pub takes : (pass : ℕ) (token : Token T) (known : Taking T) → token ≡ Takes known → Pops (IsLane agent number) pass token (λ item w. (w ≡ after_take token item) × IsNext agent number token item)
-  takes pass token known is =
-      subst (λ (it : Token T). Pops (IsLane agent number) pass it (λ item w. (w ≡ after_take it item) × IsNext agent number it item)) (sym is) (takes_at pass known)
+  pub takes : (pass : ℕ) (token : Token T) (capacity : ℕ) (known : Taking T) → token ≡ Takes capacity known → Pops (IsLane agent number) pass token (λ item w. (w ≡ after_take token item) × IsNext agent number token item)
+  takes pass token capacity known is =
+      subst (λ (it : Token T). Pops (IsLane agent number) pass it (λ item w. (w ≡ after_take it item) × IsNext agent number it item)) (sym is) (takes_at capacity pass known)
+
+  -- ---- counting room
+
+  -- as long as no agent has an end, the receiving end's pass alone says how much room there is
+  room_knows : (capacity : ℕ) (receiver : Taking T) (reader : ℕ) (sent : ℕ → List T) (seat : ℕ → ℕ) (pass p : ℕ) (token : Token T) → receiver.made ≡ 0 → reader ≡ pass → p ≢ pass → Knows capacity receiver reader sent seat p token → Knows (suc capacity) receiver reader sent seat p token
+  room_knows capacity receiver reader sent seat pass p (Sends most end) none reads other knows = let below : end.agent < receiver.made = knows.3 in absurd (omega arith)
+  room_knows capacity receiver reader sent seat pass p (Takes most known) none reads other knows = absurd (other (sym knows.1 ∙ reads))
+  room_knows capacity receiver reader sent seat pass p Spent none reads other knows = tt
+
+  rooms_at : (capacity pass : ℕ) (known : Taking T) → known.made ≡ 0 → Forks (IsLane agent number) pass (Takes capacity known) (after_room (Takes capacity known)) Spent
+  rooms_at capacity pass known none waiting tokens h at =
+      let own = h.passes pass (Takes capacity known) at in
+      let held = h.within in
+      let made : h.receiver.made ≡ 0 = ap (λ (it : Taking T). it.made) own.2 ∙ none in record {
+        capacity = suc h.capacity;
+        receiver = h.receiver;
+        reader = h.reader;
+        sent = h.sent;
+        seat = h.seat;
+        within = omega arith;
+        accepted = h.accepted;
+        numbered = h.numbered;
+        others = h.others;
+        back = h.back;
+        passes =
+            all_last (Knows (suc h.capacity) h.receiver h.reader h.sent h.seat) (set tokens pass (after_room (Takes capacity known))) Spent
+            (all_set (Knows (suc h.capacity) h.receiver h.reader h.sent h.seat) tokens pass (after_room (Takes capacity known)) (ap suc own.0, own.1, own.2)
+            (λ p token other there. room_knows h.capacity h.receiver h.reader h.sent h.seat pass p token made own.1 other (h.passes p token there)))
+            tt;
+      }
+
+  pub rooms : (pass : ℕ) (token : Token T) (capacity : ℕ) (known : Taking T) → token ≡ Takes capacity known → known.made ≡ 0 → Forks (IsLane agent number) pass token (after_room token) Spent
+  rooms pass token capacity known is none = subst (λ (it : Token T). Forks (IsLane agent number) pass it (after_room it) Spent) (sym is) (rooms_at capacity pass known none)
 
   -- ---- splitting off an agent's pass
 
@@ -197,44 +239,46 @@ module _ {T : Type 0} (agent number : T → ℕ) where
   unfolding seat_after
   seat_old made pass seat a other = rw (ne_eqb a made other) refl
 
-  split_knows : (receiver : Taking T) (reader : ℕ) (sent : ℕ → List T) (seat : ℕ → ℕ) (new pass p : ℕ) (token : Token T) → reader ≡ pass → p ≢ pass → Knows receiver reader sent seat p token → Knows (record { made = suc receiver.made; taken = receiver.taken; back = receiver.back }) reader sent (seat_after receiver.made new seat) p token
-  split_knows receiver reader sent seat new pass p (Sends end) reads other knows =
-      let below : end.agent < receiver.made = knows.2 in
-      (seat_old receiver.made new seat end.agent (λ same. absurd (omega arith)) ∙ knows.0, knows.1, omega arith, knows.3)
-  split_knows receiver reader sent seat new pass p (Takes known) reads other knows = absurd (other (sym knows.0 ∙ reads))
-  split_knows receiver reader sent seat new pass p Spent reads other knows = tt
+  split_knows : (capacity : ℕ) (receiver : Taking T) (reader : ℕ) (sent : ℕ → List T) (seat : ℕ → ℕ) (new pass p : ℕ) (token : Token T) → reader ≡ pass → p ≢ pass → Knows capacity receiver reader sent seat p token → Knows capacity (record { made = suc receiver.made; taken = receiver.taken; back = receiver.back }) reader sent (seat_after receiver.made new seat) p token
+  split_knows capacity receiver reader sent seat new pass p (Sends most end) reads other knows =
+      let below : end.agent < receiver.made = knows.3 in
+      (knows.0, seat_old receiver.made new seat end.agent (λ same. absurd (omega arith)) ∙ knows.1, knows.2, omega arith, knows.4)
+  split_knows capacity receiver reader sent seat new pass p (Takes most known) reads other knows = absurd (other (sym knows.1 ∙ reads))
+  split_knows capacity receiver reader sent seat new pass p Spent reads other knows = tt
 
-  splits_at : (pass : ℕ) (known : Taking T) → Forks (IsLane agent number) pass (Takes known) (after_split (Takes known)) (split_off (Takes known))
-  splits_at pass known waiting tokens h at =
-      let own = h.passes pass (Takes known) at in
-      let tokens' : List (Token T) = set tokens pass (after_split (Takes known)) in
+  splits_at : (capacity pass : ℕ) (known : Taking T) → Forks (IsLane agent number) pass (Takes capacity known) (after_split (Takes capacity known)) (split_off (Takes capacity known))
+  splits_at capacity pass known waiting tokens h at =
+      let own = h.passes pass (Takes capacity known) at in
+      let tokens' : List (Token T) = set tokens pass (after_split (Takes capacity known)) in
       let new : ℕ = length tokens' in
       let receiver' : Taking T = record { made = suc h.receiver.made; taken = h.receiver.taken; back = h.receiver.back } in
       let seat' : ℕ → ℕ = seat_after h.receiver.made new h.seat in
-      let made : h.receiver.made ≡ known.made = ap (λ (it : Taking T). it.made) own.1 in
+      let made : h.receiver.made ≡ known.made = ap (λ (it : Taking T). it.made) own.2 in
       let fresh = h.others h.receiver.made (le_refl h.receiver.made) in
-      let knew : Knows receiver' h.reader h.sent seat' new (Sends (record { agent = h.receiver.made; sent = [] })) =
-      (seat_new h.receiver.made new h.seat, fresh.0, omega arith, fresh.1)
+      let knew : Knows h.capacity receiver' h.reader h.sent seat' new (Sends capacity (record { agent = h.receiver.made; sent = [] })) =
+      (own.0, seat_new h.receiver.made new h.seat, fresh.0, omega arith, fresh.1)
       in
       record {
+        capacity = h.capacity;
         receiver = receiver';
         reader = h.reader;
         sent = h.sent;
         seat = seat';
+        within = h.within;
         accepted = h.accepted;
         numbered = h.numbered;
         others = λ a past. h.others a (omega arith);
         back = h.back;
         passes =
-            all_last (Knows receiver' h.reader h.sent seat') tokens' (split_off (Takes known))
-            (all_set (Knows receiver' h.reader h.sent seat') tokens pass (after_split (Takes known))
-            (own.0, ap (λ (it : Taking T). record { made = suc it.made; taken = it.taken; back = it.back }) own.1)
-            (λ p token other there. split_knows h.receiver h.reader h.sent h.seat new pass p token own.0 other (h.passes p token there)))
-            (subst (λ (n : ℕ). Knows receiver' h.reader h.sent seat' new (Sends (record { agent = n; sent = [] }))) made knew);
+            all_last (Knows h.capacity receiver' h.reader h.sent seat') tokens' (split_off (Takes capacity known))
+            (all_set (Knows h.capacity receiver' h.reader h.sent seat') tokens pass (after_split (Takes capacity known))
+            (own.0, own.1, ap (λ (it : Taking T). record { made = suc it.made; taken = it.taken; back = it.back }) own.2)
+            (λ p token other there. split_knows h.capacity h.receiver h.reader h.sent h.seat new pass p token own.1 other (h.passes p token there)))
+            (subst (λ (n : ℕ). Knows h.capacity receiver' h.reader h.sent seat' new (Sends capacity (record { agent = n; sent = [] }))) made knew);
       }
 
-  pub splits : (pass : ℕ) (token : Token T) (known : Taking T) → token ≡ Takes known → Forks (IsLane agent number) pass token (after_split token) (split_off token)
-  splits pass token known is = subst (λ (it : Token T). Forks (IsLane agent number) pass it (after_split it) (split_off it)) (sym is) (splits_at pass known)
+  pub splits : (pass : ℕ) (token : Token T) (capacity : ℕ) (known : Taking T) → token ≡ Takes capacity known → Forks (IsLane agent number) pass token (after_split token) (split_off token)
+  splits pass token capacity known is = subst (λ (it : Token T). Forks (IsLane agent number) pass it (after_split it) (split_off it)) (sym is) (splits_at capacity pass known)
 
   -- ---- joining a pass at the close
 
@@ -247,62 +291,67 @@ module _ {T : Type 0} (agent number : T → ℕ) where
   back_grows : (receiver : Taking T) (end : Sending T) (a : ℕ) → end.agent ≡ a → back_from a receiver ≡ [] → back_from a (with_back receiver end) ≡ end ∷ []
   back_grows receiver end a same none = more_mine (λ (e : Sending T). e.agent) a receiver.back end same ∙ ap (λ (front : List (Sending T)). front ++ end ∷ []) none
 
-  join_knows : (receiver : Taking T) (end : Sending T) (reader : ℕ) (sent : ℕ → List T) (seat : ℕ → ℕ) (pass other p : ℕ) (token : Token T) → reader ≡ pass → seat end.agent ≡ other → p ≢ pass → p ≢ other → Knows receiver reader sent seat p token → Knows (with_back receiver end) reader sent seat p token
-  join_knows receiver end reader sent seat pass other p (Sends its) reads at away apart knows =
-      (knows.0, knows.1, knows.2, back_stays receiver end its.agent (λ same. apart (sym knows.0 ∙ (ap seat (sym same) ∙ at))) ∙ knows.3)
-  join_knows receiver end reader sent seat pass other p (Takes known) reads at away apart knows = absurd (away (sym knows.0 ∙ reads))
-  join_knows receiver end reader sent seat pass other p Spent reads at away apart knows = tt
+  join_knows : (capacity : ℕ) (receiver : Taking T) (end : Sending T) (reader : ℕ) (sent : ℕ → List T) (seat : ℕ → ℕ) (pass other p : ℕ) (token : Token T) → reader ≡ pass → seat end.agent ≡ other → p ≢ pass → p ≢ other → Knows capacity receiver reader sent seat p token → Knows capacity (with_back receiver end) reader sent seat p token
+  join_knows capacity receiver end reader sent seat pass other p (Sends most its) reads at away apart knows =
+      (knows.0, knows.1, knows.2, knows.3, back_stays receiver end its.agent (λ same. apart (sym knows.1 ∙ (ap seat (sym same) ∙ at))) ∙ knows.4)
+  join_knows capacity receiver end reader sent seat pass other p (Takes most known) reads at away apart knows = absurd (away (sym knows.1 ∙ reads))
+  join_knows capacity receiver end reader sent seat pass other p Spent reads at away apart knows = tt
 
-  joins_at : (pass : ℕ) (known : Taking T) (other : ℕ) (end : Sending T) → Merges (IsLane agent number) pass (Takes known) other (Sends end) (after_join (Takes known) (Sends end)) Spent
-  joins_at pass known other end waiting tokens h at two there =
-      let own = h.passes pass (Takes known) at in
-      let was : get_elem? tokens other ≡ some (Sends end) = sym (set_else tokens pass other (after_join (Takes known) (Sends end)) two) ∙ there in
-      let its = h.passes other (Sends end) was in
+  joins_at : (capacity pass : ℕ) (known : Taking T) (most other : ℕ) (end : Sending T) → Merges (IsLane agent number) pass (Takes capacity known) other (Sends most end) (after_join (Takes capacity known) (Sends most end)) Spent
+  joins_at capacity pass known most other end waiting tokens h at two there =
+      let own = h.passes pass (Takes capacity known) at in
+      let was : get_elem? tokens other ≡ some (Sends most end) = sym (set_else tokens pass other (after_join (Takes capacity known) (Sends most end)) two) ∙ there in
+      let its = h.passes other (Sends most end) was in
       let receiver' : Taking T = with_back h.receiver end in
-      let tokens' : List (Token T) = set tokens pass (after_join (Takes known) (Sends end)) in record {
+      let tokens' : List (Token T) = set tokens pass (after_join (Takes capacity known) (Sends most end)) in record {
+        capacity = h.capacity;
         receiver = receiver';
         reader = h.reader;
         sent = h.sent;
         seat = h.seat;
+        within = h.within;
         accepted = h.accepted;
         numbered = h.numbered;
         others = λ a past.
-            let below : end.agent < h.receiver.made = its.2 in
+            let below : end.agent < h.receiver.made = its.3 in
             ((h.others a past).0, back_stays h.receiver end a (λ same. absurd (omega arith)) ∙ (h.others a past).1);
         back = λ a.
             elim (ℕ_discrete end.agent a) [
               | yes same ↦ inr (
-                  back_grows h.receiver end a same (ap (λ (b : ℕ). back_from b h.receiver) (sym same) ∙ its.3)
-                  ∙ ap (λ (it : Sending T). it ∷ []) (one_end end a (h.sent a) same (sym its.1 ∙ ap h.sent same)))
+                  back_grows h.receiver end a same (ap (λ (b : ℕ). back_from b h.receiver) (sym same) ∙ its.4)
+                  ∙ ap (λ (it : Sending T). it ∷ []) (one_end end a (h.sent a) same (sym its.2 ∙ ap h.sent same)))
               | no apart ↦ elim (h.back a) [
                 | inl none ↦ inl (back_stays h.receiver end a apart ∙ none)
                 | inr one ↦ inr (back_stays h.receiver end a apart ∙ one)
               ]
             ];
         passes =
-            all_set (Knows receiver' h.reader h.sent h.seat) tokens' other Spent tt
+            all_set (Knows h.capacity receiver' h.reader h.sent h.seat) tokens' other Spent tt
             (λ p token apart there'.
-            all_set (λ p token. p ≢ other → Knows receiver' h.reader h.sent h.seat p token) tokens pass (after_join (Takes known) (Sends end))
-            (λ _. (own.0, ap (λ (it : Taking T). with_back it end) own.1))
-            (λ p token away there'' apart. join_knows h.receiver end h.reader h.sent h.seat pass other p token own.0 its.0 away apart (h.passes p token there''))
+            all_set (λ p token. p ≢ other → Knows h.capacity receiver' h.reader h.sent h.seat p token) tokens pass (after_join (Takes capacity known) (Sends most end))
+            (λ _. (own.0, own.1, ap (λ (it : Taking T). with_back it end) own.2))
+            (λ p token away there'' apart. join_knows h.capacity h.receiver end h.reader h.sent h.seat pass other p token own.1 its.1 away apart (h.passes p token there''))
             p token there' apart);
       }
 
-  pub joins : (pass : ℕ) (token : Token T) (other : ℕ) (its : Token T) (known : Taking T) (end : Sending T) → token ≡ Takes known → its ≡ Sends end → Merges (IsLane agent number) pass token other its (after_join token its) Spent
-  joins pass token other its known end is its_is =
-      subst (λ (it : Token T × Token T). Merges (IsLane agent number) pass it.0 other it.1 (after_join it.0 it.1) Spent) (λ i. (sym is i, sym its_is i)) (joins_at pass known other end)
+  pub joins : (pass : ℕ) (token : Token T) (other : ℕ) (its : Token T) (capacity : ℕ) (known : Taking T) (most : ℕ) (end : Sending T) → token ≡ Takes capacity known → its ≡ Sends most end → Merges (IsLane agent number) pass token other its (after_join token its) Spent
+  joins pass token other its capacity known most end is its_is =
+      subst (λ (it : Token T × Token T). Merges (IsLane agent number) pass it.0 other it.1 (after_join it.0 it.1) Spent) (λ i. (sym is i, sym its_is i)) (joins_at capacity pass known most other end)
 
   -- ---- reading the joined pass
 
-  settles_at : (pass : ℕ) (known : Taking T) → Learns (IsLane agent number) pass (Takes known) (IsSettled agent number (Takes known))
-  settles_at pass known waiting tokens h at =
-      let own = h.passes pass (Takes known) at in
-      let here : Settles agent number h.receiver waiting = record {
+  settles_at : (capacity pass : ℕ) (known : Taking T) → Learns (IsLane agent number) pass (Takes capacity known) (IsSettled agent number (Takes capacity known))
+  settles_at capacity pass known waiting tokens h at =
+      let own = h.passes pass (Takes capacity known) at in
+      let most : capacity ≡ h.capacity = own.0 in
+      let held = h.within in
+      let here : Settles agent number capacity h.receiver waiting = record {
+        within = omega arith;
         others = λ a past. (h.accepted a ∙ (h.others a past).0, (h.others a past).1);
         back = λ a. elim (h.back a) [ inl none ↦ inl none | inr one ↦ inr (one ∙ ap (λ (items : List T). record { agent = a; sent = items } ∷ []) (sym (h.accepted a))) ];
         numbered = λ a. subst (IsNumbered number) (sym (h.accepted a)) (h.numbered a);
       } in
-      subst (λ (it : Taking T). Settles agent number it waiting) own.1 here
+      subst (λ (it : Taking T). Settles agent number capacity it waiting) own.2 here
 
-  pub settles : (pass : ℕ) (token : Token T) (known : Taking T) → token ≡ Takes known → Learns (IsLane agent number) pass token (IsSettled agent number token)
-  settles pass token known is = subst (λ (it : Token T). Learns (IsLane agent number) pass it (IsSettled agent number it)) (sym is) (settles_at pass known)
+  pub settles : (pass : ℕ) (token : Token T) (capacity : ℕ) (known : Taking T) → token ≡ Takes capacity known → Learns (IsLane agent number) pass token (IsSettled agent number token)
+  settles pass token capacity known is = subst (λ (it : Token T). Learns (IsLane agent number) pass it (IsSettled agent number it)) (sym is) (settles_at capacity pass known)

@@ -3,6 +3,7 @@ use Rattle.std.specs.Prelude.{◌≡◌, ℕ, zero, suc, ◌<◌, ◌≤◌, ◌
 use Rattle.atomic_table.specs.Seated.{TableId}
 use Rattle.atomic_table.specs.declared.badge.Badge.{Badge}
 use Rattle.crossbeam_channel.specs.Claims.{Pass, view}
+use Rattle.crossbeam_channel.specs.Ends.{ruled_capacity}
 use Rattle.crossbeam_channel.specs.declared.flavors.array.Doing.{Doing}
 use Rattle.crossbeam_channel.specs.declared.flavors.array.Key.{Key}
 use Rattle.crossbeam_channel.specs.declared.flavors.array.Rows.{Rows}
@@ -13,10 +14,11 @@ use Rattle.dsn_lane.specs.declared.token.Taking.{Taking}
 use Rattle.dsn_lane.specs.declared.token.Token.{Token}
 use Rattle.dsn_lane.specs.declared.token.Token.TheVariants.{Sends, Takes, Spent}
 
--- which lane it is: no two lanes share it
+-- which lane it is: no two lanes share it; and how many items it holds at most
 pub record Identity (T : Type 0) : Type 0 where
   pub table : TableId
   pub items : Badge (Key T)
+  pub capacity : ℕ
 
 -- a sending end: its lane, its agent, and what it has sent
 pub record End (T : Type 0) : Type 0 where
@@ -37,23 +39,28 @@ pub record Lists (T : Type 0) : Type 0 where
   pub out : Out T
 
 module _ {T : Type 0} where
-  -- what a pass stands for
+  -- what a pass stands for, and how many items its lane holds at most
+  abbrev pub capacity_of : Token T → ℕ
+  capacity_of (Sends capacity end) = capacity
+  capacity_of (Takes capacity known) = capacity
+  capacity_of Spent = 0
+
   abbrev pub sending : Token T → Sending T
-  sending (Sends end) = end
-  sending (Takes known) = record { agent = 0; sent = [] }
+  sending (Sends capacity end) = end
+  sending (Takes capacity known) = record { agent = 0; sent = [] }
   sending Spent = record { agent = 0; sent = [] }
 
   abbrev pub taking : Token T → Taking T
-  taking (Takes known) = known
-  taking (Sends end) = record { made = 0; taken = []; back = [] }
+  taking (Takes capacity known) = known
+  taking (Sends capacity end) = record { made = 0; taken = []; back = [] }
   taking Spent = record { made = 0; taken = []; back = [] }
 
   -- what contracts see of an end, by its pass; a channel's own passes are of its lane
   abbrev pub lane_of : Pass T (Token T) → Identity T
-  lane_of pass = record { table = pass.table_id; items = pass.me.0.of }
+  lane_of pass = record { table = pass.table_id; items = pass.me.0.of; capacity = capacity_of (view pass) }
 
   abbrev pub lane_at : {M Q L A : Type 0} → Rows (Badge (Key T)) (Doing T (Token T)) Q M (Key T) L A → Identity T
-  lane_at channel = record { table = channel.stamps.shared.table_id; items = channel.stamps.shared.key }
+  lane_at channel = record { table = channel.stamps.shared.table_id; items = channel.stamps.shared.key; capacity = ruled_capacity channel }
 
   abbrev pub end_of : Pass T (Token T) → End T
   end_of pass = record { lane = lane_of pass; agent = (sending (view pass)).agent; sent = (sending (view pass)).sent }
@@ -70,6 +77,10 @@ module _ {T : Type 0} where
   abbrev pub fresh : ℕ → ℕ → List (Sending T)
   fresh first zero = []
   fresh first (suc more) = record { agent = first; sent = [] } ∷ fresh (suc first) more
+
+  -- what the receiving end of a lane of such a capacity knows that has passed over so many agents
+  abbrev pub passed_over : ℕ → ℕ → Token T
+  passed_over capacity n = Takes capacity (record { made = n; taken = []; back = fresh 0 n })
 
   -- the ends of so many agents from one on, in their order, which have sent nothing
   abbrev pub fresh_ends : Identity T → ℕ → ℕ → List (End T)

@@ -1,5 +1,5 @@
 -- Lanes: the rule that a lane keeps between any two steps, whichever threads take them.
-use Rattle.std.specs.Prelude.{◌≡◌, ◌⊎◌, ℕ, ◌<◌, ◌≤◌, List, [], ◌∷◌, ◌++◌, Some}
+use Rattle.std.specs.Prelude.{◌≡◌, ◌⊎◌, ℕ, ◌<◌, ◌≤◌, List, [], ◌∷◌, ◌++◌, length, Some}
 use Rattle.std.specs.List.{slice_get}
 use mathlib.Core.Option.{some}
 use lib.ListN.{get_elem?}
@@ -18,20 +18,23 @@ module _ {T : Type 0} where
   abbrev pub back_from : ℕ → Taking T → List (Sending T)
   back_from agent receiver = from_agent (λ (end : Sending T). end.agent) agent receiver.back
 
-  -- what a pass stands for is so: `receiver` is what the receiving end knows, `reader` its pass, `sent` what each agent
-  -- has sent, and `seat` the pass of its end
-  abbrev pub Knows : Taking T → ℕ → (ℕ → List T) → (ℕ → ℕ) → ℕ → Token T → Type 0
-  Knows receiver reader sent seat pass (Sends end) =
-      (seat end.agent ≡ pass) × (sent end.agent ≡ end.sent) × (end.agent < receiver.made) × (back_from end.agent receiver ≡ [])
-  Knows receiver reader sent seat pass (Takes known) = (reader ≡ pass) × (receiver ≡ known)
-  Knows receiver reader sent seat pass Spent = Unit {0}
+  -- what a pass stands for is so: `capacity` is how many items the lane holds at most, `receiver` what the receiving end
+  -- knows, `reader` its pass, `sent` what each agent has sent, and `seat` the pass of its end
+  abbrev pub Knows : ℕ → Taking T → ℕ → (ℕ → List T) → (ℕ → ℕ) → ℕ → Token T → Type 0
+  Knows capacity receiver reader sent seat pass (Sends most end) =
+      (most ≡ capacity) × (seat end.agent ≡ pass) × (sent end.agent ≡ end.sent) × (end.agent < receiver.made) × (back_from end.agent receiver ≡ [])
+  Knows capacity receiver reader sent seat pass (Takes most known) = (most ≡ capacity) × (reader ≡ pass) × (receiver ≡ known)
+  Knows capacity receiver reader sent seat pass Spent = Unit {0}
 
   -- `waiting` is what the lane holds, oldest first, and `tokens` what its passes stand for
   pub record IsLane (agent number : T → ℕ) (waiting : List T) (tokens : List (Token T)) : Type 0 where
+    pub capacity : ℕ
     pub receiver : Taking T
     pub reader : ℕ
     pub sent : ℕ → List T
     pub seat : ℕ → ℕ
+    -- what waits is never more than the capacity
+    pub within : length waiting ≤ capacity
     -- accepted is taken followed by what waits: of each agent, it is what that agent sent
     pub accepted : (a : ℕ) → from_agent agent a (receiver.taken ++ waiting) ≡ sent a
     -- what an agent sent is numbered from 0
@@ -41,4 +44,4 @@ module _ {T : Type 0} where
     -- of each agent no end has come back, or one, that knew all that the agent sent
     pub back : (a : ℕ) → (back_from a receiver ≡ []) ⊎ (back_from a receiver ≡ record { agent = a; sent = sent a } ∷ [])
     -- what each pass stands for is so
-    pub passes : (pass : ℕ) (token : Token T) → get_elem? tokens pass ≡ some token → Knows receiver reader sent seat pass token
+    pub passes : (pass : ℕ) (token : Token T) → get_elem? tokens pass ≡ some token → Knows capacity receiver reader sent seat pass token

@@ -1,7 +1,7 @@
 //! The sending end of a lane.
 ghost use Rattle.std.specs.Prelude.{◌≡◌, ◌<◌, List, ◌∷◌, [], ◌++◌, length, OnOk, IfOk, IfErr};
 ghost use Rattle.crossbeam_channel.specs.Claims.{view, IsSeatAt};
-ghost use Rattle.crossbeam_channel.specs.Ends.{sends_on};
+ghost use Rattle.crossbeam_channel.specs.Ends.{sends_on, ruled_capacity};
 ghost use Rattle.dsn_outcome.specs.Agents.{from_agent};
 ghost use Rattle.dsn_lane.specs.declared.token.Token.TheVariants.{Takes};
 ghost use Rattle.dsn_lane.specs.Ends.{lane_at, taking};
@@ -16,8 +16,8 @@ use dsn_outcome::{Carried, NoMemory};
 use std::marker::Model;
 use std::sync::Wait;
 
-/// The end of a lane by which one agent sends. Contracts see its lane, its agent and the items
-/// that it has sent, in order.
+/// The end of a lane by which one agent sends. Contracts see its lane with its capacity, its agent
+/// and the items that it has sent, in order.
 #[derive(Drop)]
 pub struct LaneIn<T: Carried> {
     /// The channel.
@@ -31,7 +31,7 @@ pub struct LaneIn<T: Carried> {
 impl<T: Carried> Model for LaneIn<T> {
     ghost use Rattle.std.specs.Prelude.{◌≡◌};
     ghost use Rattle.crossbeam_channel.specs.Claims.{view as knows, IsSeatAt};
-    ghost use Rattle.crossbeam_channel.specs.Ends.{sends_on};
+    ghost use Rattle.crossbeam_channel.specs.Ends.{sends_on, ruled_capacity};
     ghost use Rattle.dsn_lane.specs.declared.token.Token.TheVariants.{Sends};
     ghost use Rattle.dsn_lane.specs.Ends.{End, IsSending, end_of, sending};
 
@@ -39,7 +39,7 @@ impl<T: Carried> Model for LaneIn<T> {
 
     ghost view = { λ e. end_of e.pass };
 
-    ghost invariant = { λ e. IsSeatAt (sends_on e.sender) e.pass × (knows e.pass ≡ Sends (sending (knows e.pass))) × IsSending T.agent T.number (sending (knows e.pass)) e.count };
+    ghost invariant = { λ e. IsSeatAt (sends_on e.sender) e.pass × (knows e.pass ≡ Sends (ruled_capacity (sends_on e.sender)) (sending (knows e.pass))) × IsSending T.agent T.number (sending (knows e.pass)) e.count };
 }
 
 impl<T: Carried> LaneIn<T> {
@@ -50,7 +50,7 @@ impl<T: Carried> LaneIn<T> {
         pass: &mut Pass<T, Token<T>>,
     ) -> Result<LaneIn<T>, NoMemory>
         requires channel { IsSeatAt (sends_on sender.now) pass.old }
-        requires receiver { view pass.old ≡ Takes (taking (view pass.old)) }
+        requires receiver { view pass.old ≡ Takes (ruled_capacity (sends_on sender.now)) (taking (view pass.old)) }
         ensures channel { IsSeatAt (sends_on sender.now) pass.new }
         ensures receiver { IfOk result (λ _. view pass.new ≡ after_split (view pass.old)) }
         ensures end { IfOk result (λ end. end ≡ record { lane = lane_at (sends_on sender.now); agent = (taking (view pass.old)).made; sent = [] }) }

@@ -1,7 +1,7 @@
 //! The receiving end of a lane.
 ghost use Rattle.std.specs.Prelude.{◌≡◌, ℕ, ◌<◌, ◌≤◌, List, ◌∷◌, [], ◌++◌, length, IfOk, OnErr};
 ghost use Rattle.crossbeam_channel.specs.Claims.{view, IsSeatAt};
-ghost use Rattle.crossbeam_channel.specs.Ends.{receives_on};
+ghost use Rattle.crossbeam_channel.specs.Ends.{receives_on, ruled_capacity};
 ghost use Rattle.dsn_outcome.specs.Agents.{from_agent};
 ghost use Rattle.dsn_lane.specs.declared.token.Token.TheVariants.{Takes};
 ghost use Rattle.dsn_lane.specs.Ends.{IsReceiving, out_of, taking};
@@ -16,8 +16,8 @@ use dsn_outcome::Carried;
 use std::marker::Model;
 use std::sync::Wait;
 
-/// The end of a lane that takes what the agents send. Contracts see its lane, its agents, from
-/// `first` on and below `past`, and the items that it has taken, in order.
+/// The end of a lane that takes what the agents send. Contracts see its lane with its capacity, its
+/// agents, from `first` on and below `past`, and the items that it has taken, in order.
 #[derive(Drop)]
 pub struct LaneOut<T: Carried> {
     /// The channel.
@@ -31,7 +31,7 @@ pub struct LaneOut<T: Carried> {
 impl<T: Carried> Model for LaneOut<T> {
     ghost use Rattle.std.specs.Prelude.{◌≡◌};
     ghost use Rattle.crossbeam_channel.specs.Claims.{view as knows, IsSeatAt};
-    ghost use Rattle.crossbeam_channel.specs.Ends.{receives_on};
+    ghost use Rattle.crossbeam_channel.specs.Ends.{receives_on, ruled_capacity};
     ghost use Rattle.dsn_lane.specs.declared.token.Token.TheVariants.{Takes};
     ghost use Rattle.dsn_lane.specs.Ends.{Out, IsReceiving, out_of, taking};
 
@@ -39,7 +39,7 @@ impl<T: Carried> Model for LaneOut<T> {
 
     ghost view = { λ o. out_of o.pass };
 
-    ghost invariant = { λ o. IsSeatAt (receives_on o.receiver) o.pass × (knows o.pass ≡ Takes (taking (knows o.pass))) × IsReceiving T.agent T.number (taking (knows o.pass)) o.count };
+    ghost invariant = { λ o. IsSeatAt (receives_on o.receiver) o.pass × (knows o.pass ≡ Takes (ruled_capacity (receives_on o.receiver)) (taking (knows o.pass))) × IsReceiving T.agent T.number (taking (knows o.pass)) o.count };
 }
 
 impl<T: Carried> LaneOut<T> {
@@ -49,7 +49,7 @@ impl<T: Carried> LaneOut<T> {
         pass: Pass<T, Token<T>>,
     ) -> LaneOut<T>
         requires channel { IsSeatAt (receives_on receiver) pass }
-        requires token { view pass ≡ Takes (taking (view pass)) }
+        requires token { view pass ≡ Takes (ruled_capacity (receives_on receiver)) (taking (view pass)) }
         requires kept { IsReceiving T.agent T.number (taking (view pass)) 0 }
         ensures { result ≡ out_of pass }
     {

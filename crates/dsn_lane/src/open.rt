@@ -2,13 +2,12 @@
 ghost use Rattle.std.specs.Prelude.{◌≡◌, ◌+◌, ◌≤◌, [], IfOk, vec_capacity};
 ghost use Rattle.crossbeam_channel.specs.Claims.{view, IsSeatAt};
 ghost use Rattle.crossbeam_channel.specs.Ends.{sends_on};
-ghost use Rattle.dsn_lane.specs.declared.token.Token.TheVariants.{Takes};
-ghost use Rattle.dsn_lane.specs.Ends.{fresh, fresh_ends};
+ghost use Rattle.dsn_lane.specs.Ends.{capacity_of, fresh_ends, passed_over};
 ghost use Rattle.dsn_lane.specs.Step.{opened};
 
 use crate::lane_in::LaneIn;
 use crate::lane_out::LaneOut;
-use crate::rule::{LaneRule, SplitOff, TakeBack};
+use crate::rule::{CountRoom, LaneRule, SplitOff, TakeBack};
 use crate::token::Token;
 use crossbeam_channel::{Pass, RuledSender, bounded_with};
 use dsn_outcome::{Carried, NoMemory};
@@ -27,6 +26,7 @@ pub fn open_lane<T: Carried>(
 ) -> Result<(Vec<LaneIn<T>>, LaneOut<T>), NoMemory>
     requires agents { (1 ≤ agents) × (first + agents ≤ 16) }
     requires capacity { (1 ≤ capacity) × (capacity ≤ 1024) }
+    ensures capacity { IfOk result (λ lane. lane.1.lane.capacity ≡ capacity) }
     ensures ends { IfOk result (λ lane. lane.0.items ≡ fresh_ends lane.1.lane first agents) }
     ensures room { IfOk result (λ lane. agents ≤ vec_capacity lane.0) }
     ensures out { IfOk result (λ lane. lane.1 ≡ record { lane = lane.1.lane; first = first; past = first + agents; taken = [] }) }
@@ -40,11 +40,28 @@ pub fn open_lane<T: Carried>(
     ) else {
         return Err(NoMemory);
     };
+    count_room(&sender, &mut pass, capacity);
     pass_over(&sender, &mut pass, first);
     for _ in 0..agents {
         ends.push_reserved(LaneIn::split_off(&sender, &mut pass)?);
     }
     Ok((ends, LaneOut::new(receiver, pass)))
+}
+
+/// Counts the lane's room: the rule begins with none, and has room for one item more in each turn.
+fn count_room<T: Carried>(
+    sender: &RuledSender<T, Token<T>, LaneRule>,
+    pass: &mut Pass<T, Token<T>>,
+    capacity: u32,
+)
+    requires channel { IsSeatAt (sends_on sender.now) pass.old }
+    requires receiver { view pass.old ≡ opened }
+    ensures channel { IsSeatAt (sends_on sender.now) pass.new }
+    ensures receiver { view pass.new ≡ passed_over capacity 0 }
+{
+    for _ in 0..capacity {
+        sender.another::<CountRoom>(pass);
+    }
 }
 
 /// Passes over the agents below the first: a pass is split off for each, and joined again unused.
@@ -54,9 +71,9 @@ fn pass_over<T: Carried>(
     first: u32,
 )
     requires channel { IsSeatAt (sends_on sender.now) pass.old }
-    requires receiver { view pass.old ≡ opened }
+    requires receiver { view pass.old ≡ passed_over (capacity_of (view pass.old)) 0 }
     ensures channel { IsSeatAt (sends_on sender.now) pass.new }
-    ensures receiver { view pass.new ≡ Takes (record { made = first; taken = []; back = fresh 0 first }) }
+    ensures receiver { view pass.new ≡ passed_over (capacity_of (view pass.old)) first }
 {
     for _ in 0..first {
         let unused = sender.another::<SplitOff>(pass);

@@ -5,8 +5,8 @@ use crate::token::Token;
 use crossbeam_channel::protocol::{Join, Lesson, Outcome, Protocol, Split};
 use dsn_outcome::Carried;
 
-/// The rule: accepted is taken followed by what waits, and each agent's part of it is what that
-/// agent sent.
+/// The rule: accepted is taken followed by what waits, each agent's part of it is what that agent
+/// sent, and no more waits than the lane's capacity.
 pub struct LaneRule;
 
 impl<T: Carried> Protocol<T, Token<T>> for LaneRule {
@@ -16,6 +16,18 @@ impl<T: Carried> Protocol<T, Token<T>> for LaneRule {
     ghost holds = { IsLane T.agent T.number };
 
     ghost first = { opened };
+}
+
+/// The receiving end counts room for one item more; what is split off is a spent pass.
+pub struct CountRoom;
+
+impl<T> Split<Token<T>> for CountRoom {
+    ghost use Rattle.dsn_lane.specs.Step.{after_room};
+    ghost use Rattle.dsn_lane.specs.declared.token.Token.TheVariants.{Spent};
+
+    ghost left = { after_room };
+
+    ghost right = { λ before. Spent };
 }
 
 /// An agent's pass is split off the receiving end's.

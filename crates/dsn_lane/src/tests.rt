@@ -3,6 +3,7 @@ mod ends_gone;
 mod full;
 mod hands;
 mod item;
+mod long;
 mod one_thread;
 mod requests;
 mod threads;

@@ -20,12 +20,13 @@ pub struct Taking<T> {
     pub back: LinkedList<Sending<T>>,
 }
 
-/// What a pass stands for: a sending end, the receiving end, or an end that was taken back.
+/// What a pass stands for: a sending end, the receiving end, or an end that was taken back. An end
+/// knows first how many items its lane holds at most.
 pub enum Token<T> {
     /// A sending end.
-    Sends(Sending<T>),
+    Sends(u64, Sending<T>),
     /// The receiving end.
-    Takes(Taking<T>),
+    Takes(u64, Taking<T>),
     /// An end that was taken back.
     Spent,
 }

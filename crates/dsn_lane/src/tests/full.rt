@@ -1,5 +1,5 @@
 //! A lane that is full makes a send wait.
-ghost use Rattle.std.specs.Prelude.{◌≡◌};
+ghost use Rattle.std.specs.Prelude.{◌≡◌, ◌≤◌};
 
 use super::hands::{last_end, opened};
 use super::item::{Item, send_next};
@@ -36,10 +36,13 @@ fn wait_for(rt: &impl Clock, through: &AtomicU64, count: u64) -> u64 {
     through.load(Ordering::SeqCst)
 }
 
-/// Five sends on a lane for four items: how many are through before anything is taken, and how
+/// One send more than the lane holds items: how many are through before anything is taken, and how
 /// many once one item is taken.
-fn run<R: Threads + Wait + Clock + Sync>(rt: &R, alloc: Global) -> Option<(u64, u64)> {
-    let (mut ends, mut out) = opened(rt, alloc, 1, 4)?;
+fn run<R: Threads + Wait + Clock + Sync>(rt: &R, alloc: Global, capacity: u32) -> Option<(u64, u64)>
+    requires { (1 ≤ capacity) × (capacity ≤ 1024) }
+{
+    let full = u64::from(capacity);
+    let (mut ends, mut out) = opened(rt, alloc, 1, capacity)?;
     let mut end = last_end(&mut ends, &out, 1)?;
     let through = AtomicU64::new(0);
     let through = &through;
@@ -47,13 +50,13 @@ fn run<R: Threads + Wait + Clock + Sync>(rt: &R, alloc: Global) -> Option<(u64, 
         rt,
         move || -> bool
             requires { end.agent ≡ 0 }
-        { send_counted(rt, &mut end, through, 5) },
+        { send_counted(rt, &mut end, through, capacity.wrapping_add(1)) },
         move || -> Option<(u64, u64)> {
-            wait_for(rt, through, 4);
+            wait_for(rt, through, full);
             thread::sleep(rt, Duration::from_millis(50));
             let before = through.load(Ordering::SeqCst);
             out.take(rt).ok()?;
-            Some((before, wait_for(rt, through, 5)))
+            Some((before, wait_for(rt, through, full.wrapping_add(1))))
         },
     );
     if sent { seen } else { None }
@@ -61,7 +64,9 @@ fn run<R: Threads + Wait + Clock + Sync>(rt: &R, alloc: Global) -> Option<(u64, 
 
 #[test]
 fn full_lane_makes_a_send_wait(rt: HostRuntime) -> Result<(), Fail> {
-    let seen = run(&rt, rt.alloc()).expect(&rt, "it runs");
-    assert_eq!(rt; seen, (4, 5));
+    for (capacity, seen) in [(3, (3, 4)), (4, (4, 5)), (64, (64, 65))] {
+        let ran = run(&rt, rt.alloc(), capacity).expect(&rt, "it runs");
+        assert_eq!(rt; ran, seen);
+    }
     Ok(())
 }

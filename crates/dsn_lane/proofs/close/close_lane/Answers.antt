@@ -14,6 +14,10 @@ pub returns-clause-waiting : goal.returns-clause-waiting
 returns-clause-waiting g c =
     (shuts g.T.Carried.agent g.T.Carried.number c.out.inside.pass _ _ _ _ c.out.invariant.2 c.take_all_back-sent.ensures.settled c.out.view_is c.requires.all c.take_all_back-sent.ensures.sent c.take_all_back-sent.type_inv).total
 
+pub returns-clause-capacity : goal.returns-clause-capacity
+returns-clause-capacity g c =
+    (shuts g.T.Carried.agent g.T.Carried.number c.out.inside.pass _ _ _ _ c.out.invariant.2 c.take_all_back-sent.ensures.settled c.out.view_is c.requires.all c.take_all_back-sent.ensures.sent c.take_all_back-sent.type_inv).capacity
+
 pub returns-clause-prefix : goal.returns-clause-prefix
 returns-clause-prefix g c =
     (shuts g.T.Carried.agent g.T.Carried.number c.out.inside.pass _ _ _ _ c.out.invariant.2 c.take_all_back-sent.ensures.settled c.out.view_is c.requires.all c.take_all_back-sent.ensures.sent c.take_all_back-sent.type_inv).prefix

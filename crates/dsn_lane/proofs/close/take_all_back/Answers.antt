@@ -1,7 +1,7 @@
 -- Each end is taken back; with the last one the receiving end knows what all have sent.
 use Rattle.std.proofs.Common.{rules, ◌≡◌, All, ap, ◌∙◌, subst}
 use Rattle.std.proofs.lemmas.List.Elements.{All-tail}
-use Rattle.crossbeam_channel.specs.Ends.{sends_on}
+use Rattle.crossbeam_channel.specs.Ends.{sends_on, ruled_capacity}
 use Rattle.std.specs.Vec.Iter.{into_iter_items}
 use Rattle.dsn_lane.proofs.CloseLemmas.{all_joined, few_more, joined_more, joined_takes, total_more}
 use Rattle.dsn_lane.proofs.RuleLemmas.{joins, settles}
@@ -15,7 +15,7 @@ pub loop-end-preserved : goal.loop-end-preserved
 loop-end-preserved g c = record {
   iterator = (tt, tt);
   seat = search rules;
-  receiver = joined_takes _ _ _ c.loop-end.invariant.receiver c.take_back.ensures.receiver;
+  receiver = joined_takes _ _ _ _ _ c.loop-end.invariant.receiver c.take_back.ensures.receiver;
   joined = joined_more _ _ _ _ _ _ _ c.take_back.ensures.receiver c.in-Some-end.ensures.steps.0 c.loop-end.invariant.joined;
   lanes = All-tail (λ (end : End g.row.T.Denot). end.lane ≡ lane_at (sends_on c.last.inside.sender)) c.in-Some-end.end (into_iter_items c.next.new.self)
       (subst (All (λ (end : End g.row.T.Denot). end.lane ≡ lane_at (sends_on c.last.inside.sender))) c.in-Some-end.ensures.steps.0 c.loop-end.invariant.lanes);
@@ -24,14 +24,14 @@ loop-end-preserved g c = record {
 }
 
 pub absorb-requires-clause-rule : goal.absorb-requires-clause-rule
-absorb-requires-clause-rule g c = joins _ _ _ _ _ _ _ _ c.loop-end.invariant.receiver c.last.invariant.1
+absorb-requires-clause-rule g c = joins _ _ _ _ _ _ _ _ _ _ c.loop-end.invariant.receiver c.last.invariant.1
 
 pub learn_as-requires-clause-rule : goal.learn_as-requires-clause-rule
 learn_as-requires-clause-rule g c =
-    settles _ _ _ _ _
-    (all_joined _ _ _ _ _ (into_iter_items c.loop-end.end-iterator) c.in-Some.last c.args.ends.items c.requires.receiver c.loop-end.invariant.joined (search rules) (c.last.invariant.1 ∙ ap (λ (end : End g.row.T.Denot). Sends (sending_of end)) c.last.view_is) c.absorb.ensures.rule (search rules))
+    settles _ _ _ _ _ _
+    (all_joined _ _ _ _ _ _ _ (into_iter_items c.loop-end.end-iterator) c.in-Some.last c.args.ends.items c.requires.receiver c.loop-end.invariant.joined (search rules) (c.last.invariant.1 ∙ ap (λ (end : End g.row.T.Denot). Sends (ruled_capacity (sends_on c.last.inside.sender)) (sending_of end)) c.last.view_is) c.absorb.ensures.rule (search rules))
 
 pub returns-clause-settled : goal.returns-clause-settled
 returns-clause-settled g c =
-    let is = all_joined _ _ _ _ _ (into_iter_items c.loop-end.end-iterator) c.in-Some.last c.args.ends.items c.requires.receiver c.loop-end.invariant.joined (search rules) (c.last.invariant.1 ∙ ap (λ (end : End g.row.T.Denot). Sends (sending_of end)) c.last.view_is) c.absorb.ensures.rule (search rules) in
+    let is = all_joined _ _ _ _ _ _ _ (into_iter_items c.loop-end.end-iterator) c.in-Some.last c.args.ends.items c.requires.receiver c.loop-end.invariant.joined (search rules) (c.last.invariant.1 ∙ ap (λ (end : End g.row.T.Denot). Sends (ruled_capacity (sends_on c.last.inside.sender)) (sending_of end)) c.last.view_is) c.absorb.ensures.rule (search rules) in
     (c.learn_as.ensures.rule.0, subst (λ (it : Token g.row.T.Denot). IsSettled g.T.Carried.agent g.T.Carried.number it c.learn_as.ensures.rule.0) is c.learn_as.ensures.rule.1)

@@ -5,7 +5,7 @@ use Rattle.std.specs.Vec.Iter.{into_iter_items, into_iter_len}
 use Rattle.crossbeam_channel.specs.Claims.{view, IsSeatAt}
 use Rattle.crossbeam_channel.specs.Ends.{sends_on}
 use Rattle.dsn_lane.specs.declared.token.Token.TheVariants.{Takes}
-use Rattle.dsn_lane.specs.Ends.{End, lane_at, taking}
+use Rattle.dsn_lane.specs.Ends.{End, capacity_of, lane_at, taking}
 use Rattle.dsn_lane.proofs.CloseLemmas.{after_joins}
 use Rattle.dsn_lane.proofs.close.take_all_back.Given as goal
 
@@ -13,7 +13,7 @@ abbrev pub invariant-loop-end : goal.invariant-loop-end
 invariant-loop-end g l = record {
   iterator : (goal.iterator-loop-end g).can_next l.end-iterator × (goal.iterator-loop-end g).is_finite l.end-iterator;
   seat : IsSeatAt (sends_on l.sender) l.pass;
-  receiver : view l.pass ≡ Takes (taking (view l.pass));
+  receiver : view l.pass ≡ Takes (capacity_of (view l.initial.pass)) (taking (view l.pass));
   joined : after_joins (view l.pass) (into_iter_items l.end-iterator) ≡ after_joins (view l.initial.pass) (into_iter_items l.initial.end-iterator);
   lanes : All (λ (end : End g.row.T.Denot). end.lane ≡ lane_at (sends_on l.sender)) (into_iter_items l.end-iterator);
   total :

@@ -3,4 +3,4 @@ use Rattle.dsn_lane.proofs.RuleLemmas.{joins}
 use Rattle.dsn_lane.proofs.close.take_back.Goals as goal
 
 pub absorb-requires-clause-rule : goal.absorb-requires-clause-rule
-absorb-requires-clause-rule g c = joins _ _ _ _ _ _ _ _ c.requires.receiver c.end.invariant.1
+absorb-requires-clause-rule g c = joins _ _ _ _ _ _ _ _ _ _ c.requires.receiver c.end.invariant.1

@@ -132,10 +132,10 @@ unfolding request_body fields_written body_bytes own_bytes head_bytes flush_byte
 flush_is_written = refl
 
 -- the input of this agent is these two frames; where its last byte is missing, one frame, and a fault
-agent_input : List ℕ
+unfoldable pub agent_input : List ℕ
 agent_input = frame append_body ++ frame flush_body
 
-two_frames : AreFramesOf agent_input (append_body ∷ flush_body ∷ []) None
+pub two_frames : AreFramesOf agent_input (append_body ∷ flush_body ∷ []) None
 unfolding agent_input
 two_frames = record {
   rest = [];

@@ -2,45 +2,15 @@
 use Rattle.std.proofs.Common.{◌≡◌, ℕ, ◌+◌, ◌<◌, ◌≤◌, List, [], ◌∷◌, ◌++◌, length, take, drop, Option, Some, None, refl, sym, ap, subst, ◌∙◌, append_assoc, arith}
 use Rattle.std.specs.Int.{w32, from_be_bytes, to_be_bytes}
 use Rattle.std.specs.List.{flat_map, AllByRecursion}
-use Rattle.std.proofs.lemmas.Grind.{flat_map-append}
 use Rattle.std.proofs.lemmas.List.{append-nil, length-append, take_at, drop_at, take-append-le}
 use Rattle.std.proofs.lemmas.List.Concat.{flat_map-cons}
-use Rattle.dsn_frame.specs.Frame.{frame, declared_length, FramesEnd, BeginsWithFrames, AreFramesOf, ReadsNext, ReadsNone}
+use Rattle.dsn_frame.specs.Frame.{frame, declared_length, FramesEnd, AreFramesOf, ReadsNone}
 use Rattle.dsn_frame.specs.FrameBody.{IsFrameBody}
 use Rattle.dsn_frame.specs.declared.frame_fault.FrameFault.{FrameFault}
 use Rattle.dsn_frame.specs.declared.frame_fault.FrameFault.TheVariants.{NoMemory, TooLong, Empty, CutShort, Read}
 use Rattle.dsn_frame.proofs.FrameLaws.{declared}
 
--- ---- one frame after another
-
--- before the first frame is read the rest is the input
-pub begins_none : (input : List ℕ) → BeginsWithFrames input [] input
-begins_none input = record { front = refl; whole = tt }
-
-all_push : {X : Type 0} (P : X → Type 0) (xs : List X) (x : X) → AllByRecursion P xs → P x → AllByRecursion P (xs ++ x ∷ [])
-all_push P [] x all here = (here, tt)
-all_push P (y ∷ ys) x all here = (all.0, all_push P ys x all.1 here)
-
--- the next frame goes to the end of the frames that were read
-pub begins_more : (input : List ℕ) (bodies : List (List ℕ)) (body rest : List ℕ) → BeginsWithFrames input bodies (frame body ++ rest) → IsFrameBody body → BeginsWithFrames input (bodies ++ body ∷ []) rest
-begins_more input bodies body rest begins legal =
-    let one : flat_map frame (body ∷ []) ≡ frame body = flat_map-cons frame body [] ∙ append-nil (frame body) in
-    let all : flat_map frame (bodies ++ body ∷ []) ≡ flat_map frame bodies ++ frame body = flat_map-append frame bodies (body ∷ []) ∙ ap (λ (text : List ℕ). flat_map frame bodies ++ text) one in
-    record {
-      front = begins.front ∙ sym (append_assoc (flat_map frame bodies) (frame body) rest) ∙ ap (λ (text : List ℕ). text ++ rest) (sym all);
-      whole = all_push IsFrameBody bodies body begins.whole legal;
-    }
-
 -- ---- what is read from a source that tells its bytes
-
--- a source that has no next frame is at its end
-pub next_none : (input : List ℕ) (new : Option (List ℕ)) → ReadsNext (Some input) new None → FramesEnd input None
-next_none input new next = next.0
-
--- a source that gave a frame had it at the front
-pub next_some : (input : List ℕ) (new : Option (List ℕ)) (body : List ℕ) → ReadsNext (Some input) new (Some body) → (rest : List ℕ) × (new ≡ Some rest) × (input ≡ frame body ++ rest) × IsFrameBody body
-next_some input None body next = absurd next.1
-next_some input (Some rest) body next = (rest, refl, next.1, next.0)
 
 -- what follows the first four bytes doesn't change the length that they declare
 same_length : (part rest : List ℕ) → 4 ≤ length part → declared_length (part ++ rest) ≡ declared_length part
@@ -118,7 +88,7 @@ same_frames (a ∷ bodies) (b ∷ others) x y end ending all all_others ends end
     (ap (λ (body : List ℕ). body ∷ bodies) heads.0 ∙ ap (λ (rest : List (List ℕ)). b ∷ rest) tails.0, tails.1)
 
 -- a rest ends an input in one way
-same_end : (rest : List ℕ) (a b : Option FrameFault) → FramesEnd rest a → FramesEnd rest b → a ≡ b
+pub same_end : (rest : List ℕ) (a b : Option FrameFault) → FramesEnd rest a → FramesEnd rest b → a ≡ b
 same_end rest None None p q = refl
 same_end rest None (Some TooLong) p q = absurd (omega (arith, ap length p))
 same_end rest None (Some Empty) p q = absurd (omega (arith, ap length p))

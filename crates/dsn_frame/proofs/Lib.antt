@@ -6,5 +6,8 @@ pub mod Existence
 pub mod FieldLaws
 pub mod FrameLaws
 pub mod InputLaws
+pub mod OneSession
 pub mod RequestLaws
 mod SessionExamples
+pub mod SessionFrames
+pub mod SessionLemmas

@@ -149,3 +149,15 @@ whole_encodes bytes wire body fits whole accepted stands =
       accepted = accepted;
       stands_for = stands;
     }
+
+-- ---- a goodbye has no bytes
+
+no_goodbye_for : (wire : WireBody) → StandsFor wire Bye → ⊥
+unfolding StandsFor
+no_goodbye_for (AppendFields head fields) stands = stands
+no_goodbye_for (FlushFieldsOf head fields) stands = stands
+no_goodbye_for (DiscardFields head) stands = stands
+
+-- what bytes encode is no goodbye
+pub encoded_no_goodbye : (bytes : List ℕ) (number : ℕ) (body : Body) → Encodes bytes number body → body ≡ Bye → ⊥
+encoded_no_goodbye bytes number body encoded is = no_goodbye_for encoded.wire (subst (λ (b : Body). StandsFor encoded.wire b) is encoded.stands_for)

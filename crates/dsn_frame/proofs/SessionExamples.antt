@@ -1,13 +1,18 @@
 -- Worked examples of sessions, made by the definitions.
 use Rattle.std.proofs.Common.{ℕ, List, [], ◌∷◌, ◌++◌, refl, lit<, lit≤}
 use Rattle.std.specs.Prelude.{◌≢◌, Some, None}
-use Rattle.dsn_outcome.specs.declared.answer.Reply.TheVariants.{Logged, Sealed}
+use Rattle.dsn_outcome.specs.declared.answer.Reply.TheVariants.{Closed, Logged, Sealed}
+use Rattle.dsn_outcome.specs.declared.answer.Reply.{Reply as ReplyOf}
 use Rattle.dsn_frame.specs.Frame.{frame}
 use Rattle.dsn_frame.specs.Request.{first_body_fault}
-use Rattle.dsn_frame.specs.Session.{Input, Connection, faulty, out_of_turn, used_up, asked, given_up_after, written, unwritten, begun, taken, stopped, well, too_many, IsSession}
+use Rattle.dsn_frame.specs.Session.{Input, Connection, faulty, out_of_memory, out_of_turn, used_up, asked, given_up_after, written, unwritten, begun, taken, stopped, well, too_many, IsSession}
 use Rattle.dsn_frame.specs.declared.body_fault.BodyFault.TheVariants.{Version}
 use Rattle.dsn_frame.specs.declared.spoken.Spoken.TheVariants.{Reply, Refused}
-use Rattle.dsn_frame.proofs.Examples.{append_body, flush_body, append_asked, flush_asked, append_is_encoded, flush_is_encoded}
+use Rattle.dsn_frame.specs.SessionLaws.{IsOfBytesAlone, AreSame, AreFirstFrames}
+use Rattle.dsn_frame.proofs.Examples.{append_body, flush_body, append_asked, flush_asked, append_is_encoded, flush_is_encoded, agent_input, two_frames}
+use Rattle.dsn_frame.proofs.OneSession.{one_session}
+use Rattle.dsn_frame.proofs.RequestLaws.{encoded_is_accepted}
+use Rattle.dsn_frame.proofs.SessionFrames.{takes_its_frames}
 
 -- a frame of one byte, which is refused
 garbage : List ℕ
@@ -61,3 +66,40 @@ given_up_at_append =
     let first = taken [] [] (append_asked ∷ []) [] [] append_body (Some 41) (Some 41) begun (lit< tt) (lit≤ tt, lit≤ tt)
     (given_up_after append_asked append_is_encoded (lit< tt) refl) (written _ (Some 41)) in
     record { made = Some 41; takes = first; left = Some []; read = refl; ends = stopped 41 refl refl }
+
+-- ---- sessions over the same bytes
+
+-- the two frames asked, and answered so
+both_asked : (first second : ReplyOf) → IsSession Connection 2 0 (Some agent_input) (Some []) (append_body ∷ flush_body ∷ []) (append_asked ∷ flush_asked ∷ []) (Reply first ∷ Reply second ∷ []) None
+unfolding agent_input
+both_asked first second =
+    let one = taken [] [] (append_asked ∷ []) [] (Reply first ∷ []) append_body None None begun (lit< tt) (lit≤ tt, lit≤ tt)
+    (asked append_asked first append_is_encoded (lit< tt)) (written _ None) in
+    let two = taken (append_body ∷ []) (append_asked ∷ []) (flush_asked ∷ []) (Reply first ∷ []) (Reply second ∷ []) flush_body None None one (lit< tt) (lit≤ tt, lit≤ tt)
+    (asked flush_asked second flush_is_encoded (lit< tt)) (written _ None) in
+    record { made = None; takes = two; left = Some []; read = refl; ends = well refl refl refl }
+
+-- it met nothing from outside the bytes
+of_bytes_alone : (first second : ReplyOf) → IsOfBytesAlone (Reply first ∷ Reply second ∷ []) None
+of_bytes_alone first second = record { answered = (tt, (tt, tt)); ended = refl }
+
+-- so it is one session, whatever its replies are
+one_but_for_replies :
+    AreSame (append_body ∷ flush_body ∷ []) (append_body ∷ flush_body ∷ []) (append_asked ∷ flush_asked ∷ []) (append_asked ∷ flush_asked ∷ [])
+    (Reply (Logged 0) ∷ Reply (Sealed 1) ∷ []) (Reply Closed ∷ Reply Closed ∷ []) None None
+one_but_for_replies =
+    one_session Connection 2 0 agent_input (Some []) (Some []) _ _ _ _ _ _ None None (both_asked (Logged 0) (Sealed 1)) (of_bytes_alone (Logged 0) (Sealed 1)) (both_asked Closed Closed) (of_bytes_alone Closed Closed)
+
+-- and its frames are those of the bytes
+takes_both : AreFirstFrames (append_body ∷ flush_body ∷ []) (append_body ∷ flush_body ∷ []) None None
+takes_both = takes_its_frames agent_input Connection 2 0 (Some []) _ _ _ _ None None (both_asked (Logged 0) (Sealed 1)) two_frames
+
+-- another session over these bytes met want of memory at the append: its answers aren't those of the bytes alone
+no_memory_at_append : IsSession Connection 2 0 (Some agent_input) (Some []) (append_body ∷ flush_body ∷ []) (flush_asked ∷ []) (Refused 9 ∷ Reply (Sealed 1) ∷ []) None
+unfolding agent_input
+no_memory_at_append =
+    let one = taken [] [] [] [] (Refused 9 ∷ []) append_body None None begun (lit< tt) (lit≤ tt, lit≤ tt)
+    (out_of_memory (encoded_is_accepted append_body 0 append_asked append_is_encoded)) (written _ None) in
+    let two = taken (append_body ∷ []) [] (flush_asked ∷ []) (Refused 9 ∷ []) (Reply (Sealed 1) ∷ []) flush_body None None one (lit< tt) (lit≤ tt, lit≤ tt)
+    (asked flush_asked (Sealed 1) flush_is_encoded (lit< tt)) (written _ None) in
+    record { made = None; takes = two; left = Some []; read = refl; ends = well refl refl refl }

@@ -5,7 +5,9 @@ pub mod Frame
 pub mod FrameBody
 pub mod FrameFault
 pub mod Laws
+pub mod Refusal
 pub mod Request
 pub mod Session
+pub mod SessionLaws
 pub mod Spoken
 pub mod Wire

@@ -1,6 +1,6 @@
 -- Answers in bytes: which bytes stand for an answer, and why some bytes stand for none (this project's profile,
 -- version 1).
-use Rattle.std.specs.Prelude.{ℕ, ◌<◌, ◌^◌, Bool, true, ◌&&◌, ◌||◌, not, ◌==◌, nat_le, List, [], ◌∷◌, ◌++◌, length, drop, Option, slice_get}
+use Rattle.std.specs.Prelude.{ℕ, suc, ◌<◌, ◌^◌, Bool, true, ◌&&◌, ◌||◌, not, ◌==◌, nat_le, List, [], ◌∷◌, ◌++◌, length, drop, Option, slice_get}
 use Rattle.std.specs.Int.{w32, to_be_bytes, from_be_bytes}
 use Rattle.std.specs.Option.{option_map_or}
 use Rattle.dsn_outcome.specs.Outcome.{first_failed}
@@ -55,10 +55,22 @@ answer_body number said = 1 ∷ spoken_kind said ∷ (to_be_bytes w32 number ++ 
 unfoldable pub answer_bytes : ℕ → Spoken → List ℕ
 answer_bytes number said = frame (answer_body number said)
 
+-- the frames of answers to the frames from this place on
+unfoldable pub answer_frames_from : ℕ → List Spoken → List ℕ
+answer_frames_from place [] = []
+answer_frames_from place (answer ∷ rest) = answer_bytes place answer ++ answer_frames_from (suc place) rest
+
 -- both numbers fit four bytes
 pub record FitsAnswer (number : ℕ) (said : Spoken) : Type 0 where
   pub number_fits : number < 2 ^ 32
   pub value_fits : spoken_value said < 2 ^ 32
+
+-- ---- replies
+
+-- the reply that an answer is, if it is one
+abbrev pub reply_of : Spoken → List Reply
+reply_of (spoken.Reply reply) = reply ∷ []
+reply_of (spoken.Refused code) = []
 
 -- ---- refusals
 

@@ -1,7 +1,8 @@
 //! Bodies to requests.
-ghost use Rattle.std.specs.Prelude.{◌≡◌, [], IfOk, IfErr, OnOk, Some, None, unwrap_or};
+ghost use Rattle.std.specs.Prelude.{◌≡◌, ◌≢◌, [], IfOk, IfErr, OnOk, Some, None, unwrap_or};
 ghost use Rattle.dsn_outcome.specs.Body.{body_of};
 ghost use Rattle.dsn_outcome.specs.Outcome.{first_failed};
+ghost use Rattle.dsn_outcome.specs.Request.{Bye};
 ghost use Rattle.dsn_frame.specs.BodyParts.{head_in, flush_fields_in, wire_body_in};
 ghost use Rattle.dsn_frame.specs.Wire.{body_at, head_of};
 ghost use Rattle.dsn_frame.specs.Request.{Encodes, IsKeyOf, IsWhole, StandsFor, draft_of, first_body_fault, first_own_fault, flush_checks, head_checks, layout_checks};
@@ -21,6 +22,7 @@ use std::alloc::Global;
 #[tactic(auto, unfolding(crate::specs::Request::first_body_fault))]
 pub fn decode_request(alloc: Global, bytes: &[u8]) -> Result<(u32, Body), BodyFault>
     ensures encoded { IfOk result (λ read. Encodes bytes.now read.0 (body_of read.1)) }
+    ensures no_goodbye { IfOk result (λ read. body_of read.1 ≢ Bye) }
     ensures accepted { OnOk result (first_body_fault bytes.now ≡ None) }
     ensures refused { IfErr result (λ fault. fault ≡ unwrap_or (first_body_fault bytes.now) BodyFault.NoMemory) }
 {

@@ -1,6 +1,8 @@
 //! Laws of the format, each of them the contract of a function that does nothing.
 ghost use Rattle.std.specs.Prelude.{ℕ, List};
 ghost use Rattle.dsn_frame.specs.Laws.{IsBytes, IsSomeRequest, IsNotRefused, IsOneRequest, HasFrames, HasOneReading};
+ghost use Rattle.dsn_frame.specs.Session.{Medium};
+ghost use Rattle.dsn_frame.specs.SessionLaws.{HasOneSession, TakesItsFrames};
 
 /// Each body is one request, or is refused, and never both.
 pub fn bodies_are_requests_or_refused()
@@ -13,4 +15,17 @@ pub fn bodies_are_requests_or_refused()
 pub fn inputs_are_frames_and_an_end()
     ensures some { (input : List ℕ) → IsBytes input → HasFrames input }
     ensures one { (input : List ℕ) → HasOneReading input }
+{}
+
+/// The frames of a session are the first frames of its source's bytes, and all of them where it ended
+/// well or with 11, 12 or 13; then it ended as the bytes do.
+pub fn sessions_take_the_frames_of_their_bytes()
+    ensures { (bytes : List ℕ) → TakesItsFrames bytes }
+{}
+
+/// A session is a function of its source's bytes and of how many requests came before, but for want
+/// of memory (9), a read that failed (14), an answer that could not be written (33, 35), a daemon
+/// that gave up (41), and for which replies there are.
+pub fn sessions_are_functions_of_their_bytes()
+    ensures { (medium : Medium) (limit before : ℕ) (bytes : List ℕ) → HasOneSession medium limit before bytes }
 {}

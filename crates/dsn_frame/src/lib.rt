@@ -12,6 +12,8 @@ mod laws;
 mod optional;
 mod parts;
 mod reading;
+mod refusal;
+mod requests;
 mod spoken;
 mod writing;
 
@@ -22,7 +24,12 @@ pub use decode::decode_request;
 pub use encode::encode_request;
 pub use frame::{Frame, LONGEST_BODY, read_frame};
 pub use frame_fault::FrameFault;
-pub use laws::{bodies_are_requests_or_refused, inputs_are_frames_and_an_end};
+pub use laws::{
+    bodies_are_requests_or_refused, inputs_are_frames_and_an_end,
+    sessions_are_functions_of_their_bytes, sessions_take_the_frames_of_their_bytes,
+};
+pub use refusal::Refusal;
+pub use requests::next_request;
 pub use spoken::Spoken;
 
 /// The version of the format: the first byte of each body.

@@ -1,0 +1,78 @@
+-- What holds of all sessions: they are a function of the bytes of their source, but for what the bytes don't decide,
+-- and their frames are those of the bytes (this project's profile).
+use Rattle.std.specs.Prelude.{◌≡◌, ℕ, Bool, true, false, ◌||◌, ◌==◌, List, [], ◌∷◌, ◌++◌, Option, Some, None}
+use Rattle.std.specs.List.{AllByRecursion}
+use Rattle.std.specs.Option.{option_map, option_map_or}
+use Rattle.dsn_outcome.specs.Request.{Body}
+use Rattle.dsn_frame.specs.Frame.{AreFramesOf}
+use Rattle.dsn_frame.specs.FrameFault.{frame_fault_code}
+use Rattle.dsn_frame.specs.Session.{Medium, IsSession}
+use Rattle.dsn_frame.specs.declared.frame_fault.FrameFault.{FrameFault}
+use Rattle.dsn_frame.specs.declared.spoken.Spoken.{Spoken}
+use Rattle.dsn_frame.specs.declared.spoken.Spoken.TheVariants.{Reply, Refused}
+
+-- the numbers of what comes from outside the bytes: want of memory, a read that failed, an answer that could not be
+-- written (to notes, to a connection), and a daemon that gave up
+abbrev pub is_from_outside : ℕ → Bool
+is_from_outside code = (code == 9) || ((code == 14) || ((code == 33) || ((code == 35) || (code == 41))))
+
+-- an answer that the bytes decide, but for which reply it is
+abbrev pub IsDecided : Spoken → Type 0
+IsDecided (Reply reply) = Unit {0}
+IsDecided (Refused code) = is_from_outside code ≡ false
+
+-- a session that met nothing from outside the bytes, neither in an answer nor at its end
+pub record IsOfBytesAlone (answers : List Spoken) (end : Option ℕ) : Type 0 where
+  pub answered : AllByRecursion IsDecided answers
+  pub ended : option_map_or is_from_outside end false ≡ false
+
+-- two answers of which both are replies, or both the same refusal
+abbrev pub AreAlike : Spoken → Spoken → Type 0
+AreAlike (Reply reply) (Reply other) = Unit {0}
+AreAlike (Reply reply) (Refused code) = ⊥
+AreAlike (Refused code) (Reply reply) = ⊥
+AreAlike (Refused code) (Refused other) = code ≡ other
+
+-- as many answers, and each two of them are alike
+abbrev pub AnswerAlike : List Spoken → List Spoken → Type 0
+AnswerAlike [] [] = Unit {0}
+AnswerAlike [] (other ∷ others) = ⊥
+AnswerAlike (answer ∷ rest) [] = ⊥
+AnswerAlike (answer ∷ rest) (other ∷ others) = AreAlike answer other × AnswerAlike rest others
+
+-- two sessions that are the same but for their replies
+pub record AreSame (frames other_frames : List (List ℕ)) (bodies other_bodies : List Body) (answers other_answers : List Spoken) (end other_end : Option ℕ) : Type 0 where
+  pub frames_same : frames ≡ other_frames
+  pub bodies_same : bodies ≡ other_bodies
+  pub answers_alike : AnswerAlike answers other_answers
+  pub end_same : end ≡ other_end
+
+-- the sessions over these bytes that met nothing from outside are one session, but for its replies
+abbrev pub HasOneSession : Medium → ℕ → ℕ → List ℕ → Type 0
+HasOneSession medium limit before bytes =
+    (left other_left : Option (List ℕ)) (frames other_frames : List (List ℕ)) (bodies other_bodies : List Body)
+    (answers other_answers : List Spoken) (end other_end : Option ℕ)
+    → IsSession medium limit before (Some bytes) left frames bodies answers end → IsOfBytesAlone answers end
+    → IsSession medium limit before (Some bytes) other_left other_frames other_bodies other_answers other_end
+    → IsOfBytesAlone other_answers other_end
+    → AreSame frames other_frames bodies other_bodies answers other_answers end other_end
+
+-- the ends that the frames of an input make: none at all, a length that is none, and a frame that is cut short
+abbrev pub is_end_of_frames : Option ℕ → Bool
+is_end_of_frames None = true
+is_end_of_frames (Some code) = (code == 11) || ((code == 12) || (code == 13))
+
+-- what a session took of an input with these frames and this end: the first frames, and all of them where it ended as
+-- frames do
+pub record AreFirstFrames (frames whole : List (List ℕ)) (end : Option ℕ) (fault : Option FrameFault) : Type 0 where
+  pub first : (more : List (List ℕ)) × (whole ≡ frames ++ more)
+  pub all : is_end_of_frames end ≡ true → frames ≡ whole
+  pub end_is : is_end_of_frames end ≡ true → end ≡ option_map frame_fault_code fault
+
+-- the frames of each session over these bytes are those of the bytes
+abbrev pub TakesItsFrames : List ℕ → Type 0
+TakesItsFrames bytes =
+    (medium : Medium) (limit before : ℕ) (left : Option (List ℕ)) (frames whole : List (List ℕ)) (bodies : List Body)
+    (answers : List Spoken) (end : Option ℕ) (fault : Option FrameFault)
+    → IsSession medium limit before (Some bytes) left frames bodies answers end → AreFramesOf bytes whole fault
+    → AreFirstFrames frames whole end fault

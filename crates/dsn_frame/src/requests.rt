@@ -1,0 +1,27 @@
+//! What one frame comes to: a body to be asked, or a refusal.
+ghost use Rattle.std.specs.Prelude.{ℕ, [], ◌∷◌, IfOk, IfErr};
+ghost use Rattle.dsn_outcome.specs.Body.{body_of};
+ghost use Rattle.dsn_frame.specs.Refusal.{IsRefused, refusal_code, refusal_end};
+ghost use Rattle.dsn_frame.specs.Request.{Encodes};
+ghost use Rattle.dsn_frame.specs.Session.{Medium, Takes};
+ghost use Rattle.dsn_frame.specs.declared.spoken.Spoken.TheVariants.{Refused};
+
+use crate::decode::decode_request;
+use crate::refusal::Refusal;
+use dsn_outcome::Body;
+use std::alloc::Global;
+
+/// The body that the frame at this place of a session asks. A body that is no request is refused
+/// before its number is looked at, and then one whose number isn't the place. What is refused is
+/// to be answered by [`Refusal::code`].
+pub fn next_request(alloc: Global, place: u32, bytes: &[u8]) -> Result<Body, Refusal>
+    ensures encoded { IfOk result (λ body. Encodes bytes.now place (body_of body)) }
+    ensures refused { IfErr result (λ refusal. IsRefused place bytes.now refusal) }
+    ensures taken { (medium : Medium) (limit accepted : ℕ) → IfErr result (λ refusal. Takes medium limit accepted place bytes.now [] (Refused (refusal_code refusal) ∷ []) (refusal_end refusal)) }
+{
+    let (number, body) = decode_request(alloc, bytes).map_err(Refusal::Body)?;
+    if number != place {
+        return Err(Refusal::OutOfTurn);
+    }
+    Ok(body)
+}

@@ -8,6 +8,7 @@ pub mod Failures
 pub mod History
 pub mod Key
 pub mod Letter
+pub mod LinkedOutcome
 pub mod Node
 pub mod Outcome
 pub mod OutcomeFault
@@ -15,7 +16,6 @@ pub mod Outcomes
 pub mod Parts
 pub mod Plain
 pub mod Request
-pub mod RequestValue
 pub mod Service
 pub mod Stamp
 pub mod Status

@@ -43,7 +43,6 @@ impl Model for Outcome {
 
 impl Outcome {
     ghost use Rattle.std.specs.Option.{option_copied};
-    ghost use Rattle.dsn_outcome.specs.Node.{outcome_of};
     ghost use Rattle.dsn_outcome.specs.Outcome.{IsLegalOutcome, IsOutcomeOf, first_outcome_fault};
     ghost use Rattle.dsn_outcome.specs.Parts.{fields_of};
 
@@ -51,9 +50,9 @@ impl Outcome {
     /// log. The fields are tested, in the order of `OutcomeFault`'s variants, before memory is
     /// taken.
     pub fn new(alloc: Global, service: Service, parts: Parts<'_>) -> Result<Box<Node>, OutcomeFault>
-        ensures kept { IfOk result (λ node. IsOutcomeOf service (fields_of parts.entry) (outcome_of node.value)) }
+        ensures kept { IfOk result (λ node. IsOutcomeOf service (fields_of parts.entry) node.value.outcome) }
         ensures accepted { IfOk result (λ node. first_outcome_fault service (fields_of parts.entry) ≡ None) }
-        ensures legal { IfOk result (λ node. IsLegalOutcome (outcome_of node.value)) }
+        ensures legal { IfOk result (λ node. IsLegalOutcome node.value.outcome) }
         ensures refused { IfErr result (λ fault. fault ≡ unwrap_or (first_outcome_fault service (fields_of parts.entry)) OutcomeFault.NoMemory) }
     {
         let (action, status) = check(service, &parts)?;
@@ -128,15 +127,14 @@ impl Outcome {
     }
 }
 
-ghost use Rattle.dsn_outcome.specs.Node.{outcome_of};
 ghost use Rattle.dsn_outcome.specs.Outcome.{IsLegalOutcome, first_outcome_fault};
 ghost use Rattle.dsn_outcome.specs.Parts.{fields_of};
 
 /// An outcome in a node of its own, linked to nothing.
 fn linked(alloc: Global, outcome: Outcome) -> Result<Box<Node>, OutcomeFault>
     requires { IsLegalOutcome outcome }
-    ensures kept { IfOk result (λ node. outcome_of node.value ≡ outcome) }
-    ensures legal { IfOk result (λ node. IsLegalOutcome (outcome_of node.value)) }
+    ensures kept { IfOk result (λ node. node.value.outcome ≡ outcome) }
+    ensures legal { IfOk result (λ node. IsLegalOutcome node.value.outcome) }
     ensures memory { IfErr result (λ fault. fault ≡ OutcomeFault.NoMemory) }
 {
     let node = Node {

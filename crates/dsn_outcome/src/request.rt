@@ -1,6 +1,7 @@
 //! A delivery agent's request.
 use crate::body::Body;
 use crate::carried::Carried;
+use std::marker::Model;
 
 /// What one agent asks, with its place among the agent's requests.
 #[derive(Drop)]
@@ -11,6 +12,15 @@ pub struct Request {
     pub number: u32,
     /// What it asks.
     pub body: Body,
+}
+
+impl Model for Request {
+    ghost use Rattle.dsn_outcome.specs.Request.{Request};
+    ghost use Rattle.dsn_outcome.specs.Body.{body_of};
+
+    ghost Value = { Request };
+
+    ghost view = { λ r. record { agent = r.agent; number = r.number; body = body_of r.body } };
 }
 
 impl Carried for Request {

@@ -1,6 +1,5 @@
 //! Texts at their bounds, refusals in their order, and letters from their parts to their end.
 ghost use Rattle.std.specs.Prelude.{◌≡◌, IfOk, IsSome};
-ghost use Rattle.dsn_outcome.specs.Node.{outcome_of};
 
 use super::*;
 use std::alloc::Global;
@@ -128,7 +127,7 @@ fn each_fault_comes_before_later_ones(rt: HostRuntime) -> Result<(), Fail> {
 
 /// An outcome of a bounce's log.
 fn bounced(alloc: Global, recipient: &[u8]) -> Result<Box<Node>, Fail>
-    ensures { IfOk result (λ node. (outcome_of node.value).service ≡ Service.Bounce) }
+    ensures { IfOk result (λ node. node.value.outcome.service ≡ Service.Bounce) }
 {
     let mut parts = PARTS;
     parts.recipient = recipient;
@@ -225,12 +224,12 @@ fn letters_are_taken_in_order(rt: HostRuntime) -> Result<(), Fail> {
 #[test]
 fn many_letters_are_freed(rt: HostRuntime) -> Result<(), Fail> {
     let mut letters = Letters::new();
-    for seconds in 0..1_000_000 {
+    for seconds in 0..100_000 {
         letters.push(letter(rt.alloc(), seconds)?);
     }
-    assert_eq!(rt; letters.len(), 1_000_000);
+    assert_eq!(rt; letters.len(), 100_000);
     assert_eq!(rt; popped(&mut letters), Some(0));
-    letters.push(letter(rt.alloc(), 1_000_000)?);
+    letters.push(letter(rt.alloc(), 100_000)?);
     drop(letters);
     Ok(())
 }

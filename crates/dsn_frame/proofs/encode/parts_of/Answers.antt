@@ -1,13 +1,13 @@
 use Rattle.std.proofs.Common.{◌≡◌, ap, ◌∙◌}
-use Rattle.dsn_outcome.specs.Node.{outcome_of}
+use Rattle.dsn_outcome.specs.LinkedOutcome.{LinkedOutcome}
 use Rattle.dsn_frame.proofs.EncodingLaws.{append_written, flush_written, discard_written}
 use Rattle.dsn_frame.proofs.encode.parts_of.Goals as goal
 
 pub returns-in-Append-clause-written : goal.returns-in-Append-clause-written
 returns-in-Append-clause-written c =
-    let same : c.outcome-outcome.result.now ≡ outcome_of c.in-Append.node.value = c.outcome-outcome.ensures ∙ ap outcome_of c.deref.ensures in
+    let same : c.outcome-outcome.result.now ≡ c.in-Append.node.value.outcome = c.outcome-outcome.ensures ∙ ap (λ (node : LinkedOutcome). node.outcome) c.deref.ensures in
     rw (c.in-Append.is, c.head_parts-head.ensures.same, c.append_parts.ensures, c.service.ensures.same, same)
-    (append_written c.args.number c.in-Append.id (outcome_of c.in-Append.node.value) c.ranges.number.fits c.head_parts-head.ensures.legal (rw same at c.service.ensures.legal))
+    (append_written c.args.number c.in-Append.id c.in-Append.node.value.outcome c.ranges.number.fits c.head_parts-head.ensures.legal (rw same at c.service.ensures.legal))
 
 pub returns-in-Flush-clause-written : goal.returns-in-Flush-clause-written
 returns-in-Flush-clause-written c =

@@ -2,7 +2,7 @@
 ghost use Rattle.std.specs.Prelude.{◌≡◌, ℕ, length, IfOk, IfErr, MatchOption};
 ghost use Rattle.std.specs.Int.{w32, from_be_bytes, to_be_bytes};
 ghost use Rattle.std.specs.Io.KnownBytes.{Consumes, IsAtEnd, Keeps};
-ghost use Rattle.dsn_outcome.specs.Failures.{counted};
+ghost use Rattle.dsn_device.specs.Failures.{counted};
 ghost use Rattle.dsn_frame.specs.FrameBody.{IsFrameLength, IsFrameBody};
 ghost use Rattle.dsn_frame.specs.Frame.{BodyMissing, ReadsLength, ReadsNext, ReadsNone};
 ghost use Rattle.dsn_frame.specs.FrameFault.{source_failed};

@@ -3,7 +3,6 @@ pub mod Checks
 pub mod CloseRule
 mod Dates
 mod Examples
-pub mod FailureLemmas
 pub mod HistoryLaws
 pub mod HistoryLemmas
 pub mod KeyLemmas
@@ -12,4 +11,3 @@ pub mod StampLemmas
 mod StatusExamples
 pub mod StatusLemmas
 pub mod TextLemmas
-pub mod TransferLemmas

@@ -4,7 +4,6 @@ pub mod Body
 pub mod Cell
 pub mod CloseRule
 pub mod Draft
-pub mod Failures
 pub mod History
 pub mod Key
 pub mod Letter
@@ -14,10 +13,8 @@ pub mod Outcome
 pub mod OutcomeFault
 pub mod Outcomes
 pub mod Parts
-pub mod Plain
 pub mod Request
 pub mod Service
 pub mod Stamp
 pub mod Status
 pub mod Text
-pub mod Transfer

@@ -8,6 +8,7 @@ mod Examples
 mod GrammarLemmas
 pub mod HeaderLemmas
 pub mod LineWriterLemmas
+pub mod OutgoingLemmas
 mod ReaderExamples
 mod RoomLemmas
 mod PlainLemmas

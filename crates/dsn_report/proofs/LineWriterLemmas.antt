@@ -5,11 +5,11 @@ use Rattle.std.proofs.Math.Seq.{take-suc}
 use Rattle.std.proofs.lemmas.Grind.{flat_map-append}
 use Rattle.std.proofs.lemmas.List.{map-append}
 use Rattle.std.proofs.KnownBytes.{Appends-nil, Appends-trans, Keeps-refl, Keeps-trans}
-use Rattle.dsn_outcome.proofs.TransferLemmas.{Appends-front, AppendsFront-all, AppendsFront-none, AppendsFront-longer, AppendsFront-kept}
-use Rattle.dsn_outcome.specs.Transfer.{AppendsFront}
+use Rattle.dsn_device.proofs.TransferLemmas.{Appends-front, AppendsFront-all, AppendsFront-none, AppendsFront-longer, AppendsFront-kept}
+use Rattle.dsn_device.specs.Transfer.{AppendsFront}
 use Rattle.std.specs.Io.KnownBytes.{Appends}
 use Rattle.std.specs.Prelude.{IsTrue}
-use Rattle.dsn_outcome.specs.Failures.{counted}
+use Rattle.dsn_device.specs.Failures.{counted}
 use Rattle.dsn_report.specs.LineWriter.{Sent, counts_failure, Took, Wrote, lines_sent}
 use Rattle.dsn_report.specs.Lines.{text_of_lines, dot_stuffed, begins_with_dot}
 use Rattle.dsn_report.specs.declared.line_writer.LineWriter.{LineWriter}

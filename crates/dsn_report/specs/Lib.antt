@@ -9,6 +9,7 @@ pub mod Lines
 pub mod Multipart
 pub mod Notice
 pub mod Outbox
+pub mod Outgoing
 pub mod Poster
 pub mod Site
 pub mod WellFormed

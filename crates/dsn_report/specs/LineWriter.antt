@@ -1,8 +1,8 @@
 -- What a writer of lines did with a text: it writes nothing more after its drain's first failure.
 use Rattle.std.specs.Prelude.{◌≡◌, IsTrue, ℕ, Bool, true, false, List, map, Option}
 use Rattle.std.specs.Io.KnownBytes.{Appends, Keeps}
-use Rattle.dsn_outcome.specs.Failures.{counted}
-use Rattle.dsn_outcome.specs.Transfer.{AppendsFront}
+use Rattle.dsn_device.specs.Failures.{counted}
+use Rattle.dsn_device.specs.Transfer.{AppendsFront}
 use Rattle.dsn_report.specs.Lines.{text_of_lines, dot_stuffed}
 use Rattle.dsn_report.specs.declared.line_writer.LineWriter.{LineWriter}
 

@@ -9,6 +9,8 @@ mod line_writer;
 mod name;
 mod notice_lines;
 mod notice_text;
+mod outbox_end;
+mod outgoing;
 mod post_fault;
 mod poster;
 mod ruled_out;
@@ -23,6 +25,8 @@ pub use laws::{
     division_law, dots_law, empty_log_law, grammar_law, lines_law, outbox_law, well_formed_law,
 };
 pub use notice_text::notice;
+pub use outbox_end::OutboxEnd;
+pub use outgoing::Outgoing;
 pub use post_fault::PostFault;
 pub use poster::{Ended, Poster};
 pub use site::{LONGEST_HOST, Site, SiteFault};

@@ -1,7 +1,7 @@
 //! Posting notices to an outbox, one mail transaction after another.
 ghost use Rattle.std.specs.Prelude.{◌≡◌, true, false, not, IsTrue, IsFalse, Err, OnOk, OnErr, IfErr, is_err};
 ghost use Rattle.std.specs.Io.KnownBytes.{Appends};
-ghost use Rattle.dsn_outcome.specs.Transfer.{AppendsFront};
+ghost use Rattle.dsn_device.specs.Transfer.{AppendsFront};
 ghost use Rattle.dsn_report.specs.LineWriter.{counts_failure};
 ghost use Rattle.dsn_report.specs.Poster.{post_fault, post_text, finish_text};
 

@@ -5,10 +5,12 @@ use Rattle.std.specs.Option.{option_map}
 use Rattle.std.specs.Result.{result_ok}
 use Rattle.std.specs.List.Sorted.{IsSortedByKey}
 use Rattle.std.proofs.lemmas.List.Sorted.{IsPermutation-refl}
+use Rattle.dsn_device.specs.declared.drain.Drain.{Ghosts as Drain}
+use Rattle.dsn_device.specs.declared.source.Source.{Ghosts as Source}
 use Rattle.dsn_book.specs.OpenLine.{key_cmp, open_lines_after}
 use Rattle.dsn_book.specs.declared.line.OpenLine.{OpenLine}
 use Rattle.dsn_outcome.specs.History.{Limits, Exchange, history_of, sealed_letters}
-use Rattle.dsn_outcome.proofs.TransferLemmas.{AppendsFront-kept}
+use Rattle.dsn_device.proofs.TransferLemmas.{AppendsFront-kept}
 use Rattle.dsn_report.specs.LineWriter.{Sent}
 use Rattle.std.specs.Io.KnownBytes.{Keeps}
 use Rattle.noticed_lib.proofs.TellingLemmas.{Told-none, Told-then}
@@ -19,12 +21,11 @@ use Rattle.std.proofs.KnownBytes.{Consumes-nil}
 use Rattle.noticed_lib.proofs.ReadingLemmas.{differ, not-false}
 use Rattle.noticed_lib.proofs.RunLemmas.{letters-none, replies-none}
 use Rattle.noticed_lib.proofs.WholeInputLemmas.{takes-all}
-use Rattle.noticed_lib.specs.Outgoing.{Delivered}
+use Rattle.dsn_report.specs.Outgoing.{Delivered, Outgoing}
 use Rattle.dsn_frame.specs.Session.{begun, no_memory_for_book}
 use Rattle.noticed_lib.specs.Requests.{requests_from, requests_of}
 use Rattle.noticed_lib.specs.Notes.{answer_lines_from, notes_of}
 use Rattle.noticed_lib.specs.declared.batch_end.BatchEnd.{BatchEnd}
-use Rattle.noticed_lib.specs.declared.outgoing.Outgoing.{Outgoing}
 
 -- a list that was made is there
 pub is_none-listed : {A B E : Type 0} (result : Result A E) (f : A → B) → is_none (option_map f (result_ok result)) ≡ not (is_ok result)
@@ -61,10 +62,10 @@ lost-after : (lost : Bool) (x y : Option (List ℕ)) (text : List ℕ) → Sent 
 lost-after true x y text kept = refl
 lost-after false x y text never = absurd never
 
-module _ {R W N : Type 0} (remaining : R → Option (List ℕ)) (input_failures : R → ℕ) (contents : W → Option (List ℕ)) (outbox_failures : W → ℕ) (told : N → Option (List ℕ)) (notes_failures : N → ℕ) (limits : Limits) (host : List ℕ) (start : W) where
+module _ {R W N : Type 0} (input_device : Source R) (outbox_device : Drain W) (notes_device : Drain N) (limits : Limits) (host : List ℕ) (start : W) where
   -- a run that found no memory for its logs read nothing
-  pub harvest-nothing : (input : R) (notes : N) (outgoing : Outgoing W) (lines : List OpenLine) → lines ≡ [] → Delivered contents outbox_failures host start outgoing []
-      → Harvested remaining input_failures contents outbox_failures told notes_failures limits host start input input notes notes (Some 9) outgoing (Some lines)
+  pub harvest-nothing : (input : R) (notes : N) (outgoing : Outgoing W) (lines : List OpenLine) → lines ≡ [] → Delivered outbox_device host start outgoing []
+      → Harvested input_device outbox_device notes_device limits host start input input notes notes (Some 9) outgoing (Some lines)
   unfolding answer_lines_from requests_from
   harvest-nothing input notes outgoing lines empty delivered = record {
     frames = [];
@@ -73,8 +74,8 @@ module _ {R W N : Type 0} (remaining : R → Option (List ℕ)) (input_failures 
     session = record {
       made = None;
       takes = begun;
-      left = remaining input;
-      read = Consumes-nil (remaining input);
+      left = input_device.remaining input;
+      read = Consumes-nil (input_device.remaining input);
       ends = no_memory_for_book refl refl refl refl;
     };
     replies = replies-none limits;
@@ -82,16 +83,16 @@ module _ {R W N : Type 0} (remaining : R → Option (List ℕ)) (input_failures 
     delivered = rw (letters-none limits) delivered;
     logs_are = rw (lines-none limits, empty) (IsPermutation-refl [], sorted-none);
     lost = false;
-    lines = Told-none told notes_failures false notes;
+    lines = Told-none notes_device false notes;
     lost_when = λ is. absurd (differ 9 33 refl is);
     lost_only = λ never. absurd (not-false never);
   }
 
-module _ {R W N : Type 0} (remaining : R → Option (List ℕ)) (input_failures : R → ℕ) (contents : W → Option (List ℕ)) (outbox_failures : W → ℕ) (told : N → Option (List ℕ)) (notes_failures : N → ℕ) (limits : Limits) (host : List ℕ) (input now : R) (start : W) (notes middle later : N) (fault : Option ℕ) (outgoing : Outgoing W) (logs : Option (List OpenLine)) (end : BatchEnd W) where
+module _ {R W N : Type 0} (input_device : Source R) (outbox_device : Drain W) (notes_device : Drain N) (limits : Limits) (host : List ℕ) (input now : R) (start : W) (notes middle later : N) (fault : Option ℕ) (outgoing : Outgoing W) (logs : Option (List OpenLine)) (end : BatchEnd W) where
   -- what was read and how it ended are the whole run
-  pub whole-batch : (harvest : Harvested remaining input_failures contents outbox_failures told notes_failures limits host start input now notes middle fault outgoing logs)
-      → Ended contents outbox_failures told notes_failures host start (sealed_letters (history_of limits (requests_of harvest.bodies))) fault logs middle later end
-      → IsBatch remaining input_failures contents outbox_failures told notes_failures limits host input now start notes later end
+  pub whole-batch : (harvest : Harvested input_device outbox_device notes_device limits host start input now notes middle fault outgoing logs)
+      → Ended outbox_device notes_device host start (sealed_letters (history_of limits (requests_of harvest.bodies))) fault logs middle later end
+      → IsBatch input_device outbox_device notes_device limits host input now start notes later end
   unfolding notes_of
   whole-batch harvest ended =
       let same : ended.before ≡ harvest.lost = same-bool harvest.lost ended.before (λ lost. ended.before_when (harvest.lost_only lost)) (λ before. harvest.lost_when (ended.before_only before)) in record {
@@ -107,12 +108,12 @@ module _ {R W N : Type 0} (remaining : R → Option (List ℕ)) (input_failures 
         logs_are = harvest.logs_are;
         lost = ended.lost;
         lost_when = λ is. lost-after ended.lost _ _ _ (rw (ended.before_when is) at ended.lines.sent);
-        lines = Told-then told notes_failures false harvest.lost ended.lost notes middle later _ _ harvest.lines (rw same at ended.lines);
+        lines = Told-then notes_device false harvest.lost ended.lost notes middle later _ _ harvest.lines (rw same at ended.lines);
         answers_front = λ is.
             let front = rw (harvest.lost_when is) at harvest.lines.sent in
             let kept = kept-after ended.lost _ _ _ (rw (ended.before_when is) at ended.lines.sent) in
-            AppendsFront-kept (told notes) (told middle) (told later) _ front kept;
+            AppendsFront-kept (notes_device.contents notes) (notes_device.contents middle) (notes_device.contents later) _ front kept;
         fault_is = ended.fault_is;
         status_is = ended.status_is;
-        takes_all = λ whole wanted. takes-all limits (remaining input) (remaining now) whole wanted harvest.frames harvest.bodies harvest.answers ended.lost fault end.fault harvest.session ended.fault_is;
+        takes_all = λ whole wanted. takes-all limits (input_device.remaining input) (input_device.remaining now) whole wanted harvest.frames harvest.bodies harvest.answers ended.lost fault end.fault harvest.session ended.fault_is;
       }

@@ -1,6 +1,5 @@
 pub mod BatchLemmas
 pub mod NotesLemmas
-pub mod OutgoingLemmas
 pub mod ReadingLemmas
 pub mod RunLemmas
 pub mod TellingLemmas

@@ -6,12 +6,14 @@ use Rattle.std.specs.Io.KnownBytes.{Appends, Consumes}
 use Rattle.std.specs.List.{flat_map}
 use Rattle.std.proofs.KnownBytes.{Appends-trans, Appends-nil, Consumes-trans, Consumes-nil}
 use Rattle.std.proofs.lemmas.List.{append-nil, length-append}
-use Rattle.dsn_outcome.specs.Failures.{counted, Failed}
+use Rattle.dsn_device.specs.declared.drain.Drain.{Ghosts as Drain}
+use Rattle.dsn_device.specs.declared.source.Source.{Ghosts as Source}
+use Rattle.dsn_device.specs.Failures.{counted, Failed}
 use Rattle.dsn_outcome.specs.History.{Limits}
 use Rattle.dsn_outcome.specs.Request.{Body}
-use Rattle.dsn_outcome.specs.Transfer.{AppendsFront}
-use Rattle.dsn_outcome.proofs.FailureLemmas.{Failed-counted}
-use Rattle.dsn_outcome.proofs.TransferLemmas.{Appends-front}
+use Rattle.dsn_device.specs.Transfer.{AppendsFront}
+use Rattle.dsn_device.proofs.FailureLemmas.{Failed-counted}
+use Rattle.dsn_device.proofs.TransferLemmas.{Appends-front}
 use Rattle.dsn_frame.specs.Frame.{frame}
 use Rattle.dsn_frame.specs.FrameBody.{IsFrameBody}
 use Rattle.dsn_frame.specs.FrameFault.{frame_fault_code, source_failed}
@@ -85,9 +87,9 @@ Failed-read T Empty old new is e = absurd (differ 12 14 refl e)
 Failed-read T CutShort old new is e = absurd (differ 13 14 refl e)
 Failed-read T Read old new is e = rw is (Failed-counted old)
 
-module _ {R W N : Type 0} (remaining : R → Option (List ℕ)) (input_failures : R → ℕ) (contents : W → Option (List ℕ)) (outbox_failures : W → ℕ) (told : N → Option (List ℕ)) (notes_failures : N → ℕ) (limits : Limits) (host : List ℕ) (start : W) where
+module _ {R W N : Type 0} (input_device : Source R) (outbox_device : Drain W) (notes_device : Drain N) (limits : Limits) (host : List ℕ) (start : W) where
   -- nothing was read so far
-  pub heard-nothing : (input : R) (run : Run W) (notes : N) → Stands contents outbox_failures limits host start run (requests_of []) → HeardSoFar remaining input_failures contents outbox_failures told notes_failures limits host start 0 input input run notes notes
+  pub heard-nothing : (input : R) (run : Run W) (notes : N) → Stands outbox_device limits host start run (requests_of []) → HeardSoFar input_device outbox_device notes_device limits host start 0 input input run notes notes
   unfolding answer_lines_from
   heard-nothing input run notes stands = record {
     frames = [];
@@ -96,8 +98,8 @@ module _ {R W N : Type 0} (remaining : R → Option (List ℕ)) (input_failures 
     session = begun;
     replies = replies-none limits;
     stands = stands;
-    read = Consumes-nil (remaining input);
-    lines = Appends-nil (told notes);
+    read = Consumes-nil (input_device.remaining input);
+    lines = Appends-nil (notes_device.contents notes);
     reading_good = refl;
     telling_good = refl;
     frames_counted = refl;
@@ -113,27 +115,27 @@ module _ {R W N : Type 0} (remaining : R → Option (List ℕ)) (input_failures 
       taken frames bodies more answers (answer ∷ []) bytes end last session (rw counted few) body (rw (counted, ← accepted) takes) goes
 
   -- the lines with one more line
-  lines-more : (notes later last : N) (answers : List Spoken) (count : ℕ) (answer : Spoken) → length answers ≡ count → Appends (told notes) (told later) (answer_lines_from 0 answers) → Appends (told later) (told last) (answer_line count answer) → Appends (told notes) (told last) (answer_lines_from 0 (answers ++ answer ∷ []))
+  lines-more : (notes later last : N) (answers : List Spoken) (count : ℕ) (answer : Spoken) → length answers ≡ count → Appends (notes_device.contents notes) (notes_device.contents later) (answer_lines_from 0 answers) → Appends (notes_device.contents later) (notes_device.contents last) (answer_line count answer) → Appends (notes_device.contents notes) (notes_device.contents last) (answer_lines_from 0 (answers ++ answer ∷ []))
   lines-more notes later last answers count answer is before one =
       let place : 0 + length answers ≡ count = omega (arith, is) in
-      rw (answer_lines_from-more 0 answers answer, place) (Appends-trans (told notes) (told later) (told last) (answer_lines_from 0 answers) (answer_line count answer) before one)
+      rw (answer_lines_from-more 0 answers answer, place) (Appends-trans (notes_device.contents notes) (notes_device.contents later) (notes_device.contents last) (answer_lines_from 0 answers) (answer_line count answer) before one)
 
-  lines-lost : (notes later last : N) (answers : List Spoken) (count : ℕ) (answer : Spoken) → length answers ≡ count → Appends (told notes) (told later) (answer_lines_from 0 answers) → AppendsFront (told later) (told last) (answer_line count answer) → AppendsFront (told notes) (told last) (answer_lines_from 0 (answers ++ answer ∷ []))
+  lines-lost : (notes later last : N) (answers : List Spoken) (count : ℕ) (answer : Spoken) → length answers ≡ count → Appends (notes_device.contents notes) (notes_device.contents later) (answer_lines_from 0 answers) → AppendsFront (notes_device.contents later) (notes_device.contents last) (answer_line count answer) → AppendsFront (notes_device.contents notes) (notes_device.contents last) (answer_lines_from 0 (answers ++ answer ∷ []))
   lines-lost notes later last answers count answer is before front =
       let place : 0 + length answers ≡ count = omega (arith, is) in
-      rw (answer_lines_from-more 0 answers answer, place) (Appends-front (told notes) (told later) (told last) (answer_lines_from 0 answers) (answer_line count answer) before front)
+      rw (answer_lines_from-more 0 answers answer, place) (Appends-front (notes_device.contents notes) (notes_device.contents later) (notes_device.contents last) (answer_lines_from 0 answers) (answer_line count answer) before front)
 
-  read-more : (input now after : R) (bodies : List (List ℕ)) (bytes : List ℕ) → Consumes (remaining input) (remaining now) (flat_map frame bodies) → Consumes (remaining now) (remaining after) (frame bytes) → Consumes (remaining input) (remaining after) (flat_map frame (bodies ++ bytes ∷ []))
+  read-more : (input now after : R) (bodies : List (List ℕ)) (bytes : List ℕ) → Consumes (input_device.remaining input) (input_device.remaining now) (flat_map frame bodies) → Consumes (input_device.remaining now) (input_device.remaining after) (frame bytes) → Consumes (input_device.remaining input) (input_device.remaining after) (flat_map frame (bodies ++ bytes ∷ []))
   read-more input now after bodies bytes before one =
-      rw (flat_map-frame-more bodies bytes) (Consumes-trans (remaining input) (remaining now) (remaining after) (flat_map frame bodies) (frame bytes) before one)
+      rw (flat_map-frame-more bodies bytes) (Consumes-trans (input_device.remaining input) (input_device.remaining now) (input_device.remaining after) (flat_map frame bodies) (frame bytes) before one)
 
   -- one more frame was read, answered and told
   pub heard-more : (count : ℕ) (input now after : R) (run next : Run W) (notes later last : N) (bytes : List ℕ) (turn : Turn)
-      → (so_far : HeardSoFar remaining input_failures contents outbox_failures told notes_failures limits host start count input now run notes later)
-      → count < limits.requests → IsFrameBody bytes → Consumes (remaining now) (remaining after) (frame bytes) → input_failures after ≡ input_failures now
-      → Answered contents outbox_failures limits host start next (requests_of so_far.bodies) count bytes turn → turn.over ≡ false
-      → Appends (told later) (told last) (answer_line count turn.answer) → notes_failures last ≡ notes_failures later
-      → HeardSoFar remaining input_failures contents outbox_failures told notes_failures limits host start (count + 1) input after next notes last
+      → (so_far : HeardSoFar input_device outbox_device notes_device limits host start count input now run notes later)
+      → count < limits.requests → IsFrameBody bytes → Consumes (input_device.remaining now) (input_device.remaining after) (frame bytes) → input_device.failures after ≡ input_device.failures now
+      → Answered outbox_device limits host start next (requests_of so_far.bodies) count bytes turn → turn.over ≡ false
+      → Appends (notes_device.contents later) (notes_device.contents last) (answer_line count turn.answer) → notes_device.failures last ≡ notes_device.failures later
+      → HeardSoFar input_device outbox_device notes_device limits host start (count + 1) input after next notes last
   heard-more count input now after run next notes later last bytes turn so_far few body read good answer goes_on line told_good =
       let takes = rw goes_on at answer.takes in record {
         frames = so_far.frames ++ bytes ∷ [];
@@ -152,10 +154,10 @@ module _ {R W N : Type 0} (remaining : R → Option (List ℕ)) (input_failures 
 
   -- the reading ended where no more frame was answered
   pub heard-end : (count : ℕ) (input now after : R) (run : Run W) (notes later : N) (fault : Option ℕ)
-      → HeardSoFar remaining input_failures contents outbox_failures told notes_failures limits host start count input now run notes later
-      → Ends Input limits.requests count None (remaining now) (remaining after) fault
-      → (fault ≡ Some 33 → ⊥) → (fault ≡ Some 14 → Failed (input_failures now) (input_failures after))
-      → Heard remaining input_failures contents outbox_failures told notes_failures limits host start input after run notes later fault
+      → HeardSoFar input_device outbox_device notes_device limits host start count input now run notes later
+      → Ends Input limits.requests count None (input_device.remaining now) (input_device.remaining after) fault
+      → (fault ≡ Some 33 → ⊥) → (fault ≡ Some 14 → Failed (input_device.failures now) (input_device.failures after))
+      → Heard input_device outbox_device notes_device limits host start input after run notes later fault
   heard-end count input now after run notes later fault so_far ends not_notes cause = record {
     frames = so_far.frames;
     bodies = so_far.bodies;
@@ -163,7 +165,7 @@ module _ {R W N : Type 0} (remaining : R → Option (List ℕ)) (input_failures 
     session = record {
       made = None;
       takes = so_far.session;
-      left = remaining now;
+      left = input_device.remaining now;
       read = so_far.read;
       ends = rw so_far.frames_counted ends;
     };
@@ -178,25 +180,25 @@ module _ {R W N : Type 0} (remaining : R → Option (List ℕ)) (input_failures 
 
   -- the session that stopped at its last frame
   session-stopped : (count : ℕ) (input now after : R) (run : Run W) (notes later : N) (bytes : List ℕ) (answer : Spoken) (more : List Body) (end : Option ℕ) (code : ℕ)
-      → (so_far : HeardSoFar remaining input_failures contents outbox_failures told notes_failures limits host start count input now run notes later)
-      → count < limits.requests → IsFrameBody bytes → Consumes (remaining now) (remaining after) (frame bytes)
+      → (so_far : HeardSoFar input_device outbox_device notes_device limits host start count input now run notes later)
+      → count < limits.requests → IsFrameBody bytes → Consumes (input_device.remaining now) (input_device.remaining after) (frame bytes)
       → Takes Input limits.requests (length (requests_of so_far.bodies)) count bytes more (answer ∷ []) end → GoesOn Input (answer ∷ []) end (Some code)
-      → IsSession Input limits.requests 0 (remaining input) (remaining after) (so_far.frames ++ bytes ∷ []) (so_far.bodies ++ more) (so_far.answers ++ answer ∷ []) (Some code)
+      → IsSession Input limits.requests 0 (input_device.remaining input) (input_device.remaining after) (so_far.frames ++ bytes ∷ []) (so_far.bodies ++ more) (so_far.answers ++ answer ∷ []) (Some code)
   session-stopped count input now after run notes later bytes answer more end code so_far few body read takes goes = record {
     made = Some code;
     takes = session-more so_far.frames so_far.bodies more so_far.answers count bytes answer end (Some code) so_far.frames_counted so_far.session few body takes goes;
-    left = remaining after;
+    left = input_device.remaining after;
     read = read-more input now after so_far.frames bytes so_far.read read;
     ends = stopped code refl refl;
   }
 
   -- the reading ended with an answer that could not be told
   pub heard-lost : (count : ℕ) (input now after : R) (run next : Run W) (notes later last : N) (bytes : List ℕ) (turn : Turn)
-      → (so_far : HeardSoFar remaining input_failures contents outbox_failures told notes_failures limits host start count input now run notes later)
-      → count < limits.requests → IsFrameBody bytes → Consumes (remaining now) (remaining after) (frame bytes) → input_failures after ≡ input_failures now
-      → Answered contents outbox_failures limits host start next (requests_of so_far.bodies) count bytes turn
-      → AppendsFront (told later) (told last) (answer_line count turn.answer) → notes_failures last ≡ counted true (notes_failures later)
-      → Heard remaining input_failures contents outbox_failures told notes_failures limits host start input after next notes last (Some 33)
+      → (so_far : HeardSoFar input_device outbox_device notes_device limits host start count input now run notes later)
+      → count < limits.requests → IsFrameBody bytes → Consumes (input_device.remaining now) (input_device.remaining after) (frame bytes) → input_device.failures after ≡ input_device.failures now
+      → Answered outbox_device limits host start next (requests_of so_far.bodies) count bytes turn
+      → AppendsFront (notes_device.contents later) (notes_device.contents last) (answer_line count turn.answer) → notes_device.failures last ≡ counted true (notes_device.failures later)
+      → Heard input_device outbox_device notes_device limits host start input after next notes last (Some 33)
   heard-lost count input now after run next notes later last bytes turn so_far few body read good answer front failed = record {
     frames = so_far.frames ++ bytes ∷ [];
     bodies = so_far.bodies ++ answer.asked;
@@ -216,11 +218,11 @@ module _ {R W N : Type 0} (remaining : R → Option (List ℕ)) (input_failures 
 
   -- the reading ended with an answer to a number out of turn
   pub heard-out-of-turn : (count : ℕ) (input now after : R) (run next : Run W) (notes later last : N) (bytes : List ℕ) (turn : Turn)
-      → (so_far : HeardSoFar remaining input_failures contents outbox_failures told notes_failures limits host start count input now run notes later)
-      → count < limits.requests → IsFrameBody bytes → Consumes (remaining now) (remaining after) (frame bytes) → input_failures after ≡ input_failures now
-      → Answered contents outbox_failures limits host start next (requests_of so_far.bodies) count bytes turn → turn.over ≡ true
-      → Appends (told later) (told last) (answer_line count turn.answer) → notes_failures last ≡ notes_failures later
-      → Heard remaining input_failures contents outbox_failures told notes_failures limits host start input after next notes last (Some 46)
+      → (so_far : HeardSoFar input_device outbox_device notes_device limits host start count input now run notes later)
+      → count < limits.requests → IsFrameBody bytes → Consumes (input_device.remaining now) (input_device.remaining after) (frame bytes) → input_device.failures after ≡ input_device.failures now
+      → Answered outbox_device limits host start next (requests_of so_far.bodies) count bytes turn → turn.over ≡ true
+      → Appends (notes_device.contents later) (notes_device.contents last) (answer_line count turn.answer) → notes_device.failures last ≡ notes_device.failures later
+      → Heard input_device outbox_device notes_device limits host start input after next notes last (Some 46)
   heard-out-of-turn count input now after run next notes later last bytes turn so_far few body read good answer over line told_good =
       let lines = lines-more notes later last so_far.answers count turn.answer so_far.answers_counted so_far.lines line in
       let takes = rw over at answer.takes in record {

@@ -2,6 +2,7 @@
 use Rattle.std.proofs.Common.{◌≡◌, ℕ, suc, ◌+◌, ◌<◌, true, false, List, [], ◌∷◌, ◌++◌, length, refl, ap, sym, ◌∙◌, arith}
 use Rattle.std.specs.Prelude.{Option, Some, None, ◌==◌, map, unwrap_or}
 use Rattle.std.specs.List.{flat_map}
+use Rattle.dsn_device.specs.declared.drain.Drain.{Ghosts as Drain}
 use Rattle.dsn_frame.specs.BodyFault.{body_fault_code}
 use Rattle.dsn_frame.specs.Request.{Encodes, first_body_fault}
 use Rattle.dsn_frame.specs.declared.body_fault.BodyFault.{BodyFault}
@@ -20,10 +21,9 @@ use Rattle.dsn_outcome.proofs.HistoryLaws.{history_more, letters_more, answers_m
 use Rattle.dsn_frame.specs.Session.{Input, Takes, faulty, out_of_memory, asked}
 use Rattle.dsn_frame.specs.declared.spoken.Spoken.{Spoken}
 use Rattle.noticed_lib.specs.Requests.{requests_from, requests_of, next_request, reply_of, AreReplies}
-use Rattle.noticed_lib.specs.Outgoing.{Delivered}
+use Rattle.dsn_report.specs.Outgoing.{Delivered, Outgoing}
 use Rattle.noticed_lib.specs.Run.{Stands, Asks, Answered, end_after}
 use Rattle.noticed_lib.specs.declared.turn.Turn.{Turn}
-use Rattle.noticed_lib.specs.declared.outgoing.Outgoing.{Outgoing}
 use Rattle.noticed_lib.specs.declared.run.Run.{Run}
 use Rattle.dsn_frame.specs.declared.spoken.Spoken.TheVariants as spoken
 
@@ -113,16 +113,16 @@ pub letters-none : (limits : Limits) → sealed_letters (history_of limits []) �
 unfolding history_after letters_after
 letters-none limits = refl
 
-module _ {W : Type 0} (contents : W → Option (List ℕ)) (failures : W → ℕ) (limits : Limits) (host : List ℕ) (start : W) where
+module _ {W : Type 0} (outbox_device : Drain W) (limits : Limits) (host : List ℕ) (start : W) where
   -- a request was applied, and the letter that it sealed was handed on
   pub asked-next : (book next : Book) (outgoing later : Outgoing W) (accepted : ℕ) (requests : List Request) (body : Body) (answer : Answer) (letter : Option Letter)
-      → Stands contents failures limits host start (record { book = book; outgoing = outgoing; accepted = accepted }) requests
+      → Stands outbox_device limits host start (record { book = book; outgoing = outgoing; accepted = accepted }) requests
       → next.limits ≡ book.limits
       → ((t : List Exchange) → Represents book t → answer ≡ answer_of (exchange_of book.limits t (request_numbered accepted body)))
       → ((t : List Exchange) → Represents book t → letters_in letter ≡ letter_of t (exchange_of book.limits t (request_numbered accepted body)))
       → ((t : List Exchange) → Represents book t → Represents next (t ++ exchange_of book.limits t (request_numbered accepted body) ∷ []))
-      → ((letters : List Letter) → Delivered contents failures host start outgoing letters → Delivered contents failures host start later (letters ++ option_to_list letter))
-      → Asks contents failures limits host start (record { book = next; outgoing = later; accepted = accepted + 1 }) requests body (record { answer = spoken.Reply answer.reply; over = false })
+      → ((letters : List Letter) → Delivered outbox_device host start outgoing letters → Delivered outbox_device host start later (letters ++ option_to_list letter))
+      → Asks outbox_device limits host start (record { book = next; outgoing = later; accepted = accepted + 1 }) requests body (record { answer = spoken.Reply answer.reply; over = false })
   asked-next book next outgoing later accepted requests body answer letter stands same answer_is letter_is stands_is handed =
       let history = history_of limits requests in
       let request = next_request requests body in
@@ -144,8 +144,8 @@ module _ {W : Type 0} (contents : W → Option (List ℕ)) (failures : W → ℕ
 
   -- a request's answer is that of its frame
   pub answered-asked : (run : Run W) (requests : List Request) (body : Body) (turn : Turn) (number position : ℕ) (bytes : List ℕ)
-      → Encodes bytes number body → number ≡ position → length requests < limits.requests → Asks contents failures limits host start run requests body turn
-      → Answered contents failures limits host start run requests position bytes turn
+      → Encodes bytes number body → number ≡ position → length requests < limits.requests → Asks outbox_device limits host start run requests body turn
+      → Answered outbox_device limits host start run requests position bytes turn
   answered-asked run requests body turn number position bytes encoded same few asks =
       let here = rw same at encoded in record {
         asked = body ∷ [];
@@ -157,7 +157,7 @@ module _ {W : Type 0} (contents : W → Option (List ℕ)) (failures : W → ℕ
   -- a frame that asks nothing leaves the run as it was
   pub answered-refused : (run : Run W) (requests : List Request) (number position : ℕ) (bytes : List ℕ) (turn : Turn) (end : Option ℕ)
       → turn.answer ≡ spoken.Refused number → end_after turn.over ≡ end → Takes Input limits.requests (length requests) position bytes [] (spoken.Refused number ∷ []) end
-      → Stands contents failures limits host start run requests → Answered contents failures limits host start run requests position bytes turn
+      → Stands outbox_device limits host start run requests → Answered outbox_device limits host start run requests position bytes turn
   answered-refused run requests number position bytes turn end answer_is over_is takes stands = record {
     asked = [];
     takes = rw (answer_is, over_is) takes;
@@ -166,8 +166,8 @@ module _ {W : Type 0} (contents : W → Option (List ℕ)) (failures : W → ℕ
   }
 
   -- a book with no key and no letters on their way stand for no requests
-  pub stands-nothing : (book : Book) (outgoing : Outgoing W) → book.limits ≡ limits → Represents book [] → Delivered contents failures host start outgoing []
-      → Stands contents failures limits host start (record { book = book; outgoing = outgoing; accepted = 0 }) (requests_of [])
+  pub stands-nothing : (book : Book) (outgoing : Outgoing W) → book.limits ≡ limits → Represents book [] → Delivered outbox_device host start outgoing []
+      → Stands outbox_device limits host start (record { book = book; outgoing = outgoing; accepted = 0 }) (requests_of [])
   unfolding requests_from
   stands-nothing book outgoing kept represents delivered = record {
     limits_kept = kept;

@@ -2,7 +2,6 @@ pub mod Batch
 pub mod Harvest
 pub mod MemoryRun
 pub mod Notes
-pub mod Outgoing
 pub mod Reading
 pub mod Requests
 pub mod Run

@@ -9,7 +9,7 @@ use Rattle.dsn_outcome.specs.Request.{Body}
 use Rattle.dsn_report.specs.Outbox.{outbox_of}
 use Rattle.noticed_lib.specs.Batch.{AreOpenLines, status_of}
 use Rattle.noticed_lib.specs.Notes.{notes_of}
-use Rattle.noticed_lib.specs.Outgoing.{are_some, written_of, text_until}
+use Rattle.dsn_report.specs.Outgoing.{are_some, written_of, text_until}
 use Rattle.noticed_lib.specs.Requests.{AreReplies, requests_of}
 use Rattle.noticed_lib.specs.WholeInput.{IsWholeInput, TakesAll}
 use Rattle.noticed_lib.specs.declared.memory_run.MemoryRun.{MemoryRun}

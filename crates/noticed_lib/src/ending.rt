@@ -28,7 +28,7 @@ pub(crate) fn tell_end<N: Drain>(
     logs: &Result<Vec<OpenLine>, NoMemory>,
 ) -> (Letters, bool)
     ensures letters { result.0 ≡ unsent }
-    ensures told { Told N.contents N.failures failed result.1 notes.old notes.new (end_lines fault whole unsent (option_map (λ lines. lines.items) (result_ok logs.now))) }
+    ensures told { Told N.Drain failed result.1 notes.old notes.new (end_lines fault whole unsent (option_map (λ lines. lines.items) (result_ok logs.now))) }
 {
     let failed = tell_fault(notes, failed, fault);
     let failed = tell_outbox(notes, failed, whole);
@@ -39,13 +39,13 @@ pub(crate) fn tell_end<N: Drain>(
 
 /// Tells one line, unless telling has failed.
 fn tell<N: Drain>(notes: &mut N, failed: bool, line: &[u8]) -> bool
-    ensures { Told N.contents N.failures failed result notes.old notes.new line.now }
+    ensures { Told N.Drain failed result notes.old notes.new line.now }
 {
     failed || send(notes, line).is_err()
 }
 
 fn tell_fault<N: Drain>(notes: &mut N, failed: bool, fault: Option<u32>) -> bool
-    ensures { Told N.contents N.failures failed result notes.old notes.new (fault_lines fault) }
+    ensures { Told N.Drain failed result notes.old notes.new (fault_lines fault) }
 {
     match fault {
         Some(code) => tell(notes, failed, fault_line(code).bytes()),
@@ -54,7 +54,7 @@ fn tell_fault<N: Drain>(notes: &mut N, failed: bool, fault: Option<u32>) -> bool
 }
 
 fn tell_outbox<N: Drain>(notes: &mut N, failed: bool, whole: bool) -> bool
-    ensures { Told N.contents N.failures failed result notes.old notes.new (outbox_lines whole) }
+    ensures { Told N.Drain failed result notes.old notes.new (outbox_lines whole) }
 {
     if whole {
         failed
@@ -65,7 +65,7 @@ fn tell_outbox<N: Drain>(notes: &mut N, failed: bool, whole: bool) -> bool
 
 fn tell_unsent<N: Drain>(notes: &mut N, failed: bool, unsent: Letters) -> (Letters, bool)
     ensures letters { result.0 ≡ unsent }
-    ensures told { Told N.contents N.failures failed result.1 notes.old notes.new (unsent_lines unsent) }
+    ensures told { Told N.Drain failed result.1 notes.old notes.new (unsent_lines unsent) }
 {
     let mut rest = unsent;
     let mut kept = Letters::new();
@@ -78,7 +78,7 @@ fn tell_unsent<N: Drain>(notes: &mut N, failed: bool, unsent: Letters) -> (Lette
 }
 
 fn tell_open<N: Drain>(notes: &mut N, failed: bool, logs: &Result<Vec<OpenLine>, NoMemory>) -> bool
-    ensures { Told N.contents N.failures failed result notes.old notes.new (open_lines (option_map (λ lines. lines.items) (result_ok logs.now))) }
+    ensures { Told N.Drain failed result notes.old notes.new (open_lines (option_map (λ lines. lines.items) (result_ok logs.now))) }
 {
     match logs {
         Ok(lines) => tell_lines(notes, failed, lines.as_slice()),
@@ -87,7 +87,7 @@ fn tell_open<N: Drain>(notes: &mut N, failed: bool, logs: &Result<Vec<OpenLine>,
 }
 
 fn tell_lines<N: Drain>(notes: &mut N, failed: bool, lines: &[OpenLine]) -> bool
-    ensures { Told N.contents N.failures failed result notes.old notes.new (flat_map open_line lines.now) }
+    ensures { Told N.Drain failed result notes.old notes.new (flat_map open_line lines.now) }
 {
     let mut lost = failed;
     for line in lines {

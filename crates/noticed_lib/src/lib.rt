@@ -8,7 +8,6 @@ mod fakes;
 mod memory_run;
 mod memory_source;
 mod notes;
-mod outgoing;
 mod reading;
 mod run;
 #[cfg(test)]

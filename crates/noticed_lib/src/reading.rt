@@ -27,8 +27,8 @@ pub(crate) fn read_all<R: Source, W: Drain, N: Drain>(
     notes: &mut N,
 ) -> Option<u32>
     requires { run.old.accepted ≡ 0 }
-    ensures heard { (limits : Bounds) (host : List ℕ) (start : W) → limits.requests ≡ requests → Stands W.contents W.failures limits host start run.old (requests_of []) →
-        Heard R.remaining R.failures W.contents W.failures N.contents N.failures limits host start input.old input.new run.new notes.old notes.new result }
+    ensures heard { (limits : Bounds) (host : List ℕ) (start : W) → limits.requests ≡ requests → Stands W.Drain limits host start run.old (requests_of []) →
+        Heard R.Source W.Drain N.Drain limits host start input.old input.new run.new notes.old notes.new result }
     ensures steady { R.steady input.old → R.failures input.new ≡ R.failures input.old }
 {
     for position in 0..requests {

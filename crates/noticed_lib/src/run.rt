@@ -5,11 +5,11 @@ ghost use Rattle.dsn_outcome.specs.Request.{Request as Asked};
 ghost use Rattle.dsn_outcome.specs.Body.{body_of};
 ghost use Rattle.noticed_lib.specs.Run.{Stands, Asks, Answered};
 
-use crate::outgoing::Outgoing;
 use crate::turn::Turn;
 use dsn_book::{Book, Step};
 use dsn_frame::{Spoken, decode_request};
 use dsn_outcome::{Body, Drain, Request};
+use dsn_report::Outgoing;
 use std::alloc::Global;
 
 /// The number of the refusal of a number out of turn.
@@ -27,7 +27,7 @@ impl<W: Drain> Run<W> {
     pub(crate) fn answer(&mut self, alloc: Global, position: u32, bytes: &[u8]) -> Turn
         requires { self.old.accepted + 1 < 2 ^ 32 }
         ensures counted { self.new.accepted ≤ self.old.accepted + 1 }
-        ensures answered { (limits : Bounds) (host : List ℕ) (start : W) (requests : List Asked) → Stands W.contents W.failures limits host start self.old requests → length requests < limits.requests → Answered W.contents W.failures limits host start self.new requests position bytes.now result }
+        ensures answered { (limits : Bounds) (host : List ℕ) (start : W) (requests : List Asked) → Stands W.Drain limits host start self.old requests → length requests < limits.requests → Answered W.Drain limits host start self.new requests position bytes.now result }
     {
         let (number, body) = match decode_request(alloc, bytes) {
             Ok(read) => read,
@@ -51,7 +51,7 @@ impl<W: Drain> Run<W> {
     fn ask(&mut self, body: Body) -> Turn
         requires { self.old.accepted + 1 < 2 ^ 32 }
         ensures counted { self.new.accepted ≤ self.old.accepted + 1 }
-        ensures asked { (limits : Bounds) (host : List ℕ) (start : W) (requests : List Asked) → Stands W.contents W.failures limits host start self.old requests → Asks W.contents W.failures limits host start self.new requests (body_of body) result }
+        ensures asked { (limits : Bounds) (host : List ℕ) (start : W) (requests : List Asked) → Stands W.Drain limits host start self.old requests → Asks W.Drain limits host start self.new requests (body_of body) result }
     {
         let request = Request {
             agent: 0,

@@ -7,16 +7,15 @@ ghost use Rattle.dsn_outcome.specs.History.{Limits as Bounds};
 ghost use Rattle.dsn_outcome.specs.Letter.{Letter as SealedLog};
 ghost use Rattle.noticed_lib.specs.Batch.{IsBatch};
 ghost use Rattle.noticed_lib.specs.Harvest.{Harvested, Ended};
-ghost use Rattle.noticed_lib.specs.Outgoing.{Delivered};
+ghost use Rattle.dsn_report.specs.Outgoing.{Delivered};
 
 use crate::batch_end::BatchEnd;
 use crate::ending::{NO_MEMORY, tell_end};
-use crate::outgoing::{Finished, Outgoing};
 use crate::reading::{NOTES, read_all};
 use crate::run::Run;
 use dsn_book::{Book, Limits, OpenLine};
 use dsn_outcome::{Drain, NoMemory, Source};
-use dsn_report::Site;
+use dsn_report::{OutboxEnd, Outgoing, Site};
 use std::alloc::Global;
 
 /// What came of the reading: the fault that ended it, the letters on their way, and the logs that
@@ -40,7 +39,7 @@ pub fn batch<R: Source, W: Drain, N: Drain>(
     outbox: W,
     notes: &mut N,
 ) -> BatchEnd<W>
-    ensures run { IsBatch R.remaining R.failures W.contents W.failures N.contents N.failures limits.now site input.old input.new outbox notes.old notes.new result }
+    ensures run { IsBatch R.Source W.Drain N.Drain limits.now site input.old input.new outbox notes.old notes.new result }
 
     // A reader whose calls don't fail is not blamed.
     ensures steady { R.steady input.old → R.failures input.new ≡ R.failures input.old }
@@ -71,8 +70,8 @@ fn read_into<R: Source, W: Drain, N: Drain>(
     input: &mut R,
     notes: &mut N,
 ) -> Harvest<W>
-    ensures harvest { (limits : Bounds) (host : List ℕ) (start : W) → limits.requests ≡ requests → book.limits ≡ limits → Represents book [] → Delivered W.contents W.failures host start outgoing [] →
-        Harvested R.remaining R.failures W.contents W.failures N.contents N.failures limits host start input.old input.new notes.old notes.new result.fault result.outgoing (option_map (λ lines. lines.items) (result_ok result.logs)) }
+    ensures harvest { (limits : Bounds) (host : List ℕ) (start : W) → limits.requests ≡ requests → book.limits ≡ limits → Represents book [] → Delivered W.Drain host start outgoing [] →
+        Harvested R.Source W.Drain N.Drain limits host start input.old input.new notes.old notes.new result.fault result.outgoing (option_map (λ lines. lines.items) (result_ok result.logs)) }
     ensures steady { R.steady input.old → R.failures input.new ≡ R.failures input.old }
 {
     let mut run = Run {
@@ -96,15 +95,15 @@ fn read_into<R: Source, W: Drain, N: Drain>(
 
 /// Ends the outbox, and tells how the run ended.
 fn end<W: Drain, N: Drain>(harvest: Harvest<W>, notes: &mut N) -> BatchEnd<W>
-    ensures { (host : List ℕ) (start : W) (letters : List SealedLog) → Delivered W.contents W.failures host start harvest.outgoing letters →
-        Ended W.contents W.failures N.contents N.failures host start letters harvest.fault (option_map (λ lines. lines.items) (result_ok harvest.logs)) notes.old notes.new result }
+    ensures { (host : List ℕ) (start : W) (letters : List SealedLog) → Delivered W.Drain host start harvest.outgoing letters →
+        Ended W.Drain N.Drain host start letters harvest.fault (option_map (λ lines. lines.items) (result_ok harvest.logs)) notes.old notes.new result }
 {
     let Harvest {
         fault,
         outgoing,
         logs,
     } = harvest;
-    let Finished {
+    let OutboxEnd {
         outbox,
         whole,
         unsent,

@@ -8,4 +8,4 @@ returns-in-Some g c = rw (c.in-Some.is, ← c.fault_line.ensures, ← c.bytes.en
 
 pub returns-in-None : goal.returns-in-None
 unfolding fault_lines
-returns-in-None g c = rw c.in-None.is (Told-none _ _ _ _)
+returns-in-None g c = rw c.in-None.is (Told-none _ _ _)

@@ -6,4 +6,4 @@ use Rattle.noticed_lib.proofs.ending.tell_lines.Given as goal
 
 abbrev pub invariant-loop-line : goal.invariant-loop-line
 invariant-loop-line g l =
-    Told g.N.Drain.contents g.N.Drain.failures l.failed l.lost l.initial.notes l.notes (flat_map open_line (take l.line-index l.lines))
+    Told g.N.Drain l.failed l.lost l.initial.notes l.notes (flat_map open_line (take l.line-index l.lines))

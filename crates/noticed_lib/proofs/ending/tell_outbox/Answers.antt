@@ -4,7 +4,7 @@ use Rattle.noticed_lib.proofs.ending.tell_outbox.Goals as goal
 
 pub returns-then-whole : goal.returns-then-whole
 unfolding outbox_lines
-returns-then-whole g c = rw c.if-whole.true (Told-none _ _ _ _)
+returns-then-whole g c = rw c.if-whole.true (Told-none _ _ _)
 
 pub returns-else-whole : goal.returns-else-whole
 unfolding outbox_lines

@@ -6,7 +6,7 @@ use Rattle.noticed_lib.proofs.ending.tell_unsent.Given as goal
 abbrev pub invariant-loop-letter : goal.invariant-loop-letter
 invariant-loop-letter g l =
     (l.kept ++ l.rest ≡ l.fn.unsent) ×
-    Told g.N.Drain.contents g.N.Drain.failures l.failed l.lost l.initial.notes l.notes (unsent_lines l.kept)
+    Told g.N.Drain l.failed l.lost l.initial.notes l.notes (unsent_lines l.kept)
 
 abbrev pub decreases-loop-letter : goal.decreases-loop-letter
 decreases-loop-letter g l = length l.rest

@@ -5,7 +5,7 @@ use Rattle.noticed_lib.proofs.whole_run.read_into.Goals as goal
 
 pub returns-clause-harvest : goal.returns-clause-harvest
 returns-clause-harvest g c = λ limits host start same kept represents delivered.
-    let heard = c.read_all-fault.ensures.heard limits host start same (stands-nothing _ _ limits host start _ _ kept represents delivered) in record {
+    let heard = c.read_all-fault.ensures.heard limits host start same (stands-nothing _ limits host start _ _ kept represents delivered) in record {
       frames = heard.frames;
       bodies = heard.bodies;
       answers = heard.answers;

@@ -1,7 +1,7 @@
 use Rattle.std.proofs.Common.{◌≡◌, false, subst, append-nil}
 use Rattle.std.specs.Io.KnownBytes.{Appends}
 use Rattle.std.proofs.lemmas.Bool.{not-true}
-use Rattle.dsn_outcome.specs.Transfer.{AppendsFront}
+use Rattle.dsn_device.specs.Transfer.{AppendsFront}
 use Rattle.dsn_report.proofs.LineWriterLemmas.{Took-as, Took-front, Took-sent, Took-then}
 use Rattle.dsn_report.specs.Poster.{finish_text}
 use Rattle.dsn_report.proofs.poster.Poster.finish.Goals as goal

@@ -1,6 +1,6 @@
 use Rattle.std.proofs.Common.{subst, append-nil}
 use Rattle.std.specs.Io.KnownBytes.{Appends}
-use Rattle.dsn_outcome.specs.Transfer.{AppendsFront}
+use Rattle.dsn_device.specs.Transfer.{AppendsFront}
 use Rattle.dsn_report.proofs.LineWriterLemmas.{Took-as, Took-front, Took-sent, Took-then}
 use Rattle.dsn_report.specs.Poster.{post_text}
 use Rattle.dsn_report.proofs.poster.Poster.post.Goals as goal

@@ -6,14 +6,15 @@ use Rattle.std.proofs.KnownBytes.{Appends-trans}
 use Rattle.std.specs.List.{flat_map}
 use Rattle.std.proofs.lemmas.List.{append-nil}
 use Rattle.dsn_outcome.specs.Letter.{Letter}
-use Rattle.dsn_outcome.specs.Failures.{counted}
-use Rattle.dsn_outcome.specs.Transfer.{AppendsFront}
-use Rattle.dsn_outcome.proofs.TransferLemmas.{AppendsFront-all}
+use Rattle.dsn_device.specs.Failures.{counted}
+use Rattle.dsn_device.specs.declared.drain.Drain.{Ghosts as Drain}
+use Rattle.dsn_device.specs.Transfer.{AppendsFront}
+use Rattle.dsn_device.proofs.TransferLemmas.{AppendsFront-all}
 use Rattle.dsn_report.specs.LineWriter.{counts_failure}
 use Rattle.dsn_report.specs.declared.post_fault.PostFault.{PostFault}
 use Rattle.dsn_report.specs.Outbox.{greeting, goodbye, mail_transaction, outbox_of}
 use Rattle.dsn_report.specs.Poster.{Poster, post_text, finish_text, post_fault, letter_handed_back}
-use Rattle.noticed_lib.specs.Outgoing.{written_of, are_some, AppendsAtLeast, FrontWritten, Delivered, IsOutbox}
+use Rattle.dsn_report.specs.Outgoing.{written_of, are_some, AppendsAtLeast, FrontWritten, Delivered, IsOutbox}
 
 pub flat_map-more : {A : Type 0} (f : A → List ℕ) (xs : List A) (x : A) → flat_map f (xs ++ x ∷ []) ≡ flat_map f xs ++ f x
 flat_map-more f [] x = append-nil (f x)
@@ -72,7 +73,7 @@ none-where : (letters : List Letter) (greeted : Bool) → greeted ≡ are_some l
 none-where [] greeted is none = refl
 none-where (first ∷ rest) greeted is none = absurd (not-both greeted is none)
 
-module _ {W : Type 0} (contents : W → Option (List ℕ)) (failures : W → ℕ) (host : List ℕ) (start : W) (old new : Poster W) (unsent letters : List Letter) (letter : Letter) (before : Delivered contents failures host start (record { poster = old; unsent = unsent }) letters) where
+module _ {W : Type 0} (drain : Drain W) (host : List ℕ) (start : W) (old new : Poster W) (unsent letters : List Letter) (letter : Letter) (before : Delivered drain host start (record { poster = old; unsent = unsent }) letters) where
   -- a poster that wrote a letter had not failed
   was-good : (failed : Bool) → old.failed ≡ failed → (old.failed ≡ true → new ≡ old) → new.failed ≡ false → old.failed ≡ false
   was-good true is nothing good = absurd (not-both new.failed (ap (λ (p : Poster W). p.failed) (nothing is) ∙ is) good)
@@ -83,22 +84,22 @@ module _ {W : Type 0} (contents : W → Option (List ℕ)) (failures : W → ℕ
   still-good false count is = refl
 
   -- one letter more was written
-  pub hand-ok : Appends (contents old.outbox) (contents new.outbox) (post_text old letter) → (old.failed ≡ true → new ≡ old) → new.failed ≡ false → new.greeted ≡ true → new.host ≡ old.host → failures new.outbox ≡ counts_failure old.failed false (failures old.outbox) → Delivered contents failures host start (record { poster = new; unsent = unsent }) (letters ++ letter ∷ [])
+  pub hand-ok : Appends (drain.contents old.outbox) (drain.contents new.outbox) (post_text old letter) → (old.failed ≡ true → new ≡ old) → new.failed ≡ false → new.greeted ≡ true → new.host ≡ old.host → drain.failures new.outbox ≡ counts_failure old.failed false (drain.failures old.outbox) → Delivered drain host start (record { poster = new; unsent = unsent }) (letters ++ letter ∷ [])
   hand-ok sent nothing good greeted same_host count =
       let was : old.failed ≡ false = was-good old.failed refl nothing good in
       let all = before.while_good was in record {
         host_kept = same_host ∙ before.host_kept;
         while_good = λ _. record {
           none_unsent = all.none_unsent;
-          written = rw (same_host, greeted, ← post_text-after old letters letter (none-where letters old.greeted all.greeted_is)) (Appends-trans (contents start) (contents old.outbox) (contents new.outbox) _ _ all.written sent);
+          written = rw (same_host, greeted, ← post_text-after old letters letter (none-where letters old.greeted all.greeted_is)) (Appends-trans (drain.contents start) (drain.contents old.outbox) (drain.contents new.outbox) _ _ all.written sent);
           greeted_is = greeted ∙ sym (are_some-more letters letter);
-          good = count ∙ still-good old.failed (failures old.outbox) was ∙ all.good;
+          good = count ∙ still-good old.failed (drain.failures old.outbox) was ∙ all.good;
         };
         after_fault = λ is. absurd (not-both new.failed is good);
       }
 
   -- the first letter that could not be written
-  first-lost : old.failed ≡ false → AppendsFront (contents old.outbox) (contents new.outbox) (post_text old letter) → new.host ≡ old.host → failures new.outbox ≡ counts_failure old.failed true (failures old.outbox) → FrontWritten contents failures start (record { poster = new; unsent = unsent ++ letter ∷ [] }) (letters ++ letter ∷ [])
+  first-lost : old.failed ≡ false → AppendsFront (drain.contents old.outbox) (drain.contents new.outbox) (post_text old letter) → new.host ≡ old.host → drain.failures new.outbox ≡ counts_failure old.failed true (drain.failures old.outbox) → FrontWritten drain start (record { poster = new; unsent = unsent ++ letter ∷ [] }) (letters ++ letter ∷ [])
   first-lost good front same_host count =
       let all = before.while_good good in
       let first = none-where letters old.greeted all.greeted_is in record {
@@ -107,12 +108,12 @@ module _ {W : Type 0} (contents : W → Option (List ℕ)) (failures : W → ℕ
         later = [];
         unsent_is = rw all.none_unsent refl;
         split = refl;
-        written = rw (same_host, ← all.greeted_is, ← post_text-after old letters letter first) (Appends-least (contents start) (contents old.outbox) (contents new.outbox) _ _ all.written front);
+        written = rw (same_host, ← all.greeted_is, ← post_text-after old letters letter first) (Appends-least (drain.contents start) (drain.contents old.outbox) (drain.contents new.outbox) _ _ all.written front);
         count = rw good at count ∙ ap (counted true) all.good;
       }
 
   -- a later one
-  later-lost : old.failed ≡ true → new ≡ old → FrontWritten contents failures start (record { poster = new; unsent = unsent ++ letter ∷ [] }) (letters ++ letter ∷ [])
+  later-lost : old.failed ≡ true → new ≡ old → FrontWritten drain start (record { poster = new; unsent = unsent ++ letter ∷ [] }) (letters ++ letter ∷ [])
   later-lost failed same =
       let some = before.after_fault failed in record {
         posted = some.posted;
@@ -124,12 +125,12 @@ module _ {W : Type 0} (contents : W → Option (List ℕ)) (failures : W → ℕ
         count = rw same some.count;
       }
 
-  any-lost : (failed : Bool) → old.failed ≡ failed → AppendsFront (contents old.outbox) (contents new.outbox) (post_text old letter) → (old.failed ≡ true → new ≡ old) → new.host ≡ old.host → failures new.outbox ≡ counts_failure old.failed true (failures old.outbox) → FrontWritten contents failures start (record { poster = new; unsent = unsent ++ letter ∷ [] }) (letters ++ letter ∷ [])
+  any-lost : (failed : Bool) → old.failed ≡ failed → AppendsFront (drain.contents old.outbox) (drain.contents new.outbox) (post_text old letter) → (old.failed ≡ true → new ≡ old) → new.host ≡ old.host → drain.failures new.outbox ≡ counts_failure old.failed true (drain.failures old.outbox) → FrontWritten drain start (record { poster = new; unsent = unsent ++ letter ∷ [] }) (letters ++ letter ∷ [])
   any-lost true is front nothing same_host count = later-lost is (nothing is)
   any-lost false is front nothing same_host count = first-lost is front same_host count
 
   -- one letter more could not be written
-  pub hand-err : (fault : PostFault) → fault ≡ post_fault old.failed letter → AppendsFront (contents old.outbox) (contents new.outbox) (post_text old letter) → (old.failed ≡ true → new ≡ old) → new.failed ≡ true → new.host ≡ old.host → failures new.outbox ≡ counts_failure old.failed true (failures old.outbox) → Delivered contents failures host start (record { poster = new; unsent = unsent ++ letter_handed_back fault ∷ [] }) (letters ++ letter ∷ [])
+  pub hand-err : (fault : PostFault) → fault ≡ post_fault old.failed letter → AppendsFront (drain.contents old.outbox) (drain.contents new.outbox) (post_text old letter) → (old.failed ≡ true → new ≡ old) → new.failed ≡ true → new.host ≡ old.host → drain.failures new.outbox ≡ counts_failure old.failed true (drain.failures old.outbox) → Delivered drain host start (record { poster = new; unsent = unsent ++ letter_handed_back fault ∷ [] }) (letters ++ letter ∷ [])
   hand-err fault is front nothing failed same_host count =
       let back : letter_handed_back fault ≡ letter = ap letter_handed_back is ∙ handed_back old.failed letter in record {
         host_kept = same_host ∙ before.host_kept;
@@ -137,24 +138,24 @@ module _ {W : Type 0} (contents : W → Option (List ℕ)) (failures : W → ℕ
         after_fault = λ _. rw back (any-lost old.failed refl front nothing same_host count);
       }
 
-module _ {W : Type 0} (contents : W → Option (List ℕ)) (failures : W → ℕ) (host : List ℕ) (start : W) (old : Poster W) (unsent letters : List Letter) (before : Delivered contents failures host start (record { poster = old; unsent = unsent }) letters) where
-  any-front : (outbox : W) (whole : Bool) (text : List ℕ) → (whole ≡ true → Appends (contents old.outbox) (contents outbox) text) → (whole ≡ false → AppendsFront (contents old.outbox) (contents outbox) text) → AppendsFront (contents old.outbox) (contents outbox) text
-  any-front outbox true text sent front = AppendsFront-all (contents old.outbox) (contents outbox) text (sent refl)
+module _ {W : Type 0} (drain : Drain W) (host : List ℕ) (start : W) (old : Poster W) (unsent letters : List Letter) (before : Delivered drain host start (record { poster = old; unsent = unsent }) letters) where
+  any-front : (outbox : W) (whole : Bool) (text : List ℕ) → (whole ≡ true → Appends (drain.contents old.outbox) (drain.contents outbox) text) → (whole ≡ false → AppendsFront (drain.contents old.outbox) (drain.contents outbox) text) → AppendsFront (drain.contents old.outbox) (drain.contents outbox) text
+  any-front outbox true text sent front = AppendsFront-all (drain.contents old.outbox) (drain.contents outbox) text (sent refl)
   any-front outbox false text sent front = front refl
 
-  finished-good : old.failed ≡ false → (outbox : W) (whole : Bool) → (whole ≡ true → Appends (contents old.outbox) (contents outbox) (finish_text old)) → (whole ≡ false → AppendsFront (contents old.outbox) (contents outbox) (finish_text old)) → failures outbox ≡ counts_failure old.failed (not whole) (failures old.outbox) → IsOutbox contents failures host start outbox whole unsent letters
+  finished-good : old.failed ≡ false → (outbox : W) (whole : Bool) → (whole ≡ true → Appends (drain.contents old.outbox) (drain.contents outbox) (finish_text old)) → (whole ≡ false → AppendsFront (drain.contents old.outbox) (drain.contents outbox) (finish_text old)) → drain.failures outbox ≡ counts_failure old.failed (not whole) (drain.failures old.outbox) → IsOutbox drain host start outbox whole unsent letters
   finished-good good outbox whole sent front count =
       let all = before.while_good good in
       let ends = finish_text-after old letters (none-where letters old.greeted all.greeted_is) in record {
         posted = letters;
         split = rw all.none_unsent (sym (append-nil letters));
-        written = rw (all.none_unsent, ← before.host_kept, ← all.greeted_is, ← ends) (Appends-least (contents start) (contents old.outbox) (contents outbox) _ _ all.written (any-front outbox whole _ sent front));
-        all_written = λ done. rw (← before.host_kept, ← ends) (Appends-trans (contents start) (contents old.outbox) (contents outbox) _ _ all.written (sent done));
+        written = rw (all.none_unsent, ← before.host_kept, ← all.greeted_is, ← ends) (Appends-least (drain.contents start) (drain.contents old.outbox) (drain.contents outbox) _ _ all.written (any-front outbox whole _ sent front));
+        all_written = λ done. rw (← before.host_kept, ← ends) (Appends-trans (drain.contents start) (drain.contents old.outbox) (drain.contents outbox) _ _ all.written (sent done));
         none_unsent = λ _. all.none_unsent;
         count = rw good at count ∙ ap (counted (not whole)) all.good;
       }
 
-  finished-lost : old.failed ≡ true → (outbox : W) (whole : Bool) → (outbox ≡ old.outbox) × (whole ≡ false) → IsOutbox contents failures host start outbox whole unsent letters
+  finished-lost : old.failed ≡ true → (outbox : W) (whole : Bool) → (outbox ≡ old.outbox) × (whole ≡ false) → IsOutbox drain host start outbox whole unsent letters
   finished-lost failed outbox whole nothing =
       let some = before.after_fault failed in record {
         posted = some.posted;
@@ -165,10 +166,10 @@ module _ {W : Type 0} (contents : W → Option (List ℕ)) (failures : W → ℕ
         count = rw (nothing.0, nothing.1) some.count;
       }
 
-  finished-by : (failed : Bool) → old.failed ≡ failed → (outbox : W) (whole : Bool) → (whole ≡ true → Appends (contents old.outbox) (contents outbox) (finish_text old)) → (whole ≡ false → AppendsFront (contents old.outbox) (contents outbox) (finish_text old)) → (old.failed ≡ true → (outbox ≡ old.outbox) × (whole ≡ false)) → failures outbox ≡ counts_failure old.failed (not whole) (failures old.outbox) → IsOutbox contents failures host start outbox whole unsent letters
+  finished-by : (failed : Bool) → old.failed ≡ failed → (outbox : W) (whole : Bool) → (whole ≡ true → Appends (drain.contents old.outbox) (drain.contents outbox) (finish_text old)) → (whole ≡ false → AppendsFront (drain.contents old.outbox) (drain.contents outbox) (finish_text old)) → (old.failed ≡ true → (outbox ≡ old.outbox) × (whole ≡ false)) → drain.failures outbox ≡ counts_failure old.failed (not whole) (drain.failures old.outbox) → IsOutbox drain host start outbox whole unsent letters
   finished-by true is outbox whole sent front nothing count = finished-lost is outbox whole (nothing is)
   finished-by false is outbox whole sent front nothing count = finished-good is outbox whole sent front count
 
   -- the outbox ended
-  pub finished : (outbox : W) (whole : Bool) → (whole ≡ true → Appends (contents old.outbox) (contents outbox) (finish_text old)) → (whole ≡ false → AppendsFront (contents old.outbox) (contents outbox) (finish_text old)) → (old.failed ≡ true → (outbox ≡ old.outbox) × (whole ≡ false)) → failures outbox ≡ counts_failure old.failed (not whole) (failures old.outbox) → IsOutbox contents failures host start outbox whole unsent letters
+  pub finished : (outbox : W) (whole : Bool) → (whole ≡ true → Appends (drain.contents old.outbox) (drain.contents outbox) (finish_text old)) → (whole ≡ false → AppendsFront (drain.contents old.outbox) (drain.contents outbox) (finish_text old)) → (old.failed ≡ true → (outbox ≡ old.outbox) × (whole ≡ false)) → drain.failures outbox ≡ counts_failure old.failed (not whole) (drain.failures old.outbox) → IsOutbox drain host start outbox whole unsent letters
   finished outbox whole = finished-by old.failed refl outbox whole

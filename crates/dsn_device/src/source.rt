@@ -2,7 +2,7 @@
 ghost use Rattle.std.specs.Prelude.{◌≡◌, ℕ, List, Option, None, is_err};
 ghost use Rattle.std.specs.Io.{ReadsAtMost};
 ghost use Rattle.std.specs.Io.KnownBytes.{ReadConsumes, Keeps};
-ghost use Rattle.dsn_outcome.specs.Failures.{counted};
+ghost use Rattle.dsn_device.specs.Failures.{counted};
 
 use crate::broken::Broken;
 

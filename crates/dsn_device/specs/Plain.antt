@@ -1,6 +1,6 @@
 -- A plain device: one of std's readers or writers, with a count of its failures.
 use Rattle.std.specs.Prelude.{ℕ}
-use Rattle.dsn_outcome.specs.declared.plain.Plain.{Plain}
+use Rattle.dsn_device.specs.declared.plain.Plain.{Plain}
 
 -- the reader or writer inside
 abbrev pub plain_inner : {T : Type 0} → Plain T → T

@@ -1,19 +1,12 @@
 -- How what became of several texts, sent or asked for in turn, is what became of them together.
-use Rattle.std.proofs.Common.{◌≡◌, ℕ, ◌+◌, ◌-◌, ◌<◌, ◌≤◌, List, [], ◌++◌, Option, Result, Ok, Err, OnErr, length, take, drop, refl, sym, ap, ◌∙◌, arith, append_assoc, append-nil, take-append-drop, length-take-le, length-append}
+use Rattle.std.proofs.Common.{◌≡◌, ℕ, ◌+◌, ◌-◌, ◌≤◌, List, [], ◌++◌, Option, length, take, drop, refl, sym, ap, ◌∙◌, arith, append_assoc, append-nil, take-append-drop, length-take-le}
 use Rattle.std.proofs.lemmas.List.{take_rest, take-take}
 use Rattle.std.proofs.Math.Seq.{take-append-add}
 use borrow.Rule.Slice.PartMut.{put_mid}
 use Rattle.std.proofs.lemmas.Slice.{take-put_mid}
-use Rattle.std.specs.Io.KnownBytes.{Appends, Consumes, Keeps}
-use Rattle.std.proofs.KnownBytes.{Appends-nil, Appends-trans, Appends-kept, Consumes-nil, Consumes-trans, Consumes-kept}
-use Rattle.dsn_outcome.specs.Transfer.{AppendsFront, ConsumesFewer}
-
--- ---- what holds whatever a call answered
-
--- a fact that holds in any case holds on an error
-pub OnErr-always : {T E P : Type 0} (r : Result T E) → P → OnErr r P
-OnErr-always (Ok x) p = tt
-OnErr-always (Err e) p = p
+use Rattle.std.specs.Io.KnownBytes.{Appends, Keeps}
+use Rattle.std.proofs.KnownBytes.{Appends-nil, Appends-trans, Appends-kept}
+use Rattle.dsn_device.specs.Transfer.{AppendsFront}
 
 -- ---- what a drain took
 
@@ -45,19 +38,6 @@ split-moved all done rest n e =
     e ∙ ap (λ l. done ++ l) (sym (take-append-drop n rest)) ∙ sym (append_assoc done (take n rest) (drop n rest)) ∙ ap (λ l. (done ++ take n rest) ++ l) (sym (take_rest rest n))
 
 -- ---- what a source gave
-
--- a source that kept its bytes gave none of them
-pub ConsumesFewer-none : (a b : Option (List ℕ)) (limit : ℕ) → 0 < limit → Keeps a b → ConsumesFewer a b limit
-ConsumesFewer-none a b limit some p = record { taken = []; few = some; consumed = Consumes-kept a a b [] (Consumes-nil a) p }
-
--- some bytes, and then fewer than so many
-pub Consumes-fewer : (a b c : Option (List ℕ)) (bytes : List ℕ) (limit : ℕ) → Consumes a b bytes → ConsumesFewer b c limit → ConsumesFewer a c (length bytes + limit)
-Consumes-fewer a b c bytes limit p q =
-    record { taken = bytes ++ q.taken; few = rw length-append (omega (arith, q.few)); consumed = Consumes-trans a b c bytes q.taken p q.consumed }
-
--- what keeps the bytes of a source keeps what it gave
-pub ConsumesFewer-kept : (a b c : Option (List ℕ)) (limit : ℕ) → ConsumesFewer a b limit → Keeps b c → ConsumesFewer a c limit
-ConsumesFewer-kept a b c limit p q = record { taken = p.taken; few = p.few; consumed = Consumes-kept a b c p.taken p.consumed q }
 
 -- a read into the rest of a buffer puts its bytes after the front
 pub take-put_mid_more : (a n : ℕ) (xs ys : List ℕ) → a ≤ length xs → length ys ≡ length xs - a → n ≤ length ys

@@ -2,8 +2,8 @@
 ghost use Rattle.std.specs.Prelude.{◌≡◌, ◌<◌, length, take, IfOk, OnOk, OnErr, is_err};
 ghost use Rattle.std.specs.Io.{ReadsAtMost};
 ghost use Rattle.std.specs.Io.KnownBytes.{Appends, Consumes, IsAtEnd, Keeps};
-ghost use Rattle.dsn_outcome.specs.Failures.{counted};
-ghost use Rattle.dsn_outcome.specs.Transfer.{AppendsFront, ConsumesFewer};
+ghost use Rattle.dsn_device.specs.Failures.{counted};
+ghost use Rattle.dsn_device.specs.Transfer.{AppendsFront, ConsumesFewer};
 
 use crate::broken::Broken;
 use crate::drain::Drain;

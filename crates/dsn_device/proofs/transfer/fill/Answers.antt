@@ -1,8 +1,8 @@
 use Rattle.std.proofs.Common.{arith, rules, ◌∙◌, sym, subst}
 use Rattle.std.specs.Io.KnownBytes.{Consumes}
 use Rattle.std.proofs.KnownBytes.{Consumes-trans, Keeps-trans}
-use Rattle.dsn_outcome.proofs.TransferLemmas.{take-put_mid_more}
-use Rattle.dsn_outcome.proofs.transfer.fill.Goals as goal
+use Rattle.dsn_device.proofs.TransferLemmas.{take-put_mid_more}
+use Rattle.dsn_device.proofs.transfer.fill.Goals as goal
 
 pub loop-filled-preserved : goal.loop-filled-preserved
 loop-filled-preserved g c =

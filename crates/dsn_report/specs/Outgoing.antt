@@ -2,10 +2,16 @@
 use Rattle.std.specs.Prelude.{◌≡◌, ℕ, Bool, true, false, not, List, [], ◌∷◌, ◌++◌, Option, if◌then◌else◌}
 use Rattle.std.specs.Io.KnownBytes.{Appends}
 use Rattle.std.specs.List.{flat_map}
-use Rattle.dsn_outcome.specs.Failures.{counted}
+use Rattle.dsn_device.specs.Failures.{counted}
+use Rattle.dsn_device.specs.declared.drain.Drain.{Ghosts as Drain}
 use Rattle.dsn_outcome.specs.Letter.{Letter}
 use Rattle.dsn_report.specs.Outbox.{greeting, mail_transaction, outbox_of}
-use Rattle.noticed_lib.specs.declared.outgoing.Outgoing.{Outgoing}
+use Rattle.dsn_report.specs.Poster.{Poster}
+
+-- a poster, and the letters that it could not write
+pub record Outgoing (W : Type 0) : Type 0 where
+  pub poster : Poster W
+  pub unsent : List Letter
 
 -- what is written of letters that are posted: the greeting comes with the first of them
 abbrev pub written_of : List ℕ → Bool → List Letter → List ℕ
@@ -29,34 +35,34 @@ text_until host posted [] = outbox_of host posted
 text_until host posted (first ∷ rest) = written_of host true (posted ++ first ∷ [])
 
 -- while nothing failed, each letter is written
-pub record AllWritten {W : Type 0} (contents : W → Option (List ℕ)) (failures : W → ℕ) (start : W) (out : Outgoing W) (letters : List Letter) : Type 0 where
+pub record AllWritten {W : Type 0} (drain : Drain W) (start : W) (out : Outgoing W) (letters : List Letter) : Type 0 where
   pub none_unsent : out.unsent ≡ []
-  pub written : Appends (contents start) (contents out.poster.outbox) (written_of out.poster.host out.poster.greeted letters)
+  pub written : Appends (drain.contents start) (drain.contents out.poster.outbox) (written_of out.poster.host out.poster.greeted letters)
   pub greeted_is : out.poster.greeted ≡ are_some letters
-  pub good : failures out.poster.outbox ≡ failures start
+  pub good : drain.failures out.poster.outbox ≡ drain.failures start
 
 -- after a failure the letters before the failed one are written, and a front of it; the rest of them are kept
-pub record FrontWritten {W : Type 0} (contents : W → Option (List ℕ)) (failures : W → ℕ) (start : W) (out : Outgoing W) (letters : List Letter) : Type 0 where
+pub record FrontWritten {W : Type 0} (drain : Drain W) (start : W) (out : Outgoing W) (letters : List Letter) : Type 0 where
   pub posted : List Letter
   pub failed : Letter
   pub later : List Letter
   pub unsent_is : out.unsent ≡ failed ∷ later
   pub split : letters ≡ posted ++ (failed ∷ later)
-  pub written : AppendsAtLeast (contents start) (contents out.poster.outbox) (written_of out.poster.host (are_some posted) posted) (written_of out.poster.host true (posted ++ failed ∷ []))
-  pub count : failures out.poster.outbox ≡ counted true (failures start)
+  pub written : AppendsAtLeast (drain.contents start) (drain.contents out.poster.outbox) (written_of out.poster.host (are_some posted) posted) (written_of out.poster.host true (posted ++ failed ∷ []))
+  pub count : drain.failures out.poster.outbox ≡ counted true (drain.failures start)
 
 -- these letters were handed on, one after another
-pub record Delivered {W : Type 0} (contents : W → Option (List ℕ)) (failures : W → ℕ) (host : List ℕ) (start : W) (out : Outgoing W) (letters : List Letter) : Type 0 where
+pub record Delivered {W : Type 0} (drain : Drain W) (host : List ℕ) (start : W) (out : Outgoing W) (letters : List Letter) : Type 0 where
   pub host_kept : out.poster.host ≡ host
-  pub while_good : out.poster.failed ≡ false → AllWritten contents failures start out letters
-  pub after_fault : out.poster.failed ≡ true → FrontWritten contents failures start out letters
+  pub while_good : out.poster.failed ≡ false → AllWritten drain start out letters
+  pub after_fault : out.poster.failed ≡ true → FrontWritten drain start out letters
 
 -- how an outbox ended: with the whole text of all letters; or after a failure with the mails of all letters before
 -- those that are unsent, and a front of what follows; the device failed once where it isn't whole, and else not
-pub record IsOutbox {W : Type 0} (contents : W → Option (List ℕ)) (failures : W → ℕ) (host : List ℕ) (start end : W) (whole : Bool) (unsent letters : List Letter) : Type 0 where
+pub record IsOutbox {W : Type 0} (drain : Drain W) (host : List ℕ) (start end : W) (whole : Bool) (unsent letters : List Letter) : Type 0 where
   pub posted : List Letter
   pub split : letters ≡ posted ++ unsent
-  pub written : AppendsAtLeast (contents start) (contents end) (written_of host (are_some posted) posted) (text_until host posted unsent)
-  pub all_written : whole ≡ true → Appends (contents start) (contents end) (outbox_of host letters)
+  pub written : AppendsAtLeast (drain.contents start) (drain.contents end) (written_of host (are_some posted) posted) (text_until host posted unsent)
+  pub all_written : whole ≡ true → Appends (drain.contents start) (drain.contents end) (outbox_of host letters)
   pub none_unsent : whole ≡ true → unsent ≡ []
-  pub count : failures end ≡ counted (not whole) (failures start)
+  pub count : drain.failures end ≡ counted (not whole) (drain.failures start)

@@ -1,7 +1,7 @@
 -- What stands at the front of the buffer was consumed, and the source did not fail.
 use Rattle.std.proofs.Common.{◌≡◌, ◌≤◌, ◌-◌, length, take}
 use Rattle.std.specs.Io.KnownBytes.{Consumes, Keeps}
-use Rattle.dsn_outcome.proofs.transfer.fill.Given as goal
+use Rattle.dsn_device.proofs.transfer.fill.Given as goal
 
 abbrev pub invariant-loop-filled : goal.invariant-loop-filled
 invariant-loop-filled g l = record {

@@ -1,8 +1,8 @@
 use Rattle.std.proofs.Common.{take, arith, ◌++◌}
 use Rattle.std.proofs.lemmas.Bool.Decides.{nat_tests}
 use Rattle.std.proofs.KnownBytes.{Appends-trans, Keeps-trans}
-use Rattle.dsn_outcome.proofs.TransferLemmas.{split-moved}
-use Rattle.dsn_outcome.proofs.transfer.send.Goals as goal
+use Rattle.dsn_device.proofs.TransferLemmas.{split-moved}
+use Rattle.dsn_device.proofs.transfer.send.Goals as goal
 
 pub loop-unsent-preserved : goal.loop-unsent-preserved
 loop-unsent-preserved g c =

@@ -1,7 +1,7 @@
 -- What is gone from `unsent` was appended, and the drain did not fail.
 use Rattle.std.proofs.Common.{◌≡◌, List, ◌++◌, length, ℕ}
 use Rattle.std.specs.Io.KnownBytes.{Appends, Keeps}
-use Rattle.dsn_outcome.proofs.transfer.send.Given as goal
+use Rattle.dsn_device.proofs.transfer.send.Given as goal
 
 abbrev pub invariant-loop-unsent : goal.invariant-loop-unsent
 invariant-loop-unsent g l = record {

@@ -1,7 +1,7 @@
 //! Devices made of std's readers and writers.
 ghost use Rattle.std.specs.Prelude.{◌≡◌, true};
-ghost use Rattle.dsn_outcome.specs.Failures.{counted};
-ghost use Rattle.dsn_outcome.specs.Plain.{plain_inner, plain_failures};
+ghost use Rattle.dsn_device.specs.Failures.{counted};
+ghost use Rattle.dsn_device.specs.Plain.{plain_inner, plain_failures};
 
 use crate::broken::Broken;
 use crate::drain::Drain;

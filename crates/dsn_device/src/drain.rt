@@ -2,7 +2,7 @@
 ghost use Rattle.std.specs.Prelude.{◌≡◌, ℕ, List, Option, None, is_err};
 ghost use Rattle.std.specs.Io.{WritesAtMost};
 ghost use Rattle.std.specs.Io.KnownBytes.{WriteAppends, Keeps};
-ghost use Rattle.dsn_outcome.specs.Failures.{counted, write_failed};
+ghost use Rattle.dsn_device.specs.Failures.{counted, write_failed};
 
 use crate::broken::Broken;
 

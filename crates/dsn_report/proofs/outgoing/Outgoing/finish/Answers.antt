@@ -1,0 +1,13 @@
+use Rattle.std.proofs.Common.{ap, sym, subst}
+use Rattle.dsn_report.specs.Outgoing.{Delivered}
+use Rattle.dsn_report.specs.declared.poster.Ended.{Ended}
+use Rattle.dsn_report.proofs.OutgoingLemmas.{finished}
+use Rattle.dsn_report.proofs.outgoing.Outgoing.finish.Goals as goal
+
+pub returns : goal.returns
+returns g c = λ host start letters delivered.
+    let before = subst (λ out. Delivered g.W.Drain host start out letters) (sym c.self.view_is) delivered in
+    let ended = c.finish-outbox.ensures in
+    finished _ host start c.self.inside.poster c.self.inside.unsent letters before _ _ ended.sent ended.front
+    (λ failed. (ap (λ (end : Ended g.row.W.Denot). end.outbox) (ended.nothing failed), ap (λ (end : Ended g.row.W.Denot). end.whole) (ended.nothing failed)))
+    ended.count

@@ -1,0 +1,13 @@
+//! How an outbox ended.
+use dsn_outcome::Letters;
+
+/// An outbox at its end, and the letters that it doesn't have.
+#[derive(Drop)]
+pub struct OutboxEnd<W> {
+    /// The outbox.
+    pub outbox: W,
+    /// Whether nothing failed, so that the outbox has the notice of each letter and its end.
+    pub whole: bool,
+    /// The letters that could not be written, in order.
+    pub unsent: Letters,
+}

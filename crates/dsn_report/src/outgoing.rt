@@ -1,0 +1,69 @@
+//! Letters on their way to the outbox.
+ghost use Rattle.std.specs.Prelude.{◌≡◌, ℕ, List, [], ◌∷◌, ◌++◌};
+ghost use Rattle.std.specs.Option.{option_to_list};
+ghost use Rattle.dsn_outcome.specs.Letter.{Letter as SealedLog};
+ghost use Rattle.dsn_report.specs.Outgoing.{Delivered, IsOutbox};
+
+use crate::outbox_end::OutboxEnd;
+use crate::poster::{Ended, Poster};
+use crate::site::Site;
+use dsn_outcome::{Drain, Letter, Letters};
+use std::marker::Model;
+
+/// A poster, and the letters that it could not write.
+#[derive(Drop)]
+pub struct Outgoing<W> {
+    poster: Poster<W>,
+    unsent: Letters,
+}
+
+impl<W> Model for Outgoing<W> {
+    ghost use Rattle.dsn_report.specs.Outgoing.{Outgoing};
+
+    ghost Value = { Outgoing W };
+
+    ghost view = { λ out. record { poster = out.poster; unsent = out.unsent } };
+}
+
+impl<W: Drain> Outgoing<W> {
+    /// Nothing is written so far.
+    pub fn new(site: Site, outbox: W) -> Self
+        ensures { Delivered W.Drain site outbox result [] }
+    {
+        Outgoing {
+            poster: Poster::new(site, outbox),
+            unsent: Letters::new(),
+        }
+    }
+
+    /// Posts a letter, or keeps it where the outbox fails or has failed.
+    pub fn hand(&mut self, letter: Letter)
+        ensures { (host : List ℕ) (start : W) (letters : List SealedLog) → Delivered W.Drain host start self.old letters → Delivered W.Drain host start self.new (letters ++ letter ∷ []) }
+    {
+        if let Err(fault) = self.poster.post(letter) {
+            self.unsent.push(fault.into_letter());
+        }
+    }
+
+    /// Posts the letter that a request sealed, if it sealed one.
+    pub fn hand_any(&mut self, letter: Option<Letter>)
+        ensures { (host : List ℕ) (start : W) (letters : List SealedLog) → Delivered W.Drain host start self.old letters → Delivered W.Drain host start self.new (letters ++ option_to_list letter) }
+    {
+        if let Some(letter) = letter {
+            self.hand(letter);
+        }
+    }
+
+    /// Ends the outbox.
+    pub fn finish(self) -> OutboxEnd<W>
+        ensures { (host : List ℕ) (start : W) (letters : List SealedLog) → Delivered W.Drain host start self letters → IsOutbox W.Drain host start result.outbox result.whole result.unsent letters }
+    {
+        let Outgoing { poster, unsent } = self;
+        let Ended { outbox, whole } = poster.finish();
+        OutboxEnd {
+            outbox,
+            whole,
+            unsent,
+        }
+    }
+}

@@ -1,6 +1,5 @@
 -- Telling: one text after another.
 use Rattle.std.proofs.Common.{ℕ, Bool, List, [], ◌++◌}
-use Rattle.std.specs.Prelude.{Option}
 use Rattle.dsn_device.specs.declared.drain.Drain.{Ghosts as Drain}
 use Rattle.dsn_report.proofs.LineWriterLemmas.{Sent-none, Sent-then, counts-none, counts-then}
 use Rattle.noticed_lib.specs.Telling.{Told}

@@ -11,3 +11,4 @@ pub mod RequestLaws
 mod SessionExamples
 pub mod SessionFrames
 pub mod SessionLemmas
+pub mod WholeInputLemmas

@@ -180,7 +180,7 @@ made_decided : (limit count : ℕ) (made : Option ℕ) (rest : List ℕ) (end : 
 made_decided limit count made rest end (at_frame code is end_is) ended = rw (is ∙ sym end_is) ended
 made_decided limit count made rest end (no_frame on fault ends end_is) ended = rw on refl
 made_decided limit count made rest end (one_more on full bytes more legal is end_is) ended = rw on refl
-made_decided limit count made rest end (from_outside on code outside apart end_is) ended = rw on refl
+made_decided limit count made rest end (from_outside on code outside apart here end_is) ended = rw on refl
 
 none_is_none : (made : Option ℕ) (code : ℕ) → made ≡ Some code → made ≡ None → ⊥
 none_is_none made code some none = let never : Some code ≡ None = sym some ∙ none in cc
@@ -200,17 +200,17 @@ same_ends limit count made other rest end end' same (no_frame on fault ends end_
 same_ends limit count made other rest end end' same (no_frame on fault ends end_is) (one_more on' full bytes more legal left end_is') ended ended' = absurd (ends_with_no_frame rest bytes more fault ends legal left)
 same_ends limit count made other rest end end' same (one_more on full bytes more legal left end_is) (no_frame on' fault ends end_is') ended ended' = absurd (ends_with_no_frame rest bytes more fault ends legal left)
 same_ends limit count made other rest end end' same (one_more on full bytes more legal left end_is) (one_more on' full' bytes' more' legal' left' end_is') ended ended' = end_is ∙ sym end_is'
-same_ends limit count made other rest end end' same (from_outside on code outside apart end_is) others ended ended' = absurd (not_outside end code outside end_is ended)
-same_ends limit count made other rest end end' same (at_frame code is end_is) (from_outside on code' outside apart end_is') ended ended' = absurd (not_outside end' code' outside end_is' ended')
-same_ends limit count made other rest end end' same (no_frame on fault ends end_is) (from_outside on' code outside apart end_is') ended ended' = absurd (not_outside end' code outside end_is' ended')
-same_ends limit count made other rest end end' same (one_more on full bytes more legal left end_is) (from_outside on' code outside apart end_is') ended ended' = absurd (not_outside end' code outside end_is' ended')
+same_ends limit count made other rest end end' same (from_outside on code outside apart here end_is) others ended ended' = absurd (not_outside end code outside end_is ended)
+same_ends limit count made other rest end end' same (at_frame code is end_is) (from_outside on code' outside apart here end_is') ended ended' = absurd (not_outside end' code' outside end_is' ended')
+same_ends limit count made other rest end end' same (no_frame on fault ends end_is) (from_outside on' code outside apart here end_is') ended ended' = absurd (not_outside end' code outside end_is' ended')
+same_ends limit count made other rest end end' same (one_more on full bytes more legal left end_is) (from_outside on' code outside apart here end_is') ended ended' = absurd (not_outside end' code outside end_is' ended')
 
 -- no session ends where a further frame follows that may still be taken
 ends_there : (limit count : ℕ) (made : Option ℕ) (rest bytes after : List ℕ) (end : Option ℕ) → EndsAt limit count made rest end → is_outside_end end ≡ false → made ≡ None → count < limit → IsFrameBody bytes → rest ≡ frame bytes ++ after → ⊥
 ends_there limit count made rest bytes after end (at_frame code is end_is) ended on few legal left = none_is_none made code is on
 ends_there limit count made rest bytes after end (no_frame on' fault ends end_is) ended on few legal left = ends_with_no_frame rest bytes after fault ends legal left
 ends_there limit count made rest bytes after end (one_more on' full one more legal_one left_one end_is) ended on few legal left = omega (arith, full, few)
-ends_there limit count made rest bytes after end (from_outside on' code outside apart end_is) ended on few legal left = not_outside end code outside end_is ended
+ends_there limit count made rest bytes after end (from_outside on' code outside apart here end_is) ended on few legal left = not_outside end code outside end_is ended
 
 -- ---- one session
 

@@ -13,6 +13,8 @@ use Rattle.dsn_frame.proofs.Examples.{append_body, flush_body, append_asked, flu
 use Rattle.dsn_frame.proofs.OneSession.{one_session}
 use Rattle.dsn_frame.proofs.RequestLaws.{encoded_is_accepted}
 use Rattle.dsn_frame.proofs.SessionFrames.{takes_its_frames}
+use Rattle.dsn_frame.proofs.WholeInputLemmas.{taken_whole}
+use Rattle.dsn_frame.specs.WholeInput.{IsWholeInput, TakesAll}
 
 -- a frame of one byte, which is refused
 garbage : List ℕ
@@ -93,6 +95,14 @@ one_but_for_replies =
 -- and its frames are those of the bytes
 takes_both : AreFirstFrames (append_body ∷ flush_body ∷ []) (append_body ∷ flush_body ∷ []) None None
 takes_both = takes_its_frames agent_input Connection 2 0 (Some []) _ _ _ _ None None (both_asked (Logged 0) (Sealed 1)) two_frames
+
+-- these bytes are requests in turn, and the session took them whole
+whole_input : IsWholeInput 2 0 (Some agent_input) (append_body ∷ flush_body ∷ []) (append_asked ∷ flush_asked ∷ [])
+unfolding agent_input
+whole_input = record { bytes = refl; legal = ((lit≤ tt, lit≤ tt), ((lit≤ tt, lit≤ tt), tt)); few = lit≤ tt; in_turn = (append_is_encoded, (flush_is_encoded, tt)) }
+
+takes_whole : TakesAll Connection (append_body ∷ flush_body ∷ []) (append_asked ∷ flush_asked ∷ []) (append_body ∷ flush_body ∷ []) (append_asked ∷ flush_asked ∷ []) (Reply (Logged 0) ∷ Reply (Sealed 1) ∷ []) None
+takes_whole = taken_whole agent_input Connection 2 0 (Some []) _ _ _ _ _ None whole_input (both_asked (Logged 0) (Sealed 1))
 
 -- another session over these bytes met want of memory at the append: its answers aren't those of the bytes alone
 no_memory_at_append : IsSession Connection 2 0 (Some agent_input) (Some []) (append_body ∷ flush_body ∷ []) (flush_asked ∷ []) (Refused 9 ∷ Reply (Sealed 1) ∷ []) None

@@ -12,6 +12,7 @@ use Rattle.dsn_frame.specs.FrameBody.{IsFrameBody}
 use Rattle.dsn_frame.specs.FrameFault.{frame_fault_code}
 use Rattle.dsn_frame.specs.Session.{Medium, Input, Connection, Takes, faulty, out_of_memory, out_of_turn, used_up, asked, given_up, given_up_after, GoesOn, written, unwritten, SessionSoFar, begun, taken, Ends, stopped, well, cut, too_many, no_memory_for_book, IsSession}
 use Rattle.dsn_frame.specs.SessionLaws.{is_from_outside, is_end_of_frames, AreFirstFrames, TakesItsFrames}
+use Rattle.dsn_frame.specs.WholeInput.{IsOutside, no_memory, read_failed}
 use Rattle.dsn_frame.specs.declared.frame_fault.FrameFault.{FrameFault}
 use Rattle.dsn_frame.specs.declared.frame_fault.FrameFault.TheVariants.{NoMemory, TooLong, Empty, CutShort, Read}
 use Rattle.dsn_frame.specs.declared.spoken.Spoken.{Spoken}
@@ -100,14 +101,14 @@ pub data EndsAt (limit count : ℕ) (made : Option ℕ) (rest : List ℕ) (end :
   at_frame : (code : ℕ) → made ≡ Some code → end ≡ Some code → EndsAt limit count made rest end
   no_frame : made ≡ None → (fault : Option FrameFault) → FramesEnd rest fault → end ≡ option_map frame_fault_code fault → EndsAt limit count made rest end
   one_more : made ≡ None → count ≡ limit → (bytes more : List ℕ) → IsFrameBody bytes → rest ≡ frame bytes ++ more → end ≡ Some 47 → EndsAt limit count made rest end
-  from_outside : made ≡ None → (code : ℕ) → is_from_outside code ≡ true → is_end_of_frames (Some code) ≡ false → end ≡ Some code → EndsAt limit count made rest end
+  from_outside : made ≡ None → (code : ℕ) → is_from_outside code ≡ true → is_end_of_frames (Some code) ≡ false → ((medium : Medium) → IsOutside medium (Some code)) → end ≡ Some code → EndsAt limit count made rest end
 
 cut_at : (limit count : ℕ) (made : Option ℕ) (rest : List ℕ) (now : Option (List ℕ)) (fault : FrameFault) → made ≡ None → ReadsNone (Some rest) now fault → EndsAt limit count made rest (Some (frame_fault_code fault))
-cut_at limit count made rest now NoMemory on reads = from_outside on 9 refl refl refl
+cut_at limit count made rest now NoMemory on reads = from_outside on 9 refl refl (λ medium. no_memory) refl
 cut_at limit count made rest now TooLong on reads = no_frame on (Some TooLong) (none_ends rest now TooLong reads (λ e. cc) (λ e. cc)) refl
 cut_at limit count made rest now Empty on reads = no_frame on (Some Empty) (none_ends rest now Empty reads (λ e. cc) (λ e. cc)) refl
 cut_at limit count made rest now CutShort on reads = no_frame on (Some CutShort) (none_ends rest now CutShort reads (λ e. cc) (λ e. cc)) refl
-cut_at limit count made rest now Read on reads = from_outside on 14 refl refl refl
+cut_at limit count made rest now Read on reads = from_outside on 14 refl refl (λ medium. read_failed) refl
 
 more_at : (limit count : ℕ) (made : Option ℕ) (rest bytes : List ℕ) (now : Option (List ℕ)) → made ≡ None → count ≡ limit → IsFrameBody bytes → Consumes (Some rest) now (frame bytes) → EndsAt limit count made rest (Some 47)
 more_at limit count made rest bytes None on full legal read = absurd read
@@ -118,7 +119,7 @@ ends_at medium limit count made rest now _ (stopped code is same) = at_frame cod
 ends_at medium limit count made rest now _ (well on before after) = no_frame on None before refl
 ends_at medium limit count made rest now _ (cut on fault reads) = cut_at limit count made rest now fault on reads
 ends_at medium limit count made rest now _ (too_many on bytes full legal read) = more_at limit count made rest bytes now on full legal read
-ends_at medium limit count made rest now _ (no_memory_for_book alone on nothing same) = from_outside on 9 refl refl refl
+ends_at medium limit count made rest now _ (no_memory_for_book alone on nothing same) = from_outside on 9 refl refl (λ medium. no_memory) refl
 
 -- a session over known bytes: what is left of them after its frames, and its end
 pub record Reading (medium : Medium) (limit before : ℕ) (bytes : List ℕ) (frames : List (List ℕ)) (bodies : List Body) (answers : List Spoken) (end : Option ℕ) : Type 0 where
@@ -168,7 +169,7 @@ all_taken limit count made rest after frames whole more end fault no_end legal e
     }
 all_taken limit count made rest after frames whole more end fault no_end legal ends_so parts left (one_more on full bytes beyond_it legal_one is end_is) here =
     absurd (opposite (is_end_of_frames (Some 47)) (rw end_is at here) refl)
-all_taken limit count made rest after frames whole more end fault no_end legal ends_so parts left (from_outside on code outside apart end_is) here =
+all_taken limit count made rest after frames whole more end fault no_end legal ends_so parts left (from_outside on code outside apart here_too end_is) here =
     absurd (opposite (is_end_of_frames (Some code)) (rw end_is at here) apart)
 
 first_frames : (medium : Medium) (limit before : ℕ) (bytes : List ℕ) (frames whole : List (List ℕ)) (bodies : List Body) (answers : List Spoken) (end : Option ℕ) (fault : Option FrameFault)

@@ -10,4 +10,5 @@ pub mod Request
 pub mod Session
 pub mod SessionLaws
 pub mod Spoken
+pub mod WholeInput
 pub mod Wire

@@ -3,6 +3,7 @@ ghost use Rattle.std.specs.Prelude.{ℕ, List};
 ghost use Rattle.dsn_frame.specs.Laws.{IsBytes, IsSomeRequest, IsNotRefused, IsOneRequest, HasFrames, HasOneReading};
 ghost use Rattle.dsn_frame.specs.Session.{Medium};
 ghost use Rattle.dsn_frame.specs.SessionLaws.{HasOneSession, TakesItsFrames};
+ghost use Rattle.dsn_frame.specs.WholeInput.{IsTakenWhole};
 
 /// Each body is one request, or is refused, and never both.
 pub fn bodies_are_requests_or_refused()
@@ -28,4 +29,12 @@ pub fn sessions_take_the_frames_of_their_bytes()
 /// that gave up (41), and for which replies there are.
 pub fn sessions_are_functions_of_their_bytes()
     ensures { (medium : Medium) (limit before : ℕ) (bytes : List ℕ) → HasOneSession medium limit before bytes }
+{}
+
+/// Nothing of a source whose bytes are requests, numbered in turn from 0, and no more of them than
+/// may still be asked, is refused without cause: the session has no fault but 9, 14, 33 or 35, and on
+/// a connection 41; it refuses no body but with 9; where it has no fault all frames are taken; and
+/// where each answer is a reply, and it didn't end with 41, the bodies asked are those of its frames.
+pub fn requests_in_turn_are_taken()
+    ensures { (bytes : List ℕ) → IsTakenWhole bytes }
 {}

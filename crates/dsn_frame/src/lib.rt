@@ -25,7 +25,7 @@ pub use encode::encode_request;
 pub use frame::{Frame, LONGEST_BODY, read_frame};
 pub use frame_fault::FrameFault;
 pub use laws::{
-    bodies_are_requests_or_refused, inputs_are_frames_and_an_end,
+    bodies_are_requests_or_refused, inputs_are_frames_and_an_end, requests_in_turn_are_taken,
     sessions_are_functions_of_their_bytes, sessions_take_the_frames_of_their_bytes,
 };
 pub use refusal::Refusal;

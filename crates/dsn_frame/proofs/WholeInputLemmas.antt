@@ -1,21 +1,18 @@
 -- Whole inputs: a session over frames that are requests in turn answers them, and its end is none of theirs.
 use Rattle.std.proofs.Common.{◌≡◌, ℕ, suc, ◌+◌, ◌<◌, ◌≤◌, true, List, [], ◌∷◌, ◌++◌, length, take, refl, ap, sym, subst, ◌∙◌, arith}
 use Rattle.std.specs.Prelude.{◌≢◌, Option, Some, None}
-use Rattle.std.specs.Io.KnownBytes.{Consumes}
 use Rattle.std.specs.List.{flat_map, AllByRecursion}
 use Rattle.std.specs.Option.{option_map}
 use Rattle.std.proofs.lemmas.Grind.{flat_map-append}
 use Rattle.std.proofs.lemmas.List.{append-nil, append_cancel_left, length-append}
 use Rattle.dsn_outcome.specs.Request.{Body}
 use Rattle.dsn_frame.specs.Frame.{frame, AreFramesOf, FramesEnd}
-use Rattle.dsn_frame.specs.FrameBody.{IsFrameBody}
 use Rattle.dsn_frame.specs.FrameFault.{frame_fault_code}
 use Rattle.dsn_frame.specs.Request.{Encodes}
-use Rattle.dsn_frame.specs.Session.{Medium, Input, Connection, unwritten_code, Takes, faulty, out_of_memory, out_of_turn, used_up, asked, given_up, given_up_after, GoesOn, written, unwritten, SessionSoFar, begun, taken, IsSession}
+use Rattle.dsn_frame.specs.Session.{Medium, Takes, faulty, out_of_memory, out_of_turn, used_up, asked, given_up, given_up_after, GoesOn, written, unwritten, SessionSoFar, begun, taken}
 use Rattle.dsn_frame.specs.SessionLaws.{is_end_of_frames}
 use Rattle.dsn_frame.specs.WholeInput.{EncodeInTurn, IsWholeInput, IsReply, IsReplyOrNoMemory, IsOutside, TakesAll, IsTakenWhole}
 use Rattle.dsn_frame.specs.WholeInput as end
-use Rattle.dsn_frame.specs.declared.body_fault.BodyFault.{BodyFault}
 use Rattle.dsn_frame.specs.declared.frame_fault.FrameFault.{FrameFault}
 use Rattle.dsn_frame.specs.declared.frame_fault.FrameFault.TheVariants.{NoMemory, TooLong, Empty, CutShort, Read}
 use Rattle.dsn_frame.specs.declared.spoken.Spoken.{Spoken}

@@ -1,2 +1,3 @@
 pub mod FailureLemmas
 pub mod TransferLemmas
+pub mod UntilFailureLemmas

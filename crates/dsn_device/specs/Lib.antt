@@ -1,3 +1,4 @@
 pub mod Failures
 pub mod Plain
 pub mod Transfer
+pub mod UntilFailure

@@ -11,6 +11,7 @@ mod plain;
 mod source;
 mod stream;
 mod transfer;
+mod until_failure;
 
 pub use broken::Broken;
 pub use drain::Drain;
@@ -19,3 +20,4 @@ pub use plain::Plain;
 pub use source::Source;
 pub use stream::Stream;
 pub use transfer::{fill, send};
+pub use until_failure::UntilFailure;

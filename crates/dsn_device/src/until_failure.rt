@@ -1,0 +1,65 @@
+//! Writing until a drain's first failure, and nothing after it.
+ghost use Rattle.std.specs.Prelude.{◌≡◌, [], false};
+ghost use Rattle.dsn_device.specs.UntilFailure.{WritesUntilFailure};
+
+use crate::drain::Drain;
+use crate::transfer::send;
+
+/// Whether a drain has failed so far. Texts that are written through it reach the drain up to the
+/// first failure, and nothing reaches it after that, so that a caller need not look at each text:
+/// `failed` tells it to the last of them.
+#[derive(Clone, Copy, Debug, PartialEq, Eq)]
+pub struct UntilFailure {
+    /// Whether the drain has failed.
+    pub failed: bool,
+}
+
+impl UntilFailure {
+    /// Nothing has failed so far.
+    pub fn new() -> UntilFailure
+        ensures { result.failed ≡ false }
+    {
+        UntilFailure { failed: false }
+    }
+
+    /// Writes the text, unless the drain has failed.
+    pub fn write<D: Drain>(&mut self, drain: &mut D, text: &[u8])
+        ensures { WritesUntilFailure D.Drain self.old.failed self.new.failed drain.old drain.new text.now }
+    {
+        self.failed = self.failed || send(drain, text).is_err();
+    }
+
+    /// Has the drain pass on what it holds, unless it has failed.
+    pub fn flush<D: Drain>(&mut self, drain: &mut D)
+        ensures { WritesUntilFailure D.Drain self.old.failed self.new.failed drain.old drain.new [] }
+    {
+        self.failed = self.failed || drain.flush().is_err();
+    }
+}
+
+#[cfg(test)]
+mod tests {
+    use super::*;
+    use crate::fakes::PieceWriter;
+    use crate::plain::Plain;
+
+    #[test]
+    fn nothing_follows_a_failure(rt: HostRuntime) {
+        let mut drain = Plain::new(PieceWriter {
+            held: Vec::new(rt.alloc()),
+            most: 2,
+            room: 6,
+        });
+        let mut writing = UntilFailure::new();
+        writing.write(&mut drain, b"QUIT");
+        writing.flush(&mut drain);
+        assert!(rt; !writing.failed);
+        writing.write(&mut drain, b"QUIT");
+        assert!(rt; writing.failed);
+        // The drain works again, and gets nothing more.
+        writing.write(&mut drain, b"QUIT");
+        writing.flush(&mut drain);
+        assert!(rt; writing.failed);
+        assert_eq!(rt; drain.into_inner().held.as_slice(), b"QUITQU".as_slice());
+    }
+}

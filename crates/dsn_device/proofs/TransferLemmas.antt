@@ -1,12 +1,12 @@
 -- How what became of several texts, sent or asked for in turn, is what became of them together.
-use Rattle.std.proofs.Common.{◌≡◌, ℕ, ◌+◌, ◌-◌, ◌≤◌, List, [], ◌++◌, Option, length, take, drop, refl, sym, ap, ◌∙◌, arith, append_assoc, append-nil, take-append-drop, length-take-le}
+use Rattle.std.proofs.Common.{◌≡◌, ℕ, ◌+◌, ◌-◌, ◌≤◌, List, [], ◌++◌, Option, length, take, drop, refl, sym, ap, ◌∙◌, arith, append_assoc, append-nil, take-append-drop, length-take-le, length-append}
 use Rattle.std.proofs.lemmas.List.{take_rest, take-take}
 use Rattle.std.proofs.Math.Seq.{take-append-add}
 use borrow.Rule.Slice.PartMut.{put_mid}
 use Rattle.std.proofs.lemmas.Slice.{take-put_mid}
 use Rattle.std.specs.Io.KnownBytes.{Appends, Keeps}
 use Rattle.std.proofs.KnownBytes.{Appends-nil, Appends-trans, Appends-kept}
-use Rattle.dsn_device.specs.Transfer.{AppendsFront}
+use Rattle.dsn_device.specs.Transfer.{AppendsFront, AppendsPart}
 
 -- ---- what a drain took
 
@@ -31,6 +31,40 @@ Appends-front a b c text more p q =
 -- what keeps the bytes of a drain keeps what it took
 pub AppendsFront-kept : (a b c : Option (List ℕ)) (text : List ℕ) → AppendsFront a b text → Keeps b c → AppendsFront a c text
 AppendsFront-kept a b c text p q = record { front = p.front; unsent = p.unsent; split = p.split; appended = Appends-kept a b c p.front p.appended q }
+
+-- what was taken in part is a front
+pub AppendsFront-part : (a b : Option (List ℕ)) (text : List ℕ) → AppendsPart a b text → AppendsFront a b text
+AppendsFront-part a b text p = record { front = p.front; unsent = p.unsent; split = p.split; appended = p.appended }
+
+-- what was taken of a text in part, was taken in part of each longer text
+pub AppendsPart-longer : (a b : Option (List ℕ)) (text more : List ℕ) → AppendsPart a b text → AppendsPart a b (text ++ more)
+AppendsPart-longer a b text more p = record {
+  front = p.front;
+  unsent = p.unsent ++ more;
+  some = rw length-append (omega (arith, p.some));
+  split = ap (λ l. l ++ more) p.split ∙ append_assoc p.front p.unsent more;
+  appended = p.appended;
+}
+
+-- a text and then a part of a second one are a part of both
+pub Appends-part : (a b c : Option (List ℕ)) (text more : List ℕ) → Appends a b text → AppendsPart b c more → AppendsPart a c (text ++ more)
+Appends-part a b c text more p q = record {
+  front = text ++ q.front;
+  unsent = q.unsent;
+  some = q.some;
+  split = ap (λ l. text ++ l) q.split ∙ sym (append_assoc text q.front q.unsent);
+  appended = Appends-trans a b c text q.front p q.appended;
+}
+
+-- what keeps the bytes of a drain keeps what it took
+pub AppendsPart-kept : (a b c : Option (List ℕ)) (text : List ℕ) → AppendsPart a b text → Keeps b c → AppendsPart a c text
+AppendsPart-kept a b c text p q = record {
+  front = p.front;
+  unsent = p.unsent;
+  some = p.some;
+  split = p.split;
+  appended = Appends-kept a b c p.front p.appended q;
+}
 
 -- the text's front moves from what is unsent to what is sent
 pub split-moved : (all done rest : List ℕ) (n : ℕ) → all ≡ done ++ rest → all ≡ (done ++ take n rest) ++ take (length rest - n) (drop n rest)

@@ -1,13 +1,14 @@
 -- Texts that were written one after another until a drain's first failure: what became of them is what became of the one
 -- text that they are together.
 use Rattle.std.proofs.Common.{◌≡◌, ℕ, Bool, true, false, List, [], ◌++◌, Option, refl, sym, ap, subst, ◌∙◌}
-use Rattle.std.specs.Io.KnownBytes.{Appends}
-use Rattle.std.proofs.KnownBytes.{Appends-nil, Appends-trans, Keeps-refl, Keeps-trans}
+use Rattle.std.specs.Prelude.{not}
+use Rattle.std.specs.Io.KnownBytes.{Appends, Keeps}
+use Rattle.std.proofs.KnownBytes.{Appends-nil, Appends-trans, Appends-kept, Keeps-refl, Keeps-trans}
 use Rattle.dsn_device.specs.Failures.{counted}
 use Rattle.dsn_device.specs.Transfer.{AppendsFront}
-use Rattle.dsn_device.specs.UntilFailure.{Sent, counts_failure, WritesUntilFailure}
+use Rattle.dsn_device.specs.UntilFailure.{Sent, counts_failure, WritesUntilFailure, FlushesUntilFailure, Lost, in_text, at_flush, WrittenAndFlushed}
 use Rattle.dsn_device.specs.declared.drain.Drain.{Ghosts as Drain}
-use Rattle.dsn_device.proofs.TransferLemmas.{Appends-front, AppendsFront-all, AppendsFront-none, AppendsFront-longer, AppendsFront-kept}
+use Rattle.dsn_device.proofs.TransferLemmas.{Appends-part, AppendsFront-all, AppendsFront-none, AppendsFront-part, AppendsPart-longer, AppendsPart-kept}
 
 -- nothing was asked
 pub Sent-none : (a : Bool) (x : Option (List ℕ)) → Sent a a x x []
@@ -17,9 +18,9 @@ Sent-none true x = Keeps-refl x
 -- one text and then another
 pub Sent-then : (a b c : Bool) (x y z : Option (List ℕ)) (s t : List ℕ) → Sent a b x y s → Sent b c y z t → Sent a c x z (s ++ t)
 Sent-then false false false x y z s t p q = Appends-trans x y z s t p q
-Sent-then false false true x y z s t p q = Appends-front x y z s t p q
+Sent-then false false true x y z s t p q = Appends-part x y z s t p q
 Sent-then false true false x y z s t p q = absurd q
-Sent-then false true true x y z s t p q = AppendsFront-longer x z s t (AppendsFront-kept x y z s p q)
+Sent-then false true true x y z s t p q = AppendsPart-longer x z s t (AppendsPart-kept x y z s p q)
 Sent-then true false c x y z s t p q = absurd p
 Sent-then true true false x y z s t p q = absurd q
 Sent-then true true true x y z s t p q = Keeps-trans x y z p q
@@ -32,7 +33,7 @@ Sent-whole true x y text p = absurd p
 -- whatever became of a text, a front of it was appended
 pub Sent-front : (a b : Bool) (x y : Option (List ℕ)) (text : List ℕ) → Sent a b x y text → AppendsFront x y text
 Sent-front false false x y text p = AppendsFront-all x y text p
-Sent-front false true x y text p = p
+Sent-front false true x y text p = AppendsFront-part x y text p
 Sent-front true false x y text p = absurd p
 Sent-front true true x y text p = AppendsFront-none x y text p
 
@@ -55,6 +56,7 @@ module _ {W : Type 0} {drain : Drain W} where
     sent = Sent-none failed (drain.contents w);
     idle = λ before. (before, refl);
     count = counts-none failed (drain.failures w);
+    no_flush = refl;
     stays_steady = λ h. (h, refl);
   }
 
@@ -63,8 +65,66 @@ module _ {W : Type 0} {drain : Drain W} where
     sent = Sent-then a b c (drain.contents x) (drain.contents y) (drain.contents z) s t p.sent q.sent;
     idle = λ before. let first = p.idle before in let second = q.idle first.0 in (second.0, second.1 ∙ first.1);
     count = counts-then a b c (drain.contents x) (drain.contents y) (drain.contents z) s t (drain.failures x) (drain.failures y) (drain.failures z) p.sent q.sent p.count q.count;
+    no_flush = q.no_flush ∙ p.no_flush;
     stays_steady = λ h. let first = p.stays_steady h in let second = q.stays_steady first.0 in (second.0, second.1 ∙ first.1);
   }
 
   pub writes-as : {a b : Bool} {x y : W} {s t : List ℕ} → s ≡ t → WritesUntilFailure drain a b x y s → WritesUntilFailure drain a b x y t
   writes-as {a} {b} {x} {y} same p = subst (WritesUntilFailure drain a b x y) same p
+
+  -- a text was written whole where the drain has not failed
+  pub writes-whole : {a b : Bool} {x y : W} {text : List ℕ} → b ≡ false → WritesUntilFailure drain a b x y text → Appends (drain.contents x) (drain.contents y) text
+  writes-whole {a} {b} {x} {y} {text} good p =
+      Sent-whole a (drain.contents x) (drain.contents y) text
+      (subst (λ has. Sent a has (drain.contents x) (drain.contents y) text) good p.sent)
+
+-- ---- a text, and then a flush
+
+never : false ≡ true → ⊥
+never is = cc
+
+module _ {W : Type 0} (drain : Drain W) where
+  ends : (a b c : Bool) (x y z : W) (text : List ℕ)
+      → Sent a b (drain.contents x) (drain.contents y) text → drain.flushes y ≡ drain.flushes x → (a ≡ true → y ≡ x)
+      → Keeps (drain.contents y) (drain.contents z) → drain.flushes z ≡ counted (not b) (drain.flushes y)
+      → (b ≡ true → z ≡ y) → (b ≡ true → c ≡ true) → (c ≡ false → drain.unflushed z ≡ false)
+      → WrittenAndFlushed drain a c x z text
+  ends false false false x y z text sent no_flush first kept once second lasts passed = record {
+    taken = Appends-kept _ _ _ text sent kept;
+    once = once ∙ ap (counted true) no_flush;
+    passed_on = passed refl;
+  }
+  ends false false true x y z text sent no_flush first kept once second lasts passed =
+      at_flush (Appends-kept _ _ _ text sent kept) (once ∙ ap (counted true) no_flush)
+  ends false true false x y z text sent no_flush first kept once second lasts passed = absurd (never (lasts refl))
+  ends false true true x y z text sent no_flush first kept once second lasts passed =
+      in_text (AppendsPart-kept _ _ _ text sent kept) (once ∙ no_flush)
+  ends true false c x y z text sent no_flush first kept once second lasts passed = absurd sent
+  ends true true false x y z text sent no_flush first kept once second lasts passed = absurd (never (lasts refl))
+  ends true true true x y z text sent no_flush first kept once second lasts passed = second refl ∙ first refl
+
+  -- a text that was written and flushed, where nothing failed
+  pub flushed-whole : (a b : Bool) (old new : W) (text : List ℕ) → b ≡ false → WrittenAndFlushed drain a b old new text
+      → Appends (drain.contents old) (drain.contents new) text
+  flushed-whole false false old new text is p = p.taken
+  flushed-whole true false old new text is p = absurd p
+  flushed-whole a true old new text is p = absurd (never (sym is))
+
+  lost-front : (old new : W) (text : List ℕ) → Lost drain old new text → AppendsFront (drain.contents old) (drain.contents new) text
+  lost-front old new text (in_text part none) = AppendsFront-part _ _ text part
+  lost-front old new text (at_flush all once) = AppendsFront-all _ _ text all
+
+  -- and whatever failed
+  pub flushed-front : (a b : Bool) (old new : W) (text : List ℕ) → WrittenAndFlushed drain a b old new text
+      → AppendsFront (drain.contents old) (drain.contents new) text
+  flushed-front false false old new text p = AppendsFront-all _ _ text p.taken
+  flushed-front false true old new text p = lost-front old new text p
+  flushed-front true false old new text p = absurd p
+  flushed-front true true old new text p = AppendsFront-none _ _ text (rw p (Keeps-refl (drain.contents old)))
+
+module _ {W : Type 0} {drain : Drain W} where
+  -- a text was written, and then the drain was flushed
+  pub written-flushed : {a b c : Bool} {x y z : W} {text : List ℕ} → WritesUntilFailure drain a b x y text → FlushesUntilFailure drain b c y z
+      → WrittenAndFlushed drain a c x z text
+  written-flushed {a} {b} {c} {x} {y} {z} {text} p q =
+      ends drain a b c x y z text p.sent p.no_flush (λ is. (p.idle is).1) q.kept q.once (λ is. (q.idle is).1) (λ is. (q.idle is).0) q.passed_on

@@ -1,4 +1,6 @@
 pub mod Failures
+pub mod Flushes
 pub mod Plain
+pub mod QuietWriter
 pub mod Transfer
 pub mod UntilFailure

@@ -1,11 +1,9 @@
--- A plain device: one of std's readers or writers, with a count of its failures.
-use Rattle.std.specs.Prelude.{ℕ}
-use Rattle.dsn_device.specs.declared.plain.Plain.{Plain}
+-- A plain device: one of std's readers or writers, with the counts of its failures and of its flushes, and
+-- whether it has taken bytes since the last flush that went well.
+use Rattle.std.specs.Prelude.{ℕ, Bool}
 
--- the reader or writer inside
-abbrev pub plain_inner : {T : Type 0} → Plain T → T
-plain_inner plain = plain.inner
-
--- how many of its calls have failed
-abbrev pub plain_failures : {T : Type 0} → Plain T → ℕ
-plain_failures plain = plain.failures
+pub record Plain (T : Type 0) : Type 0 where
+  pub inner : T
+  pub failures : ℕ
+  pub flushes : ℕ
+  pub unflushed : Bool

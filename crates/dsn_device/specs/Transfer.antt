@@ -10,6 +10,14 @@ pub record AppendsFront (old new : Option (List ℕ)) (text : List ℕ) : Type 0
   pub split : text ≡ front ++ unsent
   pub appended : Appends old new front
 
+-- known bytes grow by a part of the text, and not by all of it
+pub record AppendsPart (old new : Option (List ℕ)) (text : List ℕ) : Type 0 where
+  pub front : List ℕ
+  pub unsent : List ℕ
+  pub some : 0 < length unsent
+  pub split : text ≡ front ++ unsent
+  pub appended : Appends old new front
+
 -- known bytes begin with some bytes, fewer than so many, and lose them
 pub record ConsumesFewer (old new : Option (List ℕ)) (limit : ℕ) : Type 0 where
   pub taken : List ℕ

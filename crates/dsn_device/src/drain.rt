@@ -1,12 +1,13 @@
 //! What the daemon writes to.
-ghost use Rattle.std.specs.Prelude.{◌≡◌, ℕ, List, Option, None, is_err};
+ghost use Rattle.std.specs.Prelude.{◌≡◌, ℕ, Bool, ◌&&◌, ◌||◌, List, Option, None, is_err};
 ghost use Rattle.std.specs.Io.{WritesAtMost};
 ghost use Rattle.std.specs.Io.KnownBytes.{WriteAppends, Keeps};
 ghost use Rattle.dsn_device.specs.Failures.{counted, write_failed};
+ghost use Rattle.dsn_device.specs.Flushes.{flushed, took_bytes};
 
 use crate::broken::Broken;
 
-/// A writer that counts its failures. A write that takes no byte of a text that has some is one,
+/// A writer that counts its failures and its flushes. A write that takes no byte of a text that has some is one,
 /// and so is an interrupted call.
 pub trait Drain {
     // The bytes that the device holds, where they are known.
@@ -18,6 +19,12 @@ pub trait Drain {
     // How many calls have failed; the count stands still at `u64::MAX`.
     ghost failures: { Self → ℕ };
 
+    // How many times it was flushed, also where that failed; the count stands still at `u64::MAX`.
+    ghost flushes: { Self → ℕ };
+
+    // Whether it has taken bytes since the last flush that went well.
+    ghost unflushed: { Self → Bool };
+
     // While this holds the count stands still, and the device keeps it: no call fails.
     ghost steady: { Self → Type 0 };
 
@@ -27,6 +34,8 @@ pub trait Drain {
         ensures bytes { WriteAppends (contents self.old) (contents self.new) result text.now }
         ensures unread { Keeps (left self.old) (left self.new) }
         ensures count { failures self.new ≡ counted (write_failed result text.now) (failures self.old) }
+        ensures no_flush { flushes self.new ≡ flushes self.old }
+        ensures unflushed { unflushed self.new ≡ (unflushed self.old || took_bytes result) }
         ensures steady { steady self.old → steady self.new × (failures self.new ≡ failures self.old) };
 
     /// Passes on what the device holds in a buffer of its own, if it has one.
@@ -34,5 +43,7 @@ pub trait Drain {
         ensures bytes { Keeps (contents self.old) (contents self.new) }
         ensures unread { Keeps (left self.old) (left self.new) }
         ensures count { failures self.new ≡ counted (is_err result) (failures self.old) }
+        ensures once { flushes self.new ≡ flushed (flushes self.old) }
+        ensures passed_on { unflushed self.new ≡ (unflushed self.old && is_err result) }
         ensures steady { steady self.old → steady self.new × (failures self.new ≡ failures self.old) };
 }

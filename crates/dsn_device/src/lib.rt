@@ -1,5 +1,5 @@
 //! The devices that the daemon reads from and writes to: what a device is, std's readers and writers
-//! as devices, and whole texts over them.
+//! as devices, whole texts over them, and a writer that is quiet after the first failure.
 #![tactic(auto)]
 
 mod broken;
@@ -8,6 +8,7 @@ mod drain;
 mod fakes;
 mod opaque;
 mod plain;
+mod quiet_writer;
 mod source;
 mod stream;
 mod transfer;
@@ -17,6 +18,7 @@ pub use broken::Broken;
 pub use drain::Drain;
 pub use opaque::Opaque;
 pub use plain::Plain;
+pub use quiet_writer::QuietWriter;
 pub use source::Source;
 pub use stream::Stream;
 pub use transfer::{fill, send};

@@ -1,7 +1,6 @@
 //! Devices made of std's readers and writers.
-ghost use Rattle.std.specs.Prelude.{◌≡◌, true};
+ghost use Rattle.std.specs.Prelude.{◌≡◌, true, false};
 ghost use Rattle.dsn_device.specs.Failures.{counted};
-ghost use Rattle.dsn_device.specs.Plain.{plain_inner, plain_failures};
 
 use crate::broken::Broken;
 use crate::drain::Drain;
@@ -9,45 +8,76 @@ use crate::opaque::Opaque;
 use crate::source::Source;
 use crate::stream::Stream;
 use std::io::{Read, Write};
+use std::marker::Model;
 
-/// A reader or a writer of std's with a count of its failures, which stands still at `u64::MAX`.
-/// Every error is a failure, `Interrupted` too, and no call is tried again.
+/// A reader or a writer of std's with a count of its failures and one of its flushes, which stand
+/// still at `u64::MAX`. Every error is a failure, `Interrupted` too, and no call is tried again.
 #[derive(Drop)]
 pub struct Plain<T> {
     inner: T,
     failures: u64,
+    flushes: u64,
+    /// Whether it has taken bytes since the last flush that went well.
+    unflushed: bool,
+}
+
+impl<T> Model for Plain<T> {
+    ghost use Rattle.dsn_device.specs.Plain.{Plain};
+
+    ghost Value = { Plain T };
+
+    ghost view = { λ p. record { inner = p.inner; failures = p.failures; flushes = p.flushes; unflushed = p.unflushed } };
 }
 
 impl<T> Plain<T> {
-    /// The device that reads from or writes to `inner` and has not failed so far.
+    /// The device that reads from or writes to `inner`, and has not failed and was not flushed so far.
     pub fn new(inner: T) -> Plain<T>
-        ensures inner { plain_inner result ≡ inner }
-        ensures failures { plain_failures result ≡ 0 }
+        ensures { result ≡ record { inner = inner; failures = 0; flushes = 0; unflushed = false } }
     {
-        Plain { inner, failures: 0 }
+        Plain {
+            inner,
+            failures: 0,
+            flushes: 0,
+            unflushed: false,
+        }
     }
 
     /// The reader or writer inside.
     pub fn into_inner(self) -> T
-        ensures { result ≡ plain_inner self }
+        ensures { result ≡ self.inner }
     {
-        let Plain { inner, failures: _ } = self;
+        let Plain {
+            inner,
+            failures: _,
+            flushes: _,
+            unflushed: _,
+        } = self;
         inner
     }
 
     // Counts a failure.
     fn count_failure(&mut self)
-        ensures inner { plain_inner self.new ≡ plain_inner self.old }
-        ensures count { plain_failures self.new ≡ counted true (plain_failures self.old) }
+        ensures { self.new ≡ record self.old { failures = counted true self.old.failures } }
     {
         self.failures = self.failures.saturating_add(1);
+    }
+
+    // Counts a flush.
+    fn count_flush(&mut self)
+        ensures { self.new ≡ record self.old { flushes = counted true self.old.flushes } }
+    {
+        self.flushes = self.flushes.saturating_add(1);
     }
 }
 
 impl<T: Read> Source for Plain<T> {
-    ghost remaining = { λ p. T.remaining (plain_inner p) };
+    ghost remaining = { λ p. T.remaining p.inner };
 
-    ghost failures = { λ p. plain_failures p };
+    ghost failures = { λ p. p.failures };
+
+    ghost flushes = { λ p. p.flushes };
+
+    ghost unflushed = { λ p. p.unflushed };
 
     ghost steady = { λ _. ⊥ };
 
@@ -63,9 +93,13 @@ impl<T: Read> Source for Plain<T> {
 }
 
 impl<T: Write> Drain for Plain<T> {
-    ghost contents = { λ p. T.contents (plain_inner p) };
+    ghost contents = { λ p. T.contents p.inner };
 
-    ghost failures = { λ p. plain_failures p };
+    ghost failures = { λ p. p.failures };
+
+    ghost flushes = { λ p. p.flushes };
+
+    ghost unflushed = { λ p. p.unflushed };
 
     ghost steady = { λ _. ⊥ };
 
@@ -75,7 +109,10 @@ impl<T: Write> Drain for Plain<T> {
                 self.count_failure();
                 Ok(0)
             }
-            Ok(count) => Ok(count),
+            Ok(count) => {
+                self.unflushed |= count > 0;
+                Ok(count)
+            }
             Err(_) => {
                 self.count_failure();
                 Err(Broken)
@@ -84,8 +121,12 @@ impl<T: Write> Drain for Plain<T> {
     }
 
     fn flush(&mut self) -> Result<(), Broken> {
+        self.count_flush();
         match self.inner.flush() {
-            Ok(()) => Ok(()),
+            Ok(()) => {
+                self.unflushed = false;
+                Ok(())
+            }
             Err(_) => {
                 self.count_failure();
                 Err(Broken)
@@ -100,11 +141,15 @@ impl<T: Opaque> Stream for Plain<T> {
 
     ghost one_count = { λ _. refl };
 
+    ghost one_flush_count = { λ _. refl };
+
+    ghost one_unflushed = { λ _. refl };
+
     ghost one_promise = { λ _. (λ h. h, λ h. h) };
 
-    ghost held_is_written = { λ p. sym (T.untold_output (plain_inner p)) };
+    ghost held_is_written = { λ p. sym (T.untold_output p.inner) };
 
-    ghost left_is_unread = { λ p. sym (T.untold_input (plain_inner p)) };
+    ghost left_is_unread = { λ p. sym (T.untold_input p.inner) };
 }
 
 #[cfg(test)]

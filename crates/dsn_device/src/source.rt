@@ -1,5 +1,5 @@
 //! What the daemon reads from.
-ghost use Rattle.std.specs.Prelude.{◌≡◌, ℕ, List, Option, None, is_err};
+ghost use Rattle.std.specs.Prelude.{◌≡◌, ℕ, Bool, false, List, Option, None, is_err};
 ghost use Rattle.std.specs.Io.{ReadsAtMost};
 ghost use Rattle.std.specs.Io.KnownBytes.{ReadConsumes, Keeps};
 ghost use Rattle.dsn_device.specs.Failures.{counted};
@@ -15,6 +15,12 @@ pub trait Source {
     // The bytes that a device which is written to as well holds, where they are known.
     ghost holds: { Self → Option (List ℕ) } = { λ _. None };
 
+    // How many times a device that is written to as well was flushed.
+    ghost flushes: { Self → ℕ } = { λ _. 0 };
+
+    // Whether such a device has taken bytes since the last flush that went well.
+    ghost unflushed: { Self → Bool } = { λ _. false };
+
     // How many calls have failed; the count stands still at `u64::MAX`.
     ghost failures: { Self → ℕ };
 
@@ -27,6 +33,8 @@ pub trait Source {
         ensures bound { ReadsAtMost result buffer.new }
         ensures bytes { ReadConsumes (remaining self.old) (remaining self.new) result buffer.new }
         ensures held { Keeps (holds self.old) (holds self.new) }
+        ensures no_flush { flushes self.new ≡ flushes self.old }
+        ensures unflushed { unflushed self.new ≡ unflushed self.old }
         ensures count { failures self.new ≡ counted (is_err result) (failures self.old) }
         ensures steady { steady self.old → steady self.new × (failures self.new ≡ failures self.old) };
 }

@@ -5,9 +5,13 @@ use crate::drain::Drain;
 use crate::source::Source;
 
 /// A source and a drain in one device: its failures are counted together, reading keeps what was
-/// written and writing keeps what is still to be read.
+/// written and is no flush, and writing keeps what is still to be read.
 pub trait Stream: Source + Drain {
     ghost one_count: { (s : Self) → Self.Drain.failures s ≡ Self.Source.failures s };
+
+    ghost one_flush_count: { (s : Self) → Self.Drain.flushes s ≡ Self.Source.flushes s };
+
+    ghost one_unflushed: { (s : Self) → Self.Drain.unflushed s ≡ Self.Source.unflushed s };
 
     ghost one_promise: { (s : Self) → Self.Drain.steady s ↔ Self.Source.steady s };
 

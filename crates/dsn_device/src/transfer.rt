@@ -3,19 +3,21 @@ ghost use Rattle.std.specs.Prelude.{◌≡◌, ◌<◌, length, take, IfOk, OnOk
 ghost use Rattle.std.specs.Io.{ReadsAtMost};
 ghost use Rattle.std.specs.Io.KnownBytes.{Appends, Consumes, IsAtEnd, Keeps};
 ghost use Rattle.dsn_device.specs.Failures.{counted};
-ghost use Rattle.dsn_device.specs.Transfer.{AppendsFront, ConsumesFewer};
+ghost use Rattle.dsn_device.specs.Transfer.{AppendsFront, AppendsPart, ConsumesFewer};
 
 use crate::broken::Broken;
 use crate::drain::Drain;
 use crate::source::Source;
 
-/// Writes the whole text, and stops at the drain's first failure: a front of the text is then
-/// written. An empty text makes no write.
+/// Writes the whole text, and stops at the drain's first failure: a prefix of the text is then
+/// written, and not all of it. An empty text makes no write.
 pub fn send<D: Drain>(drain: &mut D, text: &[u8]) -> Result<(), Broken>
     ensures sent { OnOk result (Appends (D.contents drain.old) (D.contents drain.new) text.now) }
     ensures front { OnErr result (AppendsFront (D.contents drain.old) (D.contents drain.new) text.now) }
+    ensures part { OnErr result (AppendsPart (D.contents drain.old) (D.contents drain.new) text.now) }
     ensures unread { Keeps (D.left drain.old) (D.left drain.new) }
     ensures count { D.failures drain.new ≡ counted (is_err result) (D.failures drain.old) }
+    ensures no_flush { D.flushes drain.new ≡ D.flushes drain.old }
     ensures steady { D.steady drain.old → D.steady drain.new × (D.failures drain.new ≡ D.failures drain.old) }
 {
     let mut unsent = text;
@@ -41,6 +43,8 @@ pub fn fill<S: Source>(source: &mut S, buffer: &mut [u8]) -> Result<usize, Broke
     ensures lost { OnErr result
         (ConsumesFewer (S.remaining source.old) (S.remaining source.new) (length buffer.new)) }
     ensures held { Keeps (S.holds source.old) (S.holds source.new) }
+    ensures no_flush { S.flushes source.new ≡ S.flushes source.old }
+    ensures unflushed { S.unflushed source.new ≡ S.unflushed source.old }
     ensures count { S.failures source.new ≡ counted (is_err result) (S.failures source.old) }
     ensures steady { S.steady source.old → S.steady source.new × (S.failures source.new ≡ S.failures source.old) }
 {

@@ -1,6 +1,6 @@
 //! Writing until a drain's first failure, and nothing after it.
-ghost use Rattle.std.specs.Prelude.{◌≡◌, [], false};
-ghost use Rattle.dsn_device.specs.UntilFailure.{WritesUntilFailure};
+ghost use Rattle.std.specs.Prelude.{◌≡◌, false};
+ghost use Rattle.dsn_device.specs.UntilFailure.{WritesUntilFailure, FlushesUntilFailure};
 
 use crate::drain::Drain;
 use crate::transfer::send;
@@ -31,7 +31,7 @@ impl UntilFailure {
 
     /// Has the drain pass on what it holds, unless it has failed.
     pub fn flush<D: Drain>(&mut self, drain: &mut D)
-        ensures { WritesUntilFailure D.Drain self.old.failed self.new.failed drain.old drain.new [] }
+        ensures { FlushesUntilFailure D.Drain self.old.failed self.new.failed drain.old drain.new }
     {
         self.failed = self.failed || drain.flush().is_err();
     }

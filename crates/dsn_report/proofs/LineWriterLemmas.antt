@@ -5,11 +5,10 @@ use Rattle.std.proofs.Math.Seq.{take-suc}
 use Rattle.std.proofs.lemmas.Grind.{flat_map-append}
 use Rattle.std.proofs.lemmas.List.{map-append}
 use Rattle.std.proofs.KnownBytes.{Appends-nil, Appends-trans, Keeps-refl, Keeps-trans}
-use Rattle.dsn_device.proofs.TransferLemmas.{Appends-front, AppendsFront-all, AppendsFront-none, AppendsFront-longer, AppendsFront-kept}
-use Rattle.dsn_device.specs.Transfer.{AppendsFront}
-use Rattle.std.specs.Io.KnownBytes.{Appends}
-use Rattle.std.specs.Prelude.{IsTrue}
+use Rattle.dsn_device.proofs.TransferLemmas.{Appends-front, AppendsFront-longer, AppendsFront-kept}
 use Rattle.dsn_device.specs.Failures.{counted}
+use Rattle.dsn_device.proofs.UntilFailureLemmas.{writes-none, writes-then}
+use Rattle.dsn_device.specs.declared.drain.Drain.{Ghosts as Drain}
 use Rattle.dsn_report.specs.LineWriter.{Sent, counts_failure, Took, Wrote, lines_sent}
 use Rattle.dsn_report.specs.Lines.{text_of_lines, dot_stuffed, begins_with_dot}
 use Rattle.dsn_report.specs.declared.line_writer.LineWriter.{LineWriter}
@@ -28,18 +27,6 @@ Sent-then false true true x y z s t p q = AppendsFront-longer x z s t (AppendsFr
 Sent-then true false c x y z s t p q = absurd p
 Sent-then true true false x y z s t p q = absurd q
 Sent-then true true true x y z s t p q = Keeps-trans x y z p q
-
--- a writer that has not failed took all of a text
-Sent-whole : (a : Bool) (x y : Option (List ℕ)) (text : List ℕ) → Sent a false x y text → Appends x y text
-Sent-whole false x y text p = p
-Sent-whole true x y text p = absurd p
-
--- whatever became of a text, a front of it was appended
-Sent-front : (a b : Bool) (x y : Option (List ℕ)) (text : List ℕ) → Sent a b x y text → AppendsFront x y text
-Sent-front false false x y text p = AppendsFront-all x y text p
-Sent-front false true x y text p = p
-Sent-front true false x y text p = absurd p
-Sent-front true true x y text p = AppendsFront-none x y text p
 
 pub counts-none : (a : Bool) (n : ℕ) → n ≡ counts_failure a a n
 counts-none false n = refl
@@ -69,54 +56,31 @@ pub sent_text-append : (dots : Bool) (xs ys : List (List ℕ))
     → text_of_lines (lines_sent dots (xs ++ ys)) ≡ text_of_lines (lines_sent dots xs) ++ text_of_lines (lines_sent dots ys)
 sent_text-append dots xs ys = ap text_of_lines (lines_sent-append dots xs ys) ∙ text_of_lines-append (lines_sent dots xs) (lines_sent dots ys)
 
-module _ {W : Type 0} {contents : W → Option (List ℕ)} {failures : W → ℕ} {steady : W → Type 0} where
-  pub Took-none : (s : LineWriter W) → Took contents failures steady s s []
-  Took-none s = record {
-    sent = Sent-none s.failed (contents s.drain);
-    dots_kept = refl;
-    idle = λ failed. refl;
-    count = counts-none s.failed (failures s.drain);
-    stays_steady = λ h. (h, refl);
-  }
+module _ {W : Type 0} {device : Drain W} where
+  pub Took-none : (s : LineWriter W) → Took device s s []
+  Took-none s = record { text_written = writes-none s.writer.failed s.writer.drain; dots_kept = refl }
 
-  pub Took-then : {s t u : LineWriter W} {a b : List ℕ} → Took contents failures steady s t a → Took contents failures steady t u b → Took contents failures steady s u (a ++ b)
-  Took-then {s} {t} {u} {a} {b} p q = record {
-    sent = Sent-then s.failed t.failed u.failed (contents s.drain) (contents t.drain) (contents u.drain) a b p.sent q.sent;
-    dots_kept = q.dots_kept ∙ p.dots_kept;
-    idle = λ failed. let same : t ≡ s = p.idle failed in q.idle (subst (λ w. IsTrue w.failed) (sym same) failed) ∙ same;
-    count = counts-then s.failed t.failed u.failed (contents s.drain) (contents t.drain) (contents u.drain) a b (failures s.drain) (failures t.drain) (failures u.drain) p.sent q.sent p.count q.count;
-    stays_steady = λ h. let first = p.stays_steady h in let second = q.stays_steady first.0 in (second.0, second.1 ∙ first.1);
-  }
+  pub Took-then : {s t u : LineWriter W} {a b : List ℕ} → Took device s t a → Took device t u b → Took device s u (a ++ b)
+  Took-then p q = record { text_written = writes-then p.text_written q.text_written; dots_kept = q.dots_kept ∙ p.dots_kept }
 
-  pub Took-as : {s t : LineWriter W} {a b : List ℕ} → a ≡ b → Took contents failures steady s t a → Took contents failures steady s t b
-  Took-as {s} {t} e p = subst (Took contents failures steady s t) e p
+  pub Took-as : {s t : LineWriter W} {a b : List ℕ} → a ≡ b → Took device s t a → Took device s t b
+  Took-as {s} {t} e p = subst (Took device s t) e p
 
-  -- a text was taken whole where the writer has not failed
-  pub Took-sent : {s t : LineWriter W} {text : List ℕ} → t.failed ≡ false → Took contents failures steady s t text
-      → Appends (contents s.drain) (contents t.drain) text
-  Took-sent {s} {t} {text} after p =
-      Sent-whole s.failed (contents s.drain) (contents t.drain) text
-      (subst (λ has. Sent s.failed has (contents s.drain) (contents t.drain) text) after p.sent)
-
-  -- a text of which at least a front was taken
-  pub Took-front : {s t : LineWriter W} {text : List ℕ} → Took contents failures steady s t text → AppendsFront (contents s.drain) (contents t.drain) text
-  Took-front {s} {t} {text} p = Sent-front s.failed t.failed (contents s.drain) (contents t.drain) text p.sent
-
-  pub Wrote-none : (s : LineWriter W) → Wrote contents failures steady s s []
+  pub Wrote-none : (s : LineWriter W) → Wrote device s s []
   unfolding text_of_lines
   Wrote-none s = record { took = none s.dots }
     where
-      none : (dots : Bool) → Took contents failures steady s s (text_of_lines (lines_sent dots []))
+      none : (dots : Bool) → Took device s s (text_of_lines (lines_sent dots []))
       none true = Took-none s
       none false = Took-none s
 
-  pub Wrote-then : {s t u : LineWriter W} {a b : List (List ℕ)} → Wrote contents failures steady s t a → Wrote contents failures steady t u b → Wrote contents failures steady s u (a ++ b)
+  pub Wrote-then : {s t u : LineWriter W} {a b : List (List ℕ)} → Wrote device s t a → Wrote device t u b → Wrote device s u (a ++ b)
   Wrote-then {s} {t} {u} {a} {b} p q =
-      let second = subst (λ dots. Took contents failures steady t u (text_of_lines (lines_sent dots b))) p.took.dots_kept q.took in
+      let second = subst (λ dots. Took device t u (text_of_lines (lines_sent dots b))) p.took.dots_kept q.took in
       record { took = Took-as (sym (sent_text-append s.dots a b)) (Took-then p.took second) }
 
-  pub Wrote-as : {s t : LineWriter W} {a b : List (List ℕ)} → a ≡ b → Wrote contents failures steady s t a → Wrote contents failures steady s t b
-  Wrote-as {s} {t} e p = subst (Wrote contents failures steady s t) e p
+  pub Wrote-as : {s t : LineWriter W} {a b : List (List ℕ)} → a ≡ b → Wrote device s t a → Wrote device s t b
+  Wrote-as {s} {t} e p = subst (Wrote device s t) e p
 
 -- the pieces of a line, and one more of them
 pub flat_map-take-more : {X : Type 0} (f : X → List ℕ) (xs : List X) (i : ℕ) (d : X) → i < length xs

@@ -1,8 +1,10 @@
 -- What a writer of lines did with a text: it writes nothing more after its drain's first failure.
-use Rattle.std.specs.Prelude.{◌≡◌, IsTrue, ℕ, Bool, true, false, List, map, Option}
+use Rattle.std.specs.Prelude.{◌≡◌, ℕ, Bool, true, false, List, map, Option}
 use Rattle.std.specs.Io.KnownBytes.{Appends, Keeps}
 use Rattle.dsn_device.specs.Failures.{counted}
 use Rattle.dsn_device.specs.Transfer.{AppendsFront}
+use Rattle.dsn_device.specs.QuietWriter.{Writes}
+use Rattle.dsn_device.specs.declared.drain.Drain.{Ghosts as Drain}
 use Rattle.dsn_report.specs.Lines.{text_of_lines, dot_stuffed}
 use Rattle.dsn_report.specs.declared.line_writer.LineWriter.{LineWriter}
 
@@ -19,12 +21,9 @@ counts_failure false failed count = counted failed count
 counts_failure true failed count = count
 
 -- the writer took the text
-pub record Took {W : Type 0} (contents : W → Option (List ℕ)) (failures : W → ℕ) (steady : W → Type 0) (old new : LineWriter W) (text : List ℕ) : Type 0 where
-  pub sent : Sent old.failed new.failed (contents old.drain) (contents new.drain) text
+pub record Took {W : Type 0} (device : Drain W) (old new : LineWriter W) (text : List ℕ) : Type 0 where
+  pub text_written : Writes device old.writer new.writer text
   pub dots_kept : new.dots ≡ old.dots
-  pub idle : IsTrue old.failed → new ≡ old
-  pub count : failures new.drain ≡ counts_failure old.failed new.failed (failures old.drain)
-  pub stays_steady : steady old.drain → steady new.drain × (failures new.drain ≡ failures old.drain)
 
 -- lines as they are sent, with dots or without
 abbrev pub lines_sent : Bool → List (List ℕ) → List (List ℕ)
@@ -32,5 +31,5 @@ lines_sent true lines = map dot_stuffed lines
 lines_sent false lines = lines
 
 -- the writer took the lines
-pub record Wrote {W : Type 0} (contents : W → Option (List ℕ)) (failures : W → ℕ) (steady : W → Type 0) (old new : LineWriter W) (lines : List (List ℕ)) : Type 0 where
-  pub took : Took contents failures steady old new (text_of_lines (lines_sent old.dots lines))
+pub record Wrote {W : Type 0} (device : Drain W) (old new : LineWriter W) (lines : List (List ℕ)) : Type 0 where
+  pub took : Took device old new (text_of_lines (lines_sent old.dots lines))

@@ -1,44 +1,40 @@
 //! Lines on their way to a drain, one piece after another.
-ghost use Rattle.std.specs.Prelude.{◌≡◌, [], ◌∷◌, ◌++◌, codes, ◌&&◌, if◌then◌else◌};
+ghost use Rattle.std.specs.Prelude.{◌≡◌, false, [], ◌∷◌, ◌++◌, codes, ◌&&◌, if◌then◌else◌};
 ghost use Rattle.std.specs.List.{flat_map};
+ghost use Rattle.dsn_device.specs.QuietWriter.{Flushes};
 ghost use Rattle.dsn_report.specs.LineWriter.{Took, Wrote};
 ghost use Rattle.dsn_report.specs.Lines.{begins_with_dot};
 
-use dsn_outcome::{Drain, send};
+use dsn_device::{Drain, QuietWriter};
 
 /// Writes lines to a drain, each ended by CRLF. After the drain's first failure it writes nothing
-/// more, so that its callers need not look at each line; `failed` tells it to the last of them.
+/// more, so that its callers need not look at each line.
 #[derive(Drop)]
 pub(crate) struct LineWriter<W> {
-    pub(crate) drain: W,
+    pub(crate) writer: QuietWriter<W>,
     /// Whether a line that begins with a dot gets one more in front (RFC 5321 section 4.5.2).
     pub(crate) dots: bool,
-    /// Whether the drain has failed.
-    pub(crate) failed: bool,
 }
 
 impl<W: Drain> LineWriter<W> {
     /// Writes the text as it is.
     pub(crate) fn piece(&mut self, text: &[u8])
-        ensures { Took W.contents W.failures W.steady self.old self.new text.now }
+        ensures { Took W.Drain self.old self.new text.now }
     {
-        if !self.failed {
-            self.failed = send(&mut self.drain, text).is_err();
-        }
+        self.writer.write(text);
     }
 
     /// Has the drain pass on what it holds.
     pub(crate) fn flush(&mut self)
-        ensures { Took W.contents W.failures W.steady self.old self.new [] }
+        ensures flushes { Flushes W.Drain self.old.writer self.new.writer }
+        ensures dots { self.new.dots ≡ self.old.dots }
     {
-        if !self.failed {
-            self.failed = self.drain.flush().is_err();
-        }
+        self.writer.flush();
     }
 
     /// Writes the pieces as one line.
     pub(crate) fn line(&mut self, pieces: &[&[u8]])
-        ensures { Wrote W.contents W.failures W.steady self.old self.new (flat_map (λ piece. piece.now) pieces.now ∷ []) }
+        ensures { Wrote W.Drain self.old self.new (flat_map (λ piece. piece.now) pieces.now ∷ []) }
     {
         self.leading_dot(pieces);
         self.pieces(pieces);
@@ -47,7 +43,7 @@ impl<W: Drain> LineWriter<W> {
 
     /// Writes the dot that goes before a line that begins with one.
     fn leading_dot(&mut self, pieces: &[&[u8]])
-        ensures { Took W.contents W.failures W.steady self.old self.new (if self.old.dots && begins_with_dot (flat_map (λ piece. piece.now) pieces.now) then codes "." else []) }
+        ensures { Took W.Drain self.old self.new (if self.old.dots && begins_with_dot (flat_map (λ piece. piece.now) pieces.now) then codes "." else []) }
     {
         if self.dots && begins_with_dot(pieces) {
             self.piece(b".");
@@ -56,7 +52,7 @@ impl<W: Drain> LineWriter<W> {
 
     /// Writes the pieces as they are.
     fn pieces(&mut self, pieces: &[&[u8]])
-        ensures { Took W.contents W.failures W.steady self.old self.new (flat_map (λ piece. piece.now) pieces.now) }
+        ensures { Took W.Drain self.old self.new (flat_map (λ piece. piece.now) pieces.now) }
     {
         for piece in pieces {
             self.piece(piece);

@@ -14,11 +14,12 @@ use crate::line_writer::LineWriter;
 use crate::name::{boundary_text, letter_name};
 use crate::site::Site;
 use crate::wording::{opening, subject};
-use dsn_outcome::{Address, Clean, Drain, EnvelopeId, Letter, MtaName, Outcome};
+use dsn_device::Drain;
+use dsn_outcome::{Address, Clean, EnvelopeId, Letter, MtaName, Outcome};
 
 /// Writes a notice's header.
 fn write_header<W: Drain>(lines: &mut LineWriter<W>, site: &Site, letter: &Letter, boundary: &[u8])
-    ensures { Wrote W.contents W.failures W.steady lines.old lines.new (notice_header site.now letter.now boundary.now) }
+    ensures { Wrote W.Drain lines.old lines.new (notice_header site.now letter.now boundary.now) }
 {
     let host = site.bytes();
     let name = letter_name(letter);
@@ -40,7 +41,7 @@ fn begin_part<W: Drain>(
     description: &[u8],
     content_type: &[u8],
 )
-    ensures { Wrote W.contents W.failures W.steady lines.old lines.new (part_header boundary.now description.now content_type.now) }
+    ensures { Wrote W.Drain lines.old lines.new (part_header boundary.now description.now content_type.now) }
 {
     lines.line(&[b"--", boundary]);
     lines.line(&[b"Content-Description: ", description]);
@@ -55,7 +56,7 @@ fn write_notification<W: Drain>(
     letter: &Letter,
     boundary: &[u8],
 )
-    ensures { Wrote W.contents W.failures W.steady lines.old lines.new (part_of boundary.now (codes "Notification") (codes "text/plain; charset=us-ascii") (notification site.now letter.now)) }
+    ensures { Wrote W.Drain lines.old lines.new (part_of boundary.now (codes "Notification") (codes "text/plain; charset=us-ascii") (notification site.now letter.now)) }
 {
     begin_part(
         lines,
@@ -73,7 +74,7 @@ fn write_notification<W: Drain>(
 
 /// Writes what a person reads of each outcome, oldest first.
 fn write_outcomes<W: Drain>(lines: &mut LineWriter<W>, letter: &Letter)
-    ensures { Wrote W.contents W.failures W.steady lines.old lines.new (flat_map outcome_lines letter.now.outcomes) }
+    ensures { Wrote W.Drain lines.old lines.new (flat_map outcome_lines letter.now.outcomes) }
 {
     for outcome in letter.outcomes() {
         write_outcome(lines, outcome);
@@ -82,7 +83,7 @@ fn write_outcomes<W: Drain>(lines: &mut LineWriter<W>, letter: &Letter)
 
 /// Writes what a person reads of an outcome.
 fn write_outcome<W: Drain>(lines: &mut LineWriter<W>, outcome: &Outcome)
-    ensures { Wrote W.contents W.failures W.steady lines.old lines.new (outcome_lines outcome.now) }
+    ensures { Wrote W.Drain lines.old lines.new (outcome_lines outcome.now) }
 {
     lines.line(&[
         b"<",
@@ -105,7 +106,7 @@ fn action_word(outcome: &Outcome) -> &[u8]
 
 /// Writes the line of a value, if there is one.
 fn write_if_any<W: Drain>(lines: &mut LineWriter<W>, name: &[u8], value: Option<&[u8]>)
-    ensures { Wrote W.contents W.failures W.steady lines.old lines.new (line_if_any name.now (option_copied value.entry)) }
+    ensures { Wrote W.Drain lines.old lines.new (line_if_any name.now (option_copied value.entry)) }
 {
     if let Some(value) = value {
         lines.line(&[name, value]);
@@ -119,7 +120,7 @@ fn write_delivery_status<W: Drain>(
     letter: &Letter,
     boundary: &[u8],
 )
-    ensures { Wrote W.contents W.failures W.steady lines.old lines.new (part_of boundary.now (codes "Delivery report") (codes "message/delivery-status") (delivery_status site.now letter.now)) }
+    ensures { Wrote W.Drain lines.old lines.new (part_of boundary.now (codes "Delivery report") (codes "message/delivery-status") (delivery_status site.now letter.now)) }
 {
     begin_part(
         lines,
@@ -134,7 +135,7 @@ fn write_delivery_status<W: Drain>(
 
 /// Writes the group of each recipient, the oldest outcome's first.
 fn write_groups<W: Drain>(lines: &mut LineWriter<W>, letter: &Letter)
-    ensures { Wrote W.contents W.failures W.steady lines.old lines.new (flat_map recipient_group letter.now.outcomes) }
+    ensures { Wrote W.Drain lines.old lines.new (flat_map recipient_group letter.now.outcomes) }
 {
     for outcome in letter.outcomes() {
         lines.line(&[]);
@@ -144,7 +145,7 @@ fn write_groups<W: Drain>(lines: &mut LineWriter<W>, letter: &Letter)
 
 /// Writes the fields of the message as a whole.
 fn write_message_fields<W: Drain>(lines: &mut LineWriter<W>, site: &Site, letter: &Letter)
-    ensures { Wrote W.contents W.failures W.steady lines.old lines.new (per_message_fields site.now letter.now) }
+    ensures { Wrote W.Drain lines.old lines.new (per_message_fields site.now letter.now) }
 {
     write_if_any(
         lines,
@@ -157,7 +158,7 @@ fn write_message_fields<W: Drain>(lines: &mut LineWriter<W>, site: &Site, letter
 
 /// Writes the fields of a recipient.
 fn write_recipient_fields<W: Drain>(lines: &mut LineWriter<W>, outcome: &Outcome)
-    ensures { Wrote W.contents W.failures W.steady lines.old lines.new (per_recipient_fields outcome.now) }
+    ensures { Wrote W.Drain lines.old lines.new (per_recipient_fields outcome.now) }
 {
     write_if_any(
         lines,
@@ -181,7 +182,7 @@ fn write_recipient_fields<W: Drain>(lines: &mut LineWriter<W>, outcome: &Outcome
 
 /// Writes the part with the returned lines, if there are any.
 fn write_returned_part<W: Drain>(lines: &mut LineWriter<W>, letter: &Letter, boundary: &[u8])
-    ensures { Wrote W.contents W.failures W.steady lines.old lines.new (returned_part boundary.now (returned_lines letter.now.draft.header)) }
+    ensures { Wrote W.Drain lines.old lines.new (returned_part boundary.now (returned_lines letter.now.draft.header)) }
 {
     let header = letter.header().bytes();
     if first_line(header).0.is_empty() {
@@ -199,7 +200,7 @@ fn write_returned_part<W: Drain>(lines: &mut LineWriter<W>, letter: &Letter, bou
 
 /// Writes the returned lines of a header.
 fn write_returned_lines<W: Drain>(lines: &mut LineWriter<W>, header: &[u8])
-    ensures { Wrote W.contents W.failures W.steady lines.old lines.new (returned_lines header.now) }
+    ensures { Wrote W.Drain lines.old lines.new (returned_lines header.now) }
 {
     let mut shown = [0; LONGEST_LINE];
     for line in (HeaderLines { rest: header }) {
@@ -210,7 +211,7 @@ fn write_returned_lines<W: Drain>(lines: &mut LineWriter<W>, header: &[u8])
 
 /// Writes a notice. It takes no memory.
 pub(crate) fn write_notice<W: Drain>(lines: &mut LineWriter<W>, site: &Site, letter: &Letter)
-    ensures { Wrote W.contents W.failures W.steady lines.old lines.new (notice_lines site.now letter.now) }
+    ensures { Wrote W.Drain lines.old lines.new (notice_lines site.now letter.now) }
 {
     let name = boundary_text(letter, boundary(letter));
     let boundary = name.bytes();

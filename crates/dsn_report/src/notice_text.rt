@@ -5,7 +5,8 @@ ghost use Rattle.dsn_report.specs.Notice.{notice_of};
 use crate::line_writer::LineWriter;
 use crate::notice_lines::write_notice;
 use crate::site::Site;
-use dsn_outcome::{Letter, NoMemory, Plain};
+use dsn_device::{Plain, QuietWriter};
+use dsn_outcome::{Letter, NoMemory};
 use std::alloc::Global;
 
 /// The text of a letter's notice, as a mail program shows it: without the dots that the mail
@@ -14,16 +15,12 @@ pub fn notice(alloc: Global, site: &Site, letter: &Letter) -> Result<Vec<u8>, No
     ensures { IfOk result (λ text. text.items ≡ notice_of site.now letter.now) }
 {
     let mut lines = LineWriter {
-        drain: Plain::new(Vec::new(alloc)),
+        writer: QuietWriter::new(Plain::new(Vec::new(alloc))),
         dots: false,
-        failed: false,
     };
     write_notice(&mut lines, site, letter);
-    let LineWriter {
-        drain,
-        dots: _,
-        failed,
-    } = lines;
+    let LineWriter { writer, dots: _ } = lines;
+    let (drain, failed) = writer.into_parts();
     let text = drain.into_inner();
     if failed {
         return Err(NoMemory);

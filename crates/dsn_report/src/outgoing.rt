@@ -7,7 +7,8 @@ ghost use Rattle.dsn_report.specs.Outgoing.{Delivered, IsOutbox};
 use crate::outbox_end::OutboxEnd;
 use crate::poster::{Ended, Poster};
 use crate::site::Site;
-use dsn_outcome::{Drain, Letter, Letters};
+use dsn_device::Drain;
+use dsn_outcome::{Letter, Letters};
 use std::marker::Model;
 
 /// A poster, and the letters that it could not write.

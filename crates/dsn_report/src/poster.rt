@@ -2,14 +2,15 @@
 ghost use Rattle.std.specs.Prelude.{◌≡◌, true, false, not, IsTrue, IsFalse, Err, OnOk, OnErr, IfErr, is_err};
 ghost use Rattle.std.specs.Io.KnownBytes.{Appends};
 ghost use Rattle.dsn_device.specs.Transfer.{AppendsFront};
-ghost use Rattle.dsn_report.specs.LineWriter.{counts_failure};
+ghost use Rattle.dsn_device.specs.UntilFailure.{WrittenAndFlushed, counts_failure};
 ghost use Rattle.dsn_report.specs.Poster.{post_fault, post_text, finish_text};
 
 use crate::line_writer::LineWriter;
 use crate::post_fault::PostFault;
 use crate::site::Site;
 use crate::transaction::{greet_once, write_goodbye, write_transaction};
-use dsn_outcome::{Drain, Letter};
+use dsn_device::{Drain, QuietWriter};
+use dsn_outcome::Letter;
 use std::marker::Model;
 
 /// Posts letters to an outbox. Nothing is written before the first letter, nothing is held back
@@ -27,7 +28,7 @@ impl<W> Model for Poster<W> {
 
     ghost Value = { Poster W };
 
-    ghost view = { λ p. record { host = p.site; outbox = p.lines.drain; greeted = p.greeted; failed = p.lines.failed } };
+    ghost view = { λ p. record { host = p.site; outbox = p.lines.writer.drain; greeted = p.greeted; failed = p.lines.writer.failed } };
 
     ghost invariant = { λ p. p.lines.dots ≡ true };
 }
@@ -49,9 +50,8 @@ impl<W> Poster<W> {
         Poster {
             site,
             lines: LineWriter {
-                drain: outbox,
+                writer: QuietWriter::new(outbox),
                 dots: true,
-                failed: false,
             },
             greeted: false,
         }
@@ -59,11 +59,12 @@ impl<W> Poster<W> {
 }
 
 impl<W: Drain> Poster<W> {
-    /// Writes the letter's notice, after the greeting if that isn't written, and flushes the
-    /// outbox. After a fault every later call is refused with `Failed`. It takes no memory.
+    /// Writes the letter's notice, after the greeting if that isn't written, and then flushes the
+    /// outbox, once. After a fault every later call is refused with `Failed`. It takes no memory.
     pub fn post(&mut self, letter: Letter) -> Result<(), PostFault>
         ensures sent { OnOk result (Appends (W.contents self.old.outbox) (W.contents self.new.outbox) (post_text self.old letter)) }
         ensures front { OnErr result (AppendsFront (W.contents self.old.outbox) (W.contents self.new.outbox) (post_text self.old letter)) }
+        ensures flushed { WrittenAndFlushed W.Drain self.old.failed self.new.failed self.old.outbox self.new.outbox (post_text self.old letter) }
         ensures fault { IfErr result (λ fault. fault ≡ post_fault self.old.failed letter) }
         ensures failed { self.new.failed ≡ is_err result }
         ensures greeted { OnOk result (self.new.greeted ≡ true) }
@@ -78,24 +79,25 @@ impl<W: Drain> Poster<W> {
         ensures count { W.failures self.new.outbox ≡ counts_failure self.old.failed (is_err result) (W.failures self.old.outbox) }
         ensures steady { W.steady self.old.outbox → W.steady self.new.outbox × (W.failures self.new.outbox ≡ W.failures self.old.outbox) }
     {
-        if self.lines.failed {
+        if self.lines.writer.has_failed() {
             return Err(PostFault::Failed(letter));
         }
         greet_once(&mut self.lines, &self.site, self.greeted);
         self.greeted = true;
         write_transaction(&mut self.lines, &self.site, &letter);
         self.lines.flush();
-        if self.lines.failed {
+        if self.lines.writer.has_failed() {
             return Err(PostFault::Write(letter));
         }
         Ok(())
     }
 
-    /// Ends the session: writes the greeting if it isn't written, and QUIT, and flushes the
-    /// outbox. After a fault it writes nothing.
+    /// Ends the session: writes the greeting if it isn't written, and QUIT, and then flushes the
+    /// outbox, once. After a fault it does nothing.
     pub fn finish(self) -> Ended<W>
         ensures sent { IsTrue result.whole → Appends (W.contents self.outbox) (W.contents result.outbox) (finish_text self) }
         ensures front { IsFalse result.whole → AppendsFront (W.contents self.outbox) (W.contents result.outbox) (finish_text self) }
+        ensures flushed { WrittenAndFlushed W.Drain self.failed (not result.whole) self.outbox result.outbox (finish_text self) }
         ensures nothing { IsTrue self.failed → result ≡ record { outbox = self.outbox; whole = false } }
 
         // Where nothing failed before, `whole` is false exactly where the outbox fails now.
@@ -110,13 +112,10 @@ impl<W: Drain> Poster<W> {
         greet_once(&mut lines, &site, greeted);
         write_goodbye(&mut lines);
         lines.flush();
-        let LineWriter {
-            drain,
-            dots: _,
-            failed,
-        } = lines;
+        let LineWriter { writer, dots: _ } = lines;
+        let (outbox, failed) = writer.into_parts();
         Ended {
-            outbox: drain,
+            outbox,
             whole: !failed,
         }
     }

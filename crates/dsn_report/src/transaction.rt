@@ -6,11 +6,12 @@ ghost use Rattle.dsn_report.specs.Outbox.{greeting, goodbye, mail_transaction};
 use crate::line_writer::LineWriter;
 use crate::notice_lines::write_notice;
 use crate::site::Site;
-use dsn_outcome::{Drain, Letter};
+use dsn_device::Drain;
+use dsn_outcome::Letter;
 
 /// Writes what opens the session, unless it is written.
 pub(crate) fn greet_once<W: Drain>(lines: &mut LineWriter<W>, site: &Site, greeted: bool)
-    ensures { Took W.contents W.failures W.steady lines.old lines.new (if greeted then [] else greeting site.now) }
+    ensures { Took W.Drain lines.old lines.new (if greeted then [] else greeting site.now) }
 {
     if !greeted {
         lines.piece(b"EHLO ");
@@ -22,7 +23,7 @@ pub(crate) fn greet_once<W: Drain>(lines: &mut LineWriter<W>, site: &Site, greet
 /// Writes the mail transaction of a letter.
 pub(crate) fn write_transaction<W: Drain>(lines: &mut LineWriter<W>, site: &Site, letter: &Letter)
     requires { lines.old.dots ≡ true }
-    ensures { Took W.contents W.failures W.steady lines.old lines.new (mail_transaction site.now letter.now) }
+    ensures { Took W.Drain lines.old lines.new (mail_transaction site.now letter.now) }
 {
     lines.line(&[b"MAIL FROM:<>"]);
     lines.line(&[b"RCPT TO:<", letter.return_path().bytes(), b">"]);
@@ -33,7 +34,7 @@ pub(crate) fn write_transaction<W: Drain>(lines: &mut LineWriter<W>, site: &Site
 
 /// Writes what ends the session.
 pub(crate) fn write_goodbye<W: Drain>(lines: &mut LineWriter<W>)
-    ensures { Took W.contents W.failures W.steady lines.old lines.new goodbye }
+    ensures { Took W.Drain lines.old lines.new goodbye }
 {
     lines.piece(b"QUIT\r\n");
 }

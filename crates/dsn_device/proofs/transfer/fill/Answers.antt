@@ -15,6 +15,8 @@ loop-filled-preserved g c =
       in_range = search rules;
       consumed = subst (Consumes _ _) (sym joined) (Consumes-trans _ _ _ _ _ kept.consumed read.bytes.0);
       held = Keeps-trans _ _ _ kept.held read.held;
+      no_flush = read.no_flush ∙ kept.no_flush;
+      unflushed = read.unflushed ∙ kept.unflushed;
       count = read.count ∙ kept.count;
       steady = λ h. (read.steady (kept.steady h)).0;
     }

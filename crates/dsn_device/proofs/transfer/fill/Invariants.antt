@@ -9,6 +9,8 @@ invariant-loop-filled g l = record {
   in_range : l.filled ≤ length l.buffer;
   consumed : Consumes (g.S.Source.remaining l.initial.source) (g.S.Source.remaining l.source) (take l.filled l.buffer);
   held : Keeps (g.S.Source.holds l.initial.source) (g.S.Source.holds l.source);
+  no_flush : g.S.Source.flushes l.source ≡ g.S.Source.flushes l.initial.source;
+  unflushed : g.S.Source.unflushed l.source ≡ g.S.Source.unflushed l.initial.source;
   count : g.S.Source.failures l.source ≡ g.S.Source.failures l.initial.source;
   steady : g.S.Source.steady l.initial.source → g.S.Source.steady l.source;
 }

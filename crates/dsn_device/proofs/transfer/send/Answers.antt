@@ -1,4 +1,4 @@
-use Rattle.std.proofs.Common.{take, arith, ◌++◌}
+use Rattle.std.proofs.Common.{take, arith, ◌++◌, ◌∙◌}
 use Rattle.std.proofs.lemmas.Bool.Decides.{nat_tests}
 use Rattle.std.proofs.KnownBytes.{Appends-trans, Keeps-trans}
 use Rattle.dsn_device.proofs.TransferLemmas.{split-moved}
@@ -12,6 +12,7 @@ loop-unsent-preserved g c =
     record {
       sent = (done ++ take n c.loop-unsent.unsent.now, split-moved _ done _ n split, Appends-trans _ _ _ _ _ appended took.bytes);
       unread = Keeps-trans _ _ _ c.loop-unsent.invariant.unread took.unread;
+      no_flush = took.no_flush ∙ c.loop-unsent.invariant.no_flush;
       count = grind (arith, nat_tests, took.count);
       steady = λ h. (took.steady (c.loop-unsent.invariant.steady h)).0;
     }

@@ -1,4 +1,4 @@
--- What is gone from `unsent` was appended, and the drain did not fail.
+-- What is gone from `unsent` was appended, and the drain did not fail and was not flushed.
 use Rattle.std.proofs.Common.{◌≡◌, List, ◌++◌, length, ℕ}
 use Rattle.std.specs.Io.KnownBytes.{Appends, Keeps}
 use Rattle.dsn_device.proofs.transfer.send.Given as goal
@@ -7,6 +7,7 @@ abbrev pub invariant-loop-unsent : goal.invariant-loop-unsent
 invariant-loop-unsent g l = record {
   sent : (done : List ℕ) × (l.initial.unsent ≡ done ++ l.unsent) × Appends (g.D.Drain.contents l.initial.drain) (g.D.Drain.contents l.drain) done;
   unread : Keeps (g.D.Drain.left l.initial.drain) (g.D.Drain.left l.drain);
+  no_flush : g.D.Drain.flushes l.drain ≡ g.D.Drain.flushes l.initial.drain;
   count : g.D.Drain.failures l.drain ≡ g.D.Drain.failures l.initial.drain;
   steady : g.D.Drain.steady l.initial.drain → g.D.Drain.steady l.drain;
 }

@@ -9,6 +9,6 @@ abbrev pub invariant-loop-line : goal.invariant-loop-line
 invariant-loop-line g l = record {
   room : length l.shown ≡ 998;
   rest : (end : _)
-      → Wrote g.W.Drain.contents g.W.Drain.failures g.W.Drain.steady l.lines end (map shown_line (lines_left l.line-iterator))
-      → Wrote g.W.Drain.contents g.W.Drain.failures g.W.Drain.steady l.initial.lines end (returned_lines l.header);
+      → Wrote g.W.Drain l.lines end (map shown_line (lines_left l.line-iterator))
+      → Wrote g.W.Drain l.initial.lines end (returned_lines l.header);
 }

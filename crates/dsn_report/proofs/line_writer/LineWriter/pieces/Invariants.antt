@@ -5,4 +5,4 @@ use Rattle.dsn_report.specs.LineWriter.{Took}
 use Rattle.dsn_report.proofs.line_writer.LineWriter.pieces.Given as goal
 
 abbrev pub invariant-loop-piece : goal.invariant-loop-piece
-invariant-loop-piece g l = Took g.W.Drain.contents g.W.Drain.failures g.W.Drain.steady l.initial.self l.self (flat_map (λ piece. piece.now) (take l.piece-index l.pieces))
+invariant-loop-piece g l = Took g.W.Drain l.initial.self l.self (flat_map (λ piece. piece.now) (take l.piece-index l.pieces))

@@ -1,22 +1,31 @@
-use Rattle.std.proofs.Common.{◌≡◌, false, subst, append-nil}
-use Rattle.std.specs.Io.KnownBytes.{Appends}
-use Rattle.std.proofs.lemmas.Bool.{not-true}
-use Rattle.dsn_device.specs.Transfer.{AppendsFront}
-use Rattle.dsn_report.proofs.LineWriterLemmas.{Took-as, Took-front, Took-sent, Took-then}
+use Rattle.std.proofs.Common.{◌≡◌, Bool, true, false, refl, subst, sym}
+use Rattle.std.specs.Prelude.{not}
+use Rattle.dsn_device.specs.UntilFailure.{WrittenAndFlushed}
+use Rattle.dsn_device.proofs.UntilFailureLemmas.{written-flushed, flushed-front, flushed-whole}
+use Rattle.dsn_report.proofs.LineWriterLemmas.{Took-then}
 use Rattle.dsn_report.specs.Poster.{finish_text}
 use Rattle.dsn_report.proofs.poster.Poster.finish.Goals as goal
 
-pub returns-clause-sent : goal.returns-clause-sent
+twice : (b : Bool) → not (not b) ≡ b
+twice true = refl
+twice false = refl
+
+pub returns-clause-flushed : goal.returns-clause-flushed
 unfolding finish_text
+returns-clause-flushed g c =
+    let took = Took-then c.greet_once.ensures c.write_goodbye.ensures in
+    let last = c.flush.new.self.writer in
+    rw (twice, c.into_parts-outbox.ensures.drain, c.into_parts-outbox.ensures.failed)
+    (subst (λ poster. WrittenAndFlushed g.W.Drain poster.failed last.failed poster.outbox last.drain (finish_text poster))
+    c.self.view_is (written-flushed took.text_written c.flush.ensures.flushes))
+
+pub returns-clause-sent : goal.returns-clause-sent
 returns-clause-sent g c = λ whole.
-    let took = Took-then (Took-then c.greet_once.ensures c.write_goodbye.ensures) c.flush.ensures in
-    let after : c.flush.new.self.failed ≡ false = not-true _ whole in
-    subst (λ poster. Appends (g.W.Drain.contents poster.outbox) (g.W.Drain.contents c.flush.new.self.drain) (finish_text poster))
-    c.self.view_is (Took-sent after (Took-as (append-nil _) took))
+    flushed-whole g.W.Drain _ _ _ _ _ (ends-well _ whole) (returns-clause-flushed g c)
+  where
+    ends-well : (b : Bool) → b ≡ true → not b ≡ false
+    ends-well true is = refl
+    ends-well false is = sym is
 
 pub returns-clause-front : goal.returns-clause-front
-unfolding finish_text
-returns-clause-front g c = λ broken.
-    let took = Took-then (Took-then c.greet_once.ensures c.write_goodbye.ensures) c.flush.ensures in
-    subst (λ poster. AppendsFront (g.W.Drain.contents poster.outbox) (g.W.Drain.contents c.flush.new.self.drain) (finish_text poster))
-    c.self.view_is (Took-front (Took-as (append-nil _) took))
+returns-clause-front g c = λ broken. flushed-front g.W.Drain _ _ _ _ _ (returns-clause-flushed g c)

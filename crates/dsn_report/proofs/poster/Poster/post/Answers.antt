@@ -1,20 +1,30 @@
-use Rattle.std.proofs.Common.{subst, append-nil}
-use Rattle.std.specs.Io.KnownBytes.{Appends}
-use Rattle.dsn_device.specs.Transfer.{AppendsFront}
-use Rattle.dsn_report.proofs.LineWriterLemmas.{Took-as, Took-front, Took-sent, Took-then}
+use Rattle.std.proofs.Common.{subst, sym, ◌∙◌}
+use Rattle.dsn_device.specs.UntilFailure.{WrittenAndFlushed}
+use Rattle.dsn_device.proofs.UntilFailureLemmas.{written-flushed, flushed-front, flushed-whole}
+use Rattle.dsn_report.proofs.LineWriterLemmas.{Took-then}
 use Rattle.dsn_report.specs.Poster.{post_text}
 use Rattle.dsn_report.proofs.poster.Poster.post.Goals as goal
 
-pub returns-then-self-2-clause-front : goal.returns-then-self-2-clause-front
+pub returns-then-has_failed-2-clause-flushed : goal.returns-then-has_failed-2-clause-flushed
 unfolding post_text
-returns-then-self-2-clause-front g c =
-    let took = Took-then (Took-then c.greet_once.ensures c.write_transaction.ensures) c.flush.ensures in
-    subst (λ poster. AppendsFront (g.W.Drain.contents poster.outbox) (g.W.Drain.contents c.flush.new.self.drain) (post_text poster c.args.letter))
-    c.self.view_is (Took-front (Took-as (append-nil _) took))
+returns-then-has_failed-2-clause-flushed g c =
+    let took = Took-then c.greet_once.ensures c.write_transaction.ensures in
+    let last = c.flush.new.self.writer in
+    subst (λ poster. WrittenAndFlushed g.W.Drain poster.failed last.failed poster.outbox last.drain (post_text poster c.args.letter))
+    c.self.view_is (written-flushed took.text_written c.flush.ensures.flushes)
+
+pub returns-clause-flushed : goal.returns-clause-flushed
+unfolding post_text
+returns-clause-flushed g c =
+    let took = Took-then c.greet_once.ensures c.write_transaction.ensures in
+    let last = c.flush.new.self.writer in
+    subst (λ poster. WrittenAndFlushed g.W.Drain poster.failed last.failed poster.outbox last.drain (post_text poster c.args.letter))
+    c.self.view_is (written-flushed took.text_written c.flush.ensures.flushes)
+
+pub returns-then-has_failed-2-clause-front : goal.returns-then-has_failed-2-clause-front
+returns-then-has_failed-2-clause-front g c =
+    flushed-front g.W.Drain _ _ _ _ _ (returns-then-has_failed-2-clause-flushed g c)
 
 pub returns-clause-sent : goal.returns-clause-sent
-unfolding post_text
 returns-clause-sent g c =
-    let took = Took-then (Took-then c.greet_once.ensures c.write_transaction.ensures) c.flush.ensures in
-    subst (λ poster. Appends (g.W.Drain.contents poster.outbox) (g.W.Drain.contents c.flush.new.self.drain) (post_text poster c.args.letter))
-    c.self.view_is (Took-sent c.if-self-2.false (Took-as (append-nil _) took))
+    flushed-whole g.W.Drain _ _ _ _ _ (sym c.has_failed-2.ensures ∙ c.if-has_failed-2.false) (returns-clause-flushed g c)

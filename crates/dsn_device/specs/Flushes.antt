@@ -1,0 +1,17 @@
+-- The count that a device keeps of its flushes, and whether it has taken bytes since the last of them.
+use Rattle.std.specs.Prelude.{ℕ, zero, suc, Bool, true, false, nat_lt, Result, Ok, Err}
+use Rattle.dsn_device.specs.Failures.{counted}
+
+-- the count after one flush more, whether that failed or not; it stands still where a count of failures does
+abbrev pub flushed : ℕ → ℕ
+flushed count = counted true count
+
+-- the count after so many flushes more
+abbrev pub flushed_times : ℕ → ℕ → ℕ
+flushed_times zero count = count
+flushed_times (suc times) count = flushed (flushed_times times count)
+
+-- whether a write took bytes
+abbrev pub took_bytes : {E : Type 0} → Result ℕ E → Bool
+took_bytes (Ok taken) = nat_lt 0 taken
+took_bytes (Err e) = false

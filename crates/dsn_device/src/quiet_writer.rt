@@ -1,0 +1,70 @@
+//! A drain with a note of whether it has failed, after which nothing is written to it.
+ghost use Rattle.std.specs.Prelude.{◌≡◌, false};
+ghost use Rattle.dsn_device.specs.QuietWriter.{Writes, Flushes};
+
+use crate::drain::Drain;
+use crate::until_failure::UntilFailure;
+use std::marker::Model;
+
+/// Writes texts to a drain, and neither writes nor flushes after the drain's first failure. So its
+/// callers need not look at each text; `has_failed` tells it to the last of them.
+#[derive(Drop)]
+pub struct QuietWriter<D> {
+    drain: D,
+    writing: UntilFailure,
+}
+
+impl<D> Model for QuietWriter<D> {
+    ghost use Rattle.dsn_device.specs.QuietWriter.{QuietWriter};
+
+    ghost Value = { QuietWriter D };
+
+    ghost view = { λ w. record { drain = w.drain; failed = w.writing.failed } };
+}
+
+impl<D> QuietWriter<D> {
+    /// A writer to this drain.
+    pub fn new(drain: D) -> QuietWriter<D>
+        ensures { result ≡ record { drain = drain; failed = false } }
+    {
+        QuietWriter {
+            drain,
+            writing: UntilFailure::new(),
+        }
+    }
+
+    /// Whether the drain has failed.
+    pub fn has_failed(&self) -> bool
+        ensures { result ≡ self.now.failed }
+    {
+        self.writing.failed
+    }
+
+    /// The drain, and whether it has failed.
+    pub fn into_parts(self) -> (D, bool)
+        ensures drain { result.0 ≡ self.drain }
+        ensures failed { result.1 ≡ self.failed }
+    {
+        let QuietWriter { drain, writing } = self;
+        (drain, writing.failed)
+    }
+}
+
+impl<D: Drain> QuietWriter<D> {
+    /// Writes the text, unless the drain has failed.
+    pub fn write(&mut self, text: &[u8])
+        ensures { Writes D.Drain self.old self.new text.now }
+    {
+        self.writing.write(&mut self.drain, text);
+    }
+
+    /// Has the drain pass on what it holds, unless it has failed.
+    pub fn flush(&mut self)
+        ensures { Flushes D.Drain self.old self.new }
+    {
+        self.writing.flush(&mut self.drain);
+    }
+}
+
+#[cfg(test)]
+mod tests;

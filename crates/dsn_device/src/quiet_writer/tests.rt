@@ -1,0 +1,37 @@
+//! Texts to a writer that fails once and then works again.
+use super::*;
+use crate::fakes::PieceWriter;
+use crate::plain::Plain;
+use std::test::Fail;
+
+/// Writes three texts and flushes after each. What the writer held is given, and whether it failed.
+fn written(rt: &HostRuntime, room: usize) -> Result<(bool, Vec<u8>), Fail> {
+    let mut writer = QuietWriter::new(Plain::new(PieceWriter {
+        held: Vec::new(rt.alloc()),
+        most: 2,
+        room,
+    }));
+    for text in [b"EHLO\n".as_slice(), b"".as_slice(), b"QUIT\n".as_slice()] {
+        writer.write(text);
+        writer.flush();
+    }
+    let (drain, failed) = writer.into_parts();
+    Ok((failed, drain.into_inner().held))
+}
+
+#[test]
+fn nothing_after_the_first_failure(rt: HostRuntime) -> Result<(), Fail> {
+    for room in 0..10 {
+        let (failed, held) = written(&rt, room)?;
+        assert!(rt; failed, "after {room} bytes");
+        assert_eq!(rt;
+            held.as_slice(),
+            &b"EHLO\nQUIT\n"[..room],
+            "after {room} bytes"
+        );
+    }
+    let (failed, held) = written(&rt, 11)?;
+    assert!(rt; !failed);
+    assert_eq!(rt; held.as_slice(), b"EHLO\nQUIT\n".as_slice());
+    Ok(())
+}

@@ -1,5 +1,6 @@
 //! Notices and outboxes as a mail program gets them.
 mod boundaries;
+mod longest;
 mod notices;
 mod outboxes;
 

@@ -179,7 +179,7 @@ const SHORTEST: Flush<'static> = Flush {
 
 #[test]
 fn many_numbers_ruled_out(rt: HostRuntime) -> Result<(), Fail> {
-    for (numbers, but, want) in [(2_340, 9_999, 2_340), (2_520, 9_999, 2_520), (2_520, 7, 7)] {
+    for (numbers, but, want) in [(340, 9_999, 340), (2_520, 7, 7)] {
         let header = header_of(rt.alloc(), numbers, but)?;
         let flush = Flush {
             header: &header,
@@ -187,5 +187,13 @@ fn many_numbers_ruled_out(rt: HostRuntime) -> Result<(), Fail> {
         };
         expect_number(&rt, rt.alloc(), flush, want)?;
     }
+    // as many as a header has room for; a search in turn would take seconds
+    let header = header_of(rt.alloc(), 2_520, 9_999)?;
+    let flush = Flush {
+        header: &header,
+        ..SHORTEST
+    };
+    let letter = letter(rt.alloc(), BOB, flush)?;
+    assert_eq!(rt; boundary(&letter), 2_520);
     Ok(())
 }

@@ -7,8 +7,7 @@ use Rattle.dsn_outcome.specs.declared.service.Service.TheVariants.{Bounce, Defer
 use Rattle.dsn_book.specs.Entry.{entry_with}
 use Rattle.dsn_book.specs.Index.{open_lines_by}
 use Rattle.dsn_book.specs.OpenLine.{key_cmp, line_of, open_lines_in}
-use Rattle.dsn_book.specs.declared.entry.Entry.{Entry}
-use Rattle.dsn_book.specs.declared.entry.Log.TheVariants.{Open, Closed}
+use Rattle.dsn_book.specs.Held.{Entry, Open, Closed}
 use Rattle.dsn_book.specs.declared.index.Slot.{Slot}
 use Rattle.dsn_book.specs.declared.line.OpenLine.{OpenLine}
 

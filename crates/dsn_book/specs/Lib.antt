@@ -1,5 +1,6 @@
 pub mod Book
 pub mod Entry
+pub mod Held
 pub mod Index
 pub mod Limits
 pub mod OpenLine

@@ -6,7 +6,8 @@ use Rattle.dsn_outcome.specs.declared.key.Key.{Key}
 use Rattle.dsn_outcome.specs.declared.service.Service.TheVariants.{Bounce, Defer, Trace}
 use Rattle.dsn_book.specs.Entry.{entry_with}
 use Rattle.dsn_book.specs.Index.{open_lines_by}
-use Rattle.dsn_book.specs.OpenLine.{key_cmp, line_of, open_lines_in}
+use Rattle.dsn_outcome.specs.Key.{key_cmp}
+use Rattle.dsn_book.specs.OpenLine.{line_of, open_lines_in}
 use Rattle.dsn_book.specs.Held.{Entry, Open, Closed}
 use Rattle.dsn_book.specs.declared.index.Slot.{Slot}
 use Rattle.dsn_book.specs.declared.line.OpenLine.{OpenLine}

@@ -3,7 +3,6 @@ pub mod EntryLemmas
 mod Examples
 pub mod HalvingLemmas
 pub mod IndexLemmas
-pub mod KeyOrderLemmas
 pub mod ListLemmas
 pub mod OpenLineLemmas
 pub mod StepLemmas

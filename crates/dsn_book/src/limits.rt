@@ -61,6 +61,18 @@ impl Limits {
         })
     }
 
+    /// The limits of the program: 4,096 keys, 1,000 outcomes in a log, and 1,000,000 requests of an
+    /// agent (this project's profile).
+    pub fn of_program() -> Limits
+        ensures { result ≡ limits_of 4096 1000 1000000 }
+    {
+        Limits {
+            logs: 4_096,
+            entries: MOST_ENTRIES,
+            requests: MOST_REQUESTS,
+        }
+    }
+
     /// How many keys a book may hold; a closed log's key counts.
     pub fn logs(self) -> u32
         ensures value { result ≡ self.logs }

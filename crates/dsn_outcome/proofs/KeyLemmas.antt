@@ -49,7 +49,3 @@ same_key-Decides a b = (same_key-equal a b, equal-same_key a b)
 pub same_key_sym : (a b : Key) → same_key a b ≡ same_key b a
 same_key_sym a b =
     same_from_decides (same_key a b) (same_key b a) (same_key-Decides a b) (λ same. sym (same_key-equal b a same), λ equal. equal-same_key b a (sym equal))
-
--- keys that are not equal are not the same
-pub differ-same_key : (a b : Key) → ¬ (a ≡ b) → same_key a b ≡ false
-differ-same_key a b differ = same_from_decides (same_key a b) false (same_key-Decides a b) (λ no. cc, λ equal. absurd (differ equal))

@@ -6,6 +6,7 @@ mod Examples
 pub mod HistoryLaws
 pub mod HistoryLemmas
 pub mod KeyLemmas
+pub mod KeyOrderLemmas
 pub mod OutcomeLemmas
 pub mod StampLemmas
 mod StatusExamples

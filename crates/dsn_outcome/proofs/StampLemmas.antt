@@ -139,33 +139,3 @@ month_name_is : (days : ℕ) → IsName (month_name (civil_after days).month)
 month_name_is days =
     let is = civil_after_is days in
     All-get_or IsName month_names ((civil_after days).month - 1) [] (omega (arith, is.month)) are_months
-
--- the text of a moment has 31 bytes
-pub length-date_text : (moment : ℕ) → length (date_text moment) ≡ 31
-unfolding date_text
-length-date_text moment =
-    let day = day_name_is (moment / 86_400) in
-    let month = month_name_is (moment / 86_400) in
-    simp (length-append, day.0, month.0) refl
-
-two_digits_are : (n : ℕ) → n < 100 → list_all is_printable (two_digits n) ≡ true
-two_digits_are n h = grind (arith, nat_tests)
-
--- and all of them are printable ASCII
-pub is_printable-date_text : (moment : ℕ) → moment ≤ last_moment → list_all is_printable (date_text moment) ≡ true
-unfolding date_text
-is_printable-date_text moment h =
-    let days = moment / 86_400 in
-    let date = civil_after days in
-    let is = civil_after_is days in
-    let weekday = day_name_is days in
-    let month = month_name_is days in
-    let high = year_bound days (omega arith) in
-    let long = days_in_month_bounds (pos date.year) date.month in
-    let day = two_digits_are date.day (omega (arith, is.day.1)) in
-    let century = two_digits_are (date.year / 100) (omega arith) in
-    let year = two_digits_are (date.year % 100) (omega arith) in
-    let hour = two_digits_are (moment % 86_400 / 3600) (omega arith) in
-    let minute = two_digits_are (moment % 86_400 / 60 % 60) (omega arith) in
-    let second = two_digits_are (moment % 86_400 % 60) (omega arith) in
-    simp (list_all-append, weekday.1, month.1, day, century, year, hour, minute, second) refl

@@ -1,7 +1,11 @@
-//! Laws of the history of requests, as the contracts of functions that do nothing.
-ghost use Rattle.std.specs.Prelude.{List};
+//! Laws of keys and of the history of requests, as the contracts of functions that do nothing.
+ghost use Rattle.std.specs.Prelude.{◌≡◌, ℕ, List, length, map};
+ghost use Rattle.dsn_outcome.specs.Agents.{from_agent};
 ghost use Rattle.dsn_outcome.specs.CloseRule.{StaysClosed, AnswersClosed, TakesNoOutcome, LeavesEveryLog, LeavesHeldKeys, LeavesSealedLetters};
-ghost use Rattle.dsn_outcome.specs.History.{Limits, Exchange, IsClosed};
+ghost use Rattle.dsn_outcome.specs.History.{Limits, Exchange, IsClosed, answers_to, history_of};
+ghost use Rattle.dsn_outcome.specs.Key.{key_cmp};
+ghost use Rattle.dsn_outcome.specs.Request.{Request};
+ghost use Rattle.dsn_outcome.specs.contracts.key.KeyOrd.TheImpl as key_order;
 ghost use Rattle.dsn_outcome.specs.declared.key.Key.{Key as HistoryKey};
 
 /// The close rule: a closed key stays closed, and its log takes no outcome, whatever is asked.
@@ -14,4 +18,16 @@ pub fn closed_logs_stay_closed()
     ensures logs { (limits : Limits) (key : HistoryKey) (history : List Exchange) → IsClosed key history → LeavesEveryLog limits key history }
     ensures held { (limits : Limits) (key : HistoryKey) (history : List Exchange) → IsClosed key history → LeavesHeldKeys limits key history }
     ensures letters { (limits : Limits) (key : HistoryKey) (history : List Exchange) → IsClosed key history → LeavesSealedLetters limits key history }
+{}
+
+/// A history goes through the requests that it was made of, and answers an agent as often as the
+/// agent asked.
+pub fn histories_answer_each_request()
+    ensures requests { (limits : Limits) (requests : List Request) → map (λ exchange. exchange.request) (history_of limits requests) ≡ requests }
+    ensures answers { (limits : Limits) (agent : ℕ) (requests : List Request) → length (answers_to agent (history_of limits requests)) ≡ length (from_agent (λ request. request.agent) agent requests) }
+{}
+
+/// Keys are in the order of their services' bytes, then of their queue ids' bytes.
+pub fn keys_are_ordered()
+    ensures { (first second : HistoryKey) → key_order.ghosts.cmp first second ≡ key_cmp first second }
 {}

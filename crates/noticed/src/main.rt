@@ -16,13 +16,6 @@ const USAGE: &str = "usage: noticed batch HOST | serve SOCKET HOST AGENTS MAX-US
 /// The room for what is read and written at once, in bytes.
 const ROOM: usize = 65_536;
 
-/// How many logs, outcomes in a log, and requests a run takes.
-const LOGS: u32 = 4_096;
-
-const ENTRIES: u32 = 1_000;
-
-const REQUESTS: u32 = 1_000_000;
-
 /// Why a run doesn't begin.
 #[derive(Clone, Copy, PartialEq, Eq)]
 enum Refusal {
@@ -49,7 +42,6 @@ fn main(rt: HostRuntime) -> ExitCode {
 /// Runs `batch` over the standard streams, and tells its status.
 fn run(rt: &HostRuntime) -> Result<u8, Refusal> {
     let site = site_argument(rt)?;
-    let limits = Limits::new(LOGS, ENTRIES, REQUESTS).ok_or(Refusal::Usage)?;
     let reader = BufReader::with_capacity(rt.alloc(), ROOM, rt.stdin()).map_err(
         |_| Refusal::NoMemory,
     )?;
@@ -60,7 +52,7 @@ fn run(rt: &HostRuntime) -> Result<u8, Refusal> {
     let mut notes = Plain::new(rt.stderr());
     let end = batch(
         rt.alloc(),
-        &limits,
+        &Limits::of_program(),
         site,
         &mut input,
         Plain::new(writer),

@@ -7,7 +7,8 @@ use Rattle.std.specs.List.Sorted.{IsSortedByKey}
 use Rattle.std.proofs.lemmas.List.Sorted.{IsPermutation-refl}
 use Rattle.dsn_device.specs.declared.drain.Drain.{Ghosts as Drain}
 use Rattle.dsn_device.specs.declared.source.Source.{Ghosts as Source}
-use Rattle.dsn_book.specs.OpenLine.{key_cmp, open_lines_after}
+use Rattle.dsn_outcome.specs.Key.{key_cmp}
+use Rattle.dsn_book.specs.OpenLine.{open_lines_after}
 use Rattle.dsn_book.specs.declared.line.OpenLine.{OpenLine}
 use Rattle.dsn_outcome.specs.History.{Limits, Exchange, history_of, sealed_letters}
 use Rattle.dsn_device.proofs.TransferLemmas.{AppendsFront-kept}

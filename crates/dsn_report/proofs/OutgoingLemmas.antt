@@ -1,12 +1,14 @@
 -- Letters on their way: one letter more, and the end.
 use Rattle.std.proofs.Common.{◌≡◌, ℕ, Bool, true, false, List, [], ◌∷◌, ◌++◌, refl, ap, sym, ◌∙◌, append_assoc}
-use Rattle.std.specs.Prelude.{Option, if◌then◌else◌, not}
+use Rattle.std.specs.Prelude.{length, Option, if◌then◌else◌, not}
 use Rattle.std.specs.Io.KnownBytes.{Appends}
 use Rattle.std.proofs.KnownBytes.{Appends-trans}
 use Rattle.std.specs.List.{flat_map}
 use Rattle.std.proofs.lemmas.List.{append-nil}
 use Rattle.dsn_outcome.specs.Letter.{Letter}
 use Rattle.dsn_device.specs.Failures.{counted}
+use Rattle.dsn_device.specs.Flushes.{flushed, flushed_times}
+use Rattle.dsn_device.specs.UntilFailure.{WrittenAndFlushed}
 use Rattle.dsn_device.specs.declared.drain.Drain.{Ghosts as Drain}
 use Rattle.dsn_device.specs.Transfer.{AppendsFront}
 use Rattle.dsn_device.proofs.TransferLemmas.{AppendsFront-all}
@@ -73,6 +75,17 @@ none-where : (letters : List Letter) (greeted : Bool) → greeted ≡ are_some l
 none-where [] greeted is none = refl
 none-where (first ∷ rest) greeted is none = absurd (not-both greeted is none)
 
+-- one flush more for one letter more
+flushed_times-more : (letters : List Letter) (letter : Letter) (count : ℕ) → flushed (flushed_times (length letters) count) ≡ flushed_times (length (letters ++ letter ∷ [])) count
+flushed_times-more [] letter count = refl
+flushed_times-more (first ∷ rest) letter count = ap flushed (flushed_times-more rest letter count)
+
+-- what is written and flushed without a failure was flushed once
+once-flushed : {W : Type 0} (drain : Drain W) (a b : Bool) (old new : W) (text : List ℕ) → a ≡ false → b ≡ false → WrittenAndFlushed drain a b old new text → (drain.flushes new ≡ flushed (drain.flushes old)) × (drain.unflushed new ≡ false)
+once-flushed drain false false old new text good well made = (made.once, made.passed_on)
+once-flushed drain true b old new text good well made = absurd (not-both true refl good)
+once-flushed drain false true old new text good well made = absurd (not-both true refl well)
+
 module _ {W : Type 0} (drain : Drain W) (host : List ℕ) (start : W) (old new : Poster W) (unsent letters : List Letter) (letter : Letter) (before : Delivered drain host start (record { poster = old; unsent = unsent }) letters) where
   -- a poster that wrote a letter had not failed
   was-good : (failed : Bool) → old.failed ≡ failed → (old.failed ≡ true → new ≡ old) → new.failed ≡ false → old.failed ≡ false
@@ -84,8 +97,8 @@ module _ {W : Type 0} (drain : Drain W) (host : List ℕ) (start : W) (old new :
   still-good false count is = refl
 
   -- one letter more was written
-  pub hand-ok : Appends (drain.contents old.outbox) (drain.contents new.outbox) (post_text old letter) → (old.failed ≡ true → new ≡ old) → new.failed ≡ false → new.greeted ≡ true → new.host ≡ old.host → drain.failures new.outbox ≡ counts_failure old.failed false (drain.failures old.outbox) → Delivered drain host start (record { poster = new; unsent = unsent }) (letters ++ letter ∷ [])
-  hand-ok sent nothing good greeted same_host count =
+  pub hand-ok : Appends (drain.contents old.outbox) (drain.contents new.outbox) (post_text old letter) → (old.failed ≡ true → new ≡ old) → new.failed ≡ false → new.greeted ≡ true → new.host ≡ old.host → drain.failures new.outbox ≡ counts_failure old.failed false (drain.failures old.outbox) → WrittenAndFlushed drain old.failed new.failed old.outbox new.outbox (post_text old letter) → Delivered drain host start (record { poster = new; unsent = unsent }) (letters ++ letter ∷ [])
+  hand-ok sent nothing good greeted same_host count made =
       let was : old.failed ≡ false = was-good old.failed refl nothing good in
       let all = before.while_good was in record {
         host_kept = same_host ∙ before.host_kept;
@@ -94,6 +107,7 @@ module _ {W : Type 0} (drain : Drain W) (host : List ℕ) (start : W) (old new :
           written = rw (same_host, greeted, ← post_text-after old letters letter (none-where letters old.greeted all.greeted_is)) (Appends-trans (drain.contents start) (drain.contents old.outbox) (drain.contents new.outbox) _ _ all.written sent);
           greeted_is = greeted ∙ sym (are_some-more letters letter);
           good = count ∙ still-good old.failed (drain.failures old.outbox) was ∙ all.good;
+          flushes = (once-flushed drain old.failed new.failed old.outbox new.outbox _ was good made).0 ∙ ap flushed all.flushes ∙ flushed_times-more letters letter (drain.flushes start);
         };
         after_fault = λ is. absurd (not-both new.failed is good);
       }
@@ -143,8 +157,8 @@ module _ {W : Type 0} (drain : Drain W) (host : List ℕ) (start : W) (old : Pos
   any-front outbox true text sent front = AppendsFront-all (drain.contents old.outbox) (drain.contents outbox) text (sent refl)
   any-front outbox false text sent front = front refl
 
-  finished-good : old.failed ≡ false → (outbox : W) (whole : Bool) → (whole ≡ true → Appends (drain.contents old.outbox) (drain.contents outbox) (finish_text old)) → (whole ≡ false → AppendsFront (drain.contents old.outbox) (drain.contents outbox) (finish_text old)) → drain.failures outbox ≡ counts_failure old.failed (not whole) (drain.failures old.outbox) → IsOutbox drain host start outbox whole unsent letters
-  finished-good good outbox whole sent front count =
+  finished-good : old.failed ≡ false → (outbox : W) (whole : Bool) → (whole ≡ true → Appends (drain.contents old.outbox) (drain.contents outbox) (finish_text old)) → (whole ≡ false → AppendsFront (drain.contents old.outbox) (drain.contents outbox) (finish_text old)) → drain.failures outbox ≡ counts_failure old.failed (not whole) (drain.failures old.outbox) → WrittenAndFlushed drain old.failed (not whole) old.outbox outbox (finish_text old) → IsOutbox drain host start outbox whole unsent letters
+  finished-good good outbox whole sent front count made =
       let all = before.while_good good in
       let ends = finish_text-after old letters (none-where letters old.greeted all.greeted_is) in record {
         posted = letters;
@@ -153,6 +167,8 @@ module _ {W : Type 0} (drain : Drain W) (host : List ℕ) (start : W) (old : Pos
         all_written = λ done. rw (← before.host_kept, ← ends) (Appends-trans (drain.contents start) (drain.contents old.outbox) (drain.contents outbox) _ _ all.written (sent done));
         none_unsent = λ _. all.none_unsent;
         count = rw good at count ∙ ap (counted (not whole)) all.good;
+        flushes = λ done. (once-flushed drain old.failed (not whole) old.outbox outbox _ good (ap not done) made).0 ∙ ap flushed all.flushes;
+        passed_on = λ done. (once-flushed drain old.failed (not whole) old.outbox outbox _ good (ap not done) made).1;
       }
 
   finished-lost : old.failed ≡ true → (outbox : W) (whole : Bool) → (outbox ≡ old.outbox) × (whole ≡ false) → IsOutbox drain host start outbox whole unsent letters
@@ -164,12 +180,14 @@ module _ {W : Type 0} (drain : Drain W) (host : List ℕ) (start : W) (old : Pos
         all_written = λ done. absurd (not-both whole done nothing.1);
         none_unsent = λ done. absurd (not-both whole done nothing.1);
         count = rw (nothing.0, nothing.1) some.count;
+        flushes = λ done. absurd (not-both whole done nothing.1);
+        passed_on = λ done. absurd (not-both whole done nothing.1);
       }
 
-  finished-by : (failed : Bool) → old.failed ≡ failed → (outbox : W) (whole : Bool) → (whole ≡ true → Appends (drain.contents old.outbox) (drain.contents outbox) (finish_text old)) → (whole ≡ false → AppendsFront (drain.contents old.outbox) (drain.contents outbox) (finish_text old)) → (old.failed ≡ true → (outbox ≡ old.outbox) × (whole ≡ false)) → drain.failures outbox ≡ counts_failure old.failed (not whole) (drain.failures old.outbox) → IsOutbox drain host start outbox whole unsent letters
-  finished-by true is outbox whole sent front nothing count = finished-lost is outbox whole (nothing is)
-  finished-by false is outbox whole sent front nothing count = finished-good is outbox whole sent front count
+  finished-by : (failed : Bool) → old.failed ≡ failed → (outbox : W) (whole : Bool) → (whole ≡ true → Appends (drain.contents old.outbox) (drain.contents outbox) (finish_text old)) → (whole ≡ false → AppendsFront (drain.contents old.outbox) (drain.contents outbox) (finish_text old)) → (old.failed ≡ true → (outbox ≡ old.outbox) × (whole ≡ false)) → drain.failures outbox ≡ counts_failure old.failed (not whole) (drain.failures old.outbox) → WrittenAndFlushed drain old.failed (not whole) old.outbox outbox (finish_text old) → IsOutbox drain host start outbox whole unsent letters
+  finished-by true is outbox whole sent front nothing count made = finished-lost is outbox whole (nothing is)
+  finished-by false is outbox whole sent front nothing count made = finished-good is outbox whole sent front count made
 
   -- the outbox ended
-  pub finished : (outbox : W) (whole : Bool) → (whole ≡ true → Appends (drain.contents old.outbox) (drain.contents outbox) (finish_text old)) → (whole ≡ false → AppendsFront (drain.contents old.outbox) (drain.contents outbox) (finish_text old)) → (old.failed ≡ true → (outbox ≡ old.outbox) × (whole ≡ false)) → drain.failures outbox ≡ counts_failure old.failed (not whole) (drain.failures old.outbox) → IsOutbox drain host start outbox whole unsent letters
+  pub finished : (outbox : W) (whole : Bool) → (whole ≡ true → Appends (drain.contents old.outbox) (drain.contents outbox) (finish_text old)) → (whole ≡ false → AppendsFront (drain.contents old.outbox) (drain.contents outbox) (finish_text old)) → (old.failed ≡ true → (outbox ≡ old.outbox) × (whole ≡ false)) → drain.failures outbox ≡ counts_failure old.failed (not whole) (drain.failures old.outbox) → WrittenAndFlushed drain old.failed (not whole) old.outbox outbox (finish_text old) → IsOutbox drain host start outbox whole unsent letters
   finished outbox whole = finished-by old.failed refl outbox whole

@@ -1,8 +1,9 @@
 -- Letters on their way to the outbox: what was written of them, and which could not be written.
-use Rattle.std.specs.Prelude.{◌≡◌, ℕ, Bool, true, false, not, List, [], ◌∷◌, ◌++◌, Option, if◌then◌else◌}
+use Rattle.std.specs.Prelude.{◌≡◌, ℕ, Bool, true, false, not, List, [], ◌∷◌, ◌++◌, length, Option, if◌then◌else◌}
 use Rattle.std.specs.Io.KnownBytes.{Appends}
 use Rattle.std.specs.List.{flat_map}
 use Rattle.dsn_device.specs.Failures.{counted}
+use Rattle.dsn_device.specs.Flushes.{flushed, flushed_times}
 use Rattle.dsn_device.specs.declared.drain.Drain.{Ghosts as Drain}
 use Rattle.dsn_outcome.specs.Letter.{Letter}
 use Rattle.dsn_report.specs.Outbox.{greeting, mail_transaction, outbox_of}
@@ -40,6 +41,7 @@ pub record AllWritten {W : Type 0} (drain : Drain W) (start : W) (out : Outgoing
   pub written : Appends (drain.contents start) (drain.contents out.poster.outbox) (written_of out.poster.host out.poster.greeted letters)
   pub greeted_is : out.poster.greeted ≡ are_some letters
   pub good : drain.failures out.poster.outbox ≡ drain.failures start
+  pub flushes : drain.flushes out.poster.outbox ≡ flushed_times (length letters) (drain.flushes start)
 
 -- after a failure the letters before the failed one are written, and a front of it; the rest of them are kept
 pub record FrontWritten {W : Type 0} (drain : Drain W) (start : W) (out : Outgoing W) (letters : List Letter) : Type 0 where
@@ -58,7 +60,8 @@ pub record Delivered {W : Type 0} (drain : Drain W) (host : List ℕ) (start : W
   pub after_fault : out.poster.failed ≡ true → FrontWritten drain start out letters
 
 -- how an outbox ended: with the whole text of all letters; or after a failure with the mails of all letters before
--- those that are unsent, and a front of what follows; the device failed once where it isn't whole, and else not
+-- those that are unsent, and a front of what follows; the device failed once where it isn't whole, and else not;
+-- a whole one was flushed once for each letter and once at its end, after all of its text
 pub record IsOutbox {W : Type 0} (drain : Drain W) (host : List ℕ) (start end : W) (whole : Bool) (unsent letters : List Letter) : Type 0 where
   pub posted : List Letter
   pub split : letters ≡ posted ++ unsent
@@ -66,3 +69,5 @@ pub record IsOutbox {W : Type 0} (drain : Drain W) (host : List ℕ) (start end 
   pub all_written : whole ≡ true → Appends (drain.contents start) (drain.contents end) (outbox_of host letters)
   pub none_unsent : whole ≡ true → unsent ≡ []
   pub count : drain.failures end ≡ counted (not whole) (drain.failures start)
+  pub flushes : whole ≡ true → drain.flushes end ≡ flushed (flushed_times (length letters) (drain.flushes start))
+  pub passed_on : whole ≡ true → drain.unflushed end ≡ false

@@ -1,0 +1,4 @@
+pub mod AgentLemmas
+pub mod DeskLemmas
+pub mod OpenLemmas
+pub mod RunLemmas

@@ -1,0 +1,76 @@
+-- Openings: a collector that has taken nothing, and the agents one after another.
+use Rattle.std.proofs.Common.{◌≡◌, ℕ, zero, suc, ◌+◌, ◌-◌, ◌<◌, ◌≤◌, List, [], ◌∷◌, ◌++◌, length, map, false, refl, ap, sym, ◌∙◌, subst, length-append, lt_of_not-le, arith}
+use Rattle.std.specs.List.{slice_index_or}
+use Rattle.std.specs.Prelude.{◌↔◌, IsSome, Option, Some, None}
+use Rattle.std.proofs.lemmas.List.{map-append}
+use Rattle.std.proofs.lemmas.Bool.{false≢true}
+use native.Mathlib.Decide.{ℕ_discrete}
+use Rattle.dsn_book.specs.Book.{Book, Represents}
+use Rattle.dsn_lane.specs.Ends.{End, Identity, Out, fresh_ends}
+use Rattle.dsn_outcome.specs.History.{Limits, answers_to, history_after, history_of}
+use Rattle.dsn_outcome.specs.Request.{Request}
+use Rattle.dsn_outcome.specs.declared.answer.Answer.{Answer}
+use Rattle.dsn_crew.specs.Agent.{Agent}
+use Rattle.dsn_crew.specs.Desk.{Desk, IsDesk}
+use Rattle.dsn_crew.specs.Open.{AreLines, opened_agent}
+
+-- a collector that has taken nothing
+pub new_desk : (book : Book) (requests : Out Request) (ends : List (End Answer)) → Represents book [] → requests.first ≡ 0 → requests.past ≡ length ends → requests.taken ≡ [] → AreLines ends → IsDesk (record { book = book; requests = requests; answers = ends; failed = false; gone = 0 })
+unfolding answers_to history_after
+new_desk book requests ends none first past taken lines = record {
+  first = first;
+  past = past;
+  lines = λ a d inside. (lines a d inside).0;
+  stands = λ _. record {
+    book = subst (λ (q : List Request). Represents book (history_of book.limits q)) (sym taken) none;
+    told = λ a d inside. (lines a d inside).1 ∙ ap (λ (q : List Request). answers_to a (history_of book.limits q)) (sym taken);
+  };
+}
+
+-- the first of the ends that are left
+pub next_end : (lane : Identity Request) (first agents : ℕ) (left rest : List (End Request)) (end : End Request) → first < agents → left ≡ fresh_ends lane first (agents - first) → left ≡ end ∷ rest → (end ≡ record { lane = lane; agent = first; sent = [] }) × (rest ≡ fresh_ends lane (first + 1) (agents - (first + 1)))
+next_end lane first agents left rest end below is split =
+    let more : ℕ = agents - (first + 1) in
+    let count : agents - first ≡ suc more = omega arith in
+    let one : suc first ≡ first + 1 = omega arith in
+    let both : end ∷ rest ≡ fresh_ends lane first (suc more) = sym split ∙ (is ∙ ap (fresh_ends lane first) count) in
+    (cc, (let tail : rest ≡ fresh_ends lane (suc first) more = cc in tail) ∙ ap (λ (n : ℕ). fresh_ends lane n more) one)
+
+-- one more line
+at_push : (ends : List (End Answer)) (end d : End Answer) (a : ℕ) → a < length ends → slice_index_or (ends ++ end ∷ []) a d ≡ slice_index_or ends a d
+at_push [] end d a inside = absurd (omega arith)
+at_push (first ∷ ends) end d zero inside = refl
+at_push (first ∷ ends) end d (suc a) inside = at_push ends end d a (omega arith)
+
+at_end : (ends : List (End Answer)) (end d : End Answer) → slice_index_or (ends ++ end ∷ []) (length ends) d ≡ end
+at_end [] end d = refl
+at_end (first ∷ ends) end d = at_end ends end d
+
+pub lines_push : (old new : List (End Answer)) (end : End Answer) → AreLines old → end.agent ≡ length old → end.sent ≡ [] → end.lane.capacity ≡ 1 → new ≡ old ++ end ∷ [] → AreLines new
+lines_push old new end lines agent unused one is a d inside =
+    let long : length new ≡ length old + 1 = ap length is ∙ length-append old (end ∷ []) in
+    elim (ℕ_discrete a (length old)) [
+      | yes same ↦
+          let here : slice_index_or new a d ≡ end = ap (λ (es : List (End Answer)). slice_index_or es a d) is ∙ (ap (λ (k : ℕ). slice_index_or (old ++ end ∷ []) k d) same ∙ at_end old end d) in
+          (ap (λ (e : End Answer). e.agent) here ∙ (agent ∙ sym same), ap (λ (e : End Answer). e.sent) here ∙ unused, ap (λ (e : End Answer). e.lane.capacity) here ∙ one)
+      | no other ↦
+          let below : a < length old = omega (arith, other) in
+          let here : slice_index_or new a d ≡ slice_index_or old a d = ap (λ (es : List (End Answer)). slice_index_or es a d) is ∙ at_push old end d a below in
+          (ap (λ (e : End Answer). e.agent) here ∙ (lines a d below).0, ap (λ (e : End Answer). e.sent) here ∙ (lines a d below).1, ap (λ (e : End Answer). e.lane.capacity) here ∙ (lines a d below).2)
+    ]
+
+-- one more agent
+pub crew_push : (limit : ℕ) (lane : Identity Request) (crew crew' : List Agent) (ends ends' : List (End Answer)) (agent : Agent) (end : End Answer) → crew ≡ map (opened_agent limit lane) ends → crew' ≡ crew ++ agent ∷ [] → ends' ≡ ends ++ end ∷ [] → agent ≡ opened_agent limit lane end → crew' ≡ map (opened_agent limit lane) ends'
+crew_push limit lane crew crew' ends ends' agent end before pushed lines is =
+    pushed
+    ∙ ((λ i. before i ++ is i ∷ [])
+    ∙ (sym (map-append (opened_agent limit lane) ends (end ∷ [])) ∙ ap (map (opened_agent limit lane)) (sym lines)))
+
+pub length-ends : (lane : Identity Request) (first agents : ℕ) → length (fresh_ends lane first agents) ≡ agents
+length-ends lane first zero = refl
+length-ends lane first (suc more) = let rest = length-ends lane (suc first) more in omega arith
+
+-- where one is left, there is a next one
+pub none_left : {A : Type 0} (next : Option A) (left : ℕ) → next ≡ None → IsSome next ↔ (0 < left) → 0 < left → ⊥
+none_left None left is some one = absurd (false≢true (some.1 one))
+none_left (Some item) left is some one = absurd cc

@@ -1,0 +1,3 @@
+pub mod Agent
+pub mod Desk
+pub mod Open

@@ -1,0 +1,164 @@
+//! The collector of a crew.
+ghost use Rattle.std.specs.Prelude.{◌≡◌, ◌<◌, ◌≤◌, ℕ, false, true, [], length, OnOk, vec_capacity};
+ghost use Rattle.std.specs.List.{slice_index_or};
+ghost use Rattle.dsn_book.specs.Book.{Represents};
+ghost use Rattle.dsn_lane.specs.Ends.{End};
+ghost use Rattle.dsn_outcome.specs.declared.answer.Answer.{Answer};
+ghost use Rattle.dsn_crew.specs.Open.{AreLines};
+ghost use Rattle.dsn_crew.specs.Desk.{AreTold, IsDesk, IsRun, IsTaken, all_gone, lanes_of};
+
+use crate::desk_fault::DeskFault;
+use crate::line::Line;
+use crate::sink::Sink;
+use dsn_book::{Book, Step};
+use dsn_lane::{LaneIn, LaneOut};
+use dsn_outcome::{Answer, Letter, Request};
+use std::marker::Model;
+use std::sync::Wait;
+
+/// The collector of a crew: it takes the agents' requests one after another, and answers each.
+/// Contracts see its book, the requests that it took, what it answered each agent, and whether it
+/// failed.
+#[derive(Drop)]
+pub struct Desk {
+    book: Book,
+    requests: LaneOut<Request>,
+    lines: Vec<Line>,
+    room: Vec<LaneIn<Request>>,
+    taken: u32,
+    gone: u32,
+    failed: bool,
+}
+
+impl Model for Desk {
+    ghost use Rattle.std.specs.Prelude.{◌≡◌, ◌≤◌, [], length, vec_capacity};
+    ghost use Rattle.dsn_crew.specs.Desk.{Desk, IsDesk};
+
+    ghost Value = { Desk };
+
+    ghost view = { λ d. record { book = d.book; requests = d.requests; answers = d.lines.items; failed = d.failed; gone = d.gone } };
+
+    ghost invariant = { λ d. IsDesk (record { book = d.book; requests = d.requests; answers = d.lines.items; failed = d.failed; gone = d.gone }) × (d.taken ≡ length d.requests.taken) × (d.room.items ≡ []) × (length d.lines.items ≤ vec_capacity d.room) };
+}
+
+impl Desk {
+    /// A collector that has taken nothing.
+    pub(crate) fn new(
+        book: Book,
+        requests: LaneOut<Request>,
+        lines: Vec<Line>,
+        room: Vec<LaneIn<Request>>,
+    ) -> Desk
+        requires book { Represents book [] }
+        requires requests { (requests.first ≡ 0) × (requests.past ≡ length lines.items) × (requests.taken ≡ []) }
+        requires lines { AreLines lines.items }
+        requires room { (room.items ≡ []) × (length lines.items ≤ vec_capacity room) }
+        ensures new { result ≡ record { book = book; requests = requests; answers = lines.items; failed = false; gone = 0 } }
+        ensures kept { IsDesk result }
+    {
+        Desk {
+            book,
+            requests,
+            lines,
+            room,
+            taken: 0,
+            gone: 0,
+            failed: false,
+        }
+    }
+
+    /// Whether all agents have said goodbye; false once the collector has failed.
+    pub fn all_gone(&self) -> bool
+        ensures all { result ≡ all_gone self.now }
+        ensures kept { IsDesk self.now }
+    {
+        !self.failed && self.gone as usize == self.lines.len()
+    }
+
+    /// Takes one request and answers it: the letter that it sealed, if it did.
+    ///
+    /// `Requests` comes where no agent is left to ask, and `Answers` where the agent that asked is
+    /// gone. From then on the collector has failed, and answers `Requests`.
+    pub fn take_one(&mut self, rt: &impl Wait) -> Result<Option<Letter>, DeskFault>
+        requires some_left { all_gone self.old ≡ false }
+        ensures taken { IsTaken self.old self.new result }
+        ensures limits { self.new.book.limits ≡ self.old.book.limits }
+        ensures kept { IsDesk self.new }
+        ensures lanes { lanes_of self.new ≡ lanes_of self.old }
+    {
+        if self.failed || self.taken == u32::MAX {
+            self.failed = true;
+            return Err(DeskFault::Requests);
+        }
+        let Ok(request) = self.requests.take(rt) else {
+            self.failed = true;
+            return Err(DeskFault::Requests);
+        };
+        self.taken += 1;
+        let agent = request.agent;
+        self.gone = self.gone.saturating_add(u32::from(request.body.is_bye()));
+        let Step { answer, letter } = self.book.apply(request);
+        if tell(rt, &mut self.lines, answer) {
+            Ok(letter)
+        } else {
+            self.failed = true;
+            Err(DeskFault::Answers(agent, letter))
+        }
+    }
+
+    /// Takes the agents' requests, answers each, and hands on the letters that they seal, until all
+    /// agents have said goodbye.
+    ///
+    /// What [`Desk::take_one`] answers comes where it does; `Letters` where the sink is gone. Then
+    /// the collector has failed.
+    pub fn run<K: Sink>(&mut self, rt: &impl Wait, sink: &mut K) -> Result<(), DeskFault>
+        ensures run { IsRun K.takes self.old self.new sink.old sink.new result }
+        ensures all { OnOk result (all_gone self.new ≡ true) }
+        ensures kept { IsDesk self.new }
+    {
+        for _ in rt.forever() {
+            if self.all_gone() {
+                return Ok(());
+            }
+            match self.hand_one(rt, sink) {
+                Ok(()) => {}
+                Err(fault) => return Err(fault),
+            }
+        }
+        unreachable!()
+    }
+
+    /// Takes one request, answers it, and hands on the letter that it sealed.
+    fn hand_one<K: Sink>(&mut self, rt: &impl Wait, sink: &mut K) -> Result<(), DeskFault>
+        requires some_left { all_gone self.old ≡ false }
+        ensures run { IsRun K.takes self.old self.new sink.old sink.new result }
+        ensures kept { IsDesk self.new }
+    {
+        let taken = match self.take_one(rt) {
+            Ok(taken) => taken,
+            Err(fault) => return Err(fault),
+        };
+        let letter = match taken {
+            Some(letter) => letter,
+            None => return Ok(()),
+        };
+        match sink.hand(rt, letter) {
+            Ok(()) => Ok(()),
+            Err(letter) => {
+                self.failed = true;
+                Err(DeskFault::Letters(letter))
+            }
+        }
+    }
+}
+
+/// Sends an answer over the lane of its agent; false where the agent is gone.
+fn tell(rt: &impl Wait, lines: &mut Vec<Line>, answer: Answer) -> bool
+    requires within { answer.agent < length lines.old.items }
+    requires agent { (d : End Answer) → (slice_index_or lines.old.items answer.agent d).agent ≡ answer.agent }
+    requires number { (d : End Answer) → length (slice_index_or lines.old.items answer.agent d).sent ≡ answer.number }
+    requires room { answer.number < 4294967295 }
+    ensures { AreTold result lines.old.items answer lines.new.items }
+{
+    lines[answer.agent as usize].send(rt, answer)
+}

@@ -1,0 +1,25 @@
+//! Delivery agents that ask, and the one collector that answers them, over lanes.
+#![tactic(auto)]
+
+mod agent;
+mod ask_fault;
+mod crew_open_fault;
+mod desk;
+mod desk_fault;
+mod ends;
+mod finished;
+mod line;
+mod open;
+mod sink;
+
+pub use agent::Agent;
+pub use ask_fault::AskFault;
+pub use crew_open_fault::CrewOpenFault;
+pub use desk::Desk;
+pub use desk_fault::DeskFault;
+pub use finished::Finished;
+pub use open::open_crew;
+pub use sink::Sink;
+
+#[cfg(test)]
+mod tests;

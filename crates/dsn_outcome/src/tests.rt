@@ -34,23 +34,33 @@ fn text_of(alloc: Global, len: usize) -> Result<Vec<u8>, Fail> {
 }
 
 #[test]
-fn texts_at_their_bounds_are_kept(rt: HostRuntime) -> Result<(), Fail> {
+fn texts_up_to_their_bounds_are_kept(rt: HostRuntime) -> Result<(), Fail> {
     let alloc = rt.alloc();
-    let text = text_of(alloc, 256)?;
-    let address = Address::new(alloc, text.as_slice())?;
-    assert_eq!(rt; address.bytes(), text.as_slice());
-    let text = text_of(alloc, 255)?;
-    let name = MtaName::new(alloc, text.as_slice())?;
-    assert_eq!(rt; name.bytes(), text.as_slice());
-    let text = text_of(alloc, 100)?;
-    let id = EnvelopeId::new(alloc, text.as_slice())?;
-    assert_eq!(rt; id.bytes(), text.as_slice());
-    let text = text_of(alloc, 800)?;
-    let clean = Clean::new(alloc, text.as_slice())?;
-    assert_eq!(rt; clean.bytes(), text.as_slice());
-    let text = text_of(alloc, 32_768)?;
-    let header = RawHeader::new(alloc, text.as_slice())?;
-    assert_eq!(rt; header.bytes(), text.as_slice());
+    for len in [1, 200, 256] {
+        let text = text_of(alloc, len)?;
+        let address = Address::new(alloc, text.as_slice())?;
+        assert_eq!(rt; address.bytes(), text.as_slice());
+    }
+    for len in [1, 200, 255] {
+        let text = text_of(alloc, len)?;
+        let name = MtaName::new(alloc, text.as_slice())?;
+        assert_eq!(rt; name.bytes(), text.as_slice());
+    }
+    for len in [1, 60, 100] {
+        let text = text_of(alloc, len)?;
+        let id = EnvelopeId::new(alloc, text.as_slice())?;
+        assert_eq!(rt; id.bytes(), text.as_slice());
+    }
+    for len in [0, 500, 800] {
+        let text = text_of(alloc, len)?;
+        let clean = Clean::new(alloc, text.as_slice())?;
+        assert_eq!(rt; clean.bytes(), text.as_slice());
+    }
+    for len in [0, 20_000, 32_768] {
+        let text = text_of(alloc, len)?;
+        let header = RawHeader::new(alloc, text.as_slice())?;
+        assert_eq!(rt; header.bytes(), text.as_slice());
+    }
     Ok(())
 }
 
@@ -87,6 +97,32 @@ fn outcomes_keep_their_fields(rt: HostRuntime) -> Result<(), Fail> {
     assert_eq!(rt; diagnostic.bytes(), b"smtp; 550 no?such user".as_slice());
     let reason = outcome.reason().ok_or("no reason")?;
     assert_eq!(rt; reason.bytes(), b"user unknown".as_slice());
+    Ok(())
+}
+
+#[test]
+fn an_outcome_of_the_longest_texts_is_kept(rt: HostRuntime) -> Result<(), Fail> {
+    let alloc = rt.alloc();
+    let address = text_of(alloc, 256)?;
+    let name = text_of(alloc, 255)?;
+    let remark = text_of(alloc, 800)?;
+    let mut parts = PARTS;
+    parts.recipient = address.as_slice();
+    parts.original = address.as_slice();
+    parts.mta = name.as_slice();
+    parts.diagnostic = remark.as_slice();
+    parts.reason = remark.as_slice();
+    let node = Outcome::new(alloc, Service::Bounce, parts)?;
+    let outcome = node.outcome();
+    assert_eq!(rt; outcome.recipient().bytes(), address.as_slice());
+    let original = outcome.original().ok_or("no original")?;
+    assert_eq!(rt; original.bytes(), address.as_slice());
+    let mta = outcome.mta().ok_or("no remote system")?;
+    assert_eq!(rt; mta.bytes(), name.as_slice());
+    let diagnostic = outcome.diagnostic().ok_or("no diagnostic")?;
+    assert_eq!(rt; diagnostic.bytes(), remark.as_slice());
+    let reason = outcome.reason().ok_or("no reason")?;
+    assert_eq!(rt; reason.bytes(), remark.as_slice());
     Ok(())
 }
 

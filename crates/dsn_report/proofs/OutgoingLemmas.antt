@@ -16,7 +16,7 @@ use Rattle.dsn_report.specs.LineWriter.{counts_failure}
 use Rattle.dsn_report.specs.declared.post_fault.PostFault.{PostFault}
 use Rattle.dsn_report.specs.Outbox.{greeting, goodbye, mail_transaction, outbox_of}
 use Rattle.dsn_report.specs.Poster.{Poster, post_text, finish_text, post_fault, letter_handed_back}
-use Rattle.dsn_report.specs.Outgoing.{written_of, are_some, AppendsAtLeast, FrontWritten, Delivered, IsOutbox}
+use Rattle.dsn_report.specs.Outgoing.{written_of, are_some, AppendsAtLeast, FrontWritten, StaysSteady, Delivered, IsOutbox}
 
 pub flat_map-more : {A : Type 0} (f : A → List ℕ) (xs : List A) (x : A) → flat_map f (xs ++ x ∷ []) ≡ flat_map f xs ++ f x
 flat_map-more f [] x = append-nil (f x)
@@ -86,6 +86,13 @@ once-flushed drain false false old new text good well made = (made.once, made.pa
 once-flushed drain true b old new text good well made = absurd (not-both true refl good)
 once-flushed drain false true old new text good well made = absurd (not-both true refl well)
 
+-- what is steady through two steps is steady through both
+stays-steady : {W : Type 0} (drain : Drain W) (a b c : W) → StaysSteady drain a b → StaysSteady drain b c → StaysSteady drain a c
+stays-steady drain a b c first second steady =
+    let one = first steady in
+    let two = second one.0 in
+    (two.0, two.1 ∙ one.1)
+
 module _ {W : Type 0} (drain : Drain W) (host : List ℕ) (start : W) (old new : Poster W) (unsent letters : List Letter) (letter : Letter) (before : Delivered drain host start (record { poster = old; unsent = unsent }) letters) where
   -- a poster that wrote a letter had not failed
   was-good : (failed : Bool) → old.failed ≡ failed → (old.failed ≡ true → new ≡ old) → new.failed ≡ false → old.failed ≡ false
@@ -97,8 +104,8 @@ module _ {W : Type 0} (drain : Drain W) (host : List ℕ) (start : W) (old new :
   still-good false count is = refl
 
   -- one letter more was written
-  pub hand-ok : Appends (drain.contents old.outbox) (drain.contents new.outbox) (post_text old letter) → (old.failed ≡ true → new ≡ old) → new.failed ≡ false → new.greeted ≡ true → new.host ≡ old.host → drain.failures new.outbox ≡ counts_failure old.failed false (drain.failures old.outbox) → WrittenAndFlushed drain old.failed new.failed old.outbox new.outbox (post_text old letter) → Delivered drain host start (record { poster = new; unsent = unsent }) (letters ++ letter ∷ [])
-  hand-ok sent nothing good greeted same_host count made =
+  pub hand-ok : Appends (drain.contents old.outbox) (drain.contents new.outbox) (post_text old letter) → (old.failed ≡ true → new ≡ old) → new.failed ≡ false → new.greeted ≡ true → new.host ≡ old.host → drain.failures new.outbox ≡ counts_failure old.failed false (drain.failures old.outbox) → WrittenAndFlushed drain old.failed new.failed old.outbox new.outbox (post_text old letter) → StaysSteady drain old.outbox new.outbox → Delivered drain host start (record { poster = new; unsent = unsent }) (letters ++ letter ∷ [])
+  hand-ok sent nothing good greeted same_host count made steady =
       let was : old.failed ≡ false = was-good old.failed refl nothing good in
       let all = before.while_good was in record {
         host_kept = same_host ∙ before.host_kept;
@@ -110,6 +117,7 @@ module _ {W : Type 0} (drain : Drain W) (host : List ℕ) (start : W) (old new :
           flushes = (once-flushed drain old.failed new.failed old.outbox new.outbox _ was good made).0 ∙ ap flushed all.flushes ∙ flushed_times-more letters letter (drain.flushes start);
         };
         after_fault = λ is. absurd (not-both new.failed is good);
+        steady = stays-steady drain start old.outbox new.outbox before.steady steady;
       }
 
   -- the first letter that could not be written
@@ -144,12 +152,13 @@ module _ {W : Type 0} (drain : Drain W) (host : List ℕ) (start : W) (old new :
   any-lost false is front nothing same_host count = first-lost is front same_host count
 
   -- one letter more could not be written
-  pub hand-err : (fault : PostFault) → fault ≡ post_fault old.failed letter → AppendsFront (drain.contents old.outbox) (drain.contents new.outbox) (post_text old letter) → (old.failed ≡ true → new ≡ old) → new.failed ≡ true → new.host ≡ old.host → drain.failures new.outbox ≡ counts_failure old.failed true (drain.failures old.outbox) → Delivered drain host start (record { poster = new; unsent = unsent ++ letter_handed_back fault ∷ [] }) (letters ++ letter ∷ [])
-  hand-err fault is front nothing failed same_host count =
+  pub hand-err : (fault : PostFault) → fault ≡ post_fault old.failed letter → AppendsFront (drain.contents old.outbox) (drain.contents new.outbox) (post_text old letter) → (old.failed ≡ true → new ≡ old) → new.failed ≡ true → new.host ≡ old.host → drain.failures new.outbox ≡ counts_failure old.failed true (drain.failures old.outbox) → StaysSteady drain old.outbox new.outbox → Delivered drain host start (record { poster = new; unsent = unsent ++ letter_handed_back fault ∷ [] }) (letters ++ letter ∷ [])
+  hand-err fault is front nothing failed same_host count steady =
       let back : letter_handed_back fault ≡ letter = ap letter_handed_back is ∙ handed_back old.failed letter in record {
         host_kept = same_host ∙ before.host_kept;
         while_good = λ good. absurd (not-both new.failed failed good);
         after_fault = λ _. rw back (any-lost old.failed refl front nothing same_host count);
+        steady = stays-steady drain start old.outbox new.outbox before.steady steady;
       }
 
 module _ {W : Type 0} (drain : Drain W) (host : List ℕ) (start : W) (old : Poster W) (unsent letters : List Letter) (before : Delivered drain host start (record { poster = old; unsent = unsent }) letters) where
@@ -157,8 +166,8 @@ module _ {W : Type 0} (drain : Drain W) (host : List ℕ) (start : W) (old : Pos
   any-front outbox true text sent front = AppendsFront-all (drain.contents old.outbox) (drain.contents outbox) text (sent refl)
   any-front outbox false text sent front = front refl
 
-  finished-good : old.failed ≡ false → (outbox : W) (whole : Bool) → (whole ≡ true → Appends (drain.contents old.outbox) (drain.contents outbox) (finish_text old)) → (whole ≡ false → AppendsFront (drain.contents old.outbox) (drain.contents outbox) (finish_text old)) → drain.failures outbox ≡ counts_failure old.failed (not whole) (drain.failures old.outbox) → WrittenAndFlushed drain old.failed (not whole) old.outbox outbox (finish_text old) → IsOutbox drain host start outbox whole unsent letters
-  finished-good good outbox whole sent front count made =
+  finished-good : old.failed ≡ false → (outbox : W) (whole : Bool) → (whole ≡ true → Appends (drain.contents old.outbox) (drain.contents outbox) (finish_text old)) → (whole ≡ false → AppendsFront (drain.contents old.outbox) (drain.contents outbox) (finish_text old)) → drain.failures outbox ≡ counts_failure old.failed (not whole) (drain.failures old.outbox) → WrittenAndFlushed drain old.failed (not whole) old.outbox outbox (finish_text old) → StaysSteady drain old.outbox outbox → IsOutbox drain host start outbox whole unsent letters
+  finished-good good outbox whole sent front count made steady =
       let all = before.while_good good in
       let ends = finish_text-after old letters (none-where letters old.greeted all.greeted_is) in record {
         posted = letters;
@@ -169,10 +178,11 @@ module _ {W : Type 0} (drain : Drain W) (host : List ℕ) (start : W) (old : Pos
         count = rw good at count ∙ ap (counted (not whole)) all.good;
         flushes = λ done. (once-flushed drain old.failed (not whole) old.outbox outbox _ good (ap not done) made).0 ∙ ap flushed all.flushes;
         passed_on = λ done. (once-flushed drain old.failed (not whole) old.outbox outbox _ good (ap not done) made).1;
+        steady = stays-steady drain start old.outbox outbox before.steady steady;
       }
 
-  finished-lost : old.failed ≡ true → (outbox : W) (whole : Bool) → (outbox ≡ old.outbox) × (whole ≡ false) → IsOutbox drain host start outbox whole unsent letters
-  finished-lost failed outbox whole nothing =
+  finished-lost : old.failed ≡ true → (outbox : W) (whole : Bool) → (outbox ≡ old.outbox) × (whole ≡ false) → StaysSteady drain old.outbox outbox → IsOutbox drain host start outbox whole unsent letters
+  finished-lost failed outbox whole nothing steady =
       let some = before.after_fault failed in record {
         posted = some.posted;
         split = rw some.unsent_is some.split;
@@ -182,12 +192,13 @@ module _ {W : Type 0} (drain : Drain W) (host : List ℕ) (start : W) (old : Pos
         count = rw (nothing.0, nothing.1) some.count;
         flushes = λ done. absurd (not-both whole done nothing.1);
         passed_on = λ done. absurd (not-both whole done nothing.1);
+        steady = stays-steady drain start old.outbox outbox before.steady steady;
       }
 
-  finished-by : (failed : Bool) → old.failed ≡ failed → (outbox : W) (whole : Bool) → (whole ≡ true → Appends (drain.contents old.outbox) (drain.contents outbox) (finish_text old)) → (whole ≡ false → AppendsFront (drain.contents old.outbox) (drain.contents outbox) (finish_text old)) → (old.failed ≡ true → (outbox ≡ old.outbox) × (whole ≡ false)) → drain.failures outbox ≡ counts_failure old.failed (not whole) (drain.failures old.outbox) → WrittenAndFlushed drain old.failed (not whole) old.outbox outbox (finish_text old) → IsOutbox drain host start outbox whole unsent letters
-  finished-by true is outbox whole sent front nothing count made = finished-lost is outbox whole (nothing is)
-  finished-by false is outbox whole sent front nothing count made = finished-good is outbox whole sent front count made
+  finished-by : (failed : Bool) → old.failed ≡ failed → (outbox : W) (whole : Bool) → (whole ≡ true → Appends (drain.contents old.outbox) (drain.contents outbox) (finish_text old)) → (whole ≡ false → AppendsFront (drain.contents old.outbox) (drain.contents outbox) (finish_text old)) → (old.failed ≡ true → (outbox ≡ old.outbox) × (whole ≡ false)) → drain.failures outbox ≡ counts_failure old.failed (not whole) (drain.failures old.outbox) → WrittenAndFlushed drain old.failed (not whole) old.outbox outbox (finish_text old) → StaysSteady drain old.outbox outbox → IsOutbox drain host start outbox whole unsent letters
+  finished-by true is outbox whole sent front nothing count made steady = finished-lost is outbox whole (nothing is)
+  finished-by false is outbox whole sent front nothing count made steady = finished-good is outbox whole sent front count made steady
 
   -- the outbox ended
-  pub finished : (outbox : W) (whole : Bool) → (whole ≡ true → Appends (drain.contents old.outbox) (drain.contents outbox) (finish_text old)) → (whole ≡ false → AppendsFront (drain.contents old.outbox) (drain.contents outbox) (finish_text old)) → (old.failed ≡ true → (outbox ≡ old.outbox) × (whole ≡ false)) → drain.failures outbox ≡ counts_failure old.failed (not whole) (drain.failures old.outbox) → WrittenAndFlushed drain old.failed (not whole) old.outbox outbox (finish_text old) → IsOutbox drain host start outbox whole unsent letters
+  pub finished : (outbox : W) (whole : Bool) → (whole ≡ true → Appends (drain.contents old.outbox) (drain.contents outbox) (finish_text old)) → (whole ≡ false → AppendsFront (drain.contents old.outbox) (drain.contents outbox) (finish_text old)) → (old.failed ≡ true → (outbox ≡ old.outbox) × (whole ≡ false)) → drain.failures outbox ≡ counts_failure old.failed (not whole) (drain.failures old.outbox) → WrittenAndFlushed drain old.failed (not whole) old.outbox outbox (finish_text old) → StaysSteady drain old.outbox outbox → IsOutbox drain host start outbox whole unsent letters
   finished outbox whole = finished-by old.failed refl outbox whole

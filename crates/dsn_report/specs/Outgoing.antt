@@ -53,11 +53,16 @@ pub record FrontWritten {W : Type 0} (drain : Drain W) (start : W) (out : Outgoi
   pub written : AppendsAtLeast (drain.contents start) (drain.contents out.poster.outbox) (written_of out.poster.host (are_some posted) posted) (written_of out.poster.host true (posted ++ failed ∷ []))
   pub count : drain.failures out.poster.outbox ≡ counted true (drain.failures start)
 
+-- a device whose calls don't fail stays so, and its count of failures stays
+abbrev pub StaysSteady : {W : Type 0} → Drain W → W → W → Type 0
+StaysSteady drain old new = drain.steady old → drain.steady new × (drain.failures new ≡ drain.failures old)
+
 -- these letters were handed on, one after another
 pub record Delivered {W : Type 0} (drain : Drain W) (host : List ℕ) (start : W) (out : Outgoing W) (letters : List Letter) : Type 0 where
   pub host_kept : out.poster.host ≡ host
   pub while_good : out.poster.failed ≡ false → AllWritten drain start out letters
   pub after_fault : out.poster.failed ≡ true → FrontWritten drain start out letters
+  pub steady : StaysSteady drain start out.poster.outbox
 
 -- how an outbox ended: with the whole text of all letters; or after a failure with the mails of all letters before
 -- those that are unsent, and a front of what follows; the device failed once where it isn't whole, and else not;
@@ -71,3 +76,4 @@ pub record IsOutbox {W : Type 0} (drain : Drain W) (host : List ℕ) (start end 
   pub count : drain.failures end ≡ counted (not whole) (drain.failures start)
   pub flushes : whole ≡ true → drain.flushes end ≡ flushed (flushed_times (length letters) (drain.flushes start))
   pub passed_on : whole ≡ true → drain.unflushed end ≡ false
+  pub steady : StaysSteady drain start end

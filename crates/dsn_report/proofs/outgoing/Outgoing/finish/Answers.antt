@@ -10,4 +10,4 @@ returns g c = λ host start letters delivered.
     let ended = c.finish-outbox.ensures in
     finished _ host start c.self.inside.poster c.self.inside.unsent letters before _ _ ended.sent ended.front
     (λ failed. (ap (λ (end : Ended g.row.W.Denot). end.outbox) (ended.nothing failed), ap (λ (end : Ended g.row.W.Denot). end.whole) (ended.nothing failed)))
-    ended.count ended.flushed
+    ended.count ended.flushed ended.steady

@@ -8,10 +8,10 @@ returns-in-Err g c = λ host start letters delivered.
     let before = subst (λ out. Delivered g.W.Drain host start out letters) (sym c.self.view_is) delivered in
     let made = c.in-Err.ensures in
     rw (c.push.ensures, c.into_letter.ensures)
-    (hand-err _ host start _ _ _ letters c.args.letter before c.in-Err.fault made.fault made.front made.nothing made.failed made.host made.count)
+    (hand-err _ host start _ _ _ letters c.args.letter before c.in-Err.fault made.fault made.front made.nothing made.failed made.host made.count made.steady)
 
 pub returns-in_default : goal.returns-in_default
 returns-in_default g c = λ host start letters delivered.
     let before = subst (λ out. Delivered g.W.Drain host start out letters) (sym c.self.view_is) delivered in
     let made = c.in_default.ensures in
-    hand-ok _ host start _ _ _ letters c.args.letter before made.sent made.nothing made.failed made.greeted made.host made.count made.flushed
+    hand-ok _ host start _ _ _ letters c.args.letter before made.sent made.nothing made.failed made.greeted made.host made.count made.flushed made.steady

@@ -196,7 +196,7 @@ module _ {W : Type 0} (drain : Drain W) (host : List ℕ) (start : W) (old : Pos
       }
 
   finished-by : (failed : Bool) → old.failed ≡ failed → (outbox : W) (whole : Bool) → (whole ≡ true → Appends (drain.contents old.outbox) (drain.contents outbox) (finish_text old)) → (whole ≡ false → AppendsFront (drain.contents old.outbox) (drain.contents outbox) (finish_text old)) → (old.failed ≡ true → (outbox ≡ old.outbox) × (whole ≡ false)) → drain.failures outbox ≡ counts_failure old.failed (not whole) (drain.failures old.outbox) → WrittenAndFlushed drain old.failed (not whole) old.outbox outbox (finish_text old) → StaysSteady drain old.outbox outbox → IsOutbox drain host start outbox whole unsent letters
-  finished-by true is outbox whole sent front nothing count made steady = finished-lost is outbox whole (nothing is)
+  finished-by true is outbox whole sent front nothing count made steady = finished-lost is outbox whole (nothing is) steady
   finished-by false is outbox whole sent front nothing count made steady = finished-good is outbox whole sent front count made steady
 
   -- the outbox ended

@@ -1,12 +1,13 @@
 -- Runs: one request more, and one frame more.
 use Rattle.std.proofs.Common.{◌≡◌, ℕ, suc, ◌+◌, ◌<◌, true, false, List, [], ◌∷◌, ◌++◌, length, refl, ap, sym, ◌∙◌, arith}
-use Rattle.std.specs.Prelude.{Option, Some, None, ◌==◌, map, unwrap_or}
+use Rattle.std.specs.Prelude.{Option, ◌==◌, map, is_some}
 use Rattle.std.specs.List.{flat_map}
 use Rattle.dsn_device.specs.declared.drain.Drain.{Ghosts as Drain}
-use Rattle.dsn_frame.specs.BodyFault.{body_fault_code}
-use Rattle.dsn_frame.specs.Request.{Encodes, first_body_fault}
-use Rattle.dsn_frame.specs.declared.body_fault.BodyFault.{BodyFault}
-use Rattle.dsn_frame.specs.declared.body_fault.BodyFault.TheVariants.{NoMemory}
+use Rattle.dsn_frame.specs.Refusal.{refusal_end}
+use Rattle.dsn_frame.specs.Request.{Encodes}
+use Rattle.dsn_frame.specs.Spoken.{reply_of}
+use Rattle.dsn_frame.specs.declared.refusal.Refusal.{Refusal}
+use Rattle.dsn_frame.specs.declared.refusal.Refusal.TheVariants as refusals
 use Rattle.std.specs.Option.{option_to_list}
 use Rattle.std.proofs.lemmas.Grind.{flat_map-append}
 use Rattle.std.proofs.lemmas.List.{append-nil, length-append, map-append}
@@ -18,9 +19,9 @@ use Rattle.dsn_outcome.specs.Request.{Request, Body}
 use Rattle.dsn_outcome.specs.declared.answer.Answer.{Answer}
 use Rattle.dsn_outcome.specs.declared.answer.Reply.{Reply}
 use Rattle.dsn_outcome.proofs.HistoryLaws.{history_more, letters_more, answers_mine}
-use Rattle.dsn_frame.specs.Session.{Input, Takes, faulty, out_of_memory, asked}
+use Rattle.dsn_frame.specs.Session.{Input, Takes, asked}
 use Rattle.dsn_frame.specs.declared.spoken.Spoken.{Spoken}
-use Rattle.noticed_lib.specs.Requests.{requests_from, requests_of, next_request, reply_of, AreReplies}
+use Rattle.noticed_lib.specs.Requests.{requests_from, requests_of, next_request, AreReplies}
 use Rattle.dsn_report.specs.Outgoing.{Delivered, Outgoing}
 use Rattle.noticed_lib.specs.Run.{Stands, Asks, Answered, end_after}
 use Rattle.noticed_lib.specs.declared.turn.Turn.{Turn}
@@ -96,13 +97,10 @@ replies-asked limits answers before body are =
 
 -- ---- one frame's answer
 
-refused-by : (limit accepted position : ℕ) (bytes : List ℕ) (fault : BodyFault) (first : Option BodyFault) → first_body_fault bytes ≡ first → fault ≡ unwrap_or first NoMemory → Takes Input limit accepted position bytes [] (spoken.Refused (body_fault_code fault) ∷ []) None
-refused-by limit accepted position bytes fault None none is = rw is (out_of_memory none)
-refused-by limit accepted position bytes fault (Some first) some is = rw is (faulty first some)
-
--- a refused body is answered by its first fault, or by want of memory
-pub refused-takes : (limit accepted position : ℕ) (bytes : List ℕ) (fault : BodyFault) → fault ≡ unwrap_or (first_body_fault bytes) NoMemory → Takes Input limit accepted position bytes [] (spoken.Refused (body_fault_code fault) ∷ []) None
-refused-takes limit accepted position bytes fault is = refused-by limit accepted position bytes fault (first_body_fault bytes) refl is
+-- a refusal ends the session where it says so
+pub end-after-refusal : (refusal : Refusal) → end_after (is_some (refusal_end refusal)) ≡ refusal_end refusal
+end-after-refusal (refusals.Body fault) = refl
+end-after-refusal refusals.OutOfTurn = refl
 
 -- no requests have no history and no letters
 pub history-none : (limits : Limits) → history_of limits [] ≡ []
@@ -143,16 +141,15 @@ module _ {W : Type 0} (outbox_device : Drain W) (limits : Limits) (host : List �
       }
 
   -- a request's answer is that of its frame
-  pub answered-asked : (run : Run W) (requests : List Request) (body : Body) (turn : Turn) (number position : ℕ) (bytes : List ℕ)
-      → Encodes bytes number body → number ≡ position → length requests < limits.requests → Asks outbox_device limits host start run requests body turn
+  pub answered-asked : (run : Run W) (requests : List Request) (body : Body) (turn : Turn) (position : ℕ) (bytes : List ℕ)
+      → Encodes bytes position body → length requests < limits.requests → Asks outbox_device limits host start run requests body turn
       → Answered outbox_device limits host start run requests position bytes turn
-  answered-asked run requests body turn number position bytes encoded same few asks =
-      let here = rw same at encoded in record {
-        asked = body ∷ [];
-        takes = rw (asks.answer_is, asks.goes_on) (asked body _ here few);
-        replies = λ answers are. rw (requests-one requests body, asks.answer_is) (replies-asked limits answers requests body are);
-        stands = rw (requests-one requests body) asks.stands;
-      }
+  answered-asked run requests body turn position bytes encoded few asks = record {
+    asked = body ∷ [];
+    takes = rw (asks.answer_is, asks.goes_on) (asked body _ encoded few);
+    replies = λ answers are. rw (requests-one requests body, asks.answer_is) (replies-asked limits answers requests body are);
+    stands = rw (requests-one requests body) asks.stands;
+  }
 
   -- a frame that asks nothing leaves the run as it was
   pub answered-refused : (run : Run W) (requests : List Request) (number position : ℕ) (bytes : List ℕ) (turn : Turn) (end : Option ℕ)

@@ -3,7 +3,7 @@ pub mod Harvest
 pub mod MemoryRun
 pub mod Notes
 pub mod Reading
+pub mod ReadingEnd
 pub mod Requests
 pub mod Run
 pub mod Telling
-pub mod WholeInput

@@ -72,7 +72,3 @@ open_lines (Some lines) = flat_map open_line lines
 -- how a run ended: the fault of the reading, an outbox that failed, the letters that were not written, the open logs
 unfoldable pub end_lines : Option ℕ → Bool → List Letter → Option (List OpenLine) → List ℕ
 end_lines fault whole unsent logs = fault_lines fault ++ (outbox_lines whole ++ (unsent_lines unsent ++ open_lines logs))
-
--- the notes of a run
-unfoldable pub notes_of : List Spoken → Option ℕ → Bool → List Letter → Option (List OpenLine) → List ℕ
-notes_of answers fault whole unsent logs = answer_lines_from 0 answers ++ end_lines fault whole unsent logs

@@ -1,11 +1,10 @@
 -- The requests of an input that is read alone: which they are, and what they are answered (this project's profile).
 use Rattle.std.specs.Prelude.{◌≡◌, ℕ, ◌+◌, List, [], ◌∷◌, length, map}
 use Rattle.std.specs.List.{flat_map}
+use Rattle.dsn_frame.specs.Spoken.{reply_of}
 use Rattle.dsn_frame.specs.declared.spoken.Spoken.{Spoken}
-use Rattle.dsn_frame.specs.declared.spoken.Spoken.TheVariants as spoken
 use Rattle.dsn_outcome.specs.History.{Limits, history_of, answers_to}
 use Rattle.dsn_outcome.specs.Request.{Request, Body}
-use Rattle.dsn_outcome.specs.declared.answer.Reply.{Reply}
 
 -- the requests that bodies make: of agent 0, numbered one after another
 unfoldable pub requests_from : ℕ → List Body → List Request
@@ -18,11 +17,6 @@ requests_of bodies = requests_from 0 bodies
 -- the next request after these: its number is how many there are
 abbrev pub next_request : List Request → Body → Request
 next_request requests body = record { agent = 0; number = length requests; body = body }
-
--- the reply that an answer is, if it is one
-abbrev pub reply_of : Spoken → List Reply
-reply_of (spoken.Reply reply) = reply ∷ []
-reply_of (spoken.Refused number) = []
 
 -- the replies among answers are those that the history of the requests defines, in order
 pub record AreReplies (limits : Limits) (answers : List Spoken) (requests : List Request) : Type 0 where

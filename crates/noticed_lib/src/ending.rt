@@ -14,7 +14,7 @@ use dsn_outcome::{Drain, Letters, NoMemory, send};
 const OUTBOX: u32 = 31;
 
 /// The number of the fault of a refused growth.
-pub(crate) const NO_MEMORY: u32 = 9;
+const NO_MEMORY: u32 = 9;
 
 /// Tells how a run ended: the fault of the reading, an outbox that failed, the letters that were
 /// not written, and the logs that are still open. The letters come back. Nothing is told once a

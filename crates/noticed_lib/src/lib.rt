@@ -9,6 +9,7 @@ mod memory_run;
 mod memory_source;
 mod notes;
 mod reading;
+mod reading_end;
 mod run;
 #[cfg(test)]
 mod tests;

@@ -7,13 +7,10 @@ ghost use Rattle.noticed_lib.specs.Run.{Stands, Asks, Answered};
 
 use crate::turn::Turn;
 use dsn_book::{Book, Step};
-use dsn_frame::{Spoken, decode_request};
+use dsn_frame::{Spoken, next_request};
 use dsn_outcome::{Body, Drain, Request};
 use dsn_report::Outgoing;
 use std::alloc::Global;
-
-/// The number of the refusal of a number out of turn.
-pub(crate) const OUT_OF_TURN: u32 = 46;
 
 /// The logs, the letters on their way, and how many requests were accepted.
 pub(crate) struct Run<W> {
@@ -29,22 +26,13 @@ impl<W: Drain> Run<W> {
         ensures counted { self.new.accepted ≤ self.old.accepted + 1 }
         ensures answered { (limits : Bounds) (host : List ℕ) (start : W) (requests : List Asked) → Stands W.Drain limits host start self.old requests → length requests < limits.requests → Answered W.Drain limits host start self.new requests position bytes.now result }
     {
-        let (number, body) = match decode_request(alloc, bytes) {
-            Ok(read) => read,
-            Err(fault) => {
-                return Turn {
-                    answer: Spoken::Refused(fault.code()),
-                    over: false,
-                };
-            }
-        };
-        if number != position {
-            return Turn {
-                answer: Spoken::Refused(OUT_OF_TURN),
-                over: true,
-            };
+        match next_request(alloc, position, bytes) {
+            Ok(body) => self.ask(body),
+            Err(refusal) => Turn {
+                answer: Spoken::Refused(refusal.code()),
+                over: refusal.ends(),
+            },
         }
-        self.ask(body)
     }
 
     /// Takes a request, posts the letter that it seals, and gives the reply.

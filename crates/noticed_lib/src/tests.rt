@@ -2,6 +2,7 @@
 mod devices;
 mod input;
 mod notices;
+mod order;
 mod outboxes;
 mod sessions;
 

@@ -1,5 +1,5 @@
 //! A whole run on one thread: frames in, an outbox and notes out.
-ghost use Rattle.std.specs.Prelude.{◌≡◌, ℕ, ◌≤◌, ◌↔◌, ◌||◌, not, List, [], IsTrue, is_some, if◌then◌else◌};
+ghost use Rattle.std.specs.Prelude.{◌≡◌, ℕ, ◌≤◌, ◌||◌, not, List, [], is_some, if◌then◌else◌};
 ghost use Rattle.std.specs.Option.{option_map};
 ghost use Rattle.std.specs.Result.{result_ok};
 ghost use Rattle.dsn_book.specs.Book.{Represents};
@@ -7,21 +7,23 @@ ghost use Rattle.dsn_outcome.specs.History.{Limits as Bounds};
 ghost use Rattle.dsn_outcome.specs.Letter.{Letter as SealedLog};
 ghost use Rattle.noticed_lib.specs.Batch.{IsBatch};
 ghost use Rattle.noticed_lib.specs.Harvest.{Harvested, Ended};
+ghost use Rattle.noticed_lib.specs.ReadingEnd.{reading_code};
 ghost use Rattle.dsn_report.specs.Outgoing.{Delivered};
 
 use crate::batch_end::BatchEnd;
-use crate::ending::{NO_MEMORY, tell_end};
-use crate::reading::{NOTES, read_all};
+use crate::ending::tell_end;
+use crate::reading::read_all;
+use crate::reading_end::ReadingEnd;
 use crate::run::Run;
 use dsn_book::{Book, Limits, OpenLine};
 use dsn_outcome::{Drain, NoMemory, Source};
 use dsn_report::{OutboxEnd, Outgoing, Site};
 use std::alloc::Global;
 
-/// What came of the reading: the fault that ended it, the letters on their way, and the logs that
-/// are still open.
+/// What came of the reading: how it ended, the letters on their way, and the logs that are still
+/// open.
 struct Harvest<W> {
-    fault: Option<u32>,
+    reading: ReadingEnd,
     outgoing: Outgoing<W>,
     logs: Result<Vec<OpenLine>, NoMemory>,
 }
@@ -52,7 +54,7 @@ pub fn batch<R: Source, W: Drain, N: Drain>(
         }
         Err(NoMemory) => end(
             Harvest {
-                fault: Some(NO_MEMORY),
+                reading: ReadingEnd::NoMemory,
                 outgoing,
                 logs: Ok(Vec::new(alloc)),
             },
@@ -71,7 +73,7 @@ fn read_into<R: Source, W: Drain, N: Drain>(
     notes: &mut N,
 ) -> Harvest<W>
     ensures harvest { (limits : Bounds) (host : List ℕ) (start : W) → limits.requests ≡ requests → book.limits ≡ limits → Represents book [] → Delivered W.Drain host start outgoing [] →
-        Harvested R.Source W.Drain N.Drain limits host start input.old input.new notes.old notes.new result.fault result.outgoing (option_map (λ lines. lines.items) (result_ok result.logs)) }
+        Harvested R.Source W.Drain N.Drain limits host start input.old input.new notes.old notes.new result.reading result.outgoing (option_map (λ lines. lines.items) (result_ok result.logs)) }
     ensures steady { R.steady input.old → R.failures input.new ≡ R.failures input.old }
 {
     let mut run = Run {
@@ -79,7 +81,7 @@ fn read_into<R: Source, W: Drain, N: Drain>(
         outgoing,
         accepted: 0,
     };
-    let fault = read_all(alloc, requests, input, &mut run, notes);
+    let reading = read_all(alloc, requests, input, &mut run, notes);
     let logs = run.book.open_lines(alloc);
     let Run {
         book: _,
@@ -87,7 +89,7 @@ fn read_into<R: Source, W: Drain, N: Drain>(
         accepted: _,
     } = run;
     Harvest {
-        fault,
+        reading,
         outgoing,
         logs,
     }
@@ -96,10 +98,10 @@ fn read_into<R: Source, W: Drain, N: Drain>(
 /// Ends the outbox, and tells how the run ended.
 fn end<W: Drain, N: Drain>(harvest: Harvest<W>, notes: &mut N) -> BatchEnd<W>
     ensures { (host : List ℕ) (start : W) (letters : List SealedLog) → Delivered W.Drain host start harvest.outgoing letters →
-        Ended W.Drain N.Drain host start letters harvest.fault (option_map (λ lines. lines.items) (result_ok harvest.logs)) notes.old notes.new result }
+        Ended W.Drain N.Drain host start letters harvest.reading (option_map (λ lines. lines.items) (result_ok harvest.logs)) notes.old notes.new result }
 {
     let Harvest {
-        fault,
+        reading,
         outgoing,
         logs,
     } = harvest;
@@ -108,9 +110,9 @@ fn end<W: Drain, N: Drain>(harvest: Harvest<W>, notes: &mut N) -> BatchEnd<W>
         whole,
         unsent,
     } = outgoing.finish();
-    let before = is_lost(fault);
-    let (unsent, lost) = tell_end(notes, before, fault, whole, unsent, &logs);
-    let fault = fault_after(lost, fault);
+    let before = reading.is_notes_lost();
+    let (unsent, lost) = tell_end(notes, before, reading.code(), whole, unsent, &logs);
+    let fault = fault_after(lost, reading);
     let status = status_of(fault, whole, logs.is_ok());
     BatchEnd {
         outbox,
@@ -121,18 +123,15 @@ fn end<W: Drain, N: Drain>(harvest: Harvest<W>, notes: &mut N) -> BatchEnd<W>
     }
 }
 
-/// Whether a line of the notes could not be written.
-fn is_lost(fault: Option<u32>) -> bool
-    ensures { IsTrue result ↔ (fault ≡ Some NOTES) }
+/// The number of the fault of a run, by whether a line of the notes was lost.
+fn fault_after(lost: bool, reading: ReadingEnd) -> Option<u32>
+    ensures { result ≡ (if lost then reading_code ReadingEnd.NotesLost else reading_code reading) }
 {
-    fault == Some(NOTES)
-}
-
-/// The fault of a run, by whether a line of the notes was lost.
-fn fault_after(lost: bool, reading: Option<u32>) -> Option<u32>
-    ensures { result ≡ (if lost then Some NOTES else reading) }
-{
-    if lost { Some(NOTES) } else { reading }
+    if lost {
+        ReadingEnd::NotesLost.code()
+    } else {
+        reading.code()
+    }
 }
 
 /// The exit status.

@@ -75,13 +75,16 @@ fn bad_lengths(rt: HostRuntime) {
 }
 
 #[test]
-fn the_longest_body(rt: HostRuntime) -> Result<(), Fail> {
-    let mut input = vec![in rt.alloc(); 0, 1, 0, 0]?;
-    input.resize(4 + LONGEST_BODY, 7)?;
-    let frame = read_frame(rt.alloc(), &mut source(&input, 5_000, 100))
-        .ok()
-        .ok_or("no fault")?;
-    assert_eq!(rt; frame.ok_or("a frame")?.body().len(), LONGEST_BODY);
+fn long_bodies(rt: HostRuntime) -> Result<(), Fail> {
+    for size in [40_000u32, 65_536] {
+        let mut input = Vec::new(rt.alloc());
+        input.extend_from_slice(&size.to_be_bytes())?;
+        input.resize(4 + size as usize, 7)?;
+        let frame = read_frame(rt.alloc(), &mut source(&input, 5_000, 100))
+            .ok()
+            .ok_or("no fault")?;
+        assert_eq!(rt; frame.ok_or("a frame")?.body(), &input[4..], "{size} bytes");
+    }
     Ok(())
 }
 

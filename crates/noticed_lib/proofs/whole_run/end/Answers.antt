@@ -4,11 +4,8 @@ use Rattle.noticed_lib.proofs.whole_run.end.Goals as goal
 pub returns : goal.returns
 returns g c = λ host start letters delivered. record {
   outbox = rw c.tell_end-unsent.ensures.letters (c.finish-outbox.ensures host start letters delivered);
-  before = c.is_lost-before.result;
-  before_when = λ is. c.is_lost-before.ensures.1 is;
-  before_only = λ is. c.is_lost-before.ensures.0 is;
   lost = c.tell_end-unsent.result.1;
-  lines = rw c.tell_end-unsent.ensures.letters c.tell_end-unsent.ensures.told;
+  told = rw (c.tell_end-unsent.ensures.letters, ← c.is_notes_lost-before.ensures, ← c.code.ensures) c.tell_end-unsent.ensures.told;
   fault_is = c.fault_after-fault.ensures;
   status_is = rw (is_none-listed, ← c.is_ok.ensures.value) c.status_of-status.ensures;
 }

@@ -109,6 +109,17 @@ class Program:
         """Nothing is open between two notices."""
 
 
+def said(refused: Exception) -> str:
+    """Why a notice was left out, in one line: the server's reply where there is one."""
+    if isinstance(refused, smtplib.SMTPRecipientsRefused):
+        code, reply = next(iter(refused.recipients.values()))
+    elif isinstance(refused, smtplib.SMTPResponseException):
+        code, reply = refused.smtp_code, refused.smtp_error
+    else:
+        return str(refused).replace("\n", " ")
+    return f"{code} {reply.decode(errors='replace')}".replace("\n", " ")
+
+
 def feed(stream, mailer) -> int:
     """Hands in each notice of the outbox, and gives the exit status."""
     handed, left_out, whole = 0, 0, True
@@ -119,7 +130,7 @@ def feed(stream, mailer) -> int:
                 handed += 1
             except (smtplib.SMTPException, subprocess.SubprocessError, OSError) as refused:
                 left_out += 1
-                print(f"left out {notice.key()}: {refused}", file=sys.stderr, flush=True)
+                print(f"left out {notice.key()}: {said(refused)}", file=sys.stderr, flush=True)
     except CutShort:
         whole = False
         print("the outbox was cut short", file=sys.stderr)

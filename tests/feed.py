@@ -101,7 +101,7 @@ def servers(checks: Checks, outbox: bytes):
     status, said = feed([server.address], outbox)
     checks.true("every second recipient refused: what is taken", server.taken == wanted[::2])
     checks.equal("its status and end", (status, said[-1:]), (1, ["3 handed in, 3 left out"]))
-    checks.equal("the keys left out", [it.split(":")[0] for it in said[:-1]], [f"left out B K{at}" for at in (1, 3, 5)])
+    checks.equal("what is left out", said[:-1], [f"left out B K{at}: 550 5.1.1 no such user" for at in (1, 3, 5)])
     status, said = feed(["127.0.0.1:1"], outbox)
     checks.equal("no server", (status, said[-1:]), (1, [f"0 handed in, {MESSAGES} left out"]))
 

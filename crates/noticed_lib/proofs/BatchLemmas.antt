@@ -16,7 +16,7 @@ use Rattle.dsn_frame.specs.declared.frame_fault.FrameFault.TheVariants as faults
 use Rattle.dsn_frame.specs.declared.spoken.Spoken.{Spoken}
 use Rattle.dsn_frame.proofs.SessionLemmas.{session_no_memory}
 use Rattle.dsn_outcome.specs.History.{Limits, Exchange, history_after, history_of, sealed_letters}
-use Rattle.dsn_report.specs.LineWriter.{counts_failure}
+use Rattle.dsn_device.specs.UntilFailure.{Sent, counts_failure}
 use Rattle.dsn_report.specs.Outgoing.{Outgoing, Delivered}
 use Rattle.noticed_lib.proofs.RunLemmas.{letters-none, replies-none}
 use Rattle.noticed_lib.proofs.TellingLemmas.{steady-none, steady-then}
@@ -25,7 +25,7 @@ use Rattle.noticed_lib.specs.Harvest.{Harvested, Ended}
 use Rattle.noticed_lib.specs.Notes.{answer_lines_from}
 use Rattle.noticed_lib.specs.ReadingEnd.{reading_code, is_notes_lost, is_read_failed}
 use Rattle.noticed_lib.specs.Requests.{requests_from, requests_of}
-use Rattle.noticed_lib.specs.Telling.{IsSent, AnswersSent}
+use Rattle.noticed_lib.specs.Telling.{AnswersSent}
 use Rattle.noticed_lib.specs.declared.batch_end.BatchEnd.{BatchEnd}
 use Rattle.noticed_lib.specs.declared.reading_end.ReadingEnd.{ReadingEnd}
 use Rattle.noticed_lib.specs.declared.reading_end.ReadingEnd.TheVariants.{AtEnd, Unreadable, OutOfTurn, TooMany, NotesLost, NoMemory}
@@ -80,7 +80,7 @@ read-code NoMemory = refl
 -- ---- the notes
 
 -- the lines of the answers, and then those of the end
-notes-sent : (stopped lost : Bool) (x y z : Option (List ℕ)) (answers : List Spoken) (ending : List ℕ) → AnswersSent stopped x y answers → IsSent stopped lost y z ending → NotesSent stopped lost x z answers ending
+notes-sent : (stopped lost : Bool) (x y z : Option (List ℕ)) (answers : List Spoken) (ending : List ℕ) → AnswersSent stopped x y answers → Sent stopped lost y z ending → NotesSent stopped lost x z answers ending
 notes-sent false false x y z answers ending told ended = Appends-trans x y z (answer_lines_from 0 answers) ending told ended
 notes-sent false true x y z answers ending told ended = record {
   part = ended.front;
@@ -101,7 +101,7 @@ notes-sent true true x y z answers ending told ended = record {
   appended = Appends-kept x y z (answer_lines_from 0 told.before ++ told.part) told.appended ended;
 }
 
-notes-count : (stopped lost : Bool) (y z : Option (List ℕ)) (ending : List ℕ) (l m n : ℕ) → IsSent stopped lost y z ending → m ≡ counted stopped l → n ≡ counts_failure stopped lost m → n ≡ counted lost l
+notes-count : (stopped lost : Bool) (y z : Option (List ℕ)) (ending : List ℕ) (l m n : ℕ) → Sent stopped lost y z ending → m ≡ counted stopped l → n ≡ counts_failure stopped lost m → n ≡ counted lost l
 notes-count false lost y z ending l m n ended e f = f ∙ ap (counted lost) e
 notes-count true false y z ending l m n ended e f = absurd ended
 notes-count true true y z ending l m n ended e f = f ∙ e
@@ -142,7 +142,7 @@ module _ {R W N : Type 0} (input_device : Source R) (outbox_device : Drain W) (n
     lost = ended.lost;
     notes_sent = rw (lost-code reading) (notes-sent (is_notes_lost reading) ended.lost (notes_device.contents notes) (notes_device.contents middle) (notes_device.contents later) harvest.answers _ harvest.told.sent ended.told.sent);
     notes_count = notes-count (is_notes_lost reading) ended.lost (notes_device.contents middle) (notes_device.contents later) _ (notes_device.failures notes) (notes_device.failures middle) (notes_device.failures later) ended.told.sent harvest.told.count ended.told.count;
-    notes_steady = steady-then notes_device notes middle later harvest.told.steady ended.told.steady;
+    notes_steady = steady-then notes_device notes middle later harvest.told.steady ended.told.stays_steady;
     fault_is = ended.fault_is;
     status_is = ended.status_is;
   }

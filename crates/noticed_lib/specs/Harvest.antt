@@ -5,6 +5,7 @@ use Rattle.dsn_device.specs.declared.source.Source.{Ghosts as Source}
 use Rattle.dsn_book.specs.declared.line.OpenLine.{OpenLine}
 use Rattle.dsn_frame.specs.Session.{Input, IsSession}
 use Rattle.dsn_device.specs.Failures.{counted}
+use Rattle.dsn_device.specs.UntilFailure.{WritesUntilFailure}
 use Rattle.dsn_outcome.specs.History.{Limits, history_of, sealed_letters}
 use Rattle.dsn_outcome.specs.Letter.{Letter}
 use Rattle.dsn_outcome.specs.Request.{Body}
@@ -12,7 +13,7 @@ use Rattle.noticed_lib.specs.Batch.{AreOpenLines, status_of}
 use Rattle.noticed_lib.specs.Notes.{end_lines}
 use Rattle.dsn_report.specs.Outgoing.{Delivered, IsOutbox, Outgoing}
 use Rattle.noticed_lib.specs.Requests.{AreReplies, requests_of}
-use Rattle.noticed_lib.specs.Telling.{AnswersTold, Told}
+use Rattle.noticed_lib.specs.Telling.{AnswersTold}
 use Rattle.noticed_lib.specs.ReadingEnd.{reading_code, is_notes_lost, is_read_failed}
 use Rattle.noticed_lib.specs.declared.batch_end.BatchEnd.{BatchEnd}
 use Rattle.noticed_lib.specs.declared.reading_end.ReadingEnd.{ReadingEnd}
@@ -35,6 +36,6 @@ module _ {R W N : Type 0} (input_device : Source R) (outbox_device : Drain W) (n
 pub record Ended {W N : Type 0} (outbox_device : Drain W) (notes_device : Drain N) (host : List ℕ) (start : W) (letters : List Letter) (reading : ReadingEnd) (logs : Option (List OpenLine)) (notes later : N) (end : BatchEnd W) : Type 0 where
   pub outbox : IsOutbox outbox_device host start end.outbox end.whole end.unsent letters
   pub lost : Bool
-  pub told : Told notes_device (is_notes_lost reading) lost notes later (end_lines (reading_code reading) end.whole end.unsent logs)
+  pub told : WritesUntilFailure notes_device (is_notes_lost reading) lost notes later (end_lines (reading_code reading) end.whole end.unsent logs)
   pub fault_is : end.fault ≡ (if lost then Some 33 else reading_code reading)
   pub status_is : end.status ≡ status_of end.fault end.whole logs

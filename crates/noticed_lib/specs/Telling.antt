@@ -1,27 +1,11 @@
--- Telling: what became of lines of notes; after one that could not be written none is written.
+-- Telling: what became of the lines of answers.
 use Rattle.std.specs.Prelude.{◌≡◌, ℕ, Bool, true, false, ◌<◌, List, [], ◌∷◌, ◌++◌, length, Option}
-use Rattle.std.specs.Io.KnownBytes.{Appends, Keeps}
+use Rattle.std.specs.Io.KnownBytes.{Appends}
 use Rattle.dsn_device.specs.Failures.{counted}
-use Rattle.dsn_device.specs.Transfer.{AppendsPart}
 use Rattle.dsn_device.specs.declared.drain.Drain.{Ghosts as Drain}
 use Rattle.dsn_frame.specs.declared.spoken.Spoken.{Spoken}
-use Rattle.dsn_report.specs.LineWriter.{counts_failure}
 use Rattle.dsn_report.specs.Outgoing.{StaysSteady}
 use Rattle.noticed_lib.specs.Notes.{answer_line, answer_lines_from}
-
--- what became of a text, by whether telling had failed before and whether it has failed now: all of it is told; a part
--- of it is, and not all; or nothing
-abbrev pub IsSent : Bool → Bool → Option (List ℕ) → Option (List ℕ) → List ℕ → Type 0
-IsSent false false old new text = Appends old new text
-IsSent false true old new text = AppendsPart old new text
-IsSent true false old new text = ⊥
-IsSent true true old new text = Keeps old new
-
--- a text was told, by whether telling had failed before and whether it has failed now
-pub record Told {N : Type 0} (drain : Drain N) (before after : Bool) (old new : N) (text : List ℕ) : Type 0 where
-  pub sent : IsSent before after (drain.contents old) (drain.contents new) text
-  pub count : drain.failures new ≡ counts_failure before after (drain.failures old)
-  pub steady : StaysSteady drain old new
 
 -- the lines of answers were told, but for a part of the last one's, which isn't empty
 pub record LosesLast (old new : Option (List ℕ)) (answers : List Spoken) : Type 0 where

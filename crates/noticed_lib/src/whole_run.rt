@@ -16,7 +16,8 @@ use crate::reading::read_all;
 use crate::reading_end::ReadingEnd;
 use crate::run::Run;
 use dsn_book::{Book, Limits, OpenLine};
-use dsn_outcome::{Drain, NoMemory, Source};
+use dsn_device::{Drain, Source, UntilFailure};
+use dsn_outcome::NoMemory;
 use dsn_report::{OutboxEnd, Outgoing, Site};
 use std::alloc::Global;
 
@@ -110,9 +111,11 @@ fn end<W: Drain, N: Drain>(harvest: Harvest<W>, notes: &mut N) -> BatchEnd<W>
         whole,
         unsent,
     } = outgoing.finish();
-    let before = reading.is_notes_lost();
-    let (unsent, lost) = tell_end(notes, before, reading.code(), whole, unsent, &logs);
-    let fault = fault_after(lost, reading);
+    let mut telling = UntilFailure {
+        failed: reading.is_notes_lost(),
+    };
+    let unsent = tell_end(notes, &mut telling, reading.code(), whole, unsent, &logs);
+    let fault = fault_after(telling.failed, reading);
     let status = status_of(fault, whole, logs.is_ok());
     BatchEnd {
         outbox,

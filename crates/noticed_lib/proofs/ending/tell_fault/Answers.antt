@@ -1,11 +1,11 @@
+use Rattle.dsn_device.proofs.UntilFailureLemmas.{writes-none}
 use Rattle.noticed_lib.specs.Notes.{fault_lines}
-use Rattle.noticed_lib.proofs.TellingLemmas.{Told-none}
 use Rattle.noticed_lib.proofs.ending.tell_fault.Goals as goal
 
 pub returns-in-Some : goal.returns-in-Some
 unfolding fault_lines
-returns-in-Some g c = rw (c.in-Some.is, ← c.fault_line.ensures, ← c.bytes.ensures.same) c.tell.ensures
+returns-in-Some g c = rw (c.in-Some.is, ← c.fault_line.ensures, ← c.bytes.ensures.same) c.write.ensures
 
-pub returns-in-None : goal.returns-in-None
+pub returns-in_default : goal.returns-in_default
 unfolding fault_lines
-returns-in-None g c = rw c.in-None.is (Told-none _ _ _)
+returns-in_default g c = rw c.in_default.is (writes-none _ _)

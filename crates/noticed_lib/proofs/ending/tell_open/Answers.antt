@@ -7,4 +7,4 @@ returns-in-Ok g c = rw (c.in-Ok.is, ← c.as_slice.ensures.value) c.tell_lines.e
 
 pub returns-in-Err : goal.returns-in-Err
 unfolding open_lines
-returns-in-Err g c = rw (c.in-Err.is, ← c.fault_line.ensures, ← c.bytes.ensures.same) c.tell.ensures
+returns-in-Err g c = rw (c.in-Err.is, ← c.fault_line.ensures, ← c.bytes.ensures.same) c.write.ensures

@@ -1,11 +1,11 @@
+use Rattle.dsn_device.proofs.UntilFailureLemmas.{writes-none}
 use Rattle.noticed_lib.specs.Notes.{outbox_lines}
-use Rattle.noticed_lib.proofs.TellingLemmas.{Told-none}
 use Rattle.noticed_lib.proofs.ending.tell_outbox.Goals as goal
 
-pub returns-then-whole : goal.returns-then-whole
+pub returns-then-not-whole : goal.returns-then-not-whole
 unfolding outbox_lines
-returns-then-whole g c = rw c.if-whole.true (Told-none _ _ _)
+returns-then-not-whole g c = rw (c.if-not-whole.true, ← c.fault_line.ensures, ← c.bytes.ensures.same) c.write.ensures
 
-pub returns-else-whole : goal.returns-else-whole
+pub returns-else-not-whole : goal.returns-else-not-whole
 unfolding outbox_lines
-returns-else-whole g c = rw (c.if-whole.false, ← c.fault_line.ensures, ← c.bytes.ensures.same) c.tell.ensures
+returns-else-not-whole g c = rw c.if-not-whole.false (writes-none _ _)

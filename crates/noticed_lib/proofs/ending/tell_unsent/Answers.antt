@@ -1,12 +1,12 @@
 use Rattle.std.proofs.Common.{refl, append_assoc, ◌∙◌, [], ◌∷◌}
-use Rattle.noticed_lib.specs.Notes.{unsent_lines}
+use Rattle.dsn_device.proofs.UntilFailureLemmas.{writes-none, writes-then}
 use Rattle.dsn_report.proofs.OutgoingLemmas.{flat_map-more}
-use Rattle.noticed_lib.proofs.TellingLemmas.{Told-none, Told-then}
+use Rattle.noticed_lib.specs.Notes.{unsent_lines}
 use Rattle.noticed_lib.proofs.ending.tell_unsent.Goals as goal
 
 pub loop-letter-init : goal.loop-letter-init
 unfolding unsent_lines
-loop-letter-init g c = (rw c.new-kept.ensures refl, rw c.new-kept.ensures (Told-none _ _ _))
+loop-letter-init g c = (rw c.new-kept.ensures refl, rw c.new-kept.ensures (writes-none _ _))
 
 pub loop-letter-preserved : goal.loop-letter-preserved
 unfolding unsent_lines
@@ -14,5 +14,5 @@ loop-letter-preserved g c =
     let order = rw c.in-Some.ensures.first at c.loop-letter.invariant.0 in (
       rw c.push.ensures (append_assoc c.loop-letter.kept (c.in-Some.letter ∷ []) c.pop.new.self ∙ order),
       rw (c.push.ensures, flat_map-more, ← c.unsent_line.ensures, ← c.bytes.ensures.same)
-          (Told-then _ _ _ _ _ _ _ _ _ c.loop-letter.invariant.1 c.tell-lost.ensures),
+          (writes-then c.loop-letter.invariant.1 c.write.ensures),
     )

@@ -4,42 +4,11 @@ use Rattle.std.specs.List.{flat_map}
 use Rattle.std.proofs.Math.Seq.{take-suc}
 use Rattle.std.proofs.lemmas.Grind.{flat_map-append}
 use Rattle.std.proofs.lemmas.List.{map-append}
-use Rattle.std.proofs.KnownBytes.{Appends-nil, Appends-trans, Keeps-refl, Keeps-trans}
-use Rattle.dsn_device.proofs.TransferLemmas.{Appends-front, AppendsFront-longer, AppendsFront-kept}
-use Rattle.dsn_device.specs.Failures.{counted}
 use Rattle.dsn_device.proofs.UntilFailureLemmas.{writes-none, writes-then}
 use Rattle.dsn_device.specs.declared.drain.Drain.{Ghosts as Drain}
-use Rattle.dsn_report.specs.LineWriter.{Sent, counts_failure, Took, Wrote, lines_sent}
+use Rattle.dsn_report.specs.LineWriter.{Took, Wrote, lines_sent}
 use Rattle.dsn_report.specs.Lines.{text_of_lines, dot_stuffed, begins_with_dot}
 use Rattle.dsn_report.specs.declared.line_writer.LineWriter.{LineWriter}
-
--- nothing was asked
-pub Sent-none : (a : Bool) (x : Option (List ℕ)) → Sent a a x x []
-Sent-none false x = Appends-nil x
-Sent-none true x = Keeps-refl x
-
--- one text and then another
-pub Sent-then : (a b c : Bool) (x y z : Option (List ℕ)) (s t : List ℕ) → Sent a b x y s → Sent b c y z t → Sent a c x z (s ++ t)
-Sent-then false false false x y z s t p q = Appends-trans x y z s t p q
-Sent-then false false true x y z s t p q = Appends-front x y z s t p q
-Sent-then false true false x y z s t p q = absurd q
-Sent-then false true true x y z s t p q = AppendsFront-longer x z s t (AppendsFront-kept x y z s p q)
-Sent-then true false c x y z s t p q = absurd p
-Sent-then true true false x y z s t p q = absurd q
-Sent-then true true true x y z s t p q = Keeps-trans x y z p q
-
-pub counts-none : (a : Bool) (n : ℕ) → n ≡ counts_failure a a n
-counts-none false n = refl
-counts-none true n = refl
-
-pub counts-then : (a b c : Bool) (x y z : Option (List ℕ)) (s t : List ℕ) (l m n : ℕ) → Sent a b x y s → Sent b c y z t
-    → m ≡ counts_failure a b l → n ≡ counts_failure b c m → n ≡ counts_failure a c l
-counts-then false false c x y z s t l m n p q e f = f ∙ ap (counted c) e
-counts-then false true false x y z s t l m n p q e f = absurd q
-counts-then false true true x y z s t l m n p q e f = f ∙ e
-counts-then true false c x y z s t l m n p q e f = absurd p
-counts-then true true false x y z s t l m n p q e f = absurd q
-counts-then true true true x y z s t l m n p q e f = f ∙ e
 
 pub text_of_lines-append : (xs ys : List (List ℕ)) → text_of_lines (xs ++ ys) ≡ text_of_lines xs ++ text_of_lines ys
 unfolding text_of_lines

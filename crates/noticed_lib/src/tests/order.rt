@@ -80,16 +80,27 @@ fn writer<'a>(rt: &HostRuntime, clock: &'a AtomicU64) -> NotedWriter<'a> {
     }
 }
 
+/// Puts a device's letter at each of its calls.
+fn mark(happened: &mut [u8], letter: u8, calls: &[u64]) -> Result<(), Fail> {
+    for at in calls {
+        let place = happened.get_mut(*at as usize).ok_or("few calls")?;
+        *place = letter;
+    }
+    Ok(())
+}
+
 /// What happened, with one letter for each row of calls of one device: `r` for the reader, `o` for
 /// the outbox, `n` for the notes.
-fn in_order(rt: &HostRuntime, devices: [(u8, &[u64]); 3]) -> Result<Vec<u8>, Fail> {
+fn in_order(
+    rt: &HostRuntime,
+    reader: &[u64],
+    outbox: &[u64],
+    notes: &[u64],
+) -> Result<Vec<u8>, Fail> {
     let mut happened = vec![in rt.alloc(); b'?'; 200]?;
-    for (letter, calls) in devices {
-        for at in calls {
-            let place = happened.get_mut(*at as usize).ok_or("few calls")?;
-            *place = letter;
-        }
-    }
+    mark(&mut happened, b'r', reader)?;
+    mark(&mut happened, b'o', outbox)?;
+    mark(&mut happened, b'n', notes)?;
     let mut rows = Vec::new(rt.alloc());
     for letter in happened.as_slice() {
         if *letter != b'?' && rows.last() != Some(letter) {
@@ -121,14 +132,7 @@ fn run_noted(rt: &HostRuntime, good: usize) -> Result<(Vec<u8>, usize), Fail> {
     let source = source.into_inner();
     let outbox = end.outbox.into_inner();
     let notes = notes.into_inner();
-    let rows = in_order(
-        rt,
-        [
-            (b'r', source.calls.at.as_slice()),
-            (b'o', outbox.calls.at.as_slice()),
-            (b'n', notes.calls.at.as_slice()),
-        ],
-    )?;
+    let rows = in_order(rt, &source.calls.at, &outbox.calls.at, &notes.calls.at)?;
     Ok((rows, source.calls.at.len()))
 }
 

@@ -3,5 +3,6 @@ pub mod CloseLemmas
 pub mod EndLemmas
 mod Examples
 pub mod RuleLemmas
+pub mod SendLemmas
 pub mod SumLemmas
 pub mod TestLemmas

@@ -8,6 +8,7 @@ pub mod HistoryLemmas
 pub mod KeyLemmas
 pub mod KeyOrderLemmas
 pub mod OutcomeLemmas
+pub mod SendLemmas
 pub mod StampLemmas
 mod StatusExamples
 pub mod StatusLemmas

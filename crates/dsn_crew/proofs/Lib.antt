@@ -2,3 +2,4 @@ pub mod AgentLemmas
 pub mod DeskLemmas
 pub mod OpenLemmas
 pub mod RunLemmas
+pub mod SendLemmas

@@ -47,11 +47,16 @@ impl Alphabet {
         }
     }
 
-    /// Whether a text may hold each of these bytes.
+    /// Whether a text may hold each of these bytes. It looks at all of them, also after one that a
+    /// text may not hold, so that many are tested at once.
     fn allows_all(self, text: &[u8]) -> bool
         ensures { result ≡ list_all (allows self) text.now }
     {
-        text.iter().all(|&byte| self.allows(byte))
+        let mut all = true;
+        for byte in text {
+            all &= self.allows(*byte);
+        }
+        all
     }
 }
 

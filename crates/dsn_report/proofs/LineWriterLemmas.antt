@@ -67,3 +67,13 @@ line_text true line = with_dot (begins_with_dot line)
     with_dot : (dot : Bool) → (if dot then codes "." else []) ++ line ++ codes "\r\n" ≡ (if dot then 46 ∷ line else line) ++ (13 ∷ 10 ∷ [])
     with_dot true = refl
     with_dot false = refl
+
+-- so is a text that is the line with its end
+pub ended_line_text : (dots : Bool) (line text : List ℕ) → text ≡ line ++ codes "\r\n"
+    → (if dots && begins_with_dot text then codes "." else []) ++ text ≡ text_of_lines (lines_sent dots (line ∷ []))
+ended_line_text dots line text is =
+    rw (is, begins line) (sym (append_assoc (if dots && begins_with_dot line then codes "." else []) line (codes "\r\n")) ∙ line_text dots line)
+  where
+    begins : (line : List ℕ) → begins_with_dot (line ++ codes "\r\n") ≡ begins_with_dot line
+    begins [] = refl
+    begins (byte ∷ rest) = refl

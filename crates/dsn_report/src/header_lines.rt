@@ -1,5 +1,5 @@
 //! The lines of a message's header that a notice returns.
-ghost use Rattle.std.specs.Prelude.{◌≡◌, ◌≤◌, ◌==◌, [], ◌∷◌, length, take, if◌then◌else◌};
+ghost use Rattle.std.specs.Prelude.{◌≡◌, ◌≤◌, ◌==◌, [], ◌∷◌, ◌++◌, codes, length, take, if◌then◌else◌};
 ghost use Rattle.std.specs.Iterator.{YieldsFirstRef, item_count};
 ghost use Rattle.std.specs.Str.Lines.{strip_carriage_return};
 ghost use Rattle.dsn_report.specs.Boundary.{header_lines, shown_byte, shown_line};
@@ -9,6 +9,9 @@ use bstr::ByteSlice;
 
 /// The longest line of a notice, in bytes without its end (RFC 5322 section 2.1.1).
 pub(crate) const LONGEST_LINE: usize = 998;
+
+/// Room for a line of a notice with its end.
+pub(crate) const LINE_ROOM: usize = LONGEST_LINE + 2;
 
 /// The lines of a header up to its first empty one, as they came, without their ends.
 #[derive(Drop)]
@@ -54,7 +57,7 @@ fn without_carriage_return(line: &[u8]) -> &[u8]
 }
 
 /// Puts a line as a notice shows it at the front of `shown`, and says how long it is.
-pub(crate) fn show_line(line: &[u8], shown: &mut [u8; LONGEST_LINE]) -> usize
+pub(crate) fn show_line(line: &[u8], shown: &mut [u8; LINE_ROOM]) -> usize
     ensures within { result ≤ LONGEST_LINE }
     ensures line { take result shown.new ≡ shown_line line.now }
 {
@@ -63,6 +66,16 @@ pub(crate) fn show_line(line: &[u8], shown: &mut [u8; LONGEST_LINE]) -> usize
         shown[index] = shown_byte(*byte);
     }
     len
+}
+
+/// Puts a line as a notice shows it, with its end, at the front of `shown`, and gives it.
+pub(crate) fn show_ended_line<'a>(line: &[u8], shown: &'a mut [u8; LINE_ROOM]) -> &'a [u8]
+    ensures { result.now ≡ shown_line line.now ++ codes "\r\n" }
+{
+    let len = show_line(line, shown);
+    shown[len] = b'\r';
+    shown[len + 1] = b'\n';
+    &shown[..len + 2]
 }
 
 /// A byte as a notice shows it.

@@ -1,5 +1,5 @@
 //! Lines on their way to a drain, one piece after another.
-ghost use Rattle.std.specs.Prelude.{◌≡◌, false, [], ◌∷◌, ◌++◌, codes, ◌&&◌, if◌then◌else◌};
+ghost use Rattle.std.specs.Prelude.{◌≡◌, false, ℕ, List, [], ◌∷◌, ◌++◌, codes, ◌&&◌, if◌then◌else◌};
 ghost use Rattle.std.specs.List.{flat_map};
 ghost use Rattle.dsn_device.specs.QuietWriter.{Flushes};
 ghost use Rattle.dsn_report.specs.LineWriter.{Took, Wrote};
@@ -39,6 +39,23 @@ impl<W: Drain> LineWriter<W> {
         self.leading_dot(pieces);
         self.pieces(pieces);
         self.piece(b"\r\n");
+    }
+
+    /// Writes a line that stands with its end.
+    pub(crate) fn ended_line(&mut self, text: &[u8])
+        ensures { (line : List ℕ) → text.now ≡ line ++ codes "\r\n" → Wrote W.Drain self.old self.new (line ∷ []) }
+    {
+        self.dot_before(text);
+        self.piece(text);
+    }
+
+    /// Writes the dot that goes before a text that begins with one.
+    fn dot_before(&mut self, text: &[u8])
+        ensures { Took W.Drain self.old self.new (if self.old.dots && begins_with_dot text.now then codes "." else []) }
+    {
+        if self.dots && text.starts_with(b".") {
+            self.piece(b".");
+        }
     }
 
     /// Writes the dot that goes before a line that begins with one.

@@ -9,7 +9,7 @@ ghost use Rattle.dsn_report.specs.LineWriter.{Wrote};
 ghost use Rattle.dsn_report.specs.Notice.{notice_header, notice_lines, notification, outcome_lines, part_header, part_of, returned_part};
 
 use crate::boundary_number::boundary;
-use crate::header_lines::{HeaderLines, LONGEST_LINE, first_line, show_line};
+use crate::header_lines::{HeaderLines, LINE_ROOM, first_line, show_ended_line};
 use crate::line_writer::LineWriter;
 use crate::name::{boundary_text, letter_name};
 use crate::site::Site;
@@ -202,10 +202,9 @@ fn write_returned_part<W: Drain>(lines: &mut LineWriter<W>, letter: &Letter, bou
 fn write_returned_lines<W: Drain>(lines: &mut LineWriter<W>, header: &[u8])
     ensures { Wrote W.Drain lines.old lines.new (returned_lines header.now) }
 {
-    let mut shown = [0; LONGEST_LINE];
+    let mut shown = [0; LINE_ROOM];
     for line in (HeaderLines { rest: header }) {
-        let len = show_line(line, &mut shown);
-        lines.line(&[&shown[..len]]);
+        lines.ended_line(show_ended_line(line, &mut shown));
     }
 }
 

@@ -3,7 +3,7 @@ ghost use Rattle.std.specs.Prelude.{◌≡◌, ◌≢◌, ◌+◌, ◌*◌, ◌<
 ghost use Rattle.std.specs.List.{starts_with};
 ghost use Rattle.dsn_report.specs.Boundary.{four_digits, is_delimiter, rules_out};
 
-use crate::header_lines::{HeaderLines, LONGEST_LINE, show_line};
+use crate::header_lines::{HeaderLines, LINE_ROOM, show_line};
 
 /// One number more than a header can rule out: a line that rules one out has at least ten bytes
 /// and an end, and 32,768 bytes hold no more than 2,979 such lines.
@@ -14,7 +14,7 @@ pub(crate) fn numbers_ruled_out(front: &[u8], header: &[u8]) -> [bool; NUMBERS]
     ensures { (number : ℕ) → number < NUMBERS → slice_index_or result number false ≡ rules_out front.now header.now number }
 {
     let mut ruled_out = [false; NUMBERS];
-    let mut shown = [0; LONGEST_LINE];
+    let mut shown = [0; LINE_ROOM];
     for line in (HeaderLines { rest: header }) {
         if line.starts_with(b"--") {
             let len = show_line(line, &mut shown);

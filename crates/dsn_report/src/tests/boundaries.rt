@@ -1,7 +1,7 @@
 //! The boundary's number, beside a search that tries the numbers in turn.
 use super::{A1B2C3, BOB, Flush, letter};
 use crate::boundary;
-use crate::header_lines::{HeaderLines, LONGEST_LINE, show_line};
+use crate::header_lines::{HeaderLines, LINE_ROOM, show_line};
 use crate::name::boundary_text;
 use dsn_outcome::Letter;
 use std::alloc::Global;
@@ -24,7 +24,7 @@ fn boundary_in_turn(letter: &Letter) -> u16 {
 
 /// Whether a returned line of this header begins with two dashes and the boundary.
 fn is_ruled_out(boundary: &[u8], header: &[u8]) -> bool {
-    let mut shown = [0; LONGEST_LINE];
+    let mut shown = [0; LINE_ROOM];
     for line in (HeaderLines { rest: header }) {
         let len = show_line(line, &mut shown);
         if len >= 2 && shown[..len].starts_with(b"--") && shown[2..len].starts_with(boundary) {

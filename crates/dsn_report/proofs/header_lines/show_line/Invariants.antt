@@ -5,6 +5,6 @@ use Rattle.dsn_report.proofs.header_lines.show_line.Given as goal
 
 abbrev pub invariant-loop-index : goal.invariant-loop-index
 invariant-loop-index l = record {
-  room : length l.shown ≡ 998;
+  room : length l.shown ≡ 1000;
   so_far : take l.index l.shown ≡ map shown_byte (take l.index (take l.len l.line));
 }

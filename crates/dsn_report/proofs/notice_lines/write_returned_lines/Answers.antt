@@ -1,4 +1,4 @@
-use Rattle.std.proofs.Common.{refl, rules, sym, ap, map, append-nil}
+use Rattle.std.proofs.Common.{refl, rules, sym, ap, map}
 use Rattle.dsn_report.proofs.LineWriterLemmas.{Wrote-as, Wrote-none, Wrote-then}
 use Rattle.dsn_report.specs.Boundary.{returned_lines, shown_line}
 use Rattle.dsn_report.specs.HeaderLines.{lines_left}
@@ -16,8 +16,8 @@ loop-line-preserved g c = record {
   room = search rules;
   rest = λ end later.
       c.loop-line.invariant.rest end
-      (Wrote-as (simp (append-nil, c.show_line-len.ensures.line) (sym (ap (map shown_line) c.in-Some.ensures.steps)))
-      (Wrote-then c.line.ensures later));
+      (Wrote-as (sym (ap (map shown_line) c.in-Some.ensures.steps))
+      (Wrote-then (c.ended_line.ensures _ c.show_ended_line.ensures) later));
 }
 
 pub returns : goal.returns

@@ -1,3 +1,2 @@
-pub mod FailureLemmas
 pub mod TransferLemmas
 pub mod UntilFailureLemmas

@@ -18,20 +18,6 @@ AppendsFront-all a b text p = record { front = text; unsent = []; split = sym (a
 pub AppendsFront-none : (a b : Option (List ℕ)) (text : List ℕ) → Keeps a b → AppendsFront a b text
 AppendsFront-none a b text p = record { front = []; unsent = text; split = refl; appended = Appends-kept a a b [] (Appends-nil a) p }
 
--- a front of a text is a front of each longer text
-pub AppendsFront-longer : (a b : Option (List ℕ)) (text more : List ℕ) → AppendsFront a b text → AppendsFront a b (text ++ more)
-AppendsFront-longer a b text more p =
-    record { front = p.front; unsent = p.unsent ++ more; split = ap (λ l. l ++ more) p.split ∙ append_assoc p.front p.unsent more; appended = p.appended }
-
--- a text and then a front of a second one are a front of both
-pub Appends-front : (a b c : Option (List ℕ)) (text more : List ℕ) → Appends a b text → AppendsFront b c more → AppendsFront a c (text ++ more)
-Appends-front a b c text more p q =
-    record { front = text ++ q.front; unsent = q.unsent; split = ap (λ l. text ++ l) q.split ∙ sym (append_assoc text q.front q.unsent); appended = Appends-trans a b c text q.front p q.appended }
-
--- what keeps the bytes of a drain keeps what it took
-pub AppendsFront-kept : (a b c : Option (List ℕ)) (text : List ℕ) → AppendsFront a b text → Keeps b c → AppendsFront a c text
-AppendsFront-kept a b c text p q = record { front = p.front; unsent = p.unsent; split = p.split; appended = Appends-kept a b c p.front p.appended q }
-
 -- what was taken in part is a front
 pub AppendsFront-part : (a b : Option (List ℕ)) (text : List ℕ) → AppendsPart a b text → AppendsFront a b text
 AppendsFront-part a b text p = record { front = p.front; unsent = p.unsent; split = p.split; appended = p.appended }

@@ -1,6 +1,5 @@
--- Tests: the ends of a lane, taken from the last agent's to the first's, and put by.
-use Rattle.std.proofs.Common.{◌≡◌, ℕ, ◌+◌, ◌-◌, ◌<◌, List, [], ◌∷◌, ◌++◌, All, ap, sym, ◌∙◌, subst, arith}
-use Rattle.std.proofs.lemmas.List.Elements.{All-append, All-cons, All-nil}
+-- Tests: the ends of a lane, taken from the last agent's to the first's.
+use Rattle.std.proofs.Common.{◌≡◌, ℕ, ◌+◌, ◌-◌, ◌<◌, List, [], ◌∷◌, ◌++◌, ap, ◌∙◌, arith}
 use Rattle.dsn_lane.proofs.EndLemmas.{last_end}
 use Rattle.dsn_lane.specs.Ends.{Identity, End, fresh_ends}
 
@@ -12,9 +11,3 @@ left_taken {T} lane left all rest last some fresh split =
     let it = last_end lane 0 more all rest last (fresh ∙ ap (fresh_ends lane 0) is) split in
     let agent : last.agent ≡ 0 + more = ap (λ (e : End T). e.agent) it.1 in
     (it.0, ap (λ (e : End T). e.lane) it.1, omega arith)
-
--- one more end is put by
-pub one_put_by : {T : Type 0} (lane : Identity T) (used all : List (End T)) (end : End T) → All (λ (e : End T). e.lane ≡ lane) used → all ≡ used ++ end ∷ [] → end.lane ≡ lane → All (λ (e : End T). e.lane ≡ lane) all
-one_put_by {T} lane used all end lanes pushed own =
-    let P : End T → Type 0 = λ e. e.lane ≡ lane in
-    subst (All P) (sym pushed) (All-append P used (end ∷ []) lanes (All-cons P end [] own (All-nil P)))

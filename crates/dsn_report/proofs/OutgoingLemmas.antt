@@ -43,11 +43,6 @@ pub finish_text-after : {W : Type 0} (poster : Poster W) (letters : List Letter)
 unfolding finish_text outbox_of
 finish_text-after poster letters first = due poster.host poster.greeted letters goodbye first
 
--- a whole outbox is what was written of all letters, and the end
-pub outbox_of-written : (host : List ℕ) (letters : List Letter) → outbox_of host letters ≡ written_of host true letters ++ goodbye
-unfolding outbox_of
-outbox_of-written host letters = refl
-
 -- a letter that failed or not is handed back as it came
 handed_back : (failed : Bool) (letter : Letter) → letter_handed_back (post_fault failed letter) ≡ letter
 handed_back true letter = refl

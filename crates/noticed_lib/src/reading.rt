@@ -24,7 +24,7 @@ pub(crate) fn read_all<R: Source, W: Drain, N: Drain>(
     requires { run.old.accepted ≡ 0 }
     ensures heard { (limits : Bounds) (host : List ℕ) (start : W) → limits.requests ≡ requests → Stands W.Drain limits host start run.old (requests_of []) →
         Heard R.Source W.Drain N.Drain limits host start input.old input.new run.new notes.old notes.new result }
-    ensures steady { R.steady input.old → R.failures input.new ≡ R.failures input.old }
+    ensures steady { R.steady input.old → R.steady input.new × (R.failures input.new ≡ R.failures input.old) }
 {
     for position in 0..requests {
         let frame = match read_frame(alloc, input) {

@@ -45,7 +45,7 @@ pub fn batch<R: Source, W: Drain, N: Drain>(
     ensures run { IsBatch R.Source W.Drain N.Drain limits.now site input.old input.new outbox notes.old notes.new result }
 
     // A reader whose calls don't fail is not blamed.
-    ensures steady { R.steady input.old → R.failures input.new ≡ R.failures input.old }
+    ensures steady { R.steady input.old → R.steady input.new × (R.failures input.new ≡ R.failures input.old) }
 {
     let outgoing = Outgoing::new(site, outbox);
     match Book::new(alloc, *limits) {
@@ -75,7 +75,7 @@ fn read_into<R: Source, W: Drain, N: Drain>(
 ) -> Harvest<W>
     ensures harvest { (limits : Bounds) (host : List ℕ) (start : W) → limits.requests ≡ requests → book.limits ≡ limits → Represents book [] → Delivered W.Drain host start outgoing [] →
         Harvested R.Source W.Drain N.Drain limits host start input.old input.new notes.old notes.new result.reading result.outgoing (option_map (λ lines. lines.items) (result_ok result.logs)) }
-    ensures steady { R.steady input.old → R.failures input.new ≡ R.failures input.old }
+    ensures steady { R.steady input.old → R.steady input.new × (R.failures input.new ≡ R.failures input.old) }
 {
     let mut run = Run {
         book,

@@ -91,4 +91,7 @@ returns-clause-heard g c = λ limits host start same stands.
     (session_cut Input limits.requests 0 _ _ _ _ _ _ so_far.session c.in-Err-read_frame.fault c.in-Err-read_frame.ensures.refused) refl c.in-Err-read_frame.ensures.count
 
 pub returns-in-Ok-None-clause-steady : goal.returns-in-Ok-None-clause-steady
-returns-in-Ok-None-clause-steady g c = λ steady. (c.read_frame.ensures.steady (c.loop-position.invariant.2 steady).0).1 ∙ (c.loop-position.invariant.2 steady).1
+returns-in-Ok-None-clause-steady g c = λ steady.
+    let so_far = c.loop-position.invariant.2 steady in
+    let last = c.read_frame.ensures.steady so_far.0 in
+    (last.0, last.1 ∙ so_far.1)

@@ -11,4 +11,5 @@ pub mod RequestLaws
 mod SessionExamples
 pub mod SessionFrames
 pub mod SessionLemmas
+pub mod SomeSession
 pub mod WholeInputLemmas

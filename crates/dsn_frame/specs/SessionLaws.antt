@@ -1,9 +1,10 @@
 -- What holds of all sessions: they are a function of the bytes of their source, but for what the bytes don't decide,
 -- and their frames are those of the bytes (this project's profile).
-use Rattle.std.specs.Prelude.{◌≡◌, ℕ, Bool, true, false, ◌||◌, ◌==◌, List, [], ◌∷◌, ◌++◌, Option, Some, None}
+use Rattle.std.specs.Prelude.{◌≡◌, ℕ, ◌+◌, ◌≤◌, Bool, true, false, ◌||◌, ◌==◌, List, [], ◌∷◌, ◌++◌, Option, Some, None}
 use Rattle.std.specs.List.{AllByRecursion}
 use Rattle.std.specs.Option.{option_map, option_map_or}
 use Rattle.dsn_outcome.specs.Request.{Body}
+use Rattle.dsn_outcome.specs.declared.answer.Reply.{Reply as Given}
 use Rattle.dsn_frame.specs.Frame.{AreFramesOf}
 use Rattle.dsn_frame.specs.FrameFault.{frame_fault_code}
 use Rattle.dsn_frame.specs.Session.{Medium, IsSession}
@@ -56,6 +57,27 @@ HasOneSession medium limit before bytes =
     → IsSession medium limit before (Some bytes) other_left other_frames other_bodies other_answers other_end
     → IsOfBytesAlone other_answers other_end
     → AreSame frames other_frames bodies other_bodies answers other_answers end other_end
+
+-- the replies among the answers from a place on are those that are given for their places
+abbrev pub RepliesAre : (ℕ → Given) → ℕ → List Spoken → Type 0
+RepliesAre replies place [] = Unit {0}
+RepliesAre replies place (Reply reply ∷ rest) = (reply ≡ replies place) × RepliesAre replies (place + 1) rest
+RepliesAre replies place (Refused code ∷ rest) = RepliesAre replies (place + 1) rest
+
+-- a session over these bytes that met nothing from outside, with these replies
+pub record SessionWith (medium : Medium) (limit before : ℕ) (bytes : List ℕ) (replies : ℕ → Given) : Type 0 where
+  pub left : Option (List ℕ)
+  pub frames : List (List ℕ)
+  pub bodies : List Body
+  pub answers : List Spoken
+  pub end : Option ℕ
+  pub session : IsSession medium limit before (Some bytes) left frames bodies answers end
+  pub alone : IsOfBytesAlone answers end
+  pub replied : RepliesAre replies 0 answers
+
+-- there is one, whatever the replies are, where no more requests came before it than there may be
+abbrev pub HasSomeSession : Medium → ℕ → ℕ → List ℕ → Type 0
+HasSomeSession medium limit before bytes = before ≤ limit → (replies : ℕ → Given) → SessionWith medium limit before bytes replies
 
 -- the ends that the frames of an input make: none at all, a length that is none, and a frame that is cut short
 abbrev pub is_end_of_frames : Option ℕ → Bool

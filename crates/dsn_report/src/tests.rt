@@ -1,4 +1,6 @@
 //! Notices and outboxes as a mail program gets them.
+ghost use Rattle.std.specs.Prelude.{◌≡◌, ◌≢◌, [], All};
+
 mod boundaries;
 mod longest;
 mod notices;
@@ -44,6 +46,14 @@ const A1B2C3: Flush<'static> = Flush {
 fn letter(alloc: Global, parts: Parts<'_>, flush: Flush<'_>) -> Result<Letter, Fail> {
     let mut chain = Chain::new();
     chain.push(Outcome::new(alloc, Service::Bounce, parts)?);
+    sealed(alloc, chain, flush)
+}
+
+/// A letter to the sender about these outcomes of the bounce service.
+fn sealed(alloc: Global, chain: Chain, flush: Flush<'_>) -> Result<Letter, Fail>
+    requires reports { chain ≢ [] }
+    requires of_service { All (λ outcome. outcome.service ≡ Service.Bounce) chain }
+{
     let envelope_id = if flush.envelope_id.is_empty() {
         None
     } else {

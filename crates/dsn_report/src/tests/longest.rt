@@ -1,7 +1,12 @@
-//! Hosts and headers at their longest and in between, with ample memory.
-use super::{A1B2C3, BOB, Flush, letter};
+//! Hosts, headers and outcomes at their longest and in between, with ample memory.
+ghost use Rattle.std.specs.Prelude.{◌≡◌, ◌≤◌, All, IfOk, length};
+
+use super::{A1B2C3, BOB, Flush, letter, sealed, site};
 use crate::{LONGEST_HOST, Site, boundary, notice};
-use dsn_outcome::LONGEST_HEADER;
+use dsn_outcome::{
+    Chain, LONGEST_ADDRESS, LONGEST_CLEAN, LONGEST_HEADER, LONGEST_MTA_NAME, Outcome, Parts,
+    Service,
+};
 use std::alloc::Global;
 use std::test::Fail;
 
@@ -67,3 +72,41 @@ Content-Description: Undelivered Message Headers\r\n\
 Content-Type: text/rfc822-headers\r\n\
 \r\n\
 \r\n";
+
+/// So many outcomes of the bounce service, one like the other.
+fn outcomes(alloc: Global, parts: Parts<'_>, count: u32) -> Result<Chain, Fail>
+    requires { count ≤ 1000 }
+    ensures count { IfOk result (λ chain. length chain ≡ count) }
+    ensures of_service { IfOk result (λ chain. All (λ outcome. outcome.service ≡ Service.Bounce) chain) }
+{
+    let mut chain = Chain::new();
+    for _ in 0..count {
+        chain.push(Outcome::new(alloc, Service::Bounce, parts)?);
+    }
+    Ok(chain)
+}
+
+#[test]
+fn thousand_outcomes_of_the_longest_texts(rt: HostRuntime) -> Result<(), Fail> {
+    let alloc = rt.alloc();
+    let address = vec![in alloc; b'a'; LONGEST_ADDRESS]?;
+    let name = vec![in alloc; b'm'; LONGEST_MTA_NAME]?;
+    let clean = vec![in alloc; b'c'; LONGEST_CLEAN]?;
+    let parts = Parts {
+        recipient: &address,
+        original: &address,
+        action: 1,
+        status: b"5.999.999",
+        mta: &name,
+        diagnostic: &clean,
+        reason: &clean,
+    };
+    let site = site(alloc)?;
+    let least = notice(alloc, &site, &letter(alloc, BOB, A1B2C3)?)?;
+    let letter = sealed(alloc, outcomes(alloc, parts, 1_000)?, A1B2C3)?;
+    let text = notice(alloc, &site, &letter)?;
+    // 110 bytes of the notice about bob are his; an outcome of the longest texts has 2,791
+    let more = text.len().saturating_sub(least.len());
+    assert_eq!(rt; more.saturating_add(110), 2_791_000);
+    Ok(())
+}

@@ -1,26 +1,29 @@
 -- One session: two sessions over the same bytes that met nothing from outside them are the same but for their replies.
-use Rattle.std.proofs.Common.{◌≡◌, ℕ, ◌+◌, ◌<◌, Bool, true, false, List, [], ◌∷◌, ◌++◌, length, refl, sym, ap, subst, ◌∙◌, append_assoc, arith}
+use Rattle.std.proofs.Common.{◌≡◌, ◌==◌, ℕ, ◌+◌, ◌<◌, Bool, true, false, if◌then◌else◌, List, [], ◌∷◌, ◌++◌, length, drop, refl, sym, ap, subst, ◌∙◌, append_assoc, arith}
 use Rattle.std.specs.Prelude.{◌≢◌, Option, Some, None}
+use Rattle.std.specs.Int.{w32, to_be_bytes}
 use Rattle.std.specs.List.{flat_map, AllByRecursion}
 use Rattle.std.specs.Option.{option_map, option_map_or}
-use Rattle.std.proofs.lemmas.List.{append-nil, length-append, same_from_push}
+use Rattle.std.proofs.lemmas.List.{append-nil, append_cancel_left, length-append, same_from_push}
+use Rattle.std.proofs.lemmas.List.Prefix.{front_rest}
 use Rattle.dsn_outcome.specs.Request.{Body}
 use Rattle.dsn_outcome.specs.declared.answer.Reply.{Reply}
 use Rattle.dsn_frame.specs.BodyFault.{body_fault_code}
-use Rattle.dsn_frame.specs.Frame.{frame}
+use Rattle.dsn_frame.specs.Frame.{frame, declared_length, ReadsNone}
 use Rattle.dsn_frame.specs.FrameBody.{IsFrameBody}
 use Rattle.dsn_frame.specs.FrameFault.{frame_fault_code}
 use Rattle.dsn_frame.specs.Request.{Encodes, first_body_fault}
-use Rattle.dsn_frame.specs.Session.{Medium, Input, Connection, Takes, faulty, out_of_memory, out_of_turn, used_up, asked, given_up, given_up_after, GoesOn, written, unwritten, SessionSoFar, begun, taken}
-use Rattle.dsn_frame.specs.SessionLaws.{is_from_outside, IsDecided, IsOfBytesAlone, AnswerAlike, AreSame, HasOneSession}
+use Rattle.dsn_frame.specs.Session.{Medium, Input, Connection, Takes, faulty, out_of_memory, out_of_turn, used_up, asked, given_up, given_up_after, GoesOn, written, unwritten, SessionSoFar, begun, taken, Ends, stopped, well, cut, too_many, no_memory_for_book, IsSession}
+use Rattle.dsn_frame.specs.SessionLaws.{is_from_outside, IsDecided, IsOfBytesAlone, AnswerAlike, AreSame, HasOneSession, LeavesOneRest}
 use Rattle.dsn_frame.specs.declared.body_fault.BodyFault.{BodyFault}
 use Rattle.dsn_frame.specs.declared.frame_fault.FrameFault.{FrameFault}
+use Rattle.dsn_frame.specs.declared.frame_fault.FrameFault.TheVariants.{NoMemory, TooLong, Empty, CutShort, Read}
 use Rattle.dsn_frame.specs.declared.spoken.Spoken.{Spoken}
 use Rattle.dsn_frame.specs.declared.spoken.Spoken.TheVariants as spoken
 use Rattle.dsn_frame.proofs.FieldLaws.{some_is}
-use Rattle.dsn_frame.proofs.InputLaws.{ends_with_no_frame, same_end}
+use Rattle.dsn_frame.proofs.InputLaws.{ends_with_no_frame, front_declares, same_end}
 use Rattle.dsn_frame.proofs.RequestLaws.{encodes_one, encoded_is_accepted}
-use Rattle.dsn_frame.proofs.SessionFrames.{all_parts, opposite, frames_cons, Compared, first, beyond, compare, session_legal, EndsAt, at_frame, no_frame, one_more, from_outside, Reading, session_reads}
+use Rattle.dsn_frame.proofs.SessionFrames.{all_parts, opposite, frames_cons, Compared, first, beyond, compare, session_legal, EndsAt, at_frame, no_frame, one_more, from_outside, ends_at, known_left, Reading, session_reads}
 
 abbrev is_outside_end : Option ℕ → Bool
 is_outside_end end = option_map_or is_from_outside end false
@@ -259,3 +262,75 @@ one_session medium limit before bytes left other_left frames others bodies other
     let other_legal = session_legal medium limit before others other_bodies other_answers other.made other.takes in
     compared medium limit before bytes frames others bodies other_bodies answers other_answers end other_end reading alone other other_alone
     (compare frames others reading.rest other.rest legal other_legal (sym reading.split ∙ other.split))
+
+-- ---- what is left of the bytes
+
+-- what an end that the bytes decide leaves of them, where no frame made it
+left_after : Option ℕ → List ℕ → List ℕ
+left_after None rest = []
+left_after (Some code) rest = if code == 47 then drop (4 + declared_length rest) rest else if code == 13 then [] else drop 4 rest
+
+data LeftAt (made : Option ℕ) (rest : List ℕ) (end : Option ℕ) (now : List ℕ) : Type 0 where
+  left_at_frame : (code : ℕ) → made ≡ Some code → now ≡ rest → LeftAt made rest end now
+  left_at_rest : made ≡ None → now ≡ left_after end rest → LeftAt made rest end now
+  left_from_outside : (code : ℕ) → is_from_outside code ≡ true → end ≡ Some code → LeftAt made rest end now
+
+left_at_cut : (made : Option ℕ) (rest now : List ℕ) (fault : FrameFault) → made ≡ None → ReadsNone (Some rest) (Some now) fault → LeftAt made rest (Some (frame_fault_code fault)) now
+unfolding left_after
+left_at_cut made rest now NoMemory on reads = left_from_outside 9 refl refl
+left_at_cut made rest now Read on reads = left_from_outside 14 refl refl
+left_at_cut made rest now CutShort on reads = left_at_rest on (reads.ends refl)
+left_at_cut made rest now TooLong on reads = left_at_rest on (sym (front_rest rest reads.part now reads.consumed) ∙ ap (λ (n : ℕ). drop n rest) reads.stops.0)
+left_at_cut made rest now Empty on reads = left_at_rest on (sym (front_rest rest reads.part now reads.consumed) ∙ ap (λ (n : ℕ). drop n rest) reads.stops.0)
+
+left_at_more : (made : Option ℕ) (rest now bytes : List ℕ) → made ≡ None → IsFrameBody bytes → rest ≡ frame bytes ++ now → LeftAt made rest (Some 47) now
+unfolding left_after
+left_at_more made rest now bytes on legal is =
+    let declares : declared_length rest ≡ length bytes = ap declared_length is ∙ front_declares bytes now legal in
+    let size : length (frame bytes) ≡ 4 + declared_length rest = omega (arith, declares, length-append (to_be_bytes w32 (length bytes)) bytes) in
+    left_at_rest on (sym (front_rest rest (frame bytes) now is) ∙ ap (λ (n : ℕ). drop n rest) size)
+
+left_at : (medium : Medium) (limit count : ℕ) (made : Option ℕ) (rest now : List ℕ) (end : Option ℕ) → Ends medium limit count made (Some rest) (Some now) end → LeftAt made rest end now
+unfolding left_after
+left_at medium limit count made rest now _ (stopped code is same) = left_at_frame code is (sym (some_is rest now same))
+left_at medium limit count made rest now _ (well on before after) = left_at_rest on after
+left_at medium limit count made rest now _ (cut on fault reads) = left_at_cut made rest now fault on reads
+left_at medium limit count made rest now _ (too_many on bytes full legal read) = left_at_more made rest now bytes on legal read
+left_at medium limit count made rest now _ (no_memory_for_book alone on nothing same) = left_from_outside 9 refl refl
+
+left_same : (made other_made : Option ℕ) (rest other_rest : List ℕ) (end other_end : Option ℕ) (now other_now : List ℕ) → made ≡ other_made → rest ≡ other_rest → end ≡ other_end
+    → is_outside_end end ≡ false → is_outside_end other_end ≡ false → LeftAt made rest end now → LeftAt other_made other_rest other_end other_now → now ≡ other_now
+left_same made other rest rest' end end' now now' same left ends ended ended' (left_at_frame code is here) (left_at_frame code' is' here') = here ∙ left ∙ sym here'
+left_same made other rest rest' end end' now now' same left ends ended ended' (left_at_frame code is here) (left_at_rest on here') = absurd (none_is_none made code is (same ∙ on))
+left_same made other rest rest' end end' now now' same left ends ended ended' (left_at_rest on here) (left_at_frame code is here') = absurd (none_is_none other code is (sym same ∙ on))
+left_same made other rest rest' end end' now now' same left ends ended ended' (left_at_rest on here) (left_at_rest on' here') =
+    here ∙ ap (λ (e : Option ℕ). left_after e rest) ends ∙ ap (left_after end') left ∙ sym here'
+left_same made other rest rest' end end' now now' same left ends ended ended' (left_from_outside code outside is) others = absurd (not_outside end code outside is ended)
+left_same made other rest rest' end end' now now' same left ends ended ended' (left_at_frame code is here) (left_from_outside code' outside is') = absurd (not_outside end' code' outside is' ended')
+left_same made other rest rest' end end' now now' same left ends ended ended' (left_at_rest on here) (left_from_outside code outside is) = absurd (not_outside end' code outside is ended')
+
+record Leaving (medium : Medium) (limit before : ℕ) (bytes : List ℕ) (frames : List (List ℕ)) (bodies : List Body) (answers : List Spoken) (end : Option ℕ) (now : List ℕ) : Type 0 where
+  reading : Reading medium limit before bytes frames bodies answers end
+  leaves : LeftAt reading.made reading.rest end now
+
+leaving : (medium : Medium) (limit before : ℕ) (bytes now : List ℕ) (frames : List (List ℕ)) (bodies : List Body) (answers : List Spoken) (end : Option ℕ) → IsSession medium limit before (Some bytes) (Some now) frames bodies answers end → Leaving medium limit before bytes frames bodies answers end now
+leaving medium limit before bytes now frames bodies answers end session =
+    let known = known_left bytes session.left (flat_map frame frames) session.read in
+    let ends : Ends medium limit (length frames) session.made (Some known.0) (Some now) end = subst (λ (left : Option (List ℕ)). Ends medium limit (length frames) session.made left (Some now) end) known.1 session.ends in
+    record {
+      reading = record { made = session.made; takes = session.takes; rest = known.0; split = known.2; ends = ends_at medium limit (length frames) session.made known.0 (Some now) end ends };
+      leaves = left_at medium limit (length frames) session.made known.0 now end ends;
+    }
+
+-- sessions over the same bytes that met nothing from outside leave the same of them
+pub one_rest : (medium : Medium) (limit before : ℕ) (bytes : List ℕ) → LeavesOneRest medium limit before bytes
+one_rest medium limit before bytes now other_now frames others bodies other_bodies answers other_answers end other_end session alone other_session other_alone =
+    let same = one_session medium limit before bytes (Some now) (Some other_now) frames others bodies other_bodies answers other_answers end other_end session alone other_session other_alone in
+    let one = leaving medium limit before bytes now frames bodies answers end session in
+    let other = leaving medium limit before bytes other_now others other_bodies other_answers other_end other_session in
+    let left : one.reading.rest ≡ other.reading.rest =
+    append_cancel_left (flat_map frame others) one.reading.rest other.reading.rest (ap (λ (fs : List (List ℕ)). flat_map frame fs ++ one.reading.rest) (sym same.frames_same) ∙ sym one.reading.split ∙ other.reading.split) in
+    let made = made_decided limit (length frames) one.reading.made one.reading.rest end one.reading.ends alone.ended in
+    let other_made = made_decided limit (length others) other.reading.made other.reading.rest other_end other.reading.ends other_alone.ended in
+    let turns = same_so_far medium limit before frames others bodies other_bodies answers other_answers one.reading.made other.reading.made one.reading.takes other.reading.takes same.frames_same alone.answered other_alone.answered made other_made in
+    left_same one.reading.made other.reading.made one.reading.rest other.reading.rest end other_end now other_now turns.ends left same.end_same alone.ended other_alone.ended one.leaves other.leaves

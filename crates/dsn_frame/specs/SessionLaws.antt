@@ -58,6 +58,16 @@ HasOneSession medium limit before bytes =
     → IsOfBytesAlone other_answers other_end
     → AreSame frames other_frames bodies other_bodies answers other_answers end other_end
 
+-- and what they leave of the bytes is the same, where both tell it
+abbrev pub LeavesOneRest : Medium → ℕ → ℕ → List ℕ → Type 0
+LeavesOneRest medium limit before bytes =
+    (left other_left : List ℕ) (frames other_frames : List (List ℕ)) (bodies other_bodies : List Body)
+    (answers other_answers : List Spoken) (end other_end : Option ℕ)
+    → IsSession medium limit before (Some bytes) (Some left) frames bodies answers end → IsOfBytesAlone answers end
+    → IsSession medium limit before (Some bytes) (Some other_left) other_frames other_bodies other_answers other_end
+    → IsOfBytesAlone other_answers other_end
+    → left ≡ other_left
+
 -- the replies among the answers from a place on are those that are given for their places
 abbrev pub RepliesAre : (ℕ → Given) → ℕ → List Spoken → Type 0
 RepliesAre replies place [] = Unit {0}

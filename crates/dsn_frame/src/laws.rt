@@ -2,7 +2,7 @@
 ghost use Rattle.std.specs.Prelude.{ℕ, List};
 ghost use Rattle.dsn_frame.specs.Laws.{IsBytes, IsSomeRequest, IsNotRefused, IsOneRequest, HasFrames, HasOneReading};
 ghost use Rattle.dsn_frame.specs.Session.{Medium};
-ghost use Rattle.dsn_frame.specs.SessionLaws.{HasOneSession, HasSomeSession, TakesItsFrames};
+ghost use Rattle.dsn_frame.specs.SessionLaws.{HasOneSession, HasSomeSession, LeavesOneRest, TakesItsFrames};
 ghost use Rattle.dsn_frame.specs.WholeInput.{IsTakenWhole};
 
 /// Each body is one request, or is refused, and never both.
@@ -26,11 +26,13 @@ pub fn sessions_take_the_frames_of_their_bytes()
 
 /// A session is a function of its source's bytes and of how many requests came before, but for want
 /// of memory (9), a read that failed (14), an answer that could not be written (33, 35), a daemon
-/// that gave up (41), and for which replies there are. There is one over all bytes, whatever the
-/// replies are, where no more requests came before it than there may be.
+/// that gave up (41), and for which replies there are; what it leaves of the bytes, where that is
+/// told, is one too. There is a session over all bytes, whatever the replies are, where no more
+/// requests came before it than there may be.
 pub fn sessions_are_functions_of_their_bytes()
     ensures some { (medium : Medium) (limit before : ℕ) (bytes : List ℕ) → IsBytes bytes → HasSomeSession medium limit before bytes }
     ensures one { (medium : Medium) (limit before : ℕ) (bytes : List ℕ) → HasOneSession medium limit before bytes }
+    ensures rest { (medium : Medium) (limit before : ℕ) (bytes : List ℕ) → LeavesOneRest medium limit before bytes }
 {}
 
 /// Nothing of a source whose bytes are requests, numbered in turn from 0, and no more of them than

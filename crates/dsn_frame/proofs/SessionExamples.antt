@@ -8,7 +8,7 @@ use Rattle.dsn_frame.specs.Request.{first_body_fault}
 use Rattle.dsn_frame.specs.Session.{Input, Connection, faulty, out_of_memory, out_of_turn, used_up, asked, given_up_after, written, unwritten, begun, taken, stopped, well, too_many, IsSession}
 use Rattle.dsn_frame.specs.declared.body_fault.BodyFault.TheVariants.{Version}
 use Rattle.dsn_frame.specs.declared.spoken.Spoken.TheVariants.{Reply, Refused}
-use Rattle.dsn_frame.specs.SessionLaws.{IsOfBytesAlone, AreSame, AreFirstFrames}
+use Rattle.dsn_frame.specs.SessionLaws.{IsOfBytesAlone, AreSame, AreFirstFrames, RepliesAre}
 use Rattle.dsn_frame.proofs.Examples.{append_body, flush_body, append_asked, flush_asked, append_is_encoded, flush_is_encoded, agent_input, two_frames}
 use Rattle.dsn_frame.proofs.OneSession.{one_session}
 use Rattle.dsn_frame.proofs.RequestLaws.{encoded_is_accepted}
@@ -84,6 +84,10 @@ both_asked first second =
 -- it met nothing from outside the bytes
 of_bytes_alone : (first second : ReplyOf) → IsOfBytesAlone (Reply first ∷ Reply second ∷ []) None
 of_bytes_alone first second = record { answered = (tt, (tt, tt)); ended = refl }
+
+-- a refusal keeps its place among the replies
+by_places : (replies : ℕ → ReplyOf) → RepliesAre replies 0 (Reply (replies 0) ∷ Refused 21 ∷ Reply (replies 2) ∷ [])
+by_places replies = (refl, (refl, tt))
 
 -- so it is one session, whatever its replies are
 one_but_for_replies :

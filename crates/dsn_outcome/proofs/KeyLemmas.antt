@@ -1,5 +1,5 @@
 -- `same_key` tells whether two keys are equal.
-use Rattle.std.specs.Prelude.{◌≡◌, ℕ, List, true, false, refl}
+use Rattle.std.specs.Prelude.{◌≡◌, ℕ, List, true, refl}
 use Rattle.std.specs.Bool.{Decides}
 use Rattle.std.proofs.Common.{sym, ap, ◌∙◌, arith}
 use Rattle.std.proofs.lemmas.Bool.Decides.{same_from_decides}

@@ -1,4 +1,5 @@
 mod AnswerExamples
+pub mod AnswerLemmas
 pub mod BodyLaws
 pub mod EncodingLaws
 mod Examples

@@ -51,6 +51,7 @@ pub fn read_frame<S: Source>(alloc: Global, source: &mut S) -> Result<Option<Fra
     ensures next { IfOk result (λ next. ReadsNext (S.remaining source.old) (S.remaining source.new) next) }
     ensures refused { IfErr result (λ fault. ReadsNone (S.remaining source.old) (S.remaining source.new) fault) }
     ensures held { Keeps (S.holds source.old) (S.holds source.new) }
+    ensures no_flush { S.flushes source.new ≡ S.flushes source.old }
     ensures count { S.failures source.new ≡ counted (source_failed result) (S.failures source.old) }
     ensures steady { S.steady source.old → S.steady source.new × (S.failures source.new ≡ S.failures source.old) }
 {
@@ -66,6 +67,7 @@ fn read_length<S: Source>(source: &mut S) -> Result<Option<usize>, FrameFault>
     ensures next { IfOk result (λ size. ReadsLength (S.remaining source.old) (S.remaining source.new) size) }
     ensures refused { IfErr result (λ fault. ReadsNone (S.remaining source.old) (S.remaining source.new) fault) }
     ensures held { Keeps (S.holds source.old) (S.holds source.new) }
+    ensures no_flush { S.flushes source.new ≡ S.flushes source.old }
     ensures count { S.failures source.new ≡ counted (source_failed result) (S.failures source.old) }
     ensures steady { S.steady source.old → S.steady source.new × (S.failures source.new ≡ S.failures source.old) }
 {
@@ -94,6 +96,7 @@ fn read_body<S: Source>(alloc: Global, source: &mut S, size: usize) -> Result<Ve
     ensures body { IfOk result (λ body. (length body.items ≡ size) × Consumes (S.remaining source.old) (S.remaining source.new) body.items) }
     ensures refused { IfErr result (λ fault. BodyMissing (S.remaining source.old) (S.remaining source.new) size fault) }
     ensures held { Keeps (S.holds source.old) (S.holds source.new) }
+    ensures no_flush { S.flushes source.new ≡ S.flushes source.old }
     ensures count { S.failures source.new ≡ counted (source_failed result) (S.failures source.old) }
     ensures steady { S.steady source.old → S.steady source.new × (S.failures source.new ≡ S.failures source.old) }
 {

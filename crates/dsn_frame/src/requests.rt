@@ -1,6 +1,7 @@
 //! What one frame comes to: a body to be asked, or a refusal.
-ghost use Rattle.std.specs.Prelude.{ℕ, [], ◌∷◌, IfOk, IfErr};
+ghost use Rattle.std.specs.Prelude.{◌≢◌, ℕ, [], ◌∷◌, IfOk, IfErr};
 ghost use Rattle.dsn_outcome.specs.Body.{body_of};
+ghost use Rattle.dsn_outcome.specs.Request.{Bye};
 ghost use Rattle.dsn_frame.specs.Refusal.{IsRefused, refusal_code, refusal_end};
 ghost use Rattle.dsn_frame.specs.Request.{Encodes};
 ghost use Rattle.dsn_frame.specs.Session.{Medium, Takes};
@@ -16,6 +17,7 @@ use std::alloc::Global;
 /// to be answered by [`Refusal::code`].
 pub fn next_request(alloc: Global, place: u32, bytes: &[u8]) -> Result<Body, Refusal>
     ensures encoded { IfOk result (λ body. Encodes bytes.now place (body_of body)) }
+    ensures no_goodbye { IfOk result (λ body. body_of body ≢ Bye) }
     ensures refused { IfErr result (λ refusal. IsRefused place bytes.now refusal) }
     ensures taken { (medium : Medium) (limit accepted : ℕ) → IfErr result (λ refusal. Takes medium limit accepted place bytes.now [] (Refused (refusal_code refusal) ∷ []) (refusal_end refusal)) }
 {

@@ -3,3 +3,6 @@ pub mod DeskLemmas
 pub mod OpenLemmas
 pub mod RunLemmas
 pub mod SendLemmas
+mod ServeExamples
+pub mod ServeLemmas
+pub mod ServedLemmas

@@ -1,3 +1,4 @@
 pub mod Agent
 pub mod Desk
 pub mod Open
+pub mod Serve

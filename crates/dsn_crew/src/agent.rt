@@ -14,8 +14,8 @@ use std::sync::Wait;
 /// An agent of a crew, on a thread of its own: it asks the collector, and waits for each answer.
 #[derive(Drop)]
 pub struct Agent {
-    ends: Ends,
-    limit: u32,
+    pub(crate) ends: Ends,
+    pub(crate) limit: u32,
     lost: bool,
 }
 

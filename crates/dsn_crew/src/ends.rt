@@ -42,6 +42,13 @@ impl Ends {
         }
     }
 
+    /// The agent, from 0.
+    pub(crate) fn agent(&self) -> u32
+        ensures { result ≡ self.now.requests.agent }
+    {
+        self.agent
+    }
+
     /// Sends a body, and waits for the answer to it; else the body where it was not sent, and
     /// nothing where it was.
     pub(crate) fn exchange(&mut self, rt: &impl Wait, body: Body) -> Result<Answer, Option<Body>>

@@ -8,9 +8,14 @@ mod desk;
 mod desk_fault;
 mod ends;
 mod finished;
+mod gate;
 mod line;
 mod open;
+mod serve;
+mod serve_fault;
+mod served;
 mod sink;
+mod turn;
 
 pub use agent::Agent;
 pub use ask_fault::AskFault;
@@ -18,7 +23,10 @@ pub use crew_open_fault::CrewOpenFault;
 pub use desk::Desk;
 pub use desk_fault::DeskFault;
 pub use finished::Finished;
+pub use gate::{Gate, NoGate};
 pub use open::open_crew;
+pub use serve_fault::ServeFault;
+pub use served::Served;
 pub use sink::Sink;
 
 #[cfg(test)]

@@ -1,17 +1,21 @@
 -- Desks: what one more request, with its answer sent, leaves.
-use Rattle.std.proofs.Common.{◌≡◌, ◌≢◌, ℕ, zero, suc, ◌+◌, ◌<◌, ◌≤◌, ◌==◌, Bool, true, false, List, [], ◌∷◌, ◌++◌, length, map, set, refl, ap, sym, ◌∙◌, subst, eq-eqb, ne_eqb, length-append, arith}
+use Rattle.std.proofs.Common.{◌≡◌, ◌≢◌, ℕ, zero, suc, ◌+◌, ◌<◌, ◌≤◌, ◌==◌, Bool, true, false, cond, List, [], ◌∷◌, ◌++◌, length, map, filter, set, refl, ap, sym, ◌∙◌, subst, eq-eqb, ne_eqb, length-append, arith}
+use Rattle.std.specs.Prelude.{◌↔◌, IsTrue}
 use Rattle.std.specs.List.{slice_index_or}
-use Rattle.std.proofs.lemmas.List.{get_or-set_same, get_or-set_other, set-get_or, length-set}
+use Rattle.std.proofs.lemmas.List.{append-nil, get_or-set_same, get_or-set_other, set-get_or, length-set}
+use Rattle.std.proofs.lemmas.List.Elements.{filter-append}
 use Rattle.std.proofs.lemmas.List.Sums.{length-filter, count_by-le-length}
+use Rattle.std.proofs.lemmas.Bool.{false≢true}
+use mathlib.Core.List.{IsPrefix}
 use native.Mathlib.Decide.{ℕ_discrete}
 use Rattle.dsn_book.specs.Book.{Book, Represents}
 use Rattle.dsn_lane.specs.Ends.{End, Out, Identity}
 use Rattle.dsn_outcome.specs.Agents.{from_agent}
 use Rattle.dsn_outcome.specs.History.{Limits, Exchange, answer_of, answers_to, exchange_of, history_of}
-use Rattle.dsn_outcome.specs.Request.{Request}
+use Rattle.dsn_outcome.specs.Request.{Request, Body, Append, Flush, Discard, Bye}
 use Rattle.dsn_outcome.specs.declared.answer.Answer.{Answer}
-use Rattle.dsn_outcome.proofs.HistoryLaws.{answers_length, answers_mine, answers_other, history_more}
-use Rattle.dsn_crew.specs.Desk.{Desk, IsDesk, Stands, AreTold, answered_more, history, next_exchange, taken_request}
+use Rattle.dsn_outcome.proofs.HistoryLaws.{answers_length, answers_mine, answers_more, answers_other, history_more}
+use Rattle.dsn_crew.specs.Desk.{Desk, IsDesk, AreAnswered, AreTold, answered_more, goodbyes, history, is_goodbye, next_exchange, taken_request}
 
 -- ---- the ends of the answer lanes
 
@@ -49,37 +53,76 @@ told_room sent old new answer room d told enough =
 pub counted_more : {A : Type 0} (count : ℕ) (old new : List A) (item : A) → count ≡ length old → new ≡ old ++ item ∷ [] → count + 1 ≡ length new
 counted_more count old new item counted more = let all = ap length more ∙ length-append old (item ∷ []) in omega arith
 
+-- whether a request is a goodbye, as the program finds it
+bye_is : (flag : Bool) (body : Body) → IsTrue flag ↔ (body ≡ Bye) → flag ≡ is_goodbye body
+bye_is true body is = ap is_goodbye (sym (is.0 refl))
+bye_is false (Append id outcome) is = refl
+bye_is false (Flush key draft) is = refl
+bye_is false (Discard key) is = refl
+bye_is false Bye is = absurd (false≢true (is.1 refl))
+
+counted_one : (request : Request) (flag : Bool) → is_goodbye request.body ≡ flag → goodbyes (request ∷ []) ≡ cond flag 1 0
+counted_one request true is = rw is refl
+counted_one request false is = rw is refl
+
+-- the count of goodbyes, with one request more
+pub goodbyes_more : (count added : ℕ) (flag : Bool) (old new : List Request) (request : Request) → count ≡ goodbyes old → new ≡ old ++ request ∷ [] → IsTrue flag ↔ (request.body ≡ Bye) → added ≡ cond flag 1 0 → count + added ≡ goodbyes new
+goodbyes_more count added flag old new request counted more is one =
+    let split = ap goodbyes more ∙ (ap length (filter-append (λ (r : Request). is_goodbye r.body) old (request ∷ [])) ∙ length-append (filter (λ (r : Request). is_goodbye r.body) old) (filter (λ (r : Request). is_goodbye r.body) (request ∷ []))) in
+    let last = counted_one request flag (sym (bye_is flag request.body is)) in
+    omega (arith, split, last)
+
+-- there are no more goodbyes than requests, so one more can be counted where one more request can
+flag_small : (flag : Bool) → cond flag 1 0 ≤ 1
+flag_small true = omega arith
+flag_small false = omega arith
+
+pub goodbyes_fit : (count added taken most : ℕ) (flag : Bool) (requests : List Request) → count ≡ goodbyes requests → taken ≡ length requests → added ≡ cond flag 1 0 → taken + 1 < most → count + added < most
+goodbyes_fit count added taken most flag requests counted long one few =
+    let is = length-filter (λ (r : Request). is_goodbye r.body) requests in
+    let bound = count_by-le-length (λ (r : Request). is_goodbye r.body) requests in
+    let small = flag_small flag in
+    omega (arith, one)
+
 -- ---- one more request
 
-module _ (desk : Desk) (kept : IsDesk desk) (going : desk.failed ≡ false) (request : Request) (from : request.agent < desk.requests.past) (next : request.number ≡ length (from_agent (λ (r : Request). r.agent) request.agent desk.requests.taken)) (answer : Answer) (is : answer ≡ answer_of (next_exchange desk request)) where
+-- a request that a collector has taken next, and its answer, which is to be sent
+pub record IsAsked (desk : Desk) (request : Request) (answer : Answer) : Type 0 where
+  pub kept : IsDesk desk
+  pub going : desk.failed ≡ false
+  pub from : request.agent < desk.requests.past
+  pub number : request.number ≡ length (from_agent (λ (r : Request). r.agent) request.agent desk.requests.taken)
+  pub answer_is : answer ≡ answer_of (next_exchange desk request)
+
+module _ (desk : Desk) (request : Request) (answer : Answer) (asked : IsAsked desk request answer) where
   of_agent : answer.agent ≡ request.agent
   unfolding answer_of exchange_of
-  of_agent = ap (λ (it : Answer). it.agent) is
+  of_agent = ap (λ (it : Answer). it.agent) asked.answer_is
 
   of_number : answer.number ≡ request.number
   unfolding answer_of exchange_of
-  of_number = ap (λ (it : Answer). it.number) is
+  of_number = ap (λ (it : Answer). it.number) asked.answer_is
 
   -- the agent that asked has an answer lane
   pub within : answer.agent < length desk.answers
-  within = let past = kept.past in let agent = of_agent in omega arith
+  within = let past = asked.kept.past in let agent = of_agent in let from = asked.from in omega arith
 
   pub line_agent : (d : End Answer) → (slice_index_or desk.answers answer.agent d).agent ≡ answer.agent
-  line_agent d = kept.lines answer.agent d within
+  line_agent d = asked.kept.lines answer.agent d within
 
   -- the answer is the next of its lane
   pub line_number : (d : End Answer) → length (slice_index_or desk.answers answer.agent d).sent ≡ answer.number
   line_number d =
-      ap length ((kept.stands going).told answer.agent d within)
+      ap length (asked.kept.answered asked.going answer.agent d within)
       ∙ (answers_length desk.book.limits answer.agent desk.requests.taken
-      ∙ (ap (λ (a : ℕ). length (from_agent (λ (r : Request). r.agent) a desk.requests.taken)) of_agent ∙ (sym next ∙ sym of_number)))
+      ∙ (ap (λ (a : ℕ). length (from_agent (λ (r : Request). r.agent) a desk.requests.taken)) of_agent ∙ (sym asked.number ∙ sym of_number)))
 
   pub small : (most : ℕ) → length desk.requests.taken < most → answer.number < most
   small most few =
       let number = of_number in
       let count = length-filter (λ (r : Request). r.agent == request.agent) desk.requests.taken in
       let bound = count_by-le-length (λ (r : Request). r.agent == request.agent) desk.requests.taken in
-      omega (arith, next)
+      omega (arith, asked.number)
 
   mine : ((next_exchange desk request).request.agent == answer.agent) ≡ true
   unfolding exchange_of
@@ -89,9 +132,9 @@ module _ (desk : Desk) (kept : IsDesk desk) (going : desk.failed ≡ false) (req
   unfolding exchange_of
   not_mine a other = ne_eqb request.agent a (λ same. other (sym same ∙ sym of_agent))
 
-  module _ (book : Book) (out : Out Request) (ends : List (End Answer)) (failed : Bool) (gone : ℕ) (limits : book.limits ≡ desk.book.limits) (taken : out ≡ taken_request desk.requests request) where
+  module _ (book : Book) (out : Out Request) (ends : List (End Answer)) (failed : Bool) (limits : book.limits ≡ desk.book.limits) (taken : out ≡ taken_request desk.requests request) where
     abbrev new : Desk
-    new = record { book = book; requests = out; answers = ends; failed = failed; gone = gone }
+    new = record { book = book; requests = out; answers = ends; failed = failed }
 
     history_new : history new ≡ history desk ++ next_exchange desk request ∷ []
     history_new =
@@ -104,13 +147,13 @@ module _ (desk : Desk) (kept : IsDesk desk) (going : desk.failed ≡ false) (req
               ap (λ (es : List (End Answer)). (slice_index_or es a d).sent) (told d)
               ∙ (ap (λ (k : ℕ). (slice_index_or (set desk.answers answer.agent (answered_more true (slice_index_or desk.answers answer.agent d) answer)) k d).sent) same
               ∙ (ap (λ (e : End Answer). e.sent) (get_or-set_same desk.answers answer.agent (answered_more true (slice_index_or desk.answers answer.agent d) answer) d within)
-              ∙ ((λ i. (kept.stands going).told answer.agent d within i ++ is i ∷ [])
+              ∙ ((λ i. asked.kept.answered asked.going answer.agent d within i ++ asked.answer_is i ∷ [])
               ∙ (sym (answers_mine answer.agent (history desk) (next_exchange desk request) mine)
               ∙ ap (λ (k : ℕ). answers_to k (history desk ++ next_exchange desk request ∷ [])) (sym same)))))
           | no other ↦
               ap (λ (es : List (End Answer)). (slice_index_or es a d).sent) (told d)
               ∙ (ap (λ (e : End Answer). e.sent) (get_or-set_other desk.answers answer.agent a (answered_more true (slice_index_or desk.answers answer.agent d) answer) d other)
-              ∙ ((kept.stands going).told a d inside
+              ∙ (asked.kept.answered asked.going a d inside
               ∙ sym (answers_other a (history desk) (next_exchange desk request) (not_mine a other))))
         ]
 
@@ -132,26 +175,38 @@ module _ (desk : Desk) (kept : IsDesk desk) (going : desk.failed ≡ false) (req
               ∙ (line_kept sent (slice_index_or desk.answers answer.agent d) ∙ (line_agent d ∙ sym same))))
           | no other ↦
               ap (λ (es : List (End Answer)). (slice_index_or es a d).agent) (told d)
-              ∙ (ap (λ (it : End Answer). it.agent) (get_or-set_other desk.answers answer.agent a e d other) ∙ kept.lines a d inside)
+              ∙ (ap (λ (it : End Answer). it.agent) (get_or-set_other desk.answers answer.agent a e d other) ∙ asked.kept.lines a d inside)
         ]
 
-    -- the collector stands for one request more
-    pub stands_new : (d : End Answer) → AreTold true desk.answers answer ends → Represents book (history desk ++ next_exchange desk request ∷ []) → Stands new
-    stands_new d told book_is = record {
-      book = subst (Represents book) (sym history_new) book_is;
-      told = λ a d' inside. let same = long true d told in told_at told a d' (omega arith) ∙ ap (answers_to a) (sym history_new);
-    }
+    -- each agent was sent what the history with the request more answers it
+    answered_new : (d : End Answer) → AreTold true desk.answers answer ends → AreAnswered ends (history new)
+    answered_new d told = λ a d' inside. let same = long true d told in told_at told a d' (omega arith) ∙ ap (answers_to a) (sym history_new)
 
-    pub keeps : (sent : Bool) (d : End Answer) → AreTold sent desk.answers answer ends → (failed ≡ false → Stands new) → IsDesk new
-    keeps sent d told stands =
+    -- or, where the answer was lost, the first of it
+    sent_new : (sent : Bool) (d : End Answer) → AreTold sent desk.answers answer ends → (a : ℕ) (d' : End Answer) → a < length ends → IsPrefix (slice_index_or ends a d').sent (answers_to a (history new))
+    sent_new true d told a d' inside = ([], append-nil (slice_index_or ends a d').sent ∙ answered_new d told a d' inside)
+    sent_new false d told a d' inside =
+        let same = told_none desk.answers ends answer d told in
+        let before : (slice_index_or ends a d').sent ≡ answers_to a (history desk) =
+          ap (λ (es : List (End Answer)). (slice_index_or es a d').sent) same ∙ asked.kept.answered asked.going a d' (subst (λ (es : List (End Answer)). a < length es) same inside) in
+        (answers_to a (next_exchange desk request ∷ []),
+        ap (λ (l : List Answer). l ++ answers_to a (next_exchange desk request ∷ [])) before
+        ∙ (sym (answers_more a (history desk) (next_exchange desk request ∷ []))
+        ∙ ap (answers_to a) (sym history_new)))
+
+    -- the collector stands for one request more
+    pub keeps : (sent : Bool) (d : End Answer) → AreTold sent desk.answers answer ends → Represents book (history desk ++ next_exchange desk request ∷ []) → (failed ≡ false → sent ≡ true) → IsDesk new
+    keeps sent d told book_is going_on =
         let same = long sent d told in
-        let first = kept.first in
-        let past = kept.past in
+        let first = asked.kept.first in
+        let past = asked.kept.past in
         let out_first : out.first ≡ desk.requests.first = ap (λ (o : Out Request). o.first) taken in
         let out_past : out.past ≡ desk.requests.past = ap (λ (o : Out Request). o.past) taken in
         record {
           first = omega arith;
           past = omega arith;
           lines = λ a d' inside. lines_new sent told a d' (omega arith);
-          stands = stands;
+          book = subst (Represents book) (sym history_new) book_is;
+          sent = sent_new sent d told;
+          answered = λ well. answered_new d (subst (λ (it : Bool). AreTold it desk.answers answer ends) (going_on well) told);
         }

@@ -1,4 +1,5 @@
 pub mod AgentLemmas
+pub mod CloseLemmas
 pub mod DeskLemmas
 pub mod OpenLemmas
 pub mod RunLemmas

@@ -2,7 +2,7 @@
 use Rattle.std.proofs.Common.{◌≡◌, ℕ, zero, suc, ◌+◌, ◌-◌, ◌<◌, ◌≤◌, List, [], ◌∷◌, ◌++◌, length, map, false, refl, ap, sym, ◌∙◌, subst, length-append, lt_of_not-le, arith}
 use Rattle.std.specs.List.{slice_index_or}
 use Rattle.std.specs.Prelude.{◌↔◌, IsSome, Option, Some, None}
-use Rattle.std.proofs.lemmas.List.{map-append}
+use Rattle.std.proofs.lemmas.List.{append-nil, map-append}
 use Rattle.std.proofs.lemmas.Bool.{false≢true}
 use native.Mathlib.Decide.{ℕ_discrete}
 use Rattle.dsn_book.specs.Book.{Book, Represents}
@@ -11,21 +11,21 @@ use Rattle.dsn_outcome.specs.History.{Limits, answers_to, history_after, history
 use Rattle.dsn_outcome.specs.Request.{Request}
 use Rattle.dsn_outcome.specs.declared.answer.Answer.{Answer}
 use Rattle.dsn_crew.specs.Agent.{Agent}
-use Rattle.dsn_crew.specs.Desk.{Desk, IsDesk}
+use Rattle.dsn_crew.specs.Desk.{AreAnswered, Desk, IsDesk}
 use Rattle.dsn_crew.specs.Open.{AreLines, opened_agent}
 
 -- a collector that has taken nothing
-pub new_desk : (book : Book) (requests : Out Request) (ends : List (End Answer)) → Represents book [] → requests.first ≡ 0 → requests.past ≡ length ends → requests.taken ≡ [] → AreLines ends → IsDesk (record { book = book; requests = requests; answers = ends; failed = false; gone = 0 })
+pub new_desk : (book : Book) (requests : Out Request) (ends : List (End Answer)) → Represents book [] → requests.first ≡ 0 → requests.past ≡ length ends → requests.taken ≡ [] → AreLines ends → IsDesk (record { book = book; requests = requests; answers = ends; failed = false })
 unfolding answers_to history_after
-new_desk book requests ends none first past taken lines = record {
-  first = first;
-  past = past;
-  lines = λ a d inside. (lines a d inside).0;
-  stands = λ _. record {
-    book = subst (λ (q : List Request). Represents book (history_of book.limits q)) (sym taken) none;
-    told = λ a d inside. (lines a d inside).1 ∙ ap (λ (q : List Request). answers_to a (history_of book.limits q)) (sym taken);
-  };
-}
+new_desk book requests ends none first past taken lines =
+    let told : AreAnswered ends (history_of book.limits requests.taken) = λ a d inside. (lines a d inside).1 ∙ ap (λ (q : List Request). answers_to a (history_of book.limits q)) (sym taken) in record {
+      first = first;
+      past = past;
+      lines = λ a d inside. (lines a d inside).0;
+      book = subst (λ (q : List Request). Represents book (history_of book.limits q)) (sym taken) none;
+      sent = λ a d inside. ([], append-nil (slice_index_or ends a d).sent ∙ told a d inside);
+      answered = λ _. told;
+    }
 
 -- the first of the ends that are left
 pub next_end : (lane : Identity Request) (first agents : ℕ) (left rest : List (End Request)) (end : End Request) → first < agents → left ≡ fresh_ends lane first (agents - first) → left ≡ end ∷ rest → (end ≡ record { lane = lane; agent = first; sent = [] }) × (rest ≡ fresh_ends lane (first + 1) (agents - (first + 1)))

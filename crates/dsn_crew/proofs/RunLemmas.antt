@@ -1,18 +1,19 @@
--- Runs: what one request, with its letter handed on or not, adds to a run.
-use Rattle.std.proofs.Common.{◌≡◌, List, [], ◌∷◌, ◌++◌, false, refl, ap, sym, ◌∙◌, subst, append_assoc}
-use Rattle.std.specs.Prelude.{Result, Ok, Err, Option, Some, None}
+-- Runs: what one request, with its letter handed on or not, adds to a run, and one run after another.
+use Rattle.std.proofs.Common.{◌≡◌, Bool, true, false, ◌||◌, List, [], ◌∷◌, ◌++◌, refl, ap, sym, ◌∙◌, subst, append_assoc, true≢false}
+use Rattle.std.specs.Prelude.{Result, Ok, Err, is_err, Option, Some, None}
+use Rattle.std.proofs.lemmas.Bool.{false≢true}
 use Rattle.std.proofs.lemmas.List.{append-nil}
 use Rattle.dsn_book.specs.Book.{Book}
 use Rattle.dsn_book.specs.Step.{letters_in}
 use Rattle.dsn_lane.specs.Ends.{End, Out}
-use Rattle.dsn_outcome.specs.History.{Exchange, history_of, letter_of, sealed_letters}
+use Rattle.dsn_outcome.specs.History.{Exchange, exchange_of, history_of, letter_of, sealed_letters}
 use Rattle.dsn_outcome.specs.Letter.{Letter}
 use Rattle.dsn_outcome.specs.declared.answer.Answer.{Answer}
 use Rattle.dsn_outcome.specs.Request.{Request}
 use Rattle.dsn_outcome.proofs.HistoryLaws.{history_more, letters_more}
 use Rattle.dsn_crew.specs.declared.desk_fault.DeskFault.{DeskFault}
 use Rattle.dsn_crew.specs.declared.desk_fault.DeskFault.TheVariants.{Requests, Answers, Letters}
-use Rattle.dsn_crew.specs.Desk.{Desk, Handed, IsRun, IsTaken, history, lanes_of, letter_kept, next_exchange, taken_request, taken_requests}
+use Rattle.dsn_crew.specs.Desk.{AreAnswered, Desk, EndsBy, Handed, IsDesk, IsLast, IsRun, IsTaken, failing, history, history_with, lanes_of, letter_kept, next_exchange, taken_request, taken_requests}
 
 -- the letters of one request more
 letters_new : (old new : Desk) (request : Request) (letter : List Letter) → new.book.limits ≡ old.book.limits → new.requests ≡ taken_request old.requests request → letter ≡ letter_of (history old) (next_exchange old request) → sealed_letters (history new) ≡ sealed_letters (history old) ++ letter
@@ -26,20 +27,71 @@ letters_same old new limits taken = ap sealed_letters (λ i. history_of (limits 
 no_more : (out : Out Request) → out ≡ taken_requests out []
 no_more out = ap (λ (taken : List Request). record { lane = out.lane; first = out.first; past = out.past; taken = taken }) (sym (append-nil out.taken))
 
+-- one request is the last of one
+last_one : (desk : Desk) (request : Request) (letter : List Letter) → letter ≡ letter_of (history desk) (next_exchange desk request) → IsLast desk (request ∷ []) request letter
+last_one desk request letter is = record {
+  earlier = [];
+  more_are = refl;
+  letter_is = is ∙ ap (λ (q : List Request). letter_of (history_of desk.book.limits q) (exchange_of desk.book.limits (history_of desk.book.limits q) request)) (sym (append-nil desk.requests.taken));
+}
+
+or-true : (failed : Bool) → (failed || true) ≡ true
+or-true true = refl
+or-true false = refl
+
+-- a collector that had failed stays as it was
+failing_again : (desk : Desk) → desk.failed ≡ true → failing desk ≡ desk
+failing_again desk idle = ap (λ (failed : Bool). record { book = desk.book; requests = desk.requests; answers = desk.answers; failed = failed }) (sym idle)
+
+same_failed : (failed : Bool) → failed ≡ (failed || false)
+same_failed true = refl
+same_failed false = refl
+
+not_idle : {P : Type 0} (failed : Bool) → failed ≡ false → failed ≡ true → P
+not_idle true going idle = absurd (true≢false going)
+not_idle false going idle = absurd (false≢true idle)
+
+-- the last request of what follows is the last of all
+last_then : (old mid : Desk) (some more : List Request) (request : Request) (letter : List Letter) → mid.book.limits ≡ old.book.limits → ((later : List Request) → history_with mid later ≡ history_with old (some ++ later)) → IsLast mid more request letter → IsLast old (some ++ more) request letter
+last_then old mid some more request letter limits same last = record {
+  earlier = some ++ last.earlier;
+  more_are = ap (λ (l : List Request). some ++ l) last.more_are ∙ sym (append_assoc some last.earlier (request ∷ []));
+  letter_is = last.letter_is ∙ (λ i. letter_of (same last.earlier i) (exchange_of (limits i) (same last.earlier i) request));
+}
+
+ends_then : (old mid new : Desk) (some more : List Request) (result : Result (Unit {0}) DeskFault) → mid.failed ≡ old.failed → mid.book.limits ≡ old.book.limits → ((later : List Request) → history_with mid later ≡ history_with old (some ++ later)) → EndsBy mid more new result → EndsBy old (some ++ more) new result
+unfolding last_then
+ends_then old mid new some more (Ok done) still limits same ends = tt
+ends_then old mid new some more (Err Requests) still limits same ends = λ going. ends (still ∙ going)
+ends_then old mid new some more (Err (Answers agent letter)) still limits same ends =
+    (sym still ∙ ends.0, ends.1, ends.2, last_then old mid some more ends.1 (letters_in letter) limits same ends.3, subst (AreAnswered new.answers) (same ends.3.earlier) ends.4)
+ends_then old mid new some more (Err (Letters letter)) still limits same ends =
+    (sym still ∙ ends.0, ends.1, last_then old mid some more ends.1 (letter ∷ []) limits same ends.2, ends.3)
+
 module _ {S : Type 0} (takes : S → Letter → S → Type 0) where
-  pub took_none : (old new : Desk) (sink : S) → IsTaken old new (Ok None) → new.book.limits ≡ old.book.limits → lanes_of new ≡ lanes_of old → IsRun takes old new sink sink (Ok tt)
-  took_none old new sink taken limits lanes = record {
-    more = taken.0 ∷ [];
-    requests = taken.3;
-    handed = [];
-    sink_is = refl;
-    letters = letters_new old new taken.0 [] limits taken.3 taken.5;
+  -- what all runs of one request share
+  one_run : (old new : Desk) (sink after : S) (request : Request) (handed : List Letter) (result : Result (Unit {0}) DeskFault) → new.requests ≡ taken_request old.requests request → new.book.limits ≡ old.book.limits → lanes_of new ≡ lanes_of old
+      → Handed takes sink handed after → handed ++ letter_kept result ≡ letter_of (history old) (next_exchange old request) → old.failed ≡ false → new.failed ≡ is_err result → EndsBy old (request ∷ []) new result → IsRun takes old new sink after result
+  one_run old new sink after request handed result requests limits lanes sink_is letters going failed ends = record {
+    more = request ∷ [];
+    requests = requests;
+    handed = handed;
+    sink_is = sink_is;
+    letters = letters_new old new request (handed ++ letter_kept result) limits requests letters;
     limits = limits;
     lanes = lanes;
+    failed = failed ∙ ap (λ (b : Bool). b || is_err result) (sym going);
+    idle = not_idle old.failed going;
+    ends = ends;
   }
 
-  pub took_fault : (old new : Desk) (sink : S) (fault : DeskFault) → IsTaken old new (Err fault) → new.book.limits ≡ old.book.limits → lanes_of new ≡ lanes_of old → IsRun takes old new sink sink (Err fault)
-  took_fault old new sink Requests taken limits lanes = record {
+  pub took_none : (old new : Desk) (sink : S) → IsTaken old new (Ok None) → new.book.limits ≡ old.book.limits → lanes_of new ≡ lanes_of old → IsRun takes old new sink sink (Ok tt)
+  took_none old new sink taken limits lanes =
+      one_run old new sink sink taken.0 [] (Ok tt) taken.3 limits lanes refl taken.5 taken.1 taken.2 tt
+
+  pub took_fault : (old new : Desk) (sink : S) (fault : DeskFault) → IsDesk old → IsTaken old new (Err fault) → new.book.limits ≡ old.book.limits → lanes_of new ≡ lanes_of old → IsRun takes old new sink sink (Err fault)
+  unfolding last_one
+  took_fault old new sink Requests kept taken limits lanes = record {
     more = [];
     requests = ap (λ (desk : Desk). desk.requests) taken ∙ no_more old.requests;
     handed = [];
@@ -47,40 +99,27 @@ module _ {S : Type 0} (takes : S → Letter → S → Type 0) where
     letters = letters_same old new limits (ap (λ (desk : Desk). desk.requests) taken);
     limits = limits;
     lanes = lanes;
+    failed = ap (λ (desk : Desk). desk.failed) taken ∙ sym (or-true old.failed);
+    idle = λ idle. taken ∙ failing_again old idle;
+    ends = λ going. subst (λ (desk : Desk). AreAnswered desk.answers (history desk)) (sym taken) (kept.answered going);
   }
-  took_fault old new sink (Answers agent letter) taken limits lanes = record {
-    more = taken.0 ∷ [];
-    requests = taken.3;
-    handed = [];
-    sink_is = refl;
-    letters = letters_new old new taken.0 (letters_in letter) limits taken.3 taken.6;
-    limits = limits;
-    lanes = lanes;
-  }
-  took_fault old new sink (Letters letter) taken limits lanes = absurd taken
+  took_fault old new sink (Answers agent letter) kept taken limits lanes =
+      let answered : AreAnswered new.answers (history_with old []) =
+        subst (λ (ends : List (End Answer)). AreAnswered ends (history_with old [])) (sym taken.5)
+          (subst (λ (q : List Request). AreAnswered old.answers (history_of old.book.limits q)) (sym (append-nil old.requests.taken)) (kept.answered taken.1)) in
+      one_run old new sink sink taken.0 [] (Err (Answers agent letter)) taken.3 limits lanes refl taken.6 taken.1 taken.2 (taken.1, taken.0, taken.4, last_one old taken.0 (letters_in letter) taken.6, answered)
+  took_fault old new sink (Letters letter) kept taken limits lanes = absurd taken
 
   pub took_handed : (old new : Desk) (sink after : S) (letter : Letter) → IsTaken old new (Ok (Some letter)) → new.book.limits ≡ old.book.limits → lanes_of new ≡ lanes_of old → takes sink letter after → IsRun takes old new sink after (Ok tt)
-  took_handed old new sink after letter taken limits lanes takes_it = record {
-    more = taken.0 ∷ [];
-    requests = taken.3;
-    handed = letter ∷ [];
-    sink_is = (after, takes_it, refl);
-    letters = letters_new old new taken.0 (letter ∷ []) limits taken.3 taken.5;
-    limits = limits;
-    lanes = lanes;
-  }
+  took_handed old new sink after letter taken limits lanes takes_it =
+      one_run old new sink after taken.0 (letter ∷ []) (Ok tt) taken.3 limits lanes (after, takes_it, refl) taken.5 taken.1 taken.2 tt
 
-  pub took_lost : (old mid new : Desk) (sink after : S) (letter back : Letter) → IsTaken old mid (Ok (Some letter)) → mid.book.limits ≡ old.book.limits → lanes_of mid ≡ lanes_of old → new.book ≡ mid.book → new.requests ≡ mid.requests → new.answers ≡ mid.answers → back ≡ letter → after ≡ sink → IsRun takes old new sink after (Err (Letters back))
-  took_lost old mid new sink after letter back taken limits lanes book requests answers same sink_same =
-      let limits_new : new.book.limits ≡ old.book.limits = ap (λ (b : Book). b.limits) book ∙ limits in record {
-        more = taken.0 ∷ [];
-        requests = requests ∙ taken.3;
-        handed = [];
-        sink_is = sink_same;
-        letters = letters_new old new taken.0 (back ∷ []) limits_new (requests ∙ taken.3) (ap (λ (l : Letter). l ∷ []) same ∙ taken.5);
-        limits = limits_new;
-        lanes = ap (λ (ends : List (End Answer)). lanes_of (record { book = mid.book; requests = mid.requests; answers = ends; failed = false; gone = 0 })) answers ∙ lanes;
-      }
+  -- the sink is gone: the collector is as it was once the request was answered, but failed
+  pub took_lost : (old mid new : Desk) (sink after : S) (letter back : Letter) → IsDesk mid → IsTaken old mid (Ok (Some letter)) → mid.book.limits ≡ old.book.limits → lanes_of mid ≡ lanes_of old → new ≡ failing mid → back ≡ letter → after ≡ sink → IsRun takes old new sink after (Err (Letters back))
+  took_lost old mid new sink after letter back kept taken limits lanes is same sink_same =
+      let sealed : back ∷ [] ≡ letter_of (history old) (next_exchange old taken.0) = ap (λ (l : Letter). l ∷ []) same ∙ taken.5 in
+      one_run old new sink after taken.0 [] (Err (Letters back)) (ap (λ (desk : Desk). desk.requests) is ∙ taken.3) (ap (λ (desk : Desk). desk.book.limits) is ∙ limits) (ap lanes_of is ∙ lanes) sink_same
+        sealed taken.1 (ap (λ (desk : Desk). desk.failed) is) (taken.1, taken.0, last_one old taken.0 (back ∷ []) sealed, subst (λ (desk : Desk). AreAnswered desk.answers (history desk)) (sym is) (kept.answered taken.2))
 
   -- nothing was taken yet
   pub run_none : (desk : Desk) (sink : S) → IsRun takes desk desk sink sink (Ok tt)
@@ -92,11 +131,24 @@ module _ {S : Type 0} (takes : S → Letter → S → Type 0) where
     letters = sym (append-nil (sealed_letters (history desk)));
     limits = refl;
     lanes = refl;
+    failed = same_failed desk.failed;
+    idle = λ _. refl;
+    ends = tt;
   }
 
   handed_then : (first second third : S) (some more : List Letter) → Handed takes first some second → Handed takes second more third → Handed takes first (some ++ more) third
   handed_then first second third [] more none then = subst (λ (s : S). Handed takes s more third) none then
   handed_then first second third (letter ∷ some) more one then = (one.0, one.1, handed_then one.0 second third some more one.2 then)
+
+  -- a run that has not failed leaves the collector as able as it was
+  still : {old mid : Desk} {first second : S} → IsRun takes old mid first second (Ok tt) → mid.failed ≡ old.failed
+  still {old} run = run.failed ∙ sym (same_failed old.failed)
+
+  -- what a run took is told of the history that it began with
+  history_then : {old mid : Desk} {first second : S} (run : IsRun takes old mid first second (Ok tt)) → (more : List Request) → history_with mid more ≡ history_with old (run.more ++ more)
+  history_then {old} run more =
+      (λ i. history_of (run.limits i) ((run.requests i).taken ++ more))
+      ∙ ap (history_of old.book.limits) (append_assoc old.requests.taken run.more more)
 
   -- one run after another
   pub run_then : (old mid new : Desk) (first second third : S) (result : Result (Unit {0}) DeskFault) → IsRun takes old mid first second (Ok tt) → IsRun takes mid new second third result → IsRun takes old new first third result
@@ -115,4 +167,7 @@ module _ {S : Type 0} (takes : S → Letter → S → Type 0) where
         ∙ ap (λ (ls : List Letter). sealed_letters (history old) ++ ls) (sym (append_assoc before.handed then.handed (letter_kept result)))));
     limits = then.limits ∙ before.limits;
     lanes = then.lanes ∙ before.lanes;
+    failed = then.failed ∙ ap (λ (b : Bool). b || is_err result) (still before);
+    idle = λ idle. let same = before.idle idle in then.idle (ap (λ (desk : Desk). desk.failed) same ∙ idle) ∙ same;
+    ends = ends_then old mid new before.more then.more result (still before) before.limits (history_then before) then.ends;
   }

@@ -1,48 +1,64 @@
 -- Desks: what contracts see of the collector, and what each request that it takes comes to.
-use Rattle.std.specs.Prelude.{◌≡◌, ◌≢◌, ℕ, ◌<◌, Bool, true, false, ◌==◌, ◌&&◌, not, List, [], ◌∷◌, ◌++◌, length, map, slice_set, if◌then◌else◌, Result, Ok, Err, Option}
+use Rattle.std.specs.Prelude.{◌≡◌, ℕ, ◌<◌, Bool, true, false, ◌==◌, ◌&&◌, ◌||◌, not, List, [], ◌∷◌, ◌++◌, length, map, filter, slice_set, Result, Ok, Err, is_err, Option}
+use mathlib.Core.List.{IsPrefix}
 use Rattle.std.specs.List.{slice_index_or}
 use Rattle.dsn_book.specs.Book.{Book, Represents}
 use Rattle.dsn_book.specs.Step.{letters_in}
 use Rattle.dsn_lane.specs.Ends.{End, Identity, Out}
 use Rattle.dsn_outcome.specs.History.{Exchange, answer_of, answers_to, exchange_of, history_of, letter_of, sealed_letters}
 use Rattle.dsn_outcome.specs.Letter.{Letter}
-use Rattle.dsn_outcome.specs.Request.{Request}
+use Rattle.dsn_outcome.specs.Request.{Request, Body, Append, Flush, Discard, Bye}
 use Rattle.dsn_outcome.specs.declared.answer.Answer.{Answer}
 use Rattle.dsn_crew.specs.declared.desk_fault.DeskFault.{DeskFault}
 use Rattle.dsn_crew.specs.declared.desk_fault.DeskFault.TheVariants.{Requests, Answers, Letters}
 
--- the collector: its book, the end by which it takes requests, the ends by which it answers, agent by agent, whether it
--- failed, and how many agents said goodbye
+-- the collector: its book, the end by which it takes requests, the ends by which it answers, agent by agent, and whether
+-- it failed
 pub record Desk : Type 0 where
   pub book : Book
   pub requests : Out Request
   pub answers : List (End Answer)
   pub failed : Bool
-  pub gone : ℕ
 
--- what the requests that it took come to
+abbrev pub is_goodbye : Body → Bool
+is_goodbye (Append id outcome) = false
+is_goodbye (Flush key draft) = false
+is_goodbye (Discard key) = false
+is_goodbye Bye = true
+
+-- how many of these requests are goodbyes
+abbrev pub goodbyes : List Request → ℕ
+goodbyes requests = length (filter (λ (request : Request). is_goodbye request.body) requests)
+
+-- as many goodbyes were taken as there are agents, and the collector has not failed
+abbrev pub all_gone : Desk → Bool
+all_gone desk = not desk.failed && (goodbyes desk.requests.taken == length desk.answers)
+
+-- what the requests come to that it took, and so with these requests more
 abbrev pub history : Desk → List Exchange
 history desk = history_of desk.book.limits desk.requests.taken
+
+abbrev pub history_with : Desk → List Request → List Exchange
+history_with desk more = history_of desk.book.limits (desk.requests.taken ++ more)
 
 abbrev pub next_exchange : Desk → Request → Exchange
 next_exchange desk request = exchange_of desk.book.limits (history desk) request
 
--- all agents said goodbye, and the collector has not failed
-abbrev pub all_gone : Desk → Bool
-all_gone desk = not desk.failed && (desk.gone == length desk.answers)
+-- each agent was sent what a history answers it
+abbrev pub AreAnswered : List (End Answer) → List Exchange → Type 0
+AreAnswered ends exchanges =
+    (a : ℕ) (d : End Answer) → a < length ends → (slice_index_or ends a d).sent ≡ answers_to a exchanges
 
--- what a collector that has not failed keeps between its calls: its book stands for what it took, and what it sent each
--- agent is what that history answers the agent
-pub record Stands (desk : Desk) : Type 0 where
-  pub book : Represents desk.book (history desk)
-  pub told : (a : ℕ) (d : End Answer) → a < length desk.answers → (slice_index_or desk.answers a d).sent ≡ answers_to a (history desk)
-
--- what every collector keeps: each answer lane is of its agent, and the agents are numbered from 0
+-- what every collector keeps: each answer lane is of its agent, and the agents are numbered from 0; its book stands for
+-- what it took; what it sent each agent are the first of the answers which that history gives the agent, and all of them
+-- unless it failed
 pub record IsDesk (desk : Desk) : Type 0 where
   pub first : desk.requests.first ≡ 0
   pub past : desk.requests.past ≡ length desk.answers
   pub lines : (a : ℕ) (d : End Answer) → a < length desk.answers → (slice_index_or desk.answers a d).agent ≡ a
-  pub stands : desk.failed ≡ false → Stands desk
+  pub book : Represents desk.book (history desk)
+  pub sent : (a : ℕ) (d : End Answer) → a < length desk.answers → IsPrefix (slice_index_or desk.answers a d).sent (answers_to a (history desk))
+  pub answered : desk.failed ≡ false → AreAnswered desk.answers (history desk)
 
 -- an answer lane's end once an answer was sent, or was lost
 abbrev pub answered_more : Bool → End Answer → Answer → End Answer
@@ -59,7 +75,7 @@ taken_request out request = record { lane = out.lane; first = out.first; past = 
 
 -- a collector that fails, with nothing else changed
 abbrev pub failing : Desk → Desk
-failing desk = record { book = desk.book; requests = desk.requests; answers = desk.answers; failed = true; gone = desk.gone }
+failing desk = record { book = desk.book; requests = desk.requests; answers = desk.answers; failed = true }
 
 -- what taking one request comes to. Ok: it was answered as the history defines, and the letter is the one that it sealed.
 -- `Requests`: nothing was taken. `Answers`: the request was taken, and its answer is lost
@@ -93,6 +109,23 @@ letter_kept (Err (Letters letter)) = letter ∷ []
 abbrev pub lanes_of : Desk → List (Identity Answer)
 lanes_of desk = map (λ (end : End Answer). end.lane) desk.answers
 
+-- the last of the requests that a collector took, and the letter that it sealed, if it did
+pub record IsLast (desk : Desk) (more : List Request) (last : Request) (letter : List Letter) : Type 0 where
+  pub earlier : List Request
+  pub more_are : more ≡ earlier ++ last ∷ []
+  pub letter_is : letter ≡ letter_of (history_with desk earlier) (exchange_of desk.book.limits (history_with desk earlier) last)
+
+-- what a fault that ends a run tells of it. `Requests`: all that was taken was answered. `Answers`: so it was, but for the
+-- last request, which was of this agent and sealed this letter, if any. `Letters`: all was answered, and the last request
+-- sealed this letter. A collector that had failed before answers `Requests`
+abbrev pub EndsBy : Desk → List Request → Desk → Result (Unit {0}) DeskFault → Type 0
+EndsBy old more new (Ok done) = Unit {0}
+EndsBy old more new (Err Requests) = old.failed ≡ false → AreAnswered new.answers (history new)
+EndsBy old more new (Err (Answers agent letter)) =
+    (old.failed ≡ false) × (last : Request) × (agent ≡ last.agent) × (ends : IsLast old more last (letters_in letter)) × AreAnswered new.answers (history_with old ends.earlier)
+EndsBy old more new (Err (Letters letter)) =
+    (old.failed ≡ false) × (last : Request) × IsLast old more last (letter ∷ []) × AreAnswered new.answers (history new)
+
 -- what a run of the collector comes to: the requests that it took, and the letters that it handed on, which are the
 -- letters that these requests sealed, in order, but for the one that the fault holds
 pub record IsRun {S : Type 0} (takes : S → Letter → S → Type 0) (old new : Desk) (sink after : S) (result : Result (Unit {0}) DeskFault) : Type 0 where
@@ -103,3 +136,6 @@ pub record IsRun {S : Type 0} (takes : S → Letter → S → Type 0) (old new :
   pub letters : sealed_letters (history new) ≡ sealed_letters (history old) ++ (handed ++ letter_kept result)
   pub limits : new.book.limits ≡ old.book.limits
   pub lanes : lanes_of new ≡ lanes_of old
+  pub failed : new.failed ≡ (old.failed || is_err result)
+  pub idle : old.failed ≡ true → new ≡ old
+  pub ends : EndsBy old more new result

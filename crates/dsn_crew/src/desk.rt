@@ -21,10 +21,10 @@ use std::sync::Wait;
 /// failed.
 #[derive(Drop)]
 pub struct Desk {
-    book: Book,
-    requests: LaneOut<Request>,
-    lines: Vec<Line>,
-    room: Vec<LaneIn<Request>>,
+    pub(crate) book: Book,
+    pub(crate) requests: LaneOut<Request>,
+    pub(crate) lines: Vec<Line>,
+    pub(crate) room: Vec<LaneIn<Request>>,
     taken: u32,
     gone: u32,
     failed: bool,
@@ -32,13 +32,13 @@ pub struct Desk {
 
 impl Model for Desk {
     ghost use Rattle.std.specs.Prelude.{◌≡◌, ◌≤◌, [], length, vec_capacity};
-    ghost use Rattle.dsn_crew.specs.Desk.{Desk, IsDesk};
+    ghost use Rattle.dsn_crew.specs.Desk.{Desk, IsDesk, goodbyes};
 
     ghost Value = { Desk };
 
-    ghost view = { λ d. record { book = d.book; requests = d.requests; answers = d.lines.items; failed = d.failed; gone = d.gone } };
+    ghost view = { λ d. record { book = d.book; requests = d.requests; answers = d.lines.items; failed = d.failed } };
 
-    ghost invariant = { λ d. IsDesk (record { book = d.book; requests = d.requests; answers = d.lines.items; failed = d.failed; gone = d.gone }) × (d.taken ≡ length d.requests.taken) × (d.room.items ≡ []) × (length d.lines.items ≤ vec_capacity d.room) };
+    ghost invariant = { λ d. IsDesk (record { book = d.book; requests = d.requests; answers = d.lines.items; failed = d.failed }) × (d.taken ≡ length d.requests.taken) × (d.gone ≡ goodbyes d.requests.taken) × (d.room.items ≡ []) × (length d.lines.items ≤ vec_capacity d.room) };
 }
 
 impl Desk {
@@ -53,7 +53,7 @@ impl Desk {
         requires requests { (requests.first ≡ 0) × (requests.past ≡ length lines.items) × (requests.taken ≡ []) }
         requires lines { AreLines lines.items }
         requires room { (room.items ≡ []) × (length lines.items ≤ vec_capacity room) }
-        ensures new { result ≡ record { book = book; requests = requests; answers = lines.items; failed = false; gone = 0 } }
+        ensures new { result ≡ record { book = book; requests = requests; answers = lines.items; failed = false } }
         ensures kept { IsDesk result }
     {
         Desk {
@@ -96,7 +96,7 @@ impl Desk {
         };
         self.taken += 1;
         let agent = request.agent;
-        self.gone = self.gone.saturating_add(u32::from(request.body.is_bye()));
+        self.gone += u32::from(request.body.is_bye());
         let Step { answer, letter } = self.book.apply(request);
         if tell(rt, &mut self.lines, answer) {
             Ok(letter)
@@ -131,6 +131,7 @@ impl Desk {
     /// Takes one request, answers it, and hands on the letter that it sealed.
     fn hand_one<K: Sink>(&mut self, rt: &impl Wait, sink: &mut K) -> Result<(), DeskFault>
         requires some_left { all_gone self.old ≡ false }
+        requires kept { IsDesk self.old }
         ensures run { IsRun K.takes self.old self.new sink.old sink.new result }
         ensures kept { IsDesk self.new }
     {

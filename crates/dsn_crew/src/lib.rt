@@ -3,7 +3,10 @@
 
 mod agent;
 mod ask_fault;
+mod close;
+mod crew_lists;
 mod crew_open_fault;
+mod crew_shut;
 mod desk;
 mod desk_fault;
 mod ends;
@@ -19,7 +22,10 @@ mod turn;
 
 pub use agent::Agent;
 pub use ask_fault::AskFault;
+pub use close::close_crew;
+pub use crew_lists::CrewLists;
 pub use crew_open_fault::CrewOpenFault;
+pub use crew_shut::CrewShut;
 pub use desk::Desk;
 pub use desk_fault::DeskFault;
 pub use finished::Finished;

@@ -3,11 +3,11 @@ use Rattle.std.proofs.Common.{ap, subst}
 use Rattle.std.specs.Prelude.{Ok, Option}
 use Rattle.dsn_outcome.specs.Letter.{Letter}
 use Rattle.dsn_crew.proofs.RunLemmas.{took_fault, took_handed, took_lost, took_none}
-use Rattle.dsn_crew.specs.Desk.{Desk, IsTaken}
+use Rattle.dsn_crew.specs.Desk.{IsTaken, failing}
 use Rattle.dsn_crew.proofs.desk.Desk.hand_one.Goals as goal
 
 pub returns-in-Err-clause-run : goal.returns-in-Err-clause-run
-returns-in-Err-clause-run g c = took_fault _ _ _ _ _ c.in-Err.ensures.taken c.in-Err.ensures.limits c.in-Err.ensures.lanes
+returns-in-Err-clause-run g c = took_fault _ _ _ _ _ c.requires.kept c.in-Err.ensures.taken c.in-Err.ensures.limits c.in-Err.ensures.lanes
 
 pub returns-in-None-clause-run : goal.returns-in-None-clause-run
 returns-in-None-clause-run g c =
@@ -19,8 +19,6 @@ returns-in-Ok-hand-clause-run g c =
 
 pub returns-in-Err-hand-clause-run : goal.returns-in-Err-hand-clause-run
 returns-in-Err-hand-clause-run g c =
-    took_lost _ c.args.self.now c.take_one.new.self _ _ _ c.in-Some.letter _ (subst (λ (letter : Option Letter). IsTaken c.args.self.now c.take_one.new.self (Ok letter)) c.in-Some.is c.in-Ok.ensures.taken) c.in-Ok.ensures.limits c.in-Ok.ensures.lanes (ap (λ (desk : Desk). desk.book) c.self.view_is)
-    (ap (λ (desk : Desk). desk.requests) c.self.view_is)
-    (ap (λ (desk : Desk). desk.answers) c.self.view_is)
+    took_lost _ c.args.self.now c.take_one.new.self _ _ _ c.in-Some.letter _ c.in-Ok.ensures.kept (subst (λ (letter : Option Letter). IsTaken c.args.self.now c.take_one.new.self (Ok letter)) c.in-Some.is c.in-Ok.ensures.taken) c.in-Ok.ensures.limits c.in-Ok.ensures.lanes (ap failing c.self.view_is)
     c.in-Err-hand.ensures.lost.0
     c.in-Err-hand.ensures.lost.1

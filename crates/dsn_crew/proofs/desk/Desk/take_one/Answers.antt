@@ -1,57 +1,83 @@
 -- An answer that is sent is the one that the history defines, and the collector stands for one request more.
-use Rattle.std.proofs.Common.{rules, ◌≡◌, Bool, false, true, map, refl, ap, ◌∙◌, subst, true≢false}
+use Rattle.std.proofs.Common.{rules, ◌≡◌, Bool, false, true, cond, map, refl, ap, ◌∙◌, subst, true≢false, arith}
 use Rattle.dsn_lane.specs.Ends.{End}
+use Rattle.dsn_outcome.specs.Request.{Request}
 use Rattle.dsn_outcome.specs.declared.answer.Answer.{Answer}
-use Rattle.dsn_crew.proofs.DeskLemmas.{counted_more, first_end, within, line_agent, line_number, small, told_none, told_lanes, told_room, stands_new, keeps}
 use Rattle.dsn_outcome.specs.History.{letter_of}
+use Rattle.dsn_crew.proofs.DeskLemmas.{IsAsked, counted_more, first_end, goodbyes_fit, goodbyes_more, keeps, line_agent, line_number, small, told_lanes, told_none, told_room, within}
 use Rattle.dsn_crew.specs.Desk.{Desk, AreTold, history, next_exchange}
 use Rattle.dsn_crew.proofs.desk.Desk.take_one.Goals as goal
 
+pub overflow_add-self-2 : goal.overflow_add-self-2
+overflow_add-self-2 g c =
+    record { fits = goodbyes_fit c.self.inside.gone c.from.result c.self.inside.taken 4294967296 c.is_bye.result c.self.inside.requests.taken c.self.invariant.2 c.self.invariant.1 (search rules) (search rules) }
+
 pub tell-requires-clause-within : goal.tell-requires-clause-within
 tell-requires-clause-within g c =
-    within _ c.self.invariant.0 (search rules) c.in-Ok.request (search rules) (search rules) _ (c.apply-letter.ensures.answer _ (c.self.invariant.0.stands (search rules)).book)
+    within _ c.in-Ok.request _ (record { kept = c.self.invariant.0; going = search rules; from = search rules; number = search rules; answer_is = c.apply-letter.ensures.answer _ c.self.invariant.0.book })
 
 pub tell-requires-clause-agent : goal.tell-requires-clause-agent
 tell-requires-clause-agent g c =
-    line_agent _ c.self.invariant.0 (search rules) c.in-Ok.request (search rules) (search rules) _ (c.apply-letter.ensures.answer _ (c.self.invariant.0.stands (search rules)).book)
+    line_agent _ c.in-Ok.request _ (record { kept = c.self.invariant.0; going = search rules; from = search rules; number = search rules; answer_is = c.apply-letter.ensures.answer _ c.self.invariant.0.book })
 
 pub tell-requires-clause-number : goal.tell-requires-clause-number
 tell-requires-clause-number g c =
-    line_number _ c.self.invariant.0 (search rules) c.in-Ok.request (search rules) (search rules) _ (c.apply-letter.ensures.answer _ (c.self.invariant.0.stands (search rules)).book)
+    line_number _ c.in-Ok.request _ (record { kept = c.self.invariant.0; going = search rules; from = search rules; number = search rules; answer_is = c.apply-letter.ensures.answer _ c.self.invariant.0.book })
 
 pub tell-requires-clause-room : goal.tell-requires-clause-room
 tell-requires-clause-room g c =
-    small _ c.self.invariant.0 (search rules) c.in-Ok.request (search rules) (search rules) _ (c.apply-letter.ensures.answer _ (c.self.invariant.0.stands (search rules)).book) 4294967295 (search rules)
+    small _ c.in-Ok.request _ (record { kept = c.self.invariant.0; going = search rules; from = search rules; number = search rules; answer_is = c.apply-letter.ensures.answer _ c.self.invariant.0.book }) 4294967295 (search rules)
 
 pub invariant_of-self-then-tell : goal.invariant_of-self-then-tell
 invariant_of-self-then-tell g c =
-    let d : End Answer = first_end _ _ (within _ c.self.invariant.0 (search rules) c.in-Ok.request (search rules) (search rules) _ (c.apply-letter.ensures.answer _ (c.self.invariant.0.stands (search rules)).book)) in
+    let asked : IsAsked _ c.in-Ok.request c.apply-letter.result.answer = record { kept = c.self.invariant.0; going = search rules; from = search rules; number = search rules; answer_is = c.apply-letter.ensures.answer _ c.self.invariant.0.book } in
+    let d : End Answer = first_end _ _ (within _ _ _ asked) in
     let told : AreTold true c.self.inside.lines.items c.apply-letter.result.answer c.tell.new.lines.items = subst (λ (sent : Bool). AreTold sent c.self.inside.lines.items c.apply-letter.result.answer c.tell.new.lines.items) c.if-tell.true c.tell.ensures in
-    let stands = stands_new _ c.self.invariant.0 (search rules) c.in-Ok.request (search rules) (search rules) _ (c.apply-letter.ensures.answer _ (c.self.invariant.0.stands (search rules)).book) c.apply-letter.new.self c.take.new.self c.tell.new.lines.items c.self.inside.failed c.saturating_add-self-inside.result c.apply-letter.ensures.limits (search rules) d told (c.apply-letter.ensures.stands _ (c.self.invariant.0.stands (search rules)).book) in
-    (keeps _ c.self.invariant.0 (search rules) c.in-Ok.request (search rules) (search rules) _ (c.apply-letter.ensures.answer _ (c.self.invariant.0.stands (search rules)).book) c.apply-letter.new.self c.take.new.self c.tell.new.lines.items c.self.inside.failed c.saturating_add-self-inside.result c.apply-letter.ensures.limits (search rules) true d told (λ _. stands), counted_more _ _ _ _ c.self.invariant.1 c.in-Ok.ensures.item, search rules, told_room true _ _ c.apply-letter.result.answer _ d told c.self.invariant.3)
-
-pub invariant_of-self-else-tell : goal.invariant_of-self-else-tell
-invariant_of-self-else-tell g c =
-    let d : End Answer = first_end _ _ (within _ c.self.invariant.0 (search rules) c.in-Ok.request (search rules) (search rules) _ (c.apply-letter.ensures.answer _ (c.self.invariant.0.stands (search rules)).book)) in
-    let lost : c.tell.result ≡ false = search rules in
-    let told : AreTold false c.self.inside.lines.items c.apply-letter.result.answer c.tell.new.lines.items = subst (λ (sent : Bool). AreTold sent c.self.inside.lines.items c.apply-letter.result.answer c.tell.new.lines.items) lost c.tell.ensures in
-    (keeps _ c.self.invariant.0 (search rules) c.in-Ok.request (search rules) (search rules) _ (c.apply-letter.ensures.answer _ (c.self.invariant.0.stands (search rules)).book) c.apply-letter.new.self c.take.new.self c.tell.new.lines.items true c.saturating_add-self-inside.result c.apply-letter.ensures.limits (search rules) false d told (λ no. absurd (true≢false no)), counted_more _ _ _ _ c.self.invariant.1 c.in-Ok.ensures.item, search rules, told_room false _ _ c.apply-letter.result.answer _ d told c.self.invariant.3)
+    let bye = goodbyes_more c.self.inside.gone c.from.result c.is_bye.result c.self.inside.requests.taken c.take.new.self.taken c.in-Ok.request c.self.invariant.2 c.in-Ok.ensures.item (search rules) (search rules) in
+    (keeps _ _ _ asked c.apply-letter.new.self c.take.new.self c.tell.new.lines.items c.self.inside.failed c.apply-letter.ensures.limits (search rules) true d told (c.apply-letter.ensures.stands _ c.self.invariant.0.book) (λ _. refl),
+    counted_more _ _ _ _ c.self.invariant.1 c.in-Ok.ensures.item, bye, search rules, told_room true _ _ c.apply-letter.result.answer _ d told c.self.invariant.4)
 
 pub returns-then-tell-clause-kept : goal.returns-then-tell-clause-kept
 returns-then-tell-clause-kept g c =
-    let d : End Answer = first_end _ _ (within _ c.self.invariant.0 (search rules) c.in-Ok.request (search rules) (search rules) _ (c.apply-letter.ensures.answer _ (c.self.invariant.0.stands (search rules)).book)) in
+    let asked : IsAsked _ c.in-Ok.request c.apply-letter.result.answer = record { kept = c.self.invariant.0; going = search rules; from = search rules; number = search rules; answer_is = c.apply-letter.ensures.answer _ c.self.invariant.0.book } in
+    let d : End Answer = first_end _ _ (within _ _ _ asked) in
     let told : AreTold true c.self.inside.lines.items c.apply-letter.result.answer c.tell.new.lines.items = subst (λ (sent : Bool). AreTold sent c.self.inside.lines.items c.apply-letter.result.answer c.tell.new.lines.items) c.if-tell.true c.tell.ensures in
-    let stands = stands_new _ c.self.invariant.0 (search rules) c.in-Ok.request (search rules) (search rules) _ (c.apply-letter.ensures.answer _ (c.self.invariant.0.stands (search rules)).book) c.apply-letter.new.self c.take.new.self c.tell.new.lines.items c.self.inside.failed c.saturating_add-self-inside.result c.apply-letter.ensures.limits (search rules) d told (c.apply-letter.ensures.stands _ (c.self.invariant.0.stands (search rules)).book) in
-    keeps _ c.self.invariant.0 (search rules) c.in-Ok.request (search rules) (search rules) _ (c.apply-letter.ensures.answer _ (c.self.invariant.0.stands (search rules)).book) c.apply-letter.new.self c.take.new.self c.tell.new.lines.items c.self.inside.failed c.saturating_add-self-inside.result c.apply-letter.ensures.limits (search rules) true d told (λ _. stands)
+    keeps _ _ _ asked c.apply-letter.new.self c.take.new.self c.tell.new.lines.items c.self.inside.failed c.apply-letter.ensures.limits (search rules) true d told (c.apply-letter.ensures.stands _ c.self.invariant.0.book) (λ _. refl)
 
 pub returns-then-tell-clause-lanes : goal.returns-then-tell-clause-lanes
 returns-then-tell-clause-lanes g c =
-    let d : End Answer = first_end _ _ (within _ c.self.invariant.0 (search rules) c.in-Ok.request (search rules) (search rules) _ (c.apply-letter.ensures.answer _ (c.self.invariant.0.stands (search rules)).book)) in
+    let asked : IsAsked _ c.in-Ok.request c.apply-letter.result.answer = record { kept = c.self.invariant.0; going = search rules; from = search rules; number = search rules; answer_is = c.apply-letter.ensures.answer _ c.self.invariant.0.book } in
+    let d : End Answer = first_end _ _ (within _ _ _ asked) in
+    told_lanes _ _ _ _ d c.tell.ensures ∙ ap (map (λ (end : End Answer). end.lane)) (ap (λ (desk : Desk). desk.answers) c.self.view_is)
+
+pub invariant_of-self-else-tell : goal.invariant_of-self-else-tell
+invariant_of-self-else-tell g c =
+    let asked : IsAsked _ c.in-Ok.request c.apply-letter.result.answer = record { kept = c.self.invariant.0; going = search rules; from = search rules; number = search rules; answer_is = c.apply-letter.ensures.answer _ c.self.invariant.0.book } in
+    let d : End Answer = first_end _ _ (within _ _ _ asked) in
+    let lost : c.tell.result ≡ false = search rules in
+    let told : AreTold false c.self.inside.lines.items c.apply-letter.result.answer c.tell.new.lines.items = subst (λ (sent : Bool). AreTold sent c.self.inside.lines.items c.apply-letter.result.answer c.tell.new.lines.items) lost c.tell.ensures in
+    let bye = goodbyes_more c.self.inside.gone c.from.result c.is_bye.result c.self.inside.requests.taken c.take.new.self.taken c.in-Ok.request c.self.invariant.2 c.in-Ok.ensures.item (search rules) (search rules) in
+    (keeps _ _ _ asked c.apply-letter.new.self c.take.new.self c.tell.new.lines.items true c.apply-letter.ensures.limits (search rules) false d told (c.apply-letter.ensures.stands _ c.self.invariant.0.book) (λ never. absurd (true≢false never)),
+    counted_more _ _ _ _ c.self.invariant.1 c.in-Ok.ensures.item, bye, search rules, told_room false _ _ c.apply-letter.result.answer _ d told c.self.invariant.4)
+
+pub returns-else-tell-clause-kept : goal.returns-else-tell-clause-kept
+returns-else-tell-clause-kept g c =
+    let asked : IsAsked _ c.in-Ok.request c.apply-letter.result.answer = record { kept = c.self.invariant.0; going = search rules; from = search rules; number = search rules; answer_is = c.apply-letter.ensures.answer _ c.self.invariant.0.book } in
+    let d : End Answer = first_end _ _ (within _ _ _ asked) in
+    let lost : c.tell.result ≡ false = search rules in
+    let told : AreTold false c.self.inside.lines.items c.apply-letter.result.answer c.tell.new.lines.items = subst (λ (sent : Bool). AreTold sent c.self.inside.lines.items c.apply-letter.result.answer c.tell.new.lines.items) lost c.tell.ensures in
+    keeps _ _ _ asked c.apply-letter.new.self c.take.new.self c.tell.new.lines.items true c.apply-letter.ensures.limits (search rules) false d told (c.apply-letter.ensures.stands _ c.self.invariant.0.book) (λ never. absurd (true≢false never))
+
+pub returns-else-tell-clause-lanes : goal.returns-else-tell-clause-lanes
+returns-else-tell-clause-lanes g c =
+    let asked : IsAsked _ c.in-Ok.request c.apply-letter.result.answer = record { kept = c.self.invariant.0; going = search rules; from = search rules; number = search rules; answer_is = c.apply-letter.ensures.answer _ c.self.invariant.0.book } in
+    let d : End Answer = first_end _ _ (within _ _ _ asked) in
     told_lanes _ _ _ _ d c.tell.ensures ∙ ap (map (λ (end : End Answer). end.lane)) (ap (λ (desk : Desk). desk.answers) c.self.view_is)
 
 pub returns-else-tell-clause-taken : goal.returns-else-tell-clause-taken
 returns-else-tell-clause-taken g c =
-    let d : End Answer = first_end _ _ (within _ c.self.invariant.0 (search rules) c.in-Ok.request (search rules) (search rules) _ (c.apply-letter.ensures.answer _ (c.self.invariant.0.stands (search rules)).book)) in
+    let asked : IsAsked _ c.in-Ok.request c.apply-letter.result.answer = record { kept = c.self.invariant.0; going = search rules; from = search rules; number = search rules; answer_is = c.apply-letter.ensures.answer _ c.self.invariant.0.book } in
+    let d : End Answer = first_end _ _ (within _ _ _ asked) in
     let lost : c.tell.result ≡ false = search rules in
     let told : AreTold false c.self.inside.lines.items c.apply-letter.result.answer c.tell.new.lines.items = subst (λ (sent : Bool). AreTold sent c.self.inside.lines.items c.apply-letter.result.answer c.tell.new.lines.items) lost c.tell.ensures in
     let is = c.self.view_is in (
@@ -61,17 +87,5 @@ returns-else-tell-clause-taken g c =
       search rules,
       search rules,
       told_none _ _ c.apply-letter.result.answer d told ∙ ap (λ (desk : Desk). desk.answers) is,
-      c.apply-letter.ensures.letter _ (c.self.invariant.0.stands (search rules)).book ∙ ap (λ (desk : Desk). letter_of (history desk) (next_exchange desk c.in-Ok.request)) is,
+      c.apply-letter.ensures.letter _ c.self.invariant.0.book ∙ ap (λ (desk : Desk). letter_of (history desk) (next_exchange desk c.in-Ok.request)) is,
     )
-
-pub returns-else-tell-clause-lanes : goal.returns-else-tell-clause-lanes
-returns-else-tell-clause-lanes g c =
-    let d : End Answer = first_end _ _ (within _ c.self.invariant.0 (search rules) c.in-Ok.request (search rules) (search rules) _ (c.apply-letter.ensures.answer _ (c.self.invariant.0.stands (search rules)).book)) in
-    told_lanes _ _ _ _ d c.tell.ensures ∙ ap (map (λ (end : End Answer). end.lane)) (ap (λ (desk : Desk). desk.answers) c.self.view_is)
-
-pub returns-else-tell-clause-kept : goal.returns-else-tell-clause-kept
-returns-else-tell-clause-kept g c =
-    let d : End Answer = first_end _ _ (within _ c.self.invariant.0 (search rules) c.in-Ok.request (search rules) (search rules) _ (c.apply-letter.ensures.answer _ (c.self.invariant.0.stands (search rules)).book)) in
-    let lost : c.tell.result ≡ false = search rules in
-    let told : AreTold false c.self.inside.lines.items c.apply-letter.result.answer c.tell.new.lines.items = subst (λ (sent : Bool). AreTold sent c.self.inside.lines.items c.apply-letter.result.answer c.tell.new.lines.items) lost c.tell.ensures in
-    keeps _ c.self.invariant.0 (search rules) c.in-Ok.request (search rules) (search rules) _ (c.apply-letter.ensures.answer _ (c.self.invariant.0.stands (search rules)).book) c.apply-letter.new.self c.take.new.self c.tell.new.lines.items true c.saturating_add-self-inside.result c.apply-letter.ensures.limits (search rules) false d told (λ no. absurd (true≢false no))

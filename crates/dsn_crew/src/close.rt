@@ -1,0 +1,64 @@
+//! The close of a crew.
+ghost use Rattle.std.specs.Prelude.{◌≡◌, ◌+◌, true, All};
+ghost use mathlib.Core.List.{IsPrefix};
+ghost use Rattle.dsn_book.specs.Book.{Represents};
+ghost use Rattle.dsn_crew.specs.Agent.{IsFinished};
+ghost use Rattle.dsn_crew.specs.Close.{AreCrew, IsHeard};
+ghost use Rattle.dsn_crew.specs.Desk.{all_gone, history};
+
+use crate::crew_lists::CrewLists;
+use crate::crew_shut::CrewShut;
+use crate::desk::Desk;
+use crate::ends::Ends;
+use crate::finished::Finished;
+use crate::line::Line;
+use dsn_lane::{LaneIn, close_lane};
+use dsn_outcome::Request;
+use std::sync::Wait;
+
+/// Closes a crew, of which it takes all agents, in their order, and the collector. Each of its lanes
+/// is closed, in room that was taken when the crew was opened.
+pub fn close_crew(rt: &impl Wait, crew: Vec<Finished>, desk: Desk) -> CrewShut
+    requires crew { AreCrew crew.items desk }
+    requires gone { all_gone desk ≡ true }
+    ensures heard { All (IsHeard desk) crew.items }
+    ensures finished { All IsFinished crew.items }
+    ensures book { result.book ≡ desk.book }
+    ensures stands { Represents result.book (history desk) }
+    ensures lists { result.lists ≡ record { crew = crew.items; desk = desk } }
+{
+    let lists = CrewLists::of(&crew, &desk);
+    let Desk {
+        book,
+        requests,
+        lines,
+        mut room,
+        ..
+    } = desk;
+    let mut lines = lines.into_iter();
+    for finished in crew {
+        let Some(line) = lines.next() else {
+            unreachable!()
+        };
+        room.push_reserved(close_line(rt, finished, line));
+    }
+    close_lane(rt, room, requests);
+    CrewShut { book, lists }
+}
+
+/// Closes an agent's answer lane, and gives the end by which the agent asked.
+fn close_line(rt: &impl Wait, finished: Finished, line: Line) -> LaneIn<Request>
+    requires lane { (line.lane ≡ finished.answers.lane) × (line.agent ≡ finished.requests.agent) }
+    ensures end { result ≡ finished.requests }
+    ensures got { IsPrefix finished.answers.taken line.sent }
+    ensures finished { IsFinished finished }
+{
+    let Finished { ends } = finished;
+    let Ends {
+        requests, answers, ..
+    } = ends;
+    let Line { end, mut room } = line;
+    room.push_reserved(end);
+    close_lane(rt, room, answers);
+    requests
+}

@@ -11,8 +11,9 @@ use Rattle.dsn_outcome.specs.Request.{Request}
 use Rattle.dsn_outcome.specs.declared.answer.Answer.{Answer}
 use Rattle.dsn_outcome.proofs.HistoryLaws.{answers_length}
 use Rattle.dsn_crew.specs.Agent.{Ends, IsFinished}
-use Rattle.dsn_crew.specs.Close.{AreCrew, IsHeard, place_at, place_of}
+use Rattle.dsn_crew.specs.Close.{AreCrew, IsHeard}
 use Rattle.dsn_crew.specs.Desk.{AreAnswered, Desk, IsDesk, all_gone, history}
+use Rattle.dsn_crew.specs.Place.{Place, place_at, place_of}
 
 -- ---- prefixes and lists
 
@@ -114,7 +115,7 @@ of_one_lane lane [] lines same = All-nil (λ (ends : Ends). ends.requests.lane �
 of_one_lane lane (one ∷ crew) [] same = cc
 of_one_lane lane (one ∷ crew) (line ∷ lines) same =
     let both = paired lane (one ∷ crew) crew (line ∷ lines) lines one line same refl refl in
-    All-cons (λ (ends : Ends). ends.requests.lane ≡ lane) one crew (ap (λ (place : _). place.asks) both.0) (of_one_lane lane crew lines both.1)
+    All-cons (λ (ends : Ends). ends.requests.lane ≡ lane) one crew (ap (λ (place : Place). place.asks) both.0) (of_one_lane lane crew lines both.1)
 
 pub room_of_one_lane : (lane : Identity Request) (crew : List Ends) (lines : List (End Answer)) (room : List (End Request)) → map place_of crew ≡ map (place_at lane) lines → room ≡ map (λ (ends : Ends). ends.requests) crew → All (λ (end : End Request). end.lane ≡ lane) room
 room_of_one_lane lane crew lines room same room_is =

@@ -15,7 +15,8 @@ use Rattle.dsn_outcome.specs.History.{Limits, Exchange, answer_of, answers_to, e
 use Rattle.dsn_outcome.specs.Request.{Request, Body, Append, Flush, Discard, Bye}
 use Rattle.dsn_outcome.specs.declared.answer.Answer.{Answer}
 use Rattle.dsn_outcome.proofs.HistoryLaws.{answers_length, answers_mine, answers_more, answers_other, history_more}
-use Rattle.dsn_crew.specs.Desk.{Desk, IsDesk, AreAnswered, AreTold, answered_more, goodbyes, history, is_goodbye, next_exchange, taken_request}
+use Rattle.dsn_crew.specs.Desk.{Desk, IsDesk, AreAnswered, AreTold, answered_more, goodbyes, history, is_goodbye, next_exchange, places_of, taken_request}
+use Rattle.dsn_crew.specs.Place.{Place, place_at}
 
 -- ---- the ends of the answer lanes
 
@@ -28,20 +29,21 @@ first_end (end ∷ ends) k inside = end
 pub told_none : (old new : List (End Answer)) (answer : Answer) → (d : End Answer) → AreTold false old answer new → new ≡ old
 told_none old new answer d told = told d ∙ set-get_or old answer.agent d
 
-lanes_set : (ends : List (End Answer)) (k : ℕ) (d end : End Answer) → end.lane ≡ (slice_index_or ends k d).lane → map (λ (e : End Answer). e.lane) (set ends k end) ≡ map (λ (e : End Answer). e.lane) ends
-lanes_set [] k d end same = refl
-lanes_set (first ∷ ends) zero d end same = ap (λ (lane : Identity Answer). lane ∷ map (λ (e : End Answer). e.lane) ends) same
-lanes_set (first ∷ ends) (suc k) d end same = ap (λ (lanes : List (Identity Answer)). first.lane ∷ lanes) (lanes_set ends k d end same)
+places_set : (lane : Identity Request) (ends : List (End Answer)) (k : ℕ) (d end : End Answer) → place_at lane end ≡ place_at lane (slice_index_or ends k d) → map (place_at lane) (set ends k end) ≡ map (place_at lane) ends
+places_set lane [] k d end same = refl
+places_set lane (first ∷ ends) zero d end same = ap (λ (place : Place). place ∷ map (place_at lane) ends) same
+places_set lane (first ∷ ends) (suc k) d end same = ap (λ (places : List Place). place_at lane first ∷ places) (places_set lane ends k d end same)
 
-same_lane : (sent : Bool) (end : End Answer) (answer : Answer) → (answered_more sent end answer).lane ≡ end.lane
-same_lane true end answer = refl
-same_lane false end answer = refl
+same_place : (lane : Identity Request) (sent : Bool) (end : End Answer) (answer : Answer) → place_at lane (answered_more sent end answer) ≡ place_at lane end
+same_place lane true end answer = refl
+same_place lane false end answer = refl
 
--- the lanes stay
-pub told_lanes : (sent : Bool) (old new : List (End Answer)) (answer : Answer) → (d : End Answer) → AreTold sent old answer new → map (λ (e : End Answer). e.lane) new ≡ map (λ (e : End Answer). e.lane) old
-told_lanes sent old new answer d told =
-    ap (map (λ (e : End Answer). e.lane)) (told d)
-    ∙ lanes_set old answer.agent d (answered_more sent (slice_index_or old answer.agent d) answer) (same_lane sent (slice_index_or old answer.agent d) answer)
+-- the agents keep their places
+pub told_places : (out : Out Request) (old : Desk) (new : List (End Answer)) (sent : Bool) (answer : Answer) → (d : End Answer) → AreTold sent old.answers answer new → out.lane ≡ old.requests.lane → map (place_at out.lane) new ≡ places_of old
+told_places out old new sent answer d told lane =
+    ap (map (place_at out.lane)) (told d)
+    ∙ (places_set out.lane old.answers answer.agent d (answered_more sent (slice_index_or old.answers answer.agent d) answer) (same_place out.lane sent (slice_index_or old.answers answer.agent d) answer)
+    ∙ ap (λ (it : Identity Request). map (place_at it) old.answers) lane)
 
 -- there is room for as many ends as before
 pub told_room : (sent : Bool) (old new : List (End Answer)) (answer : Answer) (room : ℕ) → (d : End Answer) → AreTold sent old answer new → length old ≤ room → length new ≤ room

@@ -2,6 +2,7 @@ pub mod AgentLemmas
 pub mod CloseLemmas
 pub mod DeskLemmas
 pub mod OpenLemmas
+pub mod PlaceLemmas
 pub mod RunLemmas
 pub mod SendLemmas
 mod ServeExamples

@@ -13,7 +13,7 @@ use Rattle.dsn_outcome.specs.Request.{Request}
 use Rattle.dsn_outcome.proofs.HistoryLaws.{history_more, letters_more}
 use Rattle.dsn_crew.specs.declared.desk_fault.DeskFault.{DeskFault}
 use Rattle.dsn_crew.specs.declared.desk_fault.DeskFault.TheVariants.{Requests, Answers, Letters}
-use Rattle.dsn_crew.specs.Desk.{AreAnswered, Desk, EndsBy, Handed, IsDesk, IsLast, IsRun, IsTaken, failing, history, history_with, lanes_of, letter_kept, next_exchange, taken_request, taken_requests}
+use Rattle.dsn_crew.specs.Desk.{AreAnswered, Desk, EndsBy, Handed, IsDesk, IsLast, IsRun, IsTaken, failing, history, history_with, places_of, letter_kept, next_exchange, taken_request, taken_requests}
 
 -- the letters of one request more
 letters_new : (old new : Desk) (request : Request) (letter : List Letter) → new.book.limits ≡ old.book.limits → new.requests ≡ taken_request old.requests request → letter ≡ letter_of (history old) (next_exchange old request) → sealed_letters (history new) ≡ sealed_letters (history old) ++ letter
@@ -70,55 +70,55 @@ ends_then old mid new some more (Err (Letters letter)) still limits same ends =
 
 module _ {S : Type 0} (takes : S → Letter → S → Type 0) where
   -- what all runs of one request share
-  one_run : (old new : Desk) (sink after : S) (request : Request) (handed : List Letter) (result : Result (Unit {0}) DeskFault) → new.requests ≡ taken_request old.requests request → new.book.limits ≡ old.book.limits → lanes_of new ≡ lanes_of old
+  one_run : (old new : Desk) (sink after : S) (request : Request) (handed : List Letter) (result : Result (Unit {0}) DeskFault) → new.requests ≡ taken_request old.requests request → new.book.limits ≡ old.book.limits → places_of new ≡ places_of old
       → Handed takes sink handed after → handed ++ letter_kept result ≡ letter_of (history old) (next_exchange old request) → old.failed ≡ false → new.failed ≡ is_err result → EndsBy old (request ∷ []) new result → IsRun takes old new sink after result
-  one_run old new sink after request handed result requests limits lanes sink_is letters going failed ends = record {
+  one_run old new sink after request handed result requests limits places sink_is letters going failed ends = record {
     more = request ∷ [];
     requests = requests;
     handed = handed;
     sink_is = sink_is;
     letters = letters_new old new request (handed ++ letter_kept result) limits requests letters;
     limits = limits;
-    lanes = lanes;
+    places = places;
     failed = failed ∙ ap (λ (b : Bool). b || is_err result) (sym going);
     idle = not_idle old.failed going;
     ends = ends;
   }
 
-  pub took_none : (old new : Desk) (sink : S) → IsTaken old new (Ok None) → new.book.limits ≡ old.book.limits → lanes_of new ≡ lanes_of old → IsRun takes old new sink sink (Ok tt)
-  took_none old new sink taken limits lanes =
-      one_run old new sink sink taken.0 [] (Ok tt) taken.3 limits lanes refl taken.5 taken.1 taken.2 tt
+  pub took_none : (old new : Desk) (sink : S) → IsTaken old new (Ok None) → new.book.limits ≡ old.book.limits → places_of new ≡ places_of old → IsRun takes old new sink sink (Ok tt)
+  took_none old new sink taken limits places =
+      one_run old new sink sink taken.0 [] (Ok tt) taken.3 limits places refl taken.5 taken.1 taken.2 tt
 
-  pub took_fault : (old new : Desk) (sink : S) (fault : DeskFault) → IsDesk old → IsTaken old new (Err fault) → new.book.limits ≡ old.book.limits → lanes_of new ≡ lanes_of old → IsRun takes old new sink sink (Err fault)
+  pub took_fault : (old new : Desk) (sink : S) (fault : DeskFault) → IsDesk old → IsTaken old new (Err fault) → new.book.limits ≡ old.book.limits → places_of new ≡ places_of old → IsRun takes old new sink sink (Err fault)
   unfolding last_one
-  took_fault old new sink Requests kept taken limits lanes = record {
+  took_fault old new sink Requests kept taken limits places = record {
     more = [];
     requests = ap (λ (desk : Desk). desk.requests) taken ∙ no_more old.requests;
     handed = [];
     sink_is = refl;
     letters = letters_same old new limits (ap (λ (desk : Desk). desk.requests) taken);
     limits = limits;
-    lanes = lanes;
+    places = places;
     failed = ap (λ (desk : Desk). desk.failed) taken ∙ sym (or-true old.failed);
     idle = λ idle. taken ∙ failing_again old idle;
     ends = λ going. subst (λ (desk : Desk). AreAnswered desk.answers (history desk)) (sym taken) (kept.answered going);
   }
-  took_fault old new sink (Answers agent letter) kept taken limits lanes =
+  took_fault old new sink (Answers agent letter) kept taken limits places =
       let answered : AreAnswered new.answers (history_with old []) =
         subst (λ (ends : List (End Answer)). AreAnswered ends (history_with old [])) (sym taken.5)
           (subst (λ (q : List Request). AreAnswered old.answers (history_of old.book.limits q)) (sym (append-nil old.requests.taken)) (kept.answered taken.1)) in
-      one_run old new sink sink taken.0 [] (Err (Answers agent letter)) taken.3 limits lanes refl taken.6 taken.1 taken.2 (taken.1, taken.0, taken.4, last_one old taken.0 (letters_in letter) taken.6, answered)
-  took_fault old new sink (Letters letter) kept taken limits lanes = absurd taken
+      one_run old new sink sink taken.0 [] (Err (Answers agent letter)) taken.3 limits places refl taken.6 taken.1 taken.2 (taken.1, taken.0, taken.4, last_one old taken.0 (letters_in letter) taken.6, answered)
+  took_fault old new sink (Letters letter) kept taken limits places = absurd taken
 
-  pub took_handed : (old new : Desk) (sink after : S) (letter : Letter) → IsTaken old new (Ok (Some letter)) → new.book.limits ≡ old.book.limits → lanes_of new ≡ lanes_of old → takes sink letter after → IsRun takes old new sink after (Ok tt)
-  took_handed old new sink after letter taken limits lanes takes_it =
-      one_run old new sink after taken.0 (letter ∷ []) (Ok tt) taken.3 limits lanes (after, takes_it, refl) taken.5 taken.1 taken.2 tt
+  pub took_handed : (old new : Desk) (sink after : S) (letter : Letter) → IsTaken old new (Ok (Some letter)) → new.book.limits ≡ old.book.limits → places_of new ≡ places_of old → takes sink letter after → IsRun takes old new sink after (Ok tt)
+  took_handed old new sink after letter taken limits places takes_it =
+      one_run old new sink after taken.0 (letter ∷ []) (Ok tt) taken.3 limits places (after, takes_it, refl) taken.5 taken.1 taken.2 tt
 
   -- the sink is gone: the collector is as it was once the request was answered, but failed
-  pub took_lost : (old mid new : Desk) (sink after : S) (letter back : Letter) → IsDesk mid → IsTaken old mid (Ok (Some letter)) → mid.book.limits ≡ old.book.limits → lanes_of mid ≡ lanes_of old → new ≡ failing mid → back ≡ letter → after ≡ sink → IsRun takes old new sink after (Err (Letters back))
-  took_lost old mid new sink after letter back kept taken limits lanes is same sink_same =
+  pub took_lost : (old mid new : Desk) (sink after : S) (letter back : Letter) → IsDesk mid → IsTaken old mid (Ok (Some letter)) → mid.book.limits ≡ old.book.limits → places_of mid ≡ places_of old → new ≡ failing mid → back ≡ letter → after ≡ sink → IsRun takes old new sink after (Err (Letters back))
+  took_lost old mid new sink after letter back kept taken limits places is same sink_same =
       let sealed : back ∷ [] ≡ letter_of (history old) (next_exchange old taken.0) = ap (λ (l : Letter). l ∷ []) same ∙ taken.5 in
-      one_run old new sink after taken.0 [] (Err (Letters back)) (ap (λ (desk : Desk). desk.requests) is ∙ taken.3) (ap (λ (desk : Desk). desk.book.limits) is ∙ limits) (ap lanes_of is ∙ lanes) sink_same
+      one_run old new sink after taken.0 [] (Err (Letters back)) (ap (λ (desk : Desk). desk.requests) is ∙ taken.3) (ap (λ (desk : Desk). desk.book.limits) is ∙ limits) (ap places_of is ∙ places) sink_same
         sealed taken.1 (ap (λ (desk : Desk). desk.failed) is) (taken.1, taken.0, last_one old taken.0 (back ∷ []) sealed, subst (λ (desk : Desk). AreAnswered desk.answers (history desk)) (sym is) (kept.answered taken.2))
 
   -- nothing was taken yet
@@ -130,7 +130,7 @@ module _ {S : Type 0} (takes : S → Letter → S → Type 0) where
     sink_is = refl;
     letters = sym (append-nil (sealed_letters (history desk)));
     limits = refl;
-    lanes = refl;
+    places = refl;
     failed = same_failed desk.failed;
     idle = λ _. refl;
     ends = tt;
@@ -166,7 +166,7 @@ module _ {S : Type 0} (takes : S → Letter → S → Type 0) where
         ∙ (append_assoc (sealed_letters (history old)) before.handed (then.handed ++ letter_kept result)
         ∙ ap (λ (ls : List Letter). sealed_letters (history old) ++ ls) (sym (append_assoc before.handed then.handed (letter_kept result)))));
     limits = then.limits ∙ before.limits;
-    lanes = then.lanes ∙ before.lanes;
+    places = then.places ∙ before.places;
     failed = then.failed ∙ ap (λ (b : Bool). b || is_err result) (still before);
     idle = λ idle. let same = before.idle idle in then.idle (ap (λ (desk : Desk). desk.failed) same ∙ idle) ∙ same;
     ends = ends_then old mid new before.more then.more result (still before) before.limits (history_then before) then.ends;

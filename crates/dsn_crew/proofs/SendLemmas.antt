@@ -1,7 +1,12 @@
--- An agent may go to a thread of its own.
+-- An agent may go to a thread of its own, and come back from it once it said goodbye.
 use denote.Param.Send.{IsSend, sendable}
+use Rattle.std.proofs.Crossing.{crosses}
 use Rattle.dsn_crew.specs.contracts.agent.Agent as Agent
+use Rattle.dsn_crew.specs.contracts.finished.Finished as Finished
 use Rattle.dsn_lane.proofs.SendLemmas.{requests_in_send, answers_out_send}
 
 pub agent_send : IsSend Agent.the_row
 agent_send = search (requests_in_send, answers_out_send, sendable) depth 20
+
+pub finished_send : IsSend Finished.the_row
+finished_send = search (requests_in_send, answers_out_send, crosses, sendable) depth 20

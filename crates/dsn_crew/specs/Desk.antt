@@ -4,11 +4,12 @@ use mathlib.Core.List.{IsPrefix}
 use Rattle.std.specs.List.{slice_index_or}
 use Rattle.dsn_book.specs.Book.{Book, Represents}
 use Rattle.dsn_book.specs.Step.{letters_in}
-use Rattle.dsn_lane.specs.Ends.{End, Identity, Out}
+use Rattle.dsn_lane.specs.Ends.{End, Out}
 use Rattle.dsn_outcome.specs.History.{Exchange, answer_of, answers_to, exchange_of, history_of, letter_of, sealed_letters}
 use Rattle.dsn_outcome.specs.Letter.{Letter}
 use Rattle.dsn_outcome.specs.Request.{Request, Body, Append, Flush, Discard, Bye}
 use Rattle.dsn_outcome.specs.declared.answer.Answer.{Answer}
+use Rattle.dsn_crew.specs.Place.{Place, place_at}
 use Rattle.dsn_crew.specs.declared.desk_fault.DeskFault.{DeskFault}
 use Rattle.dsn_crew.specs.declared.desk_fault.DeskFault.TheVariants.{Requests, Answers, Letters}
 
@@ -106,8 +107,9 @@ letter_kept (Err Requests) = []
 letter_kept (Err (Answers agent letter)) = letters_in letter
 letter_kept (Err (Letters letter)) = letter ∷ []
 
-abbrev pub lanes_of : Desk → List (Identity Answer)
-lanes_of desk = map (λ (end : End Answer). end.lane) desk.answers
+-- the places of its agents
+abbrev pub places_of : Desk → List Place
+places_of desk = map (place_at desk.requests.lane) desk.answers
 
 -- the last of the requests that a collector took, and the letter that it sealed, if it did
 pub record IsLast (desk : Desk) (more : List Request) (last : Request) (letter : List Letter) : Type 0 where
@@ -135,7 +137,7 @@ pub record IsRun {S : Type 0} (takes : S → Letter → S → Type 0) (old new :
   pub sink_is : Handed takes sink handed after
   pub letters : sealed_letters (history new) ≡ sealed_letters (history old) ++ (handed ++ letter_kept result)
   pub limits : new.book.limits ≡ old.book.limits
-  pub lanes : lanes_of new ≡ lanes_of old
+  pub places : places_of new ≡ places_of old
   pub failed : new.failed ≡ (old.failed || is_err result)
   pub idle : old.failed ≡ true → new ≡ old
   pub ends : EndsBy old more new result

@@ -2,4 +2,5 @@ pub mod Agent
 pub mod Close
 pub mod Desk
 pub mod Open
+pub mod Place
 pub mod Serve

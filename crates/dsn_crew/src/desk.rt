@@ -5,7 +5,7 @@ ghost use Rattle.dsn_book.specs.Book.{Represents};
 ghost use Rattle.dsn_lane.specs.Ends.{End};
 ghost use Rattle.dsn_outcome.specs.declared.answer.Answer.{Answer};
 ghost use Rattle.dsn_crew.specs.Open.{AreLines};
-ghost use Rattle.dsn_crew.specs.Desk.{AreTold, IsDesk, IsRun, IsTaken, all_gone, lanes_of};
+ghost use Rattle.dsn_crew.specs.Desk.{AreTold, IsDesk, IsRun, IsTaken, all_gone, places_of};
 
 use crate::desk_fault::DeskFault;
 use crate::line::Line;
@@ -84,7 +84,7 @@ impl Desk {
         ensures taken { IsTaken self.old self.new result }
         ensures limits { self.new.book.limits ≡ self.old.book.limits }
         ensures kept { IsDesk self.new }
-        ensures lanes { lanes_of self.new ≡ lanes_of self.old }
+        ensures places { places_of self.new ≡ places_of self.old }
     {
         if self.failed || self.taken == u32::MAX {
             self.failed = true;

@@ -3,6 +3,10 @@ ghost use Rattle.std.specs.Prelude.{◌≢◌, IfSome};
 ghost use Rattle.dsn_outcome.specs.Body.{body_of};
 ghost use Rattle.dsn_outcome.specs.Request.{Bye as Goodbye};
 
+mod bodies;
+mod collect;
+mod limit;
+
 use crate::{Agent, AskFault, CrewOpenFault, Desk, DeskFault, open_crew};
 use dsn_book::Limits;
 use dsn_outcome::{Body, Key, QueueId, Service};

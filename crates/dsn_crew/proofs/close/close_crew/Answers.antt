@@ -9,7 +9,7 @@ use Rattle.dsn_outcome.specs.History.{answers_to}
 use Rattle.dsn_outcome.specs.declared.answer.Answer.{Answer}
 use Rattle.dsn_outcome.specs.Request.{Request}
 use Rattle.dsn_crew.specs.Agent.{Ends}
-use Rattle.dsn_crew.specs.Close.{Place, place_at, place_of}
+use Rattle.dsn_crew.specs.Place.{Place, place_at, place_of}
 use Rattle.dsn_crew.specs.Desk.{Desk, IsDesk, history}
 use Rattle.dsn_crew.proofs.OpenLemmas.{none_left}
 use Rattle.dsn_crew.proofs.CloseLemmas.{IsAnswered, all_ends, all_finished, all_heard, as_many, closed_more, kept_all, kept_more, lines_answered, none_answered, paired, room_of_one_lane, some_left}

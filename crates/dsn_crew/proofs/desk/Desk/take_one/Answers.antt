@@ -1,10 +1,10 @@
 -- An answer that is sent is the one that the history defines, and the collector stands for one request more.
-use Rattle.std.proofs.Common.{rules, ◌≡◌, Bool, false, true, cond, map, refl, ap, ◌∙◌, subst, true≢false, arith}
+use Rattle.std.proofs.Common.{rules, ◌≡◌, Bool, false, true, refl, ap, ◌∙◌, subst, true≢false, arith}
 use Rattle.dsn_lane.specs.Ends.{End}
 use Rattle.dsn_outcome.specs.Request.{Request}
 use Rattle.dsn_outcome.specs.declared.answer.Answer.{Answer}
 use Rattle.dsn_outcome.specs.History.{letter_of}
-use Rattle.dsn_crew.proofs.DeskLemmas.{IsAsked, counted_more, first_end, goodbyes_fit, goodbyes_more, keeps, line_agent, line_number, small, told_lanes, told_none, told_room, within}
+use Rattle.dsn_crew.proofs.DeskLemmas.{IsAsked, counted_more, first_end, goodbyes_fit, goodbyes_more, keeps, line_agent, line_number, small, told_places, told_none, told_room, within}
 use Rattle.dsn_crew.specs.Desk.{Desk, AreTold, history, next_exchange}
 use Rattle.dsn_crew.proofs.desk.Desk.take_one.Goals as goal
 
@@ -44,11 +44,11 @@ returns-then-tell-clause-kept g c =
     let told : AreTold true c.self.inside.lines.items c.apply-letter.result.answer c.tell.new.lines.items = subst (λ (sent : Bool). AreTold sent c.self.inside.lines.items c.apply-letter.result.answer c.tell.new.lines.items) c.if-tell.true c.tell.ensures in
     keeps _ _ _ asked c.apply-letter.new.self c.take.new.self c.tell.new.lines.items c.self.inside.failed c.apply-letter.ensures.limits (search rules) true d told (c.apply-letter.ensures.stands _ c.self.invariant.0.book) (λ _. refl)
 
-pub returns-then-tell-clause-lanes : goal.returns-then-tell-clause-lanes
-returns-then-tell-clause-lanes g c =
+pub returns-then-tell-clause-places : goal.returns-then-tell-clause-places
+returns-then-tell-clause-places g c =
     let asked : IsAsked _ c.in-Ok.request c.apply-letter.result.answer = record { kept = c.self.invariant.0; going = search rules; from = search rules; number = search rules; answer_is = c.apply-letter.ensures.answer _ c.self.invariant.0.book } in
     let d : End Answer = first_end _ _ (within _ _ _ asked) in
-    told_lanes _ _ _ _ d c.tell.ensures ∙ ap (map (λ (end : End Answer). end.lane)) (ap (λ (desk : Desk). desk.answers) c.self.view_is)
+    told_places c.take.new.self c.args.self.now c.tell.new.lines.items c.tell.result c.apply-letter.result.answer d (search rules) (search rules)
 
 pub invariant_of-self-else-tell : goal.invariant_of-self-else-tell
 invariant_of-self-else-tell g c =
@@ -68,11 +68,11 @@ returns-else-tell-clause-kept g c =
     let told : AreTold false c.self.inside.lines.items c.apply-letter.result.answer c.tell.new.lines.items = subst (λ (sent : Bool). AreTold sent c.self.inside.lines.items c.apply-letter.result.answer c.tell.new.lines.items) lost c.tell.ensures in
     keeps _ _ _ asked c.apply-letter.new.self c.take.new.self c.tell.new.lines.items true c.apply-letter.ensures.limits (search rules) false d told (c.apply-letter.ensures.stands _ c.self.invariant.0.book) (λ never. absurd (true≢false never))
 
-pub returns-else-tell-clause-lanes : goal.returns-else-tell-clause-lanes
-returns-else-tell-clause-lanes g c =
+pub returns-else-tell-clause-places : goal.returns-else-tell-clause-places
+returns-else-tell-clause-places g c =
     let asked : IsAsked _ c.in-Ok.request c.apply-letter.result.answer = record { kept = c.self.invariant.0; going = search rules; from = search rules; number = search rules; answer_is = c.apply-letter.ensures.answer _ c.self.invariant.0.book } in
     let d : End Answer = first_end _ _ (within _ _ _ asked) in
-    told_lanes _ _ _ _ d c.tell.ensures ∙ ap (map (λ (end : End Answer). end.lane)) (ap (λ (desk : Desk). desk.answers) c.self.view_is)
+    told_places c.take.new.self c.args.self.now c.tell.new.lines.items c.tell.result c.apply-letter.result.answer d (search rules) (search rules)
 
 pub returns-else-tell-clause-taken : goal.returns-else-tell-clause-taken
 returns-else-tell-clause-taken g c =

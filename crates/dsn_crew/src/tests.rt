@@ -1,4 +1,7 @@
 //! What comes when one side of a crew is gone, and how many agents a crew may have.
+mod peer;
+mod serving;
+
 ghost use Rattle.std.specs.Prelude.{◌≢◌, IfSome};
 ghost use Rattle.dsn_outcome.specs.Body.{body_of};
 ghost use Rattle.dsn_outcome.specs.Request.{Bye as Goodbye};

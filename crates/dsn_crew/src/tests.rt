@@ -1,7 +1,4 @@
 //! What comes when one side of a crew is gone, and how many agents a crew may have.
-mod peer;
-mod serving;
-
 ghost use Rattle.std.specs.Prelude.{◌≢◌, IfSome};
 ghost use Rattle.dsn_outcome.specs.Body.{body_of};
 ghost use Rattle.dsn_outcome.specs.Request.{Bye as Goodbye};
@@ -9,6 +6,8 @@ ghost use Rattle.dsn_outcome.specs.Request.{Bye as Goodbye};
 mod bodies;
 mod collect;
 mod limit;
+mod peer;
+mod serving;
 
 use crate::{Agent, AskFault, CrewOpenFault, Desk, DeskFault, open_crew};
 use dsn_book::Limits;

@@ -8,6 +8,7 @@ mod collect;
 mod limit;
 mod peer;
 mod serving;
+mod sixteen;
 
 use crate::{Agent, AskFault, CrewOpenFault, Desk, DeskFault, open_crew};
 use dsn_book::Limits;

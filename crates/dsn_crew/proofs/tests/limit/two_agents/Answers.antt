@@ -22,7 +22,7 @@ told_send = search (finished_send, crosses, sendable) depth 20
 
 pub join-told-requires-send-F : goal.join-told-requires-send-F
 join-told-requires-send-F g c κs within =
-    param_send 1 _ (arg_send _ no _ (closure_send _ (ShrRef (named 0) κs.0 (param 0 g.row.R) ∷ Global.the_row ∷ Agent.the_row ∷ Agent.the_row ∷ [])
+    param_send 1 _ (arg_send _ no _ (closure_send _ (ShrRef (named 2) κs.1.1.0 (param 0 g.row.R) ∷ Global.the_row ∷ Agent.the_row ∷ Agent.the_row ∷ [])
     (shr_send _ _ _ (param_sync 0 _ c.type_bounds.sync-R), (global_send, (agent_send, (agent_send, tt))))))
 
 pub join-told-requires-send-A : goal.join-told-requires-send-A

@@ -1,8 +1,11 @@
 pub mod AgentLemmas
 pub mod CloseLemmas
 pub mod DeskLemmas
+pub mod LetterSinkLemmas
 pub mod OpenLemmas
+pub mod ParcelLemmas
 pub mod PlaceLemmas
+pub mod PostingLemmas
 pub mod RunLemmas
 pub mod SendLemmas
 mod ServeExamples

@@ -1,6 +1,9 @@
 pub mod Agent
 pub mod Close
 pub mod Desk
+pub mod LetterSink
 pub mod Open
+pub mod Parcel
 pub mod Place
+pub mod Posting
 pub mod Serve

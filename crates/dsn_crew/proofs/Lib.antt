@@ -4,7 +4,6 @@ pub mod DeskLemmas
 pub mod LetterSinkLemmas
 pub mod OpenLemmas
 pub mod ParcelLemmas
-pub mod PlaceLemmas
 pub mod PostingLemmas
 pub mod RunLemmas
 pub mod SendLemmas

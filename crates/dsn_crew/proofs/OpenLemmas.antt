@@ -12,7 +12,9 @@ use Rattle.dsn_outcome.specs.Request.{Request}
 use Rattle.dsn_outcome.specs.declared.answer.Answer.{Answer}
 use Rattle.dsn_crew.specs.Agent.{Agent}
 use Rattle.dsn_crew.specs.Desk.{AreAnswered, Desk, IsDesk}
-use Rattle.dsn_crew.specs.Open.{AreLines, opened_agent}
+use Rattle.dsn_crew.specs.Close.{AreCrew}
+use Rattle.dsn_crew.specs.Open.{AreLines, IsOpened, opened_agent}
+use Rattle.dsn_crew.specs.Place.{place_at, place_of}
 
 -- a collector that has taken nothing
 pub new_desk : (book : Book) (requests : Out Request) (ends : List (End Answer)) → Represents book [] → requests.first ≡ 0 → requests.past ≡ length ends → requests.taken ≡ [] → AreLines ends → IsDesk (record { book = book; requests = requests; answers = ends; failed = false })
@@ -74,3 +76,17 @@ length-ends lane first (suc more) = let rest = length-ends lane (suc first) more
 pub none_left : {A : Type 0} (next : Option A) (left : ℕ) → next ≡ None → IsSome next ↔ (0 < left) → 0 < left → ⊥
 none_left None left is some one = absurd (false≢true (some.1 one))
 none_left (Some item) left is some one = absurd cc
+
+-- ---- an opened crew
+
+two_at : (limit : ℕ) (lane : Identity Request) (ends : List (End Answer)) → length ends ≡ 2 → (first : Agent) × (second : Agent) × (map (opened_agent limit lane) ends ≡ first ∷ second ∷ []) × (place_of first.ends ∷ place_of second.ends ∷ [] ≡ map (place_at lane) ends)
+two_at limit lane [] count = absurd (omega arith)
+two_at limit lane (one ∷ []) count = absurd (omega arith)
+two_at limit lane (one ∷ other ∷ []) count = (opened_agent limit lane one, opened_agent limit lane other, refl, refl)
+two_at limit lane (one ∷ other ∷ third ∷ rest) count = absurd (omega arith)
+
+-- of two agents
+pub opened_two : (limits : Limits) (crew : List Agent) (desk : Desk) → IsOpened limits 2 crew desk → (first : Agent) × (second : Agent) × (crew ≡ first ∷ second ∷ []) × AreCrew (first.ends ∷ second.ends ∷ []) desk
+opened_two limits crew desk opened =
+    let pair = two_at limits.requests desk.requests.lane desk.answers opened.count in
+    (pair.0, pair.1, opened.crew_is ∙ pair.2, pair.3)

@@ -17,6 +17,12 @@ struct Job {
     log: u8,
 }
 
+/// Agents with their logs.
+#[derive(Drop)]
+struct Jobs {
+    jobs: Vec<Job>,
+}
+
 /// The sum of the places in its log at which an agent's 500 appends were answered to be; none where
 /// these don't rise, another reply came, or a lane was lost.
 fn append_500(rt: &impl Wait, alloc: Global, job: Job) -> Option<u64> {
@@ -38,10 +44,19 @@ fn append_500(rt: &impl Wait, alloc: Global, job: Job) -> Option<u64> {
     Some(sum)
 }
 
-/// The sum of all places, of sixteen agents of which each two share a log.
-fn sixteen_of_500<R: Threads + Wait + Sync>(rt: &R, alloc: Global) -> Option<u64> {
-    let limits = Limits::new(8, 1000, 500)?;
-    let (crew, desk) = open_crew(rt, alloc, limits, 16).ok()?;
+/// The sum of all places, where each agent appends on a thread of its own.
+fn append_all<R: Threads + Wait + Sync>(rt: &R, alloc: Global, jobs: Jobs) -> Option<u64> {
+    let Jobs { jobs } = jobs;
+    let sums = thread::map_vec(rt, jobs, &|job: Job| append_500(rt, alloc, job)).ok()?;
+    let mut total: u64 = 0;
+    for sum in sums {
+        total = total.wrapping_add(sum?);
+    }
+    Some(total)
+}
+
+/// Gives each two agents a log.
+fn jobs_of(alloc: Global, crew: Vec<Agent>) -> Option<Jobs> {
     let mut jobs = Vec::new(alloc);
     let mut turn: u8 = 0;
     for agent in crew {
@@ -49,16 +64,20 @@ fn sixteen_of_500<R: Threads + Wait + Sync>(rt: &R, alloc: Global) -> Option<u64
         jobs.push(Job { agent, log }).ok()?;
         turn = turn.wrapping_add(1);
     }
-    let (sums, _desk) = thread::join(
+    Some(Jobs { jobs })
+}
+
+/// The sum of all places, of sixteen agents of which each two share a log.
+fn sixteen_of_500<R: Threads + Wait + Sync>(rt: &R, alloc: Global) -> Option<u64> {
+    let limits = Limits::new(8, 1000, 500)?;
+    let (crew, desk) = open_crew(rt, alloc, limits, 16).ok()?;
+    let jobs = jobs_of(alloc, crew)?;
+    let (total, _desk) = thread::join(
         rt,
-        move || thread::map_vec(rt, jobs, &|job: Job| append_500(rt, alloc, job)),
+        move || append_all(rt, alloc, jobs),
         move || collect(rt, desk),
     );
-    let mut total: u64 = 0;
-    for sum in sums.ok()? {
-        total = total.wrapping_add(sum?);
-    }
-    Some(total)
+    total
 }
 
 #[test]

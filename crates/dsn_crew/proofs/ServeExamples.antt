@@ -1,5 +1,5 @@
 -- Worked examples of an agent's session, made by the definitions: a connection with one discard.
-use Rattle.std.proofs.Common.{◌≡◌, ℕ, List, [], ◌∷◌, ◌++◌, inl, Bool, true, false, refl, lit<, lit≤}
+use Rattle.std.proofs.Common.{◌≡◌, ℕ, List, [], ◌∷◌, inl, Bool, true, false, refl, lit<, lit≤}
 use Rattle.std.specs.Prelude.{Some, None, Ok, Err, codes}
 use Rattle.dsn_device.specs.declared.drain.Drain.{Ghosts as Drain}
 use Rattle.dsn_device.specs.declared.source.Source.{Ghosts as Source}

@@ -2,7 +2,7 @@
 use Rattle.std.proofs.Common.{◌≡◌, ℕ, ◌+◌, ◌<◌, ◌↔◌, Bool, true, false, List, [], ◌∷◌, ◌++◌, length, refl, ap, sym, ◌∙◌, arith}
 use Rattle.std.specs.Prelude.{Option, Some, None, Result, Ok, Err, IfOk, OnOk, OnErr, is_err}
 use Rattle.std.specs.Io.KnownBytes.{Appends, Keeps}
-use Rattle.std.proofs.KnownBytes.{Appends-trans, Appends-nil, Appends-kept, Consumes-kept}
+use Rattle.std.proofs.KnownBytes.{Appends-nil, Appends-kept, Consumes-kept}
 use Rattle.std.proofs.lemmas.List.{append-nil, length-append}
 use Rattle.dsn_device.specs.declared.drain.Drain.{Ghosts as Drain}
 use Rattle.dsn_device.specs.declared.source.Source.{Ghosts as Source}
@@ -14,6 +14,7 @@ use Rattle.dsn_frame.specs.Session.{Connection, IsOpenSession, IsSession, Takes,
 use Rattle.dsn_frame.specs.Spoken.{answer_bytes, answer_frames_from}
 use Rattle.dsn_frame.specs.declared.spoken.Spoken.{Spoken}
 use Rattle.dsn_frame.proofs.AnswerLemmas.{answer_frames_from-more}
+use Rattle.dsn_frame.proofs.TellingLemmas.{sent-more, sent-lost}
 use Rattle.dsn_frame.proofs.SessionLemmas.{session_begun, session_more, session_stopped, session_unwritten}
 use Rattle.dsn_crew.specs.Agent.{Agent}
 use Rattle.dsn_crew.specs.Serve.{Counts, HasAsked, IsServed, IsTurn, is_lost, is_stream_failed, is_unwritten, served_end, told, turn_end, has_lost}
@@ -148,8 +149,8 @@ module _ {S : Type 0} (source : Source S) (drain : Drain S) where
 
       then-written : Appends (drain.contents read) (drain.contents sent) (answer_bytes count turn.answer) → Appends (drain.contents before) (drain.contents sent) (answer_frames_from 0 (so_far.answers ++ turn.answer ∷ []))
       then-written one =
-          let place : 0 + length so_far.answers ≡ count = omega (arith, so_far.answers_counted) in
-          rw (answer_frames_from-more 0 so_far.answers turn.answer, place) (Appends-trans (drain.contents before) (drain.contents read) (drain.contents sent) (answer_frames_from 0 so_far.answers) (answer_bytes count turn.answer) written-by-then one)
+          sent-more answer_bytes answer_frames_from (drain.contents before) (drain.contents read) (drain.contents sent) so_far.answers turn.answer count so_far.answers_counted written-by-then
+          (answer_frames_from-more 0 so_far.answers turn.answer) one
 
       then-counts : (failed : Bool) → Counts source drain failed read sent → Counts source drain failed before sent
       then-counts failed counts = counts-then failed before stream sent so_far.counts (counts-then failed stream read sent good counts)
@@ -178,16 +179,7 @@ module _ {S : Type 0} (source : Source S) (drain : Drain S) where
         answers = so_far.answers ++ turn.answer ∷ [];
         session = session_unwritten Connection old.limit (length old.ends.requests.sent) (source.remaining before) (source.remaining stream) (source.remaining sent) so_far.frames so_far.bodies so_far.answers bytes so_far.session fewer reads-then is.bodies turn.answer (turn_end (Some turn)) (takes-here (Some turn) is);
         asked = then-asked;
-        written = record {
-          before = so_far.answers;
-          last = turn.answer;
-          answers_are = refl;
-          part = part.front;
-          lost = part.unsent;
-          some = part.some;
-          frame_is = rw so_far.answers_counted part.split;
-          appended = Appends-trans (drain.contents before) (drain.contents read) (drain.contents sent) (answer_frames_from 0 so_far.answers) part.front written-by-then part.appended;
-        };
+        written = sent-lost answer_bytes answer_frames_from (drain.contents before) (drain.contents read) (drain.contents sent) so_far.answers turn.answer count so_far.answers_counted written-by-then part;
         answered = tt;
         counts = then-counts true counts;
       }

@@ -1,6 +1,5 @@
 -- Sessions of an agent: what became of one connection, of the agent that served it, and of the answers' frames.
-use Rattle.std.specs.Prelude.{◌≡◌, ℕ, suc, ◌<◌, Bool, true, false, ◌||◌, ◌⊎◌, List, [], ◌∷◌, ◌++◌, length, Option, Some, None, Result, Ok, Err, IfOk, if◌then◌else◌}
-use Rattle.std.specs.Io.KnownBytes.{Appends}
+use Rattle.std.specs.Prelude.{◌≡◌, ℕ, suc, Bool, true, false, ◌||◌, ◌⊎◌, List, [], ◌∷◌, ◌++◌, length, Option, Some, None, Result, Ok, Err, IfOk, if◌then◌else◌}
 use Rattle.std.specs.List.{flat_map}
 use Rattle.dsn_device.specs.Failures.{counted}
 use Rattle.dsn_device.specs.declared.drain.Drain.{Ghosts as Drain}
@@ -11,6 +10,7 @@ use Rattle.dsn_outcome.specs.declared.answer.Reply.{Reply}
 use Rattle.dsn_frame.specs.FrameFault.{frame_fault_code, source_failed}
 use Rattle.dsn_frame.specs.Session.{Connection, IsSession, Takes}
 use Rattle.dsn_frame.specs.Spoken.{answer_bytes, answer_frames_from, reply_of}
+use Rattle.dsn_frame.specs.Telling.{AnswersSent}
 use Rattle.dsn_frame.specs.declared.spoken.Spoken.{Spoken}
 use Rattle.dsn_frame.specs.declared.spoken.Spoken.TheVariants as spoken
 use Rattle.dsn_crew.specs.Agent.{Agent}
@@ -114,24 +114,6 @@ pub record HasAsked (old new : Agent) (bodies : List Body) (answers : List Spoke
   pub idle : old.lost ≡ true → bodies ≡ []
   pub replied : AreReplied lost (length bodies) (length (flat_map reply_of answers))
 
--- ---- the answers' frames
-
--- the frames of answers were written, but for a part of the last one's, which isn't empty
-pub record LosesLast (old new : Option (List ℕ)) (answers : List Spoken) : Type 0 where
-  pub before : List Spoken
-  pub last : Spoken
-  pub answers_are : answers ≡ before ++ last ∷ []
-  pub part : List ℕ
-  pub lost : List ℕ
-  pub some : 0 < length lost
-  pub frame_is : answer_bytes (length before) last ≡ part ++ lost
-  pub appended : Appends old new (answer_frames_from 0 before ++ part)
-
--- what became of the frames of answers, by whether the last one could not be written
-abbrev pub AreWritten : Bool → Option (List ℕ) → Option (List ℕ) → List Spoken → Type 0
-AreWritten false old new answers = Appends old new (answer_frames_from 0 answers)
-AreWritten true old new answers = LosesLast old new answers
-
 -- ---- a session
 
 -- a stream that failed once, or not, and was not flushed; one that is steady stays so, and didn't fail
@@ -148,7 +130,7 @@ pub record IsServed {S : Type 0} (source : Source S) (drain : Drain S) (old new 
   pub answers : List Spoken
   pub session : IsSession Connection old.limit (length old.ends.requests.sent) (source.remaining before) (source.remaining after) frames bodies answers (served_end result)
   pub asked : HasAsked old new bodies answers (is_lost result)
-  pub written : AreWritten (is_unwritten result) (drain.contents before) (drain.contents after) answers
+  pub written : AnswersSent answer_bytes answer_frames_from (is_unwritten result) (drain.contents before) (drain.contents after) answers
   pub answered : IfOk result (λ served. served.frames ≡ length answers)
   pub counts : Counts source drain (is_stream_failed result) before after
 

@@ -13,4 +13,5 @@ mod SessionExamples
 pub mod SessionFrames
 pub mod SessionLemmas
 pub mod SomeSession
+pub mod TellingLemmas
 pub mod WholeInputLemmas

@@ -10,5 +10,6 @@ pub mod Request
 pub mod Session
 pub mod SessionLaws
 pub mod Spoken
+pub mod Telling
 pub mod WholeInput
 pub mod Wire

@@ -22,10 +22,10 @@ use Rattle.noticed_lib.proofs.RunLemmas.{letters-none, replies-none}
 use Rattle.noticed_lib.proofs.TellingLemmas.{steady-none, steady-then}
 use Rattle.noticed_lib.specs.Batch.{AreOpenLines, ended_with, NotesSent, IsBatch}
 use Rattle.noticed_lib.specs.Harvest.{Harvested, Ended}
-use Rattle.noticed_lib.specs.Notes.{answer_lines_from}
+use Rattle.noticed_lib.specs.Notes.{answer_line, answer_lines_from}
 use Rattle.noticed_lib.specs.ReadingEnd.{reading_code, is_notes_lost, is_read_failed}
 use Rattle.noticed_lib.specs.Requests.{requests_from, requests_of}
-use Rattle.noticed_lib.specs.Telling.{AnswersSent}
+use Rattle.dsn_frame.specs.Telling.{AnswersSent}
 use Rattle.noticed_lib.specs.declared.batch_end.BatchEnd.{BatchEnd}
 use Rattle.noticed_lib.specs.declared.reading_end.ReadingEnd.{ReadingEnd}
 use Rattle.noticed_lib.specs.declared.reading_end.ReadingEnd.TheVariants.{AtEnd, Unreadable, OutOfTurn, TooMany, NotesLost, NoMemory}
@@ -80,7 +80,7 @@ read-code NoMemory = refl
 -- ---- the notes
 
 -- the lines of the answers, and then those of the end
-notes-sent : (stopped lost : Bool) (x y z : Option (List ℕ)) (answers : List Spoken) (ending : List ℕ) → AnswersSent stopped x y answers → Sent stopped lost y z ending → NotesSent stopped lost x z answers ending
+notes-sent : (stopped lost : Bool) (x y z : Option (List ℕ)) (answers : List Spoken) (ending : List ℕ) → AnswersSent answer_line answer_lines_from stopped x y answers → Sent stopped lost y z ending → NotesSent stopped lost x z answers ending
 notes-sent false false x y z answers ending told ended = Appends-trans x y z (answer_lines_from 0 answers) ending told ended
 notes-sent false true x y z answers ending told ended = record {
   part = ended.front;
@@ -97,7 +97,7 @@ notes-sent true true x y z answers ending told ended = record {
   part = told.part;
   lost = told.lost;
   some = told.some;
-  line = told.line;
+  text_is = told.text_is;
   appended = Appends-kept x y z (answer_lines_from 0 told.before ++ told.part) told.appended ended;
 }
 

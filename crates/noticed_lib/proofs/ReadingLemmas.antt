@@ -2,7 +2,7 @@
 use Rattle.std.proofs.Common.{◌≡◌, ℕ, ◌+◌, ◌<◌, Bool, false, true, List, [], ◌∷◌, ◌++◌, length, refl, ap, ◌∙◌, arith}
 use Rattle.std.specs.Prelude.{Option, Some, None, Result, Ok, Err, OnOk, OnErr, is_err}
 use Rattle.std.specs.Io.KnownBytes.{Appends}
-use Rattle.std.proofs.KnownBytes.{Appends-trans, Appends-nil}
+use Rattle.std.proofs.KnownBytes.{Appends-nil}
 use Rattle.std.proofs.lemmas.List.{length-append}
 use Rattle.dsn_device.specs.declared.drain.Drain.{Ghosts as Drain}
 use Rattle.dsn_device.specs.declared.source.Source.{Ghosts as Source}
@@ -13,6 +13,7 @@ use Rattle.dsn_outcome.specs.Request.{Body}
 use Rattle.dsn_frame.specs.Frame.{ReadsNext}
 use Rattle.dsn_frame.specs.Session.{Input, Takes, written, IsSession}
 use Rattle.dsn_frame.specs.declared.spoken.Spoken.{Spoken}
+use Rattle.dsn_frame.proofs.TellingLemmas.{sent-more, sent-lost}
 use Rattle.dsn_frame.proofs.SessionLemmas.{session_begun, session_more, session_stopped, session_unwritten}
 use Rattle.dsn_report.specs.Outgoing.{StaysSteady}
 use Rattle.noticed_lib.proofs.NotesLemmas.{answer_lines_from-more}
@@ -62,9 +63,8 @@ module _ {N : Type 0} (notes_device : Drain N) (notes later last : N) (answers :
   -- one line more
   lines-more : Appends (notes_device.contents later) (notes_device.contents last) (answer_line count answer) → notes_device.failures last ≡ notes_device.failures later → AnswersTold notes_device false notes last (answers ++ answer ∷ [])
   lines-more one good =
-      let place : 0 + length answers ≡ count = omega (arith, counted_so) in
       record {
-        sent = rw (answer_lines_from-more 0 answers answer, place) (Appends-trans (notes_device.contents notes) (notes_device.contents later) (notes_device.contents last) (answer_lines_from 0 answers) (answer_line count answer) lines-before one);
+        sent = sent-more answer_line answer_lines_from (notes_device.contents notes) (notes_device.contents later) (notes_device.contents last) answers answer count counted_so lines-before (answer_lines_from-more 0 answers answer) one;
         count = good ∙ before.count;
         steady = steady-then notes_device notes later last before.steady steady;
       }
@@ -72,16 +72,7 @@ module _ {N : Type 0} (notes_device : Drain N) (notes later last : N) (answers :
   -- a line that could not be written
   lines-lost : AppendsPart (notes_device.contents later) (notes_device.contents last) (answer_line count answer) → notes_device.failures last ≡ counted true (notes_device.failures later) → AnswersTold notes_device true notes last (answers ++ answer ∷ [])
   lines-lost part failed = record {
-    sent = record {
-      before = answers;
-      last = answer;
-      answers_are = refl;
-      part = part.front;
-      lost = part.unsent;
-      some = part.some;
-      line = rw counted_so part.split;
-      appended = Appends-trans (notes_device.contents notes) (notes_device.contents later) (notes_device.contents last) (answer_lines_from 0 answers) part.front lines-before part.appended;
-    };
+    sent = sent-lost answer_line answer_lines_from (notes_device.contents notes) (notes_device.contents later) (notes_device.contents last) answers answer count counted_so lines-before part;
     count = failed ∙ ap (counted true) before.count;
     steady = steady-then notes_device notes later last before.steady steady;
   }

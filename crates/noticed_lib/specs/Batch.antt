@@ -12,10 +12,10 @@ use Rattle.dsn_frame.specs.Session.{Input, IsSession}
 use Rattle.dsn_device.specs.Failures.{counted}
 use Rattle.dsn_outcome.specs.History.{Limits, Exchange, history_of, sealed_letters}
 use Rattle.dsn_outcome.specs.Request.{Body}
-use Rattle.noticed_lib.specs.Notes.{answer_lines_from, end_lines}
+use Rattle.noticed_lib.specs.Notes.{answer_line, answer_lines_from, end_lines}
 use Rattle.dsn_report.specs.Outgoing.{StaysSteady, IsOutbox}
 use Rattle.noticed_lib.specs.Requests.{AreReplies, requests_of}
-use Rattle.noticed_lib.specs.Telling.{LosesLast}
+use Rattle.dsn_frame.specs.Telling.{LosesLast}
 use Rattle.noticed_lib.specs.declared.batch_end.BatchEnd.{BatchEnd}
 use Rattle.dsn_frame.specs.declared.spoken.Spoken.{Spoken}
 
@@ -47,7 +47,7 @@ abbrev pub NotesSent : Bool → Bool → Option (List ℕ) → Option (List ℕ)
 NotesSent false false old new answers ending = Appends old new (answer_lines_from 0 answers ++ ending)
 NotesSent false true old new answers ending = AppendsThenPart old new (answer_lines_from 0 answers) ending
 NotesSent true false old new answers ending = ⊥
-NotesSent true true old new answers ending = LosesLast old new answers
+NotesSent true true old new answers ending = LosesLast answer_line answer_lines_from old new answers
 
 module _ {R W N : Type 0} (input_device : Source R) (outbox_device : Drain W) (notes_device : Drain N) where
   -- a run over an input: its frames, the bodies asked among them and the answers are a session, which ended so; the

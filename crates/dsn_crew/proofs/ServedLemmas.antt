@@ -1,9 +1,9 @@
 -- Sessions of an agent over one connection: how one begins, goes on with one more frame, and ends.
-use Rattle.std.proofs.Common.{◌≡◌, ℕ, ◌+◌, ◌<◌, ◌↔◌, Bool, true, false, List, [], ◌∷◌, ◌++◌, length, refl, ap, sym, ◌∙◌, arith}
-use Rattle.std.specs.Prelude.{Option, Some, None, Result, Ok, Err, IfOk, OnOk, OnErr, is_err}
+use Rattle.std.proofs.Common.{◌≡◌, ℕ, ◌+◌, ◌<◌, ◌↔◌, Bool, true, false, List, [], ◌∷◌, ◌++◌, length, refl, ap, sym, ◌∙◌}
+use Rattle.std.specs.Prelude.{Option, Some, None, Result, Err, IfOk}
 use Rattle.std.specs.Io.KnownBytes.{Appends, Keeps}
 use Rattle.std.proofs.KnownBytes.{Appends-nil, Appends-kept, Consumes-kept}
-use Rattle.std.proofs.lemmas.List.{append-nil, length-append}
+use Rattle.std.proofs.lemmas.List.{append-nil}
 use Rattle.dsn_device.specs.declared.drain.Drain.{Ghosts as Drain}
 use Rattle.dsn_device.specs.declared.source.Source.{Ghosts as Source}
 use Rattle.dsn_device.specs.Failures.{counted}
@@ -14,7 +14,7 @@ use Rattle.dsn_frame.specs.Session.{Connection, IsOpenSession, IsSession, Takes,
 use Rattle.dsn_frame.specs.Spoken.{answer_bytes, answer_frames_from}
 use Rattle.dsn_frame.specs.declared.spoken.Spoken.{Spoken}
 use Rattle.dsn_frame.proofs.AnswerLemmas.{answer_frames_from-more}
-use Rattle.dsn_frame.proofs.TellingLemmas.{sent-more, sent-lost}
+use Rattle.dsn_frame.proofs.TellingLemmas.{length-more, sent-more, sent-lost}
 use Rattle.dsn_frame.proofs.SessionLemmas.{session_begun, session_more, session_stopped, session_unwritten}
 use Rattle.dsn_crew.specs.Agent.{Agent}
 use Rattle.dsn_crew.specs.Serve.{Counts, HasAsked, IsServed, IsTurn, is_lost, is_stream_failed, is_unwritten, served_end, told, turn_end, has_lost}
@@ -23,18 +23,6 @@ use Rattle.dsn_crew.specs.declared.serve_fault.ServeFault.TheVariants.{WriteBack
 use Rattle.dsn_crew.specs.declared.served.Served.{Served}
 use Rattle.dsn_crew.specs.declared.turn.Turn.{Turn}
 use Rattle.dsn_crew.proofs.ServeLemmas.{asked-nothing, asked-then, asked-count}
-
-length-more : {A : Type 0} (xs : List A) (x : A) (count : ℕ) → length xs ≡ count → length (xs ++ x ∷ []) ≡ count + 1
-length-more xs x count e = omega (arith, e, length-append xs (x ∷ []))
-
--- what holds of a text that could not be sent whole, and of one that was
-pub sent-part : {T E : Type 0} (result : Result T E) (P : Type 0) → is_err result ≡ true → OnErr result P → P
-sent-part (Ok value) P is holds = absurd (let bad : false ≡ true = is in cc)
-sent-part (Err fault) P is holds = holds
-
-pub sent-whole : {T E : Type 0} (result : Result T E) (P : Type 0) → is_err result ≡ false → OnOk result P → P
-sent-whole (Ok value) P is holds = holds
-sent-whole (Err fault) P is holds = absurd (let bad : true ≡ false = is in cc)
 
 -- bytes that stay as they were, by either name of them
 pub keeps-as : {S : Type 0} (here there : S → Option (List ℕ)) → ((s : S) → here s ≡ there s) → (x y : S) → Keeps (here x) (here y) → Keeps (there x) (there y)

@@ -1,9 +1,8 @@
 -- Readings: how a reading begins, goes on with one more frame, and ends.
 use Rattle.std.proofs.Common.{◌≡◌, ℕ, ◌+◌, ◌<◌, Bool, false, true, List, [], ◌∷◌, ◌++◌, length, refl, ap, ◌∙◌, arith}
-use Rattle.std.specs.Prelude.{Option, Some, None, Result, Ok, Err, OnOk, OnErr, is_err}
+use Rattle.std.specs.Prelude.{Option, Some, None}
 use Rattle.std.specs.Io.KnownBytes.{Appends}
 use Rattle.std.proofs.KnownBytes.{Appends-nil}
-use Rattle.std.proofs.lemmas.List.{length-append}
 use Rattle.dsn_device.specs.declared.drain.Drain.{Ghosts as Drain}
 use Rattle.dsn_device.specs.declared.source.Source.{Ghosts as Source}
 use Rattle.dsn_device.specs.Failures.{counted}
@@ -13,7 +12,7 @@ use Rattle.dsn_outcome.specs.Request.{Body}
 use Rattle.dsn_frame.specs.Frame.{ReadsNext}
 use Rattle.dsn_frame.specs.Session.{Input, Takes, written, IsSession}
 use Rattle.dsn_frame.specs.declared.spoken.Spoken.{Spoken}
-use Rattle.dsn_frame.proofs.TellingLemmas.{sent-more, sent-lost}
+use Rattle.dsn_frame.proofs.TellingLemmas.{length-more, sent-more, sent-lost}
 use Rattle.dsn_frame.proofs.SessionLemmas.{session_begun, session_more, session_stopped, session_unwritten}
 use Rattle.dsn_report.specs.Outgoing.{StaysSteady}
 use Rattle.noticed_lib.proofs.NotesLemmas.{answer_lines_from-more}
@@ -30,20 +29,8 @@ use Rattle.noticed_lib.specs.declared.reading_end.ReadingEnd.TheVariants.{NotesL
 use Rattle.noticed_lib.specs.declared.run.Run.{Run}
 use Rattle.noticed_lib.specs.declared.turn.Turn.{Turn}
 
-length-more : {A : Type 0} (xs : List A) (x : A) (count : ℕ) → length xs ≡ count → length (xs ++ x ∷ []) ≡ count + 1
-length-more xs x count e = omega (arith, e, length-append xs (x ∷ []))
-
 not-false : false ≡ true → ⊥
 not-false never = cc
-
--- what holds of a result that is an error, and of one that is none
-pub OnErr-is_err : {T E : Type 0} (result : Result T E) (P : Type 0) → is_err result ≡ true → OnErr result P → P
-OnErr-is_err (Ok value) P is holds = cc
-OnErr-is_err (Err fault) P is holds = holds
-
-pub OnOk-is_err : {T E : Type 0} (result : Result T E) (P : Type 0) → is_err result ≡ false → OnOk result P → P
-OnOk-is_err (Ok value) P is holds = holds
-OnOk-is_err (Err fault) P is holds = absurd (let never : true ≡ false = is in cc)
 
 -- a count after a failure, and after none
 pub same-after : (failed : Bool) (old new : ℕ) → failed ≡ false → new ≡ counted failed old → new ≡ old

@@ -1,4 +1,4 @@
-use Rattle.std.proofs.Common.{refl, sym}
+use Rattle.std.proofs.Common.{refl}
 use Rattle.noticed_lib.proofs.MemoryLemmas.{in-memory}
 use Rattle.noticed_lib.proofs.memory_run.batch_bytes.Goals as goal
 

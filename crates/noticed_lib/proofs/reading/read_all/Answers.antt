@@ -1,7 +1,8 @@
 use Rattle.std.proofs.Common.{◌≡◌, ◌∙◌, refl, sym, length, arith, ◌<◌}
 use Rattle.dsn_frame.specs.Session.{Input}
 use Rattle.dsn_frame.proofs.SessionLemmas.{session_well, session_cut, session_too_many}
-use Rattle.noticed_lib.proofs.ReadingLemmas.{heard-nothing, heard-more, heard-end, heard-lost, heard-out-of-turn, OnErr-is_err, OnOk-is_err, counted-after, same-after}
+use Rattle.dsn_frame.proofs.TellingLemmas.{OnErr-is_err, OnOk-is_err}
+use Rattle.noticed_lib.proofs.ReadingLemmas.{heard-nothing, heard-more, heard-end, heard-lost, heard-out-of-turn, counted-after, same-after}
 use Rattle.noticed_lib.specs.Requests.{requests_of}
 use Rattle.noticed_lib.specs.declared.reading_end.ReadingEnd.TheVariants.{AtEnd, Unreadable, TooMany}
 use Rattle.noticed_lib.proofs.reading.read_all.Goals as goal

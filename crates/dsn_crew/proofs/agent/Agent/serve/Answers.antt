@@ -1,8 +1,9 @@
 use Rattle.std.proofs.Common.{◌≡◌, ◌∙◌, refl, ap, sym, arith, ◌<◌, false}
 use Rattle.dsn_frame.specs.Session.{Connection}
 use Rattle.dsn_frame.proofs.SessionLemmas.{session_well, session_cut, session_too_many}
+use Rattle.dsn_frame.proofs.TellingLemmas.{OnErr-is_err, OnOk-is_err}
 use Rattle.dsn_crew.specs.Agent.{Agent}
-use Rattle.dsn_crew.proofs.ServedLemmas.{keeps-as, counts-read, counts-sent, sent-part, sent-whole, served-nothing, served-more, served-end, served-lost, served-unwritten, served-out-of-turn}
+use Rattle.dsn_crew.proofs.ServedLemmas.{keeps-as, counts-read, counts-sent, served-nothing, served-more, served-end, served-lost, served-unwritten, served-out-of-turn}
 use Rattle.dsn_crew.proofs.agent.Agent.serve.Goals as goal
 
 pub loop-place-init : goal.loop-place-init
@@ -51,7 +52,7 @@ returns-then-is_err-clause-served g c =
     let unread = keeps-as g.S.Drain.left g.S.Source.remaining laws.left_is_unread _ _ c.send.ensures.unread in
     let sent = counts-sent g.S.Source g.S.Drain laws.one_count laws.one_flush_count laws.one_promise _ _ _ c.send.ensures.count c.send.ensures.no_flush c.send.ensures.steady in
     served-unwritten _ _ _ _ _ _ _ _ c.loop-place.place c.body.result.now so_far few (rw c.body.ensures.same read) kept counts _ unread c.in-Some.turn c.in-Some.ensures.turn
-    (rw c.encode_answer.ensures at (sent-part c.send.result _ failed c.send.ensures.part)) (rw failed at sent)
+    (rw c.encode_answer.ensures at (OnErr-is_err c.send.result _ failed c.send.ensures.part)) (rw failed at sent)
 
 pub returns-then-turn-clause-served : goal.returns-then-turn-clause-served
 returns-then-turn-clause-served g c =
@@ -66,7 +67,7 @@ returns-then-turn-clause-served g c =
     let unread = keeps-as g.S.Drain.left g.S.Source.remaining laws.left_is_unread _ _ c.send.ensures.unread in
     let sent = counts-sent g.S.Source g.S.Drain laws.one_count laws.one_flush_count laws.one_promise _ _ _ c.send.ensures.count c.send.ensures.no_flush c.send.ensures.steady in
     served-out-of-turn _ _ _ _ _ _ _ _ c.loop-place.place c.body.result.now so_far few (rw c.body.ensures.same read) kept counts _ unread c.in-Some.turn c.in-Some.ensures.turn
-    c.if-turn.true (rw c.encode_answer.ensures at (sent-whole c.send.result _ fine c.send.ensures.sent)) (rw fine at sent)
+    c.if-turn.true (rw c.encode_answer.ensures at (OnOk-is_err c.send.result _ fine c.send.ensures.sent)) (rw fine at sent)
 
 pub loop-place-preserved : goal.loop-place-preserved
 loop-place-preserved g c =
@@ -81,7 +82,7 @@ loop-place-preserved g c =
     let unread = keeps-as g.S.Drain.left g.S.Source.remaining laws.left_is_unread _ _ c.send.ensures.unread in
     let sent = counts-sent g.S.Source g.S.Drain laws.one_count laws.one_flush_count laws.one_promise _ _ _ c.send.ensures.count c.send.ensures.no_flush c.send.ensures.steady in (
       served-more _ _ _ _ _ _ _ _ c.loop-place.place c.body.result.now so_far few (rw c.body.ensures.same read) kept counts _ unread c.in-Some.turn c.in-Some.ensures.turn
-          c.if-turn.false (rw c.encode_answer.ensures at (sent-whole c.send.result _ fine c.send.ensures.sent)) (rw fine at sent),
+          c.if-turn.false (rw c.encode_answer.ensures at (OnOk-is_err c.send.result _ fine c.send.ensures.sent)) (rw fine at sent),
       c.answer.ensures.kept,
     )
 

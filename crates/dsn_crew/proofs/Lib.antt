@@ -5,6 +5,7 @@ pub mod LetterSinkLemmas
 pub mod OpenLemmas
 pub mod ParcelLemmas
 pub mod PostingLemmas
+pub mod PostingSendLemmas
 pub mod RunLemmas
 pub mod SendLemmas
 mod ServeExamples

@@ -7,3 +7,4 @@ pub mod Parcel
 pub mod Place
 pub mod Posting
 pub mod Serve
+pub mod StartPosting

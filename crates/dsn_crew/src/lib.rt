@@ -23,6 +23,7 @@ mod serve;
 mod serve_fault;
 mod served;
 mod sink;
+mod start_posting;
 mod turn;
 
 pub use agent::Agent;

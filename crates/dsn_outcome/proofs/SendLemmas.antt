@@ -12,6 +12,7 @@ use Rattle.dsn_outcome.proofs.queue_id.QueueId.TheSendSync as id
 use Rattle.dsn_outcome.specs.contracts.cell.Cell as Cell
 use Rattle.dsn_outcome.specs.contracts.cell.Sealed as Sealed
 use Rattle.dsn_outcome.specs.contracts.letter.Letter as Letter
+use Rattle.dsn_outcome.specs.contracts.letters.Letters as Letters
 use Rattle.dsn_outcome.specs.contracts.links.Links as Links
 use Rattle.dsn_outcome.specs.contracts.node.Node as Node
 use Rattle.dsn_outcome.specs.contracts.request.Request as Request
@@ -36,6 +37,9 @@ cell = search (cell_field, sendable) depth 20
 
 pub letter_send : IsSend Letter.the_row
 letter_send = search (crosses, cell, sendable) depth 20
+
+pub letters_send : IsSend Letters.the_row
+letters_send = search (crosses, cell, option.the_send, option.the_field_send, sendable) depth 20
 
 pub request_send : IsSend Request.the_row
 request_send = search (crosses, cell, node, key.the_field_send, id.the_send, sendable) depth 20

@@ -51,6 +51,7 @@ count_send = search sendable depth 20
 
 pub posted_send : (W : RattleType) → IsSend (param 2 W) → IsSend (Posted.the_row (param 2 W))
 posted_send W send =
-    declared_send (Posted.the_type (param 2 W))
-    (as_row_send (row_field (param 2 W)) send,
-    (bool_send, (as_row_send (row_field Letters.the_row) letters_send, (count_send, (bool_send, (as_row_send (row_field parcels_out) parcels_out_send, tt))))))
+    declared_send (Posted.the_type (param 2 W)) (
+      as_row_send (row_field (param 2 W)) send,
+      (bool_send, (as_row_send (row_field Letters.the_row) letters_send, (count_send, (bool_send, (as_row_send (row_field parcels_out) parcels_out_send, tt))))),
+    )

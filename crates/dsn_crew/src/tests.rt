@@ -9,6 +9,7 @@ mod limit;
 mod peer;
 mod serving;
 mod sixteen;
+mod posting;
 
 use crate::{Agent, AskFault, CrewOpenFault, Desk, DeskFault, open_crew};
 use dsn_book::Limits;

@@ -58,7 +58,7 @@ check:
 	done
 	echo "running the gate, rt ci (log: out/gate.log) .."
 	gate=0
-	"$(RT)" ci > out/gate.log 2>&1 || gate=$$?
+	RT_JOBS="$${RT_JOBS:-$$(python3 tests/support/jobs.py)}" "$(RT)" ci > out/gate.log 2>&1 || gate=$$?
 	cat out/gate.log
 	verdict=$$(sed -n '/^[0-9][0-9]* passed, [0-9][0-9]* failed$$/h; $${x; p;}' out/gate.log)
 	verdict=$${verdict:-0 passed, 1 failed}

@@ -190,11 +190,12 @@ module _ (desk : Desk) (request : Request) (answer : Answer) (asked : IsAsked de
     sent_new false d told a d' inside =
         let same = told_none desk.answers ends answer d told in
         let before : (slice_index_or ends a d').sent ≡ answers_to a (history desk) =
-          ap (λ (es : List (End Answer)). (slice_index_or es a d').sent) same ∙ asked.kept.answered asked.going a d' (subst (λ (es : List (End Answer)). a < length es) same inside) in
-        (answers_to a (next_exchange desk request ∷ []),
-        ap (λ (l : List Answer). l ++ answers_to a (next_exchange desk request ∷ [])) before
-        ∙ (sym (answers_more a (history desk) (next_exchange desk request ∷ []))
-        ∙ ap (answers_to a) (sym history_new)))
+        ap (λ (es : List (End Answer)). (slice_index_or es a d').sent) same ∙ asked.kept.answered asked.going a d' (subst (λ (es : List (End Answer)). a < length es) same inside) in (
+          answers_to a (next_exchange desk request ∷ []),
+          ap (λ (l : List Answer). l ++ answers_to a (next_exchange desk request ∷ [])) before
+              ∙ (sym (answers_more a (history desk) (next_exchange desk request ∷ []))
+              ∙ ap (answers_to a) (sym history_new)),
+        )
 
     -- the collector stands for one request more
     pub keeps : (sent : Bool) (d : End Answer) → AreTold sent desk.answers answer ends → Represents book (history desk ++ next_exchange desk request ∷ []) → (failed ≡ false → sent ≡ true) → IsDesk new

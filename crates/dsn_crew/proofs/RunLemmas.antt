@@ -105,8 +105,8 @@ module _ {S : Type 0} (takes : S → Letter → S → Type 0) where
   }
   took_fault old new sink (Answers agent letter) kept taken limits places =
       let answered : AreAnswered new.answers (history_with old []) =
-        subst (λ (ends : List (End Answer)). AreAnswered ends (history_with old [])) (sym taken.5)
-          (subst (λ (q : List Request). AreAnswered old.answers (history_of old.book.limits q)) (sym (append-nil old.requests.taken)) (kept.answered taken.1)) in
+      subst (λ (ends : List (End Answer)). AreAnswered ends (history_with old [])) (sym taken.5)
+      (subst (λ (q : List Request). AreAnswered old.answers (history_of old.book.limits q)) (sym (append-nil old.requests.taken)) (kept.answered taken.1)) in
       one_run old new sink sink taken.0 [] (Err (Answers agent letter)) taken.3 limits places refl taken.6 taken.1 taken.2 (taken.1, taken.0, taken.4, last_one old taken.0 (letters_in letter) taken.6, answered)
   took_fault old new sink (Letters letter) kept taken limits places = absurd taken
 
@@ -119,7 +119,7 @@ module _ {S : Type 0} (takes : S → Letter → S → Type 0) where
   took_lost old mid new sink after letter back kept taken limits places is same sink_same =
       let sealed : back ∷ [] ≡ letter_of (history old) (next_exchange old taken.0) = ap (λ (l : Letter). l ∷ []) same ∙ taken.5 in
       one_run old new sink after taken.0 [] (Err (Letters back)) (ap (λ (desk : Desk). desk.requests) is ∙ taken.3) (ap (λ (desk : Desk). desk.book.limits) is ∙ limits) (ap places_of is ∙ places) sink_same
-        sealed taken.1 (ap (λ (desk : Desk). desk.failed) is) (taken.1, taken.0, last_one old taken.0 (back ∷ []) sealed, subst (λ (desk : Desk). AreAnswered desk.answers (history desk)) (sym is) (kept.answered taken.2))
+      sealed taken.1 (ap (λ (desk : Desk). desk.failed) is) (taken.1, taken.0, last_one old taken.0 (back ∷ []) sealed, subst (λ (desk : Desk). AreAnswered desk.answers (history desk)) (sym is) (kept.answered taken.2))
 
   -- nothing was taken yet
   pub run_none : (desk : Desk) (sink : S) → IsRun takes desk desk sink sink (Ok tt)

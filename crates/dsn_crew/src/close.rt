@@ -55,7 +55,9 @@ fn close_line(rt: &impl Wait, finished: Finished, line: Line) -> LaneIn<Request>
 {
     let Finished { ends } = finished;
     let Ends {
-        requests, answers, ..
+        requests,
+        answers,
+        ..
     } = ends;
     let Line { end, mut room } = line;
     room.push_reserved(end);

@@ -7,9 +7,9 @@ mod bodies;
 mod collect;
 mod limit;
 mod peer;
+mod posting;
 mod serving;
 mod sixteen;
-mod posting;
 
 use crate::{Agent, AskFault, CrewOpenFault, Desk, DeskFault, open_crew};
 use dsn_book::Limits;

@@ -43,7 +43,8 @@ impl Agent {
         }
     }
 
-    /// Asks the collector, and waits for its answer.
+    /// Asks the collector, and waits for its answer. It asks for a body that isn't a goodbye
+    /// (`Body::is_bye` is the test).
     ///
     /// `Limit` (44) comes where the agent has made as many requests as it may; the agent is as it
     /// was. `Lost` (41) comes where the collector is gone: with the body where the request was not

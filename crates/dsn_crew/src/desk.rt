@@ -77,8 +77,9 @@ impl Desk {
 
     /// Takes one request and answers it: the letter that it sealed, if it did.
     ///
-    /// `Requests` comes where no agent is left to ask, and `Answers` where the agent that asked is
-    /// gone. From then on the collector has failed, and answers `Requests`.
+    /// It asks that not all agents said goodbye. `Requests` comes where no agent is left to ask, once
+    /// 4,294,967,295 requests were taken, and once the collector has failed; `Answers` where the
+    /// agent that asked is gone. From then on the collector has failed.
     pub fn take_one(&mut self, rt: &impl Wait) -> Result<Option<Letter>, DeskFault>
         requires some_left { all_gone self.old ≡ false }
         ensures taken { IsTaken self.old self.new result }

@@ -27,7 +27,8 @@ impl Agent {
     /// be read; `Frames` (47) where there are more frames than the agent may make requests;
     /// `Number` (46) once a number out of turn is answered; `Lost` (41) where the collector is
     /// gone, with no answer to that frame; `WriteBack` (35) where an answer could not be written.
-    /// After any of them but `Lost` the agent can serve the next connection.
+    /// After any of them but `Lost` the agent can serve the next connection, unless it was lost
+    /// before.
     pub fn serve<S: Stream, G: Gate>(
         &mut self,
         rt: &impl Wait,

@@ -4,21 +4,33 @@ use denote.Param.Send.{IsSend, sendable}
 use Rattle.std.proofs.Crossing.{crosses}
 use Rattle.std.proofs.option.Option.TheSendSync as option
 use Rattle.dsn_outcome.proofs.cell.Cell.TheLaws.TheKnot as cells
-use Rattle.dsn_outcome.proofs.cell.Terms.TheSendSync as terms
-use Rattle.dsn_outcome.proofs.key.Key.TheSendSync as key
 use Rattle.dsn_outcome.proofs.node.Node.TheLaws.TheKnot as nodes
-use Rattle.dsn_outcome.proofs.outcome.Outcome.TheSendSync as outcome
-use Rattle.dsn_outcome.proofs.queue_id.QueueId.TheSendSync as id
 use Rattle.dsn_outcome.specs.contracts.cell.Cell as Cell
 use Rattle.dsn_outcome.specs.contracts.cell.Sealed as Sealed
+use Rattle.dsn_outcome.specs.contracts.cell.Terms as Terms
+use Rattle.dsn_outcome.specs.contracts.key.Key as Key
 use Rattle.dsn_outcome.specs.contracts.letter.Letter as Letter
 use Rattle.dsn_outcome.specs.contracts.letters.Letters as Letters
 use Rattle.dsn_outcome.specs.contracts.links.Links as Links
 use Rattle.dsn_outcome.specs.contracts.node.Node as Node
+use Rattle.dsn_outcome.specs.contracts.outcome.Outcome as Outcome
+use Rattle.dsn_outcome.specs.contracts.queue_id.QueueId as QueueId
 use Rattle.dsn_outcome.specs.contracts.request.Request as Request
 
+id : IsSend QueueId.the_row
+id = search sendable depth 20
+
+key : IsSend Key.the_row
+key = search (id, sendable) depth 20
+
+key_field : IsSend (Key.the_field).row
+key_field = search (key, sendable) depth 20
+
+outcome : IsSend Outcome.the_row
+outcome = search (crosses, option.the_send, option.the_field_send, sendable) depth 20
+
 node_field : IsSend (Node.the_field).row
-node_field = search (crosses, option.the_send, option.the_field_send, outcome.the_send, nodes.crosses, sendable) depth 20
+node_field = search (crosses, option.the_send, option.the_field_send, outcome, nodes.crosses, sendable) depth 20
 
 node : IsSend Node.the_row
 node = search (node_field, sendable) depth 20
@@ -27,10 +39,13 @@ links : IsSend Links.the_row
 links = search (crosses, node, option.the_field_send, sendable) depth 20
 
 sealed : IsSend (Sealed.the_field).row
-sealed = search (links, key.the_field_send, sendable) depth 20
+sealed = search (links, key_field, sendable) depth 20
+
+terms : IsSend Terms.the_row
+terms = search (crosses, option.the_send, option.the_field_send, sendable) depth 20
 
 cell_field : IsSend (Cell.the_field).row
-cell_field = search (crosses, sealed, terms.the_send, option.the_send, option.the_field_send, cells.crosses, sendable) depth 20
+cell_field = search (crosses, sealed, terms, option.the_send, option.the_field_send, cells.crosses, sendable) depth 20
 
 cell : IsSend Cell.the_row
 cell = search (cell_field, sendable) depth 20
@@ -39,7 +54,7 @@ pub letter_send : IsSend Letter.the_row
 letter_send = search (crosses, cell, sendable) depth 20
 
 pub letters_send : IsSend Letters.the_row
-letters_send = search (crosses, cell, option.the_send, option.the_field_send, sendable) depth 20
+letters_send = search (crosses, cell, option.the_field_send, sendable) depth 20
 
 pub request_send : IsSend Request.the_row
-request_send = search (crosses, cell, node, key.the_field_send, id.the_send, sendable) depth 20
+request_send = search (crosses, cell, node, key_field, id, sendable) depth 20

@@ -13,7 +13,8 @@ use Rattle.dsn_outcome.specs.Request.{Request}
 use Rattle.dsn_outcome.proofs.HistoryLaws.{history_more, letters_more}
 use Rattle.dsn_crew.specs.declared.desk_fault.DeskFault.{DeskFault}
 use Rattle.dsn_crew.specs.declared.desk_fault.DeskFault.TheVariants.{Requests, Answers, Letters}
-use Rattle.dsn_crew.specs.Desk.{AreAnswered, Desk, EndsBy, Handed, IsDesk, IsLast, IsRun, IsTaken, failing, history, history_with, places_of, letter_kept, next_exchange, taken_request, taken_requests}
+use Rattle.dsn_post.specs.Sink.{Handed}
+use Rattle.dsn_crew.specs.Desk.{AreAnswered, Desk, EndsBy, IsDesk, IsLast, IsRun, IsTaken, failing, history, history_with, places_of, letter_kept, next_exchange, taken_request, taken_requests}
 
 -- the letters of one request more
 letters_new : (old new : Desk) (request : Request) (letter : List Letter) → new.book.limits ≡ old.book.limits → new.requests ≡ taken_request old.requests request → letter ≡ letter_of (history old) (next_exchange old request) → sealed_letters (history new) ≡ sealed_letters (history old) ++ letter

@@ -9,6 +9,7 @@ use Rattle.dsn_outcome.specs.History.{Exchange, answer_of, answers_to, exchange_
 use Rattle.dsn_outcome.specs.Letter.{Letter}
 use Rattle.dsn_outcome.specs.Request.{Request, Body, Append, Flush, Discard, Bye}
 use Rattle.dsn_outcome.specs.declared.answer.Answer.{Answer}
+use Rattle.dsn_post.specs.Sink.{Handed}
 use Rattle.dsn_crew.specs.Place.{Place, place_at}
 use Rattle.dsn_crew.specs.declared.desk_fault.DeskFault.{DeskFault}
 use Rattle.dsn_crew.specs.declared.desk_fault.DeskFault.TheVariants.{Requests, Answers, Letters}
@@ -94,11 +95,6 @@ IsTaken old new (Err (Letters letter)) = ⊥
 
 abbrev pub taken_requests : Out Request → List Request → Out Request
 taken_requests out more = record { lane = out.lane; first = out.first; past = out.past; taken = out.taken ++ more }
-
--- a sink that took these letters, in order, each once
-abbrev pub Handed : {S : Type 0} → (S → Letter → S → Type 0) → S → List Letter → S → Type 0
-Handed takes old [] new = new ≡ old
-Handed {S} takes old (letter ∷ rest) new = (next : S) × takes old letter next × Handed takes next rest new
 
 -- the letter that a fault holds, if it does
 abbrev pub letter_kept : Result (Unit {0}) DeskFault → List Letter

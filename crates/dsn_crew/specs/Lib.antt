@@ -1,10 +1,6 @@
 pub mod Agent
 pub mod Close
 pub mod Desk
-pub mod LetterSink
 pub mod Open
-pub mod Parcel
 pub mod Place
-pub mod Posting
 pub mod Serve
-pub mod StartPosting

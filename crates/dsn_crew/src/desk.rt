@@ -9,10 +9,10 @@ ghost use Rattle.dsn_crew.specs.Desk.{AreTold, IsDesk, IsRun, IsTaken, all_gone,
 
 use crate::desk_fault::DeskFault;
 use crate::line::Line;
-use crate::sink::Sink;
 use dsn_book::{Book, Step};
 use dsn_lane::{LaneIn, LaneOut};
 use dsn_outcome::{Answer, Letter, Request};
+use dsn_post::Sink;
 use std::marker::Model;
 use std::sync::Wait;
 

@@ -11,19 +11,12 @@ mod desk;
 mod desk_fault;
 mod ends;
 mod finished;
-mod finished_sink;
 mod gate;
-mod letter_sink;
 mod line;
 mod open;
-mod parcel;
-mod posted;
-mod posting;
 mod serve;
 mod serve_fault;
 mod served;
-mod sink;
-mod start_posting;
 mod turn;
 
 pub use agent::Agent;
@@ -39,7 +32,7 @@ pub use gate::{Gate, NoGate};
 pub use open::open_crew;
 pub use serve_fault::ServeFault;
 pub use served::Served;
-pub use sink::Sink;
+pub use dsn_post::Sink;
 
 #[cfg(test)]
 mod tests;

@@ -7,7 +7,6 @@ mod bodies;
 mod collect;
 mod limit;
 mod peer;
-mod posting;
 mod serving;
 mod sixteen;
 

@@ -14,3 +14,4 @@ mod RoomLemmas
 mod PlainLemmas
 mod LinesLemmas
 mod PieceLemmas
+pub mod SendLemmas

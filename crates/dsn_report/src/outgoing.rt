@@ -55,6 +55,14 @@ impl<W: Drain> Outgoing<W> {
         }
     }
 
+    /// Gives the outbox back as it is: nothing more is written, and it isn't ended. Letters that
+    /// could not be written are dropped.
+    pub fn into_outbox(self) -> W
+        ensures { result ≡ self.poster.outbox }
+    {
+        self.poster.into_outbox()
+    }
+
     /// Ends the outbox.
     pub fn finish(self) -> OutboxEnd<W>
         ensures { (host : List ℕ) (start : W) (letters : List SealedLog) → Delivered W.Drain host start self letters → IsOutbox W.Drain host start result.outbox result.whole result.unsent letters }

@@ -56,6 +56,13 @@ impl<W> Poster<W> {
             greeted: false,
         }
     }
+
+    /// Gives the outbox back as it is: nothing more is written, and it isn't ended.
+    pub fn into_outbox(self) -> W
+        ensures { result ≡ self.outbox }
+    {
+        self.lines.writer.into_parts().0
+    }
 }
 
 impl<W: Drain> Poster<W> {

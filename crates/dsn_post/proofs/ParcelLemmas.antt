@@ -1,0 +1,97 @@
+-- Parcels: one letter more, the end mark, and the letters that parcels hold.
+use Rattle.std.proofs.Common.{◌≡◌, ℕ, suc, ◌+◌, Bool, true, false, List, [], ◌∷◌, ◌++◌, length, refl, ap, sym, ◌∙◌, append_assoc, length-append, arith}
+use Rattle.std.specs.Prelude.{Option, Some, None}
+use Rattle.std.specs.Option.{option_to_list}
+use Rattle.std.proofs.lemmas.List.{append-nil, nil_from_length}
+use mathlib.Core.List.{IsPrefix}
+use Rattle.dsn_outcome.specs.Agents.{from_agent}
+use Rattle.dsn_outcome.specs.Letter.{Letter}
+use Rattle.dsn_post.specs.Parcel.{Parcel, letters_of, parcels_from, parcels_of}
+
+abbrev pub parcel : ℕ → Option Letter → Parcel
+parcel number letter = record { number = number; letter = letter }
+
+-- one letter more
+more_from : (number : ℕ) (letters : List Letter) (letter : Letter) → parcels_from number (letters ++ letter ∷ []) false ≡ parcels_from number letters false ++ parcel (number + length letters) (Some letter) ∷ []
+more_from number [] letter =
+    let same : number ≡ number + 0 = omega arith in ap (λ (n : ℕ). parcel n (Some letter) ∷ []) same
+more_from number (first ∷ rest) letter =
+    let same : suc number + length rest ≡ number + suc (length rest) = omega arith in
+    ap (λ (ps : List Parcel). parcel number (Some first) ∷ ps) (more_from (suc number) rest letter)
+    ∙ ap (λ (n : ℕ). parcel number (Some first) ∷ (parcels_from (suc number) rest false ++ parcel n (Some letter) ∷ [])) same
+
+pub letter_more : (letters : List Letter) (letter : Letter) → parcels_of (letters ++ letter ∷ []) false ≡ parcels_of letters false ++ parcel (length letters) (Some letter) ∷ []
+letter_more letters letter =
+    let same : 0 + length letters ≡ length letters = omega arith in
+    more_from 0 letters letter ∙ ap (λ (n : ℕ). parcels_of letters false ++ parcel n (Some letter) ∷ []) same
+
+-- the end mark
+mark_from : (number : ℕ) (letters : List Letter) → parcels_from number letters true ≡ parcels_from number letters false ++ parcel (number + length letters) None ∷ []
+mark_from number [] = let same : number ≡ number + 0 = omega arith in ap (λ (n : ℕ). parcel n None ∷ []) same
+mark_from number (first ∷ rest) =
+    let same : suc number + length rest ≡ number + suc (length rest) = omega arith in
+    ap (λ (ps : List Parcel). parcel number (Some first) ∷ ps) (mark_from (suc number) rest)
+    ∙ ap (λ (n : ℕ). parcel number (Some first) ∷ (parcels_from (suc number) rest false ++ parcel n None ∷ [])) same
+
+pub mark_last : (letters : List Letter) → parcels_of letters true ≡ parcels_of letters false ++ parcel (length letters) None ∷ []
+mark_last letters =
+    let same : 0 + length letters ≡ length letters = omega arith in
+    mark_from 0 letters ∙ ap (λ (n : ℕ). parcels_of letters false ++ parcel n None ∷ []) same
+
+-- there are as many parcels as letters
+pub length-parcels : (number : ℕ) (letters : List Letter) → length (parcels_from number letters false) ≡ length letters
+length-parcels number [] = refl
+length-parcels number (first ∷ rest) = ap suc (length-parcels (suc number) rest)
+
+-- they hold these letters
+pub letters_back : (number : ℕ) (letters : List Letter) (marked : Bool) → letters_of (parcels_from number letters marked) ≡ letters
+letters_back number [] true = refl
+letters_back number [] false = refl
+letters_back number (first ∷ rest) marked = ap (λ (ls : List Letter). first ∷ ls) (letters_back (suc number) rest marked)
+
+pub letters_of-append : (first rest : List Parcel) → letters_of (first ++ rest) ≡ letters_of first ++ letters_of rest
+letters_of-append [] rest = refl
+letters_of-append (parcel ∷ first) rest =
+    ap (λ (ls : List Letter). option_to_list parcel.letter ++ ls) (letters_of-append first rest)
+    ∙ sym (append_assoc (option_to_list parcel.letter) (letters_of first) (letters_of rest))
+
+-- all of them are of agent 0
+pub all_of_one : (parcels : List Parcel) → from_agent (λ (it : Parcel). 0) 0 parcels ≡ parcels
+all_of_one [] = refl
+all_of_one (first ∷ rest) = ap (λ (ps : List Parcel). first ∷ ps) (all_of_one rest)
+
+-- ---- what was taken of what was sent
+
+marked_alike : (letters : List Letter) (one other : Bool) → parcels_of letters one ≡ parcels_of letters other → one ≡ other
+marked_alike letters true true same = refl
+marked_alike letters false false same = refl
+marked_alike letters true false same =
+    let long = ap length (sym (mark_last letters) ∙ same) in
+    let split = length-append (parcels_of letters false) (parcel (length letters) None ∷ []) in
+    absurd (omega arith)
+marked_alike letters false true same =
+    let long = ap length (same ∙ mark_last letters) in
+    let split = length-append (parcels_of letters false) (parcel (length letters) None ∷ []) in
+    absurd (omega arith)
+
+same_letters : (taken sent : List Letter) (one other : Bool) → parcels_of taken one ≡ parcels_of sent other → taken ≡ sent
+same_letters taken sent one other same = sym (letters_back 0 taken one) ∙ (ap letters_of same ∙ letters_back 0 sent other)
+
+-- the letters that were taken are the first of those that were sent
+pub first_letters : (taken sent : List Letter) (came marked : Bool) → IsPrefix (parcels_of taken came) (parcels_of sent marked) → IsPrefix taken sent
+first_letters taken sent came marked is = (
+  letters_of is.0,
+  ap (λ (ls : List Letter). ls ++ letters_of is.0) (sym (letters_back 0 taken came))
+      ∙ (sym (letters_of-append (parcels_of taken came) is.0) ∙ (ap letters_of is.1 ∙ letters_back 0 sent marked)),
+)
+
+-- and where as many were taken as were sent, they are the same, and the end mark came if it was sent
+pub all_letters : (taken sent : List Letter) (came marked : Bool) → IsPrefix (parcels_of taken came) (parcels_of sent marked) → length (parcels_of taken came) ≡ length (parcels_of sent marked) → (taken ≡ sent) × (came ≡ marked)
+all_letters taken sent came marked is long =
+    let split = length-append (parcels_of taken came) is.0 in
+    let whole = ap length is.1 in
+    let none : is.0 ≡ [] = nil_from_length is.0 (omega arith) in
+    let same : parcels_of taken came ≡ parcels_of sent marked =
+    sym (append-nil (parcels_of taken came)) ∙ (ap (λ (rest : List Parcel). parcels_of taken came ++ rest) (sym none) ∙ is.1) in
+    let letters = same_letters taken sent came marked same in
+    (letters, marked_alike sent came marked (ap (λ (ls : List Letter). parcels_of ls came) (sym letters) ∙ same))

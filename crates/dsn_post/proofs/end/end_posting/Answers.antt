@@ -1,0 +1,33 @@
+-- The letters that came were handed on, and those that are unsent are the last of them.
+use Rattle.std.proofs.Common.{rules, ◌<◌, ◌∙◌, subst, arith}
+use mathlib.Core.List.{IsPrefix}
+use Rattle.dsn_post.proofs.PostingLemmas.{and_right, unsent_within}
+use Rattle.dsn_post.proofs.end.end_posting.Goals as goal
+
+pub overflow_cast-result : goal.overflow_cast-result
+overflow_cast-result g c =
+    let within = unsent_within _ _ _ _ _ _ _ (c.finish-outbox.ensures _ _ _ c.join-outgoing.ensures.delivered) in
+    let few : c.join-outgoing.result.handed < 4294967296 = search rules in
+    let count = c.join-outgoing.ensures.count in
+    let left = c.len.ensures in
+    record { fits = omega arith }
+
+pub overflow_sub-result : goal.overflow_sub-result
+overflow_sub-result g c =
+    let within = unsent_within _ _ _ _ _ _ _ (c.finish-outbox.ensures _ _ _ c.join-outgoing.ensures.delivered) in
+    let count = c.join-outgoing.ensures.count in
+    let left = c.len.ensures in omega arith
+
+pub returns : goal.returns
+returns g c =
+    let outbox = c.finish-outbox.ensures _ _ _ c.join-outgoing.ensures.delivered in
+    let within = unsent_within _ _ _ _ _ _ _ outbox in
+    let few : c.join-outgoing.result.handed < 4294967296 = search rules in
+    let first = c.close-all.ensures.first in
+    let letters_are = c.mark-sink.ensures.1 in record {
+      letters = c.join-outgoing.result.source.letters;
+      came = subst (IsPrefix c.join-outgoing.result.source.letters) letters_are first;
+      all_came = λ all. (c.close-all.ensures.all.0 (and_right c.is_marked-marked.result _ all)).0 ∙ letters_are;
+      count = (let count = c.join-outgoing.ensures.count in let left = c.len.ensures in omega arith);
+      outbox = outbox;
+    }

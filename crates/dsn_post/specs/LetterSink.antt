@@ -1,0 +1,20 @@
+-- Letter sinks: what contracts see of the sending end of the lane of letters.
+use Rattle.std.specs.Prelude.{◌≡◌, Bool, List, [], ◌∷◌, ◌++◌}
+use Rattle.dsn_lane.specs.Ends.{Identity}
+use Rattle.dsn_outcome.specs.Letter.{Letter}
+use Rattle.dsn_post.specs.Parcel.{Parcel}
+
+-- its lane, and the letters that it has sent, in order
+pub record LetterSink : Type 0 where
+  pub lane : Identity Parcel
+  pub letters : List Letter
+
+-- it takes a letter
+abbrev pub TakesLetter : LetterSink → Letter → LetterSink → Type 0
+TakesLetter old letter new = new ≡ record { lane = old.lane; letters = old.letters ++ letter ∷ [] }
+
+-- the sending end at its end, after the end mark where that was sent
+pub record FinishedSink : Type 0 where
+  pub lane : Identity Parcel
+  pub letters : List Letter
+  pub marked : Bool

@@ -1,0 +1,5 @@
+pub mod LetterSink
+pub mod LetterSource
+pub mod Parcel
+pub mod Posting
+pub mod Sink

@@ -1,0 +1,38 @@
+-- Posting: what the poster's thread comes to, and the outbox at its end.
+use Rattle.std.specs.Prelude.{◌≡◌, ℕ, ◌+◌, true, List, [], length}
+use Rattle.std.specs.Io.KnownBytes.{Appends}
+use mathlib.Core.List.{IsPrefix}
+use Rattle.dsn_device.specs.declared.drain.Drain.{Ghosts as Drain}
+use Rattle.dsn_lane.specs.Ends.{Identity}
+use Rattle.dsn_outcome.specs.Letter.{Letter}
+use Rattle.dsn_report.specs.Outgoing.{Delivered, IsOutbox}
+use Rattle.dsn_post.specs.Parcel.{Parcel}
+use Rattle.dsn_post.specs.declared.posted.Posted.{Posted}
+use Rattle.dsn_post.specs.declared.posting.Posting.{Posting}
+
+-- what the promise of a poster's thread remembers: the host that notices come from, the outbox as it was, and the lane of letters
+pub record Posts (W : Type 0) : Type 0 where
+  pub site : List ℕ
+  pub outbox : W
+  pub lane : Identity Parcel
+
+-- what a poster's thread comes to: the letters that came over its lane were handed on, one after another
+pub record IsPosting {W : Type 0} (drain : Drain W) (host : List ℕ) (start : W) (lane : Identity Parcel) (end : Posting W) : Type 0 where
+  pub lane_is : end.source.lane ≡ lane
+  pub count : end.handed ≡ length end.source.letters
+  pub delivered : Delivered drain host start end.outgoing end.source.letters
+
+-- an outbox to which nothing was written
+pub record IsUntouched {W : Type 0} (drain : Drain W) (start end : W) : Type 0 where
+  pub nothing : Appends (drain.contents start) (drain.contents end) []
+  pub failures : drain.failures end ≡ drain.failures start
+  pub flushes : drain.flushes end ≡ drain.flushes start
+
+-- an outbox at its end, of letters that were sent in this order: the first of them came to the poster, and all of them where
+-- that is said; those are posted, or unsent, and the outbox is theirs
+pub record IsPosted {W : Type 0} (drain : Drain W) (host : List ℕ) (start : W) (sent : List Letter) (end : Posted W) : Type 0 where
+  pub letters : List Letter
+  pub came : IsPrefix letters sent
+  pub all_came : end.all ≡ true → letters ≡ sent
+  pub count : end.posted + length end.unsent ≡ length letters
+  pub outbox : IsOutbox drain host start end.outbox end.whole end.unsent letters

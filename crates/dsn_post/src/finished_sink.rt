@@ -1,0 +1,55 @@
+//! The end of the lane of letters.
+ghost use Rattle.std.specs.Prelude.{◌≡◌, ◌≤◌, ◌↔◌, true, [], vec_capacity};
+ghost use mathlib.Core.List.{IsPrefix};
+ghost use Rattle.dsn_post.specs.Parcel.{letters_of, parcels_of};
+
+use crate::letter_source::LetterSource;
+use crate::parcel::Parcel;
+use dsn_lane::{LaneIn, close_lane};
+use std::marker::Model;
+use std::sync::Wait;
+
+/// The sending end of a lane of letters that has sent the end mark, or could not. Contracts see its
+/// lane, the letters that it has sent, and whether the mark was sent.
+#[derive(Drop)]
+pub(crate) struct FinishedSink {
+    end: LaneIn<Parcel>,
+    room: Vec<LaneIn<Parcel>>,
+    marked: bool,
+}
+
+impl Model for FinishedSink {
+    ghost use Rattle.std.specs.Prelude.{◌≡◌, ◌≤◌, [], vec_capacity};
+    ghost use Rattle.dsn_post.specs.LetterSink.{FinishedSink};
+    ghost use Rattle.dsn_post.specs.Parcel.{letters_of, parcels_of};
+
+    ghost Value = { FinishedSink };
+
+    ghost view = { λ s. record { lane = s.end.lane; letters = letters_of s.end.sent; marked = s.marked } };
+
+    ghost invariant = { λ s. (s.end.agent ≡ 0) × (s.end.sent ≡ parcels_of (letters_of s.end.sent) s.marked) × (s.room.items ≡ []) × (1 ≤ vec_capacity s.room) };
+}
+
+impl FinishedSink {
+    /// What is left of the sink whose end this is.
+    pub(crate) fn new(end: LaneIn<Parcel>, room: Vec<LaneIn<Parcel>>, marked: bool) -> FinishedSink
+        requires agent { end.agent ≡ 0 }
+        requires sent { end.sent ≡ parcels_of (letters_of end.sent) marked }
+        requires room { (room.items ≡ []) × (1 ≤ vec_capacity room) }
+        ensures { result ≡ record { lane = end.lane; letters = letters_of end.sent; marked = marked } }
+    {
+        FinishedSink { end, room, marked }
+    }
+
+    /// Closes the lane, and says whether all that was sent was taken, the end mark included. What
+    /// waits is dropped. It takes no memory.
+    pub(crate) fn close(self, rt: &impl Wait, source: LetterSource) -> bool
+        requires lane { source.lane ≡ self.lane }
+        ensures first { IsPrefix source.letters self.letters }
+        ensures all { (result ≡ true) ↔ ((source.letters ≡ self.letters) × (source.marked ≡ self.marked)) }
+    {
+        let FinishedSink { end, mut room, .. } = self;
+        room.push_reserved(end);
+        close_lane(rt, room, source.parcels).waiting == 0
+    }
+}

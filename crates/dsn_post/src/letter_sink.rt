@@ -1,0 +1,83 @@
+//! The collector's side of the lane of letters.
+ghost use Rattle.std.specs.Prelude.{◌≡◌, ◌≤◌, [], vec_capacity};
+
+use crate::finished_sink::FinishedSink;
+use crate::parcel::Parcel;
+use crate::sink::Sink;
+use dsn_lane::LaneIn;
+use dsn_outcome::Letter;
+use std::marker::Model;
+use std::sync::Wait;
+
+/// How many letters are sent at most: the end mark needs a number of its own.
+const MOST_LETTERS: u32 = 4_294_967_294;
+
+/// The end by which a collector sends its letters to the poster, with room for it at the close.
+/// Contracts see its lane and the letters that it has sent, in order.
+#[derive(Drop)]
+pub struct LetterSink {
+    end: LaneIn<Parcel>,
+    room: Vec<LaneIn<Parcel>>,
+}
+
+impl Model for LetterSink {
+    ghost use Rattle.std.specs.Prelude.{◌≡◌, ◌<◌, ◌≤◌, false, [], length, vec_capacity};
+    ghost use Rattle.dsn_post.specs.LetterSink.{LetterSink};
+    ghost use Rattle.dsn_post.specs.Parcel.{letters_of, parcels_of};
+
+    ghost Value = { LetterSink };
+
+    ghost view = { λ s. record { lane = s.end.lane; letters = letters_of s.end.sent } };
+
+    ghost invariant = { λ s. (s.end.agent ≡ 0) × (s.end.sent ≡ parcels_of (letters_of s.end.sent) false) × (length s.end.sent < 4294967295) × (s.room.items ≡ []) × (1 ≤ vec_capacity s.room) };
+}
+
+impl Sink for LetterSink {
+    ghost use Rattle.dsn_post.specs.LetterSink.{TakesLetter};
+
+    ghost takes = { TakesLetter };
+
+    /// Sends a letter to the poster, and waits while 16 letters wait. It takes no memory. The
+    /// letter comes back where the receiving end is gone, and where 4,294,967,294 were sent.
+    fn hand(&mut self, rt: &impl Wait, letter: Letter) -> Result<(), Letter> {
+        let number = self.end.count();
+        if number >= MOST_LETTERS {
+            return Err(letter);
+        }
+        let parcel = Parcel {
+            number,
+            letter: Some(letter),
+        };
+        match self.end.send(rt, parcel) {
+            Ok(()) => Ok(()),
+            Err(lost) => match lost.item.letter {
+                Some(letter) => Err(letter),
+                None => unreachable!(),
+            },
+        }
+    }
+}
+
+impl LetterSink {
+    /// A sink with the one end of a lane over which nothing was sent, and room for that end.
+    pub(crate) fn new(end: LaneIn<Parcel>, room: Vec<LaneIn<Parcel>>) -> LetterSink
+        requires unused { (end.agent ≡ 0) × (end.sent ≡ []) }
+        requires room { (room.items ≡ []) × (1 ≤ vec_capacity room) }
+        ensures { result ≡ record { lane = end.lane; letters = [] } }
+    {
+        LetterSink { end, room }
+    }
+
+    /// Sends the end mark, so that the poster doesn't take the lane for lost, and ends the sink.
+    pub(crate) fn mark(self, rt: &impl Wait) -> FinishedSink
+        ensures { (result.lane ≡ self.lane) × (result.letters ≡ self.letters) }
+    {
+        let LetterSink { mut end, room } = self;
+        let mark = Parcel {
+            number: end.count(),
+            letter: None,
+        };
+        let marked = end.send(rt, mark).is_ok();
+        FinishedSink::new(end, room, marked)
+    }
+}

@@ -1,0 +1,71 @@
+//! The poster's side of the lane of letters.
+ghost use Rattle.std.specs.Prelude.{◌≡◌, ◌<◌, IsSome, false, [], length};
+ghost use Rattle.dsn_post.specs.LetterSource.{HasTaken};
+
+use crate::parcel::Parcel;
+use dsn_lane::LaneOut;
+use dsn_outcome::Letter;
+use std::marker::Model;
+use std::sync::Wait;
+
+/// The end by which a poster takes the letters of a lane. Contracts see its lane, the letters that
+/// it has taken, in order, and whether the end mark came after them.
+#[derive(Drop)]
+pub struct LetterSource {
+    pub(crate) parcels: LaneOut<Parcel>,
+    marked: bool,
+}
+
+impl Model for LetterSource {
+    ghost use Rattle.std.specs.Prelude.{◌≡◌};
+    ghost use Rattle.dsn_post.specs.LetterSource.{LetterSource, taken_parcels};
+    ghost use Rattle.dsn_post.specs.Parcel.{letters_of};
+
+    ghost Value = { LetterSource };
+
+    ghost view = { λ s. record { lane = s.parcels.lane; letters = letters_of s.parcels.taken; marked = s.marked } };
+
+    ghost invariant = { λ s. s.parcels ≡ taken_parcels (record { lane = s.parcels.lane; letters = letters_of s.parcels.taken; marked = s.marked }) };
+}
+
+impl LetterSource {
+    /// The receiving end of a lane from which nothing was taken.
+    pub(crate) fn new(parcels: LaneOut<Parcel>) -> LetterSource
+        requires unused { (parcels.first ≡ 0) × (parcels.past ≡ 1) × (parcels.taken ≡ []) }
+        ensures { result ≡ record { lane = parcels.lane; letters = []; marked = false } }
+    {
+        LetterSource {
+            parcels,
+            marked: false,
+        }
+    }
+
+    /// Takes the next letter, and waits while there is none. None comes at the end mark and after
+    /// it, and where the sending end is gone.
+    pub(crate) fn take(&mut self, rt: &impl Wait) -> Option<Letter>
+        ensures taken { HasTaken self.old self.new result }
+        ensures few { IsSome result → length self.new.letters < 4294967296 }
+    {
+        if self.marked {
+            return None;
+        }
+        let Ok(parcel) = self.parcels.take(rt) else {
+            return None;
+        };
+        let Parcel { letter, .. } = parcel;
+        match letter {
+            Some(letter) => Some(letter),
+            None => {
+                self.marked = true;
+                None
+            }
+        }
+    }
+
+    /// Whether the end mark came.
+    pub(crate) fn is_marked(&self) -> bool
+        ensures { result ≡ self.now.marked }
+    {
+        self.marked
+    }
+}

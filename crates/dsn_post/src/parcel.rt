@@ -1,0 +1,38 @@
+//! What the lane of letters carries.
+use dsn_outcome::{Carried, Letter};
+use std::marker::Model;
+
+/// A letter on its way to the poster with its place among the letters, from 0; or, with no letter,
+/// the end mark, which comes after all of them. The last number is kept for the mark.
+#[derive(Drop)]
+pub(crate) struct Parcel {
+    /// How many letters were sent before.
+    pub(crate) number: u32,
+    /// The letter; none at the end mark.
+    pub(crate) letter: Option<Letter>,
+}
+
+impl Model for Parcel {
+    ghost use Rattle.std.specs.Prelude.{◌<◌, IsSome};
+    ghost use Rattle.dsn_post.specs.Parcel.{Parcel};
+
+    ghost Value = { Parcel };
+
+    ghost view = { λ p. record { number = p.number; letter = p.letter } };
+
+    ghost invariant = { λ p. IsSome p.letter → p.number < 4294967295 };
+}
+
+impl Carried for Parcel {
+    ghost agent = { λ parcel. 0 };
+
+    ghost number = { λ parcel. parcel.number };
+
+    fn agent(&self) -> u32 {
+        0
+    }
+
+    fn number(&self) -> u32 {
+        self.number
+    }
+}

@@ -1,0 +1,46 @@
+//! The poster's thread.
+ghost use Rattle.std.specs.Prelude.{◌≡◌, false, []};
+ghost use Rattle.dsn_post.specs.Posting.{IsPosting};
+
+use crate::letter_source::LetterSource;
+use dsn_device::Drain;
+use dsn_report::{Outgoing, Site};
+use std::sync::Wait;
+
+/// What the poster's thread gives back.
+#[derive(Drop)]
+pub struct Posting<W> {
+    /// The outbox, which is not ended, and the letters that could not be written.
+    pub outgoing: Outgoing<W>,
+    /// How many letters came.
+    pub handed: u32,
+    /// The end by which they came, for the close.
+    pub source: LetterSource,
+}
+
+/// Posts the letters that come over a lane, one after another, until the end mark comes or the lane
+/// is lost. Nothing is written before the first letter. It takes no memory.
+pub(crate) fn post_all<W: Drain>(
+    rt: &impl Wait,
+    site: Site,
+    outbox: W,
+    mut source: LetterSource,
+) -> Posting<W>
+    requires unused { source.letters ≡ [] }
+    ensures { IsPosting W.Drain site outbox source.lane result }
+{
+    let mut outgoing = Outgoing::new(site, outbox);
+    let mut handed = 0;
+    for _ in rt.forever() {
+        let Some(letter) = source.take(rt) else {
+            return Posting {
+                outgoing,
+                handed,
+                source,
+            };
+        };
+        outgoing.hand(letter);
+        handed += 1;
+    }
+    unreachable!()
+}

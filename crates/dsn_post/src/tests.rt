@@ -1,0 +1,218 @@
+//! Letters on their way from a collector's sink to the outbox.
+ghost use Rattle.std.specs.Prelude.{◌≡◌};
+
+use crate::posting::post_all;
+use crate::{LetterSink, Posted, Sink, end_posting, open_post, start_posting};
+use dsn_device::Plain;
+use dsn_outcome::{
+    Address, Chain, Draft, Key, Letter, Letters, Outcome, Parts, QueueId, RawHeader, Service, Stamp,
+};
+use dsn_report::{Ended, Poster, Site};
+use std::alloc::Global;
+use std::io::{ErrorKind, Write};
+use std::sync::Wait;
+use std::test::Fail;
+use std::thread::Threads;
+use std::{io, thread};
+
+/// A writer into memory that fails once it has taken so many bytes.
+#[derive(Drop)]
+struct Full {
+    held: Vec<u8>,
+    room: usize,
+}
+
+impl Write for Full {
+    ghost use Rattle.std.specs.Prelude.{Some};
+
+    ghost contents = { λ w. Some w.held.items };
+
+    fn write(&mut self, text: &[u8]) -> io::Result<usize> {
+        if self.room == 0 {
+            return Err(io::Error::from(ErrorKind::Other));
+        }
+        let taken = text.len().min(self.room);
+        self.held.extend_from_slice(&text[..taken])?;
+        self.room -= taken;
+        Ok(taken)
+    }
+
+    fn flush(&mut self) -> io::Result<()> {
+        if self.room == 0 {
+            return Err(io::Error::from(ErrorKind::Other));
+        }
+        Ok(())
+    }
+}
+
+/// An outbox with room for so many bytes.
+fn outbox(alloc: Global, room: usize) -> Plain<Full> {
+    Plain::new(Full {
+        held: Vec::new(alloc),
+        room,
+    })
+}
+
+/// The site of all tests.
+fn site(alloc: Global) -> Result<Site, Fail> {
+    Ok(Site::new(alloc, b"mx.example.net")?)
+}
+
+/// A letter about the message with this queue id.
+fn letter(alloc: Global, id: &[u8]) -> Result<Letter, Fail> {
+    let parts = Parts {
+        recipient: b"bob@example.org",
+        original: b"",
+        action: 1,
+        status: b"5.1.1",
+        mta: b"",
+        diagnostic: b"",
+        reason: b"",
+    };
+    let mut chain = Chain::new();
+    chain.push(Outcome::new(alloc, Service::Bounce, parts)?);
+    let draft = Draft::new(
+        alloc,
+        Stamp::new(1_700_000_000).ok_or("the moment")?,
+        Stamp::new(1_699_996_400).ok_or("the arrival")?,
+        Some(Address::new(alloc, b"ann@example.com")?),
+        None,
+        RawHeader::new(alloc, b"")?,
+    )?;
+    let key = Key {
+        service: Service::Bounce,
+        id: QueueId::new(id).ok_or("the queue id")?,
+    };
+    Ok(Letter::seal(key, draft, chain))
+}
+
+/// What an outbox holds to which a poster posted these letters, one after another.
+fn outbox_of(alloc: Global, ids: &[&[u8]]) -> Result<Vec<u8>, Fail> {
+    let mut poster = Poster::new(site(alloc)?, outbox(alloc, usize::MAX));
+    for id in ids {
+        if poster.post(letter(alloc, id)?).is_err() {
+            return Err("a letter was not posted".into());
+        }
+    }
+    let Ended { outbox, .. } = poster.finish();
+    Ok(outbox.into_inner().held)
+}
+
+/// Hands these letters to a sink.
+fn hand_all(rt: &impl Wait, alloc: Global, sink: &mut LetterSink, ids: &[&[u8]]) -> Result<(), Fail>
+    ensures { sink.new.lane ≡ sink.old.lane }
+{
+    for id in ids {
+        if sink.hand(rt, letter(alloc, id)?).is_err() {
+            return Err("a letter came back".into());
+        }
+    }
+    Ok(())
+}
+
+/// What becomes of letters that are handed to a poster on a thread of its own, whose outbox has
+/// room for so many bytes.
+fn posted<R: Threads + Wait + Sync>(
+    rt: &R,
+    alloc: Global,
+    ids: &[&[u8]],
+    room: usize,
+) -> Result<Posted<Plain<Full>>, Fail> {
+    let site = site(alloc)?;
+    let outbox = outbox(alloc, room);
+    thread::scope(thread::scope_env(), rt, move |scope| {
+        let (sink, source) = open_post(rt, alloc)?;
+        let started = start_posting(scope, rt, site, outbox, sink, source);
+        let Ok((mut sink, handle)) = started else {
+            return Err("no thread".into());
+        };
+        hand_all(rt, alloc, &mut sink, ids)?;
+        Ok(end_posting(rt, sink, handle))
+    })
+}
+
+/// The queue ids of these letters, one after another.
+fn ids_of(alloc: Global, mut letters: Letters) -> Result<Vec<u8>, Fail> {
+    let mut ids = Vec::new(alloc);
+    for _ in 0..4 {
+        if let Some(letter) = letters.pop() {
+            ids.extend_from_slice(letter.key().id.bytes())?;
+        }
+    }
+    Ok(ids)
+}
+
+#[test]
+fn letters_in_order(rt: HostRuntime) -> Result<(), Fail> {
+    let ids = [b"K1".as_slice(), b"K2".as_slice(), b"K3".as_slice()];
+    let posted = posted(&rt, rt.alloc(), &ids, usize::MAX)?;
+    assert!(rt; posted.all && posted.whole && posted.unsent.is_empty());
+    assert_eq!(rt; posted.posted, 3);
+    let held = posted.outbox.into_inner().held;
+    assert_eq!(rt; held.as_slice(), outbox_of(rt.alloc(), &ids)?.as_slice());
+    Ok(())
+}
+
+#[test]
+fn no_letters_make_an_empty_outbox(rt: HostRuntime) -> Result<(), Fail> {
+    let posted = posted(&rt, rt.alloc(), &[], usize::MAX)?;
+    assert!(rt; posted.all && posted.whole && posted.posted == 0);
+    let held = posted.outbox.into_inner().held;
+    let empty = b"EHLO mx.example.net\r\nQUIT\r\n";
+    assert_eq!(rt; held.as_slice(), empty.as_slice());
+    Ok(())
+}
+
+#[test]
+fn outbox_fails_in_second_letter(rt: HostRuntime) -> Result<(), Fail> {
+    let ids = [b"K1".as_slice(), b"K2".as_slice(), b"K3".as_slice()];
+    let room = outbox_of(rt.alloc(), &ids[..1])?.len();
+    let posted = posted(&rt, rt.alloc(), &ids, room)?;
+    assert!(rt; posted.all && !posted.whole && posted.posted == 1);
+    let unsent = ids_of(rt.alloc(), posted.unsent)?;
+    assert_eq!(rt; unsent.as_slice(), b"K2K3".as_slice());
+    let held = posted.outbox.into_inner().held;
+    let both = outbox_of(rt.alloc(), &ids[..2])?;
+    let front = both.get(..room).ok_or("two letters are longer than one")?;
+    assert_eq!(rt; held.as_slice(), front);
+    Ok(())
+}
+
+#[test]
+fn lane_lost_after_one_letter(rt: HostRuntime) -> Result<(), Fail> {
+    let (mut sink, source) = open_post(&rt, rt.alloc())?;
+    hand_all(&rt, rt.alloc(), &mut sink, &[b"K1".as_slice()])?;
+    drop(sink);
+    let posting = post_all(&rt, site(rt.alloc())?, outbox(rt.alloc(), 10_000), source);
+    assert_eq!(rt; posting.handed, 1);
+    assert!(rt; !posting.source.is_marked());
+    Ok(())
+}
+
+#[test]
+fn lane_lost_before_anything_came(rt: HostRuntime) -> Result<(), Fail> {
+    let (sink, source) = open_post(&rt, rt.alloc())?;
+    drop(sink);
+    let posting = post_all(&rt, site(rt.alloc())?, outbox(rt.alloc(), 1000), source);
+    assert_eq!(rt; posting.handed, 0);
+    assert!(rt; posting.outgoing.into_outbox().into_inner().held.is_empty());
+    Ok(())
+}
+
+#[test]
+fn sink_without_its_source_gets_its_letter_back(rt: HostRuntime) -> Result<(), Fail> {
+    let (mut sink, source) = open_post(&rt, rt.alloc())?;
+    drop(source);
+    let back = sink.hand(&rt, letter(rt.alloc(), b"K1")?).err();
+    let back = back.ok_or("the letter was sent")?;
+    assert_eq!(rt; back.key().id.bytes(), b"K1".as_slice());
+    Ok(())
+}
+
+#[test]
+fn letters_that_wait_at_the_close_are_told(rt: HostRuntime) -> Result<(), Fail> {
+    let (mut sink, source) = open_post(&rt, rt.alloc())?;
+    hand_all(&rt, rt.alloc(), &mut sink, &[b"K1".as_slice()])?;
+    assert!(rt; !sink.mark(&rt).close(&rt, source));
+    Ok(())
+}

@@ -1,0 +1,39 @@
+-- Letters on their way to an outbox may go to another thread where the outbox may.
+use denote.Hole.{as_row}
+use denote.Param.Send.{IsSend, sendable, view_send}
+use denote.Param.SendFields.{as_row_send, declared_send}
+use denote.RattleType.{RattleType}
+use denote.Struct.Field.{bool-field, row_field}
+use Rattle.std.proofs.Crossing.{crosses}
+use Rattle.dsn_device.proofs.quiet_writer.QuietWriter.TheSendSync as quiet_writer
+use Rattle.dsn_device.specs.contracts.quiet_writer.QuietWriter as QuietWriter
+use Rattle.dsn_outcome.proofs.SendLemmas.{letters_send}
+use Rattle.dsn_outcome.specs.contracts.letters.Letters as Letters
+use Rattle.dsn_report.specs.contracts.line_writer.LineWriter as LineWriter
+use Rattle.dsn_report.specs.contracts.outgoing.Outgoing as Outgoing
+use Rattle.dsn_report.specs.contracts.outgoing.Outgoing.TheInside as OutgoingInside
+use Rattle.dsn_report.specs.contracts.poster.Poster as Poster
+use Rattle.dsn_report.specs.contracts.poster.Poster.TheInside as PosterInside
+use Rattle.dsn_report.specs.contracts.site.Site as Site
+
+pub site_send : IsSend Site.the_row
+site_send = search (crosses, sendable) depth 20
+
+bool_send : IsSend (as_row bool-field)
+bool_send = search sendable depth 20
+
+module _ (W : RattleType) (send : IsSend W) where
+  line_writer_send : IsSend (LineWriter.the_row W)
+  line_writer_send = declared_send (LineWriter.the_type W) (as_row_send (row_field (QuietWriter.the_row W)) (quiet_writer.the_send W send), (bool_send, tt))
+
+  poster_send : IsSend (Poster.the_row W)
+  poster_send =
+      view_send (PosterInside.the_row W) _ _ _ _
+      (declared_send (PosterInside.the_type W)
+        (as_row_send (row_field Site.the_row) site_send, (as_row_send (row_field (LineWriter.the_row W)) line_writer_send, (bool_send, tt))))
+
+  pub outgoing_send : IsSend (Outgoing.the_row W)
+  outgoing_send =
+      view_send (OutgoingInside.the_row W) _ _ _ _
+      (declared_send (OutgoingInside.the_type W)
+        (as_row_send (row_field (Poster.the_row W)) poster_send, (as_row_send (row_field Letters.the_row) letters_send, tt)))

@@ -134,9 +134,9 @@ module _ (desk : Desk) (request : Request) (answer : Answer) (asked : IsAsked de
   unfolding exchange_of
   not_mine a other = ne_eqb request.agent a (λ same. other (sym same ∙ sym of_agent))
 
-  module _ (book : Book) (out : Out Request) (ends : List (End Answer)) (failed : Bool) (limits : book.limits ≡ desk.book.limits) (taken : out ≡ taken_request desk.requests request) where
+  module _ (book : Book) (out : Out Request) (ends : List (End Answer)) (missed : ℕ) (failed : Bool) (limits : book.limits ≡ desk.book.limits) (taken : out ≡ taken_request desk.requests request) where
     abbrev new : Desk
-    new = record { book = book; requests = out; answers = ends; failed = failed }
+    new = record { book = book; requests = out; answers = ends; missed = missed; failed = failed }
 
     history_new : history new ≡ history desk ++ next_exchange desk request ∷ []
     history_new =
@@ -203,11 +203,13 @@ module _ (desk : Desk) (request : Request) (answer : Answer) (asked : IsAsked de
         let same = long sent d told in
         let first = asked.kept.first in
         let past = asked.kept.past in
+        let few = asked.kept.few in
         let out_first : out.first ≡ desk.requests.first = ap (λ (o : Out Request). o.first) taken in
         let out_past : out.past ≡ desk.requests.past = ap (λ (o : Out Request). o.past) taken in
         record {
           first = omega arith;
           past = omega arith;
+          few = omega arith;
           lines = λ a d' inside. lines_new sent told a d' (omega arith);
           book = subst (Represents book) (sym history_new) book_is;
           sent = sent_new sent d told;

@@ -17,12 +17,13 @@ use Rattle.dsn_crew.specs.Open.{AreLines, IsOpened, opened_agent}
 use Rattle.dsn_crew.specs.Place.{place_at, place_of}
 
 -- a collector that has taken nothing
-pub new_desk : (book : Book) (requests : Out Request) (ends : List (End Answer)) → Represents book [] → requests.first ≡ 0 → requests.past ≡ length ends → requests.taken ≡ [] → AreLines ends → IsDesk (record { book = book; requests = requests; answers = ends; failed = false })
+pub new_desk : (book : Book) (requests : Out Request) (ends : List (End Answer)) → Represents book [] → requests.first ≡ 0 → requests.past ≡ length ends → requests.taken ≡ [] → AreLines ends → length ends ≤ 16 → IsDesk (record { book = book; requests = requests; answers = ends; missed = 0; failed = false })
 unfolding answers_to history_after
-new_desk book requests ends none first past taken lines =
+new_desk book requests ends none first past taken lines few =
     let told : AreAnswered ends (history_of book.limits requests.taken) = λ a d inside. (lines a d inside).1 ∙ ap (λ (q : List Request). answers_to a (history_of book.limits q)) (sym taken) in record {
       first = first;
       past = past;
+      few = few;
       lines = λ a d inside. (lines a d inside).0;
       book = subst (λ (q : List Request). Represents book (history_of book.limits q)) (sym taken) none;
       sent = λ a d inside. ([], append-nil (slice_index_or ends a d).sent ∙ told a d inside);

@@ -42,7 +42,7 @@ or-true false = refl
 
 -- a collector that had failed stays as it was
 failing_again : (desk : Desk) → desk.failed ≡ true → failing desk ≡ desk
-failing_again desk idle = ap (λ (failed : Bool). record { book = desk.book; requests = desk.requests; answers = desk.answers; failed = failed }) (sym idle)
+failing_again desk idle = ap (λ (failed : Bool). record { book = desk.book; requests = desk.requests; answers = desk.answers; missed = desk.missed; failed = failed }) (sym idle)
 
 same_failed : (failed : Bool) → failed ≡ (failed || false)
 same_failed true = refl
@@ -71,9 +71,9 @@ ends_then old mid new some more (Err (Letters letter)) still limits same ends =
 
 module _ {S : Type 0} (takes : S → Letter → S → Type 0) where
   -- what all runs of one request share
-  one_run : (old new : Desk) (sink after : S) (request : Request) (handed : List Letter) (result : Result (Unit {0}) DeskFault) → new.requests ≡ taken_request old.requests request → new.book.limits ≡ old.book.limits → places_of new ≡ places_of old
+  one_run : (old new : Desk) (sink after : S) (request : Request) (handed : List Letter) (result : Result (Unit {0}) DeskFault) → new.requests ≡ taken_request old.requests request → new.book.limits ≡ old.book.limits → places_of new ≡ places_of old → new.missed ≡ old.missed
       → Handed takes sink handed after → handed ++ letter_kept result ≡ letter_of (history old) (next_exchange old request) → old.failed ≡ false → new.failed ≡ is_err result → EndsBy old (request ∷ []) new result → IsRun takes old new sink after result
-  one_run old new sink after request handed result requests limits places sink_is letters going failed ends = record {
+  one_run old new sink after request handed result requests limits places missed sink_is letters going failed ends = record {
     more = request ∷ [];
     requests = requests;
     handed = handed;
@@ -81,6 +81,7 @@ module _ {S : Type 0} (takes : S → Letter → S → Type 0) where
     letters = letters_new old new request (handed ++ letter_kept result) limits requests letters;
     limits = limits;
     places = places;
+    missed = missed;
     failed = failed ∙ ap (λ (b : Bool). b || is_err result) (sym going);
     idle = not_idle old.failed going;
     ends = ends;
@@ -88,7 +89,7 @@ module _ {S : Type 0} (takes : S → Letter → S → Type 0) where
 
   pub took_none : (old new : Desk) (sink : S) → IsTaken old new (Ok None) → new.book.limits ≡ old.book.limits → places_of new ≡ places_of old → IsRun takes old new sink sink (Ok tt)
   took_none old new sink taken limits places =
-      one_run old new sink sink taken.0 [] (Ok tt) taken.3 limits places refl taken.5 taken.1 taken.2 tt
+      one_run old new sink sink taken.0 [] (Ok tt) taken.3 limits places taken.5 refl taken.6 taken.1 taken.2 tt
 
   pub took_fault : (old new : Desk) (sink : S) (fault : DeskFault) → IsDesk old → IsTaken old new (Err fault) → new.book.limits ≡ old.book.limits → places_of new ≡ places_of old → IsRun takes old new sink sink (Err fault)
   unfolding last_one
@@ -100,6 +101,7 @@ module _ {S : Type 0} (takes : S → Letter → S → Type 0) where
     letters = letters_same old new limits (ap (λ (desk : Desk). desk.requests) taken);
     limits = limits;
     places = places;
+    missed = ap (λ (desk : Desk). desk.missed) taken;
     failed = ap (λ (desk : Desk). desk.failed) taken ∙ sym (or-true old.failed);
     idle = λ idle. taken ∙ failing_again old idle;
     ends = λ going. subst (λ (desk : Desk). AreAnswered desk.answers (history desk)) (sym taken) (kept.answered going);
@@ -108,18 +110,18 @@ module _ {S : Type 0} (takes : S → Letter → S → Type 0) where
       let answered : AreAnswered new.answers (history_with old []) =
       subst (λ (ends : List (End Answer)). AreAnswered ends (history_with old [])) (sym taken.5)
       (subst (λ (q : List Request). AreAnswered old.answers (history_of old.book.limits q)) (sym (append-nil old.requests.taken)) (kept.answered taken.1)) in
-      one_run old new sink sink taken.0 [] (Err (Answers agent letter)) taken.3 limits places refl taken.6 taken.1 taken.2 (taken.1, taken.0, taken.4, last_one old taken.0 (letters_in letter) taken.6, answered)
+      one_run old new sink sink taken.0 [] (Err (Answers agent letter)) taken.3 limits places taken.6 refl taken.7 taken.1 taken.2 (taken.1, taken.0, taken.4, last_one old taken.0 (letters_in letter) taken.7, answered)
   took_fault old new sink (Letters letter) kept taken limits places = absurd taken
 
   pub took_handed : (old new : Desk) (sink after : S) (letter : Letter) → IsTaken old new (Ok (Some letter)) → new.book.limits ≡ old.book.limits → places_of new ≡ places_of old → takes sink letter after → IsRun takes old new sink after (Ok tt)
   took_handed old new sink after letter taken limits places takes_it =
-      one_run old new sink after taken.0 (letter ∷ []) (Ok tt) taken.3 limits places (after, takes_it, refl) taken.5 taken.1 taken.2 tt
+      one_run old new sink after taken.0 (letter ∷ []) (Ok tt) taken.3 limits places taken.5 (after, takes_it, refl) taken.6 taken.1 taken.2 tt
 
   -- the sink is gone: the collector is as it was once the request was answered, but failed
   pub took_lost : (old mid new : Desk) (sink after : S) (letter back : Letter) → IsDesk mid → IsTaken old mid (Ok (Some letter)) → mid.book.limits ≡ old.book.limits → places_of mid ≡ places_of old → new ≡ failing mid → back ≡ letter → after ≡ sink → IsRun takes old new sink after (Err (Letters back))
   took_lost old mid new sink after letter back kept taken limits places is same sink_same =
-      let sealed : back ∷ [] ≡ letter_of (history old) (next_exchange old taken.0) = ap (λ (l : Letter). l ∷ []) same ∙ taken.5 in
-      one_run old new sink after taken.0 [] (Err (Letters back)) (ap (λ (desk : Desk). desk.requests) is ∙ taken.3) (ap (λ (desk : Desk). desk.book.limits) is ∙ limits) (ap places_of is ∙ places) sink_same
+      let sealed : back ∷ [] ≡ letter_of (history old) (next_exchange old taken.0) = ap (λ (l : Letter). l ∷ []) same ∙ taken.6 in
+      one_run old new sink after taken.0 [] (Err (Letters back)) (ap (λ (desk : Desk). desk.requests) is ∙ taken.3) (ap (λ (desk : Desk). desk.book.limits) is ∙ limits) (ap places_of is ∙ places) (ap (λ (desk : Desk). desk.missed) is ∙ taken.5) sink_same
       sealed taken.1 (ap (λ (desk : Desk). desk.failed) is) (taken.1, taken.0, last_one old taken.0 (back ∷ []) sealed, subst (λ (desk : Desk). AreAnswered desk.answers (history desk)) (sym is) (kept.answered taken.2))
 
   -- nothing was taken yet
@@ -132,6 +134,7 @@ module _ {S : Type 0} (takes : S → Letter → S → Type 0) where
     letters = sym (append-nil (sealed_letters (history desk)));
     limits = refl;
     places = refl;
+    missed = refl;
     failed = same_failed desk.failed;
     idle = λ _. refl;
     ends = tt;
@@ -168,6 +171,7 @@ module _ {S : Type 0} (takes : S → Letter → S → Type 0) where
         ∙ ap (λ (ls : List Letter). sealed_letters (history old) ++ ls) (sym (append_assoc before.handed then.handed (letter_kept result)))));
     limits = then.limits ∙ before.limits;
     places = then.places ∙ before.places;
+    missed = then.missed ∙ before.missed;
     failed = then.failed ∙ ap (λ (b : Bool). b || is_err result) (still before);
     idle = λ idle. let same = before.idle idle in then.idle (ap (λ (desk : Desk). desk.failed) same ∙ idle) ∙ same;
     ends = ends_then old mid new before.more then.more result (still before) before.limits (history_then before) then.ends;

@@ -1,5 +1,5 @@
 -- Desks: what contracts see of the collector, and what each request that it takes comes to.
-use Rattle.std.specs.Prelude.{◌≡◌, ℕ, ◌<◌, Bool, true, false, ◌==◌, ◌&&◌, ◌||◌, not, List, [], ◌∷◌, ◌++◌, length, map, filter, slice_set, Result, Ok, Err, is_err, Option}
+use Rattle.std.specs.Prelude.{◌≡◌, ℕ, ◌+◌, ◌<◌, ◌≤◌, Bool, true, false, ◌==◌, ◌&&◌, ◌||◌, not, List, [], ◌∷◌, ◌++◌, length, map, filter, slice_set, Result, Ok, Err, is_err, Option}
 use mathlib.Core.List.{IsPrefix}
 use Rattle.std.specs.List.{slice_index_or}
 use Rattle.dsn_book.specs.Book.{Book, Represents}
@@ -14,12 +14,13 @@ use Rattle.dsn_crew.specs.Place.{Place, place_at}
 use Rattle.dsn_crew.specs.declared.desk_fault.DeskFault.{DeskFault}
 use Rattle.dsn_crew.specs.declared.desk_fault.DeskFault.TheVariants.{Requests, Answers, Letters}
 
--- the collector: its book, the end by which it takes requests, the ends by which it answers, agent by agent, and whether
--- it failed
+-- the collector: its book, the end by which it takes requests, the ends by which it answers, agent by agent, how many
+-- agents it was told of that never start, and whether it failed
 pub record Desk : Type 0 where
   pub book : Book
   pub requests : Out Request
   pub answers : List (End Answer)
+  pub missed : ℕ
   pub failed : Bool
 
 abbrev pub is_goodbye : Body → Bool
@@ -32,9 +33,9 @@ is_goodbye Bye = true
 abbrev pub goodbyes : List Request → ℕ
 goodbyes requests = length (filter (λ (request : Request). is_goodbye request.body) requests)
 
--- as many goodbyes were taken as there are agents, and the collector has not failed
+-- as many agents said goodbye or never start as there are, and the collector has not failed
 abbrev pub all_gone : Desk → Bool
-all_gone desk = not desk.failed && (goodbyes desk.requests.taken == length desk.answers)
+all_gone desk = not desk.failed && (goodbyes desk.requests.taken + desk.missed == length desk.answers)
 
 -- what the requests come to that it took, and so with these requests more
 abbrev pub history : Desk → List Exchange
@@ -51,12 +52,13 @@ abbrev pub AreAnswered : List (End Answer) → List Exchange → Type 0
 AreAnswered ends exchanges =
     (a : ℕ) (d : End Answer) → a < length ends → (slice_index_or ends a d).sent ≡ answers_to a exchanges
 
--- what every collector keeps: each answer lane is of its agent, and the agents are numbered from 0; its book stands for
+-- what every collector keeps: each answer lane is of its agent, and the agents are numbered from 0, up to 16; its book stands for
 -- what it took; what it sent each agent are the first of the answers which that history gives the agent, and all of them
 -- unless it failed
 pub record IsDesk (desk : Desk) : Type 0 where
   pub first : desk.requests.first ≡ 0
   pub past : desk.requests.past ≡ length desk.answers
+  pub few : length desk.answers ≤ 16
   pub lines : (a : ℕ) (d : End Answer) → a < length desk.answers → (slice_index_or desk.answers a d).agent ≡ a
   pub book : Represents desk.book (history desk)
   pub sent : (a : ℕ) (d : End Answer) → a < length desk.answers → IsPrefix (slice_index_or desk.answers a d).sent (answers_to a (history desk))
@@ -77,19 +79,29 @@ taken_request out request = record { lane = out.lane; first = out.first; past = 
 
 -- a collector that fails, with nothing else changed
 abbrev pub failing : Desk → Desk
-failing desk = record { book = desk.book; requests = desk.requests; answers = desk.answers; failed = true }
+failing desk = record { book = desk.book; requests = desk.requests; answers = desk.answers; missed = desk.missed; failed = true }
+
+-- a collector that is told of so many agents more that never start, with nothing else changed
+abbrev pub missing : Desk → ℕ → Desk
+missing desk agents = record {
+  book = desk.book;
+  requests = desk.requests;
+  answers = desk.answers;
+  missed = desk.missed + agents;
+  failed = desk.failed;
+}
 
 -- what taking one request comes to. Ok: it was answered as the history defines, and the letter is the one that it sealed.
 -- `Requests`: nothing was taken. `Answers`: the request was taken, and its answer is lost
 abbrev pub IsTaken : Desk → Desk → Result (Option Letter) DeskFault → Type 0
 IsTaken old new (Ok letter) =
     (request : Request) × (old.failed ≡ false) × (new.failed ≡ false) × (new.requests ≡ taken_request old.requests request)
-    × AreTold true old.answers (answer_of (next_exchange old request)) new.answers
+    × AreTold true old.answers (answer_of (next_exchange old request)) new.answers × (new.missed ≡ old.missed)
     × (letters_in letter ≡ letter_of (history old) (next_exchange old request))
 IsTaken old new (Err Requests) = new ≡ failing old
 IsTaken old new (Err (Answers agent letter)) =
     (request : Request) × (old.failed ≡ false) × (new.failed ≡ true) × (new.requests ≡ taken_request old.requests request)
-    × (agent ≡ request.agent) × (new.answers ≡ old.answers)
+    × (agent ≡ request.agent) × (new.answers ≡ old.answers) × (new.missed ≡ old.missed)
     × (letters_in letter ≡ letter_of (history old) (next_exchange old request))
 IsTaken old new (Err (Letters letter)) = ⊥
 
@@ -134,6 +146,7 @@ pub record IsRun {S : Type 0} (takes : S → Letter → S → Type 0) (old new :
   pub letters : sealed_letters (history new) ≡ sealed_letters (history old) ++ (handed ++ letter_kept result)
   pub limits : new.book.limits ≡ old.book.limits
   pub places : places_of new ≡ places_of old
+  pub missed : new.missed ≡ old.missed
   pub failed : new.failed ≡ (old.failed || is_err result)
   pub idle : old.failed ≡ true → new ≡ old
   pub ends : EndsBy old more new result

@@ -39,5 +39,6 @@ pub record IsOpened (limits : Limits) (agents : ℕ) (crew : List Agent) (desk :
   pub count : length desk.answers ≡ agents
   pub lines : AreLines desk.answers
   pub crew_is : crew ≡ map (opened_agent limits.requests desk.requests.lane) desk.answers
+  pub missed : desk.missed ≡ 0
   pub begun : desk.failed ≡ false
   pub kept : IsDesk desk

@@ -1,11 +1,11 @@
 //! The collector of a crew.
-ghost use Rattle.std.specs.Prelude.{◌≡◌, ◌<◌, ◌≤◌, ℕ, false, true, [], length, OnOk, vec_capacity};
+ghost use Rattle.std.specs.Prelude.{◌≡◌, ◌+◌, ◌<◌, ◌≤◌, ℕ, false, true, [], length, OnOk, vec_capacity};
 ghost use Rattle.std.specs.List.{slice_index_or};
 ghost use Rattle.dsn_book.specs.Book.{Represents};
 ghost use Rattle.dsn_lane.specs.Ends.{End};
 ghost use Rattle.dsn_outcome.specs.declared.answer.Answer.{Answer};
 ghost use Rattle.dsn_crew.specs.Open.{AreLines};
-ghost use Rattle.dsn_crew.specs.Desk.{AreTold, IsDesk, IsRun, IsTaken, all_gone, places_of};
+ghost use Rattle.dsn_crew.specs.Desk.{AreTold, IsDesk, IsRun, IsTaken, all_gone, goodbyes, missing, places_of};
 
 use crate::desk_fault::DeskFault;
 use crate::line::Line;
@@ -27,6 +27,7 @@ pub struct Desk {
     pub(crate) room: Vec<LaneIn<Request>>,
     taken: u32,
     gone: u32,
+    missed: u32,
     failed: bool,
 }
 
@@ -36,9 +37,9 @@ impl Model for Desk {
 
     ghost Value = { Desk };
 
-    ghost view = { λ d. record { book = d.book; requests = d.requests; answers = d.lines.items; failed = d.failed } };
+    ghost view = { λ d. record { book = d.book; requests = d.requests; answers = d.lines.items; missed = d.missed; failed = d.failed } };
 
-    ghost invariant = { λ d. IsDesk (record { book = d.book; requests = d.requests; answers = d.lines.items; failed = d.failed }) × (d.taken ≡ length d.requests.taken) × (d.gone ≡ goodbyes d.requests.taken) × (d.room.items ≡ []) × (length d.lines.items ≤ vec_capacity d.room) };
+    ghost invariant = { λ d. IsDesk (record { book = d.book; requests = d.requests; answers = d.lines.items; missed = d.missed; failed = d.failed }) × (d.taken ≡ length d.requests.taken) × (d.gone ≡ goodbyes d.requests.taken) × (d.room.items ≡ []) × (length d.lines.items ≤ vec_capacity d.room) };
 }
 
 impl Desk {
@@ -51,9 +52,9 @@ impl Desk {
     ) -> Desk
         requires book { Represents book [] }
         requires requests { (requests.first ≡ 0) × (requests.past ≡ length lines.items) × (requests.taken ≡ []) }
-        requires lines { AreLines lines.items }
+        requires lines { AreLines lines.items × (length lines.items ≤ 16) }
         requires room { (room.items ≡ []) × (length lines.items ≤ vec_capacity room) }
-        ensures new { result ≡ record { book = book; requests = requests; answers = lines.items; failed = false } }
+        ensures new { result ≡ record { book = book; requests = requests; answers = lines.items; missed = 0; failed = false } }
         ensures kept { IsDesk result }
     {
         Desk {
@@ -63,16 +64,27 @@ impl Desk {
             room,
             taken: 0,
             gone: 0,
+            missed: 0,
             failed: false,
         }
     }
 
-    /// Whether all agents have said goodbye; false once the collector has failed.
+    /// Whether all agents have said goodbye or never start; false once the collector has failed.
     pub fn all_gone(&self) -> bool
         ensures all { result ≡ all_gone self.now }
         ensures kept { IsDesk self.now }
     {
-        !self.failed && self.gone as usize == self.lines.len()
+        !self.failed && self.gone as usize + self.missed as usize == self.lines.len()
+    }
+
+    /// Counts so many agents more as gone: agents whose threads could not be started, so that they
+    /// will never say goodbye.
+    pub(crate) fn miss(&mut self, agents: u32)
+        requires left { goodbyes self.old.requests.taken + self.old.missed + agents ≤ length self.old.answers }
+        ensures missed { self.new ≡ missing self.old agents }
+        ensures kept { IsDesk self.new }
+    {
+        self.missed += agents;
     }
 
     /// Takes one request and answers it: the letter that it sealed, if it did.

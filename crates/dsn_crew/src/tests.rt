@@ -79,6 +79,24 @@ fn collector_without_agents_has_failed(rt: HostRuntime) -> Result<(), Fail> {
     Ok(())
 }
 
+/// Whether a collector says that both its agents are gone: once one is counted that never starts,
+/// and once the other is.
+fn missed(rt: &impl Wait, alloc: Global) -> Option<(bool, bool)> {
+    let limits = Limits::new(8, 8, 1)?;
+    let (_agents, mut desk) = open_crew(rt, alloc, limits, 2).ok()?;
+    desk.miss(1);
+    let one = desk.all_gone();
+    desk.miss(1);
+    Some((one, desk.all_gone()))
+}
+
+#[test]
+fn agents_that_never_start_are_not_awaited(rt: HostRuntime) -> Result<(), Fail> {
+    let told = missed(&rt, rt.alloc()).expect(&rt, "a crew");
+    assert_eq!(rt; told, (false, true));
+    Ok(())
+}
+
 #[test]
 fn crew_has_1_to_16_agents(rt: HostRuntime) -> Result<(), Fail> {
     for (agents, code) in [(0, 43), (1, 0), (16, 0), (17, 43)] {

@@ -6,8 +6,8 @@ use Rattle.dsn_crew.proofs.desk.Desk.new.Goals as goal
 
 pub invariant_of-result : goal.invariant_of-result
 invariant_of-result c =
-    (new_desk _ _ _ c.requires.book c.requires.requests.0 c.requires.requests.1 c.requires.requests.2 c.requires.lines, search rules, ap goodbyes (sym c.requires.requests.2), c.requires.room.0, c.requires.room.1)
+    (new_desk _ _ _ c.requires.book c.requires.requests.0 c.requires.requests.1 c.requires.requests.2 c.requires.lines.0 c.requires.lines.1, search rules, ap goodbyes (sym c.requires.requests.2), c.requires.room.0, c.requires.room.1)
 
 pub returns-clause-kept : goal.returns-clause-kept
 returns-clause-kept c =
-    new_desk _ _ _ c.requires.book c.requires.requests.0 c.requires.requests.1 c.requires.requests.2 c.requires.lines
+    new_desk _ _ _ c.requires.book c.requires.requests.0 c.requires.requests.1 c.requires.requests.2 c.requires.lines.0 c.requires.lines.1

@@ -1,8 +1,10 @@
 -- Closes: each agent that said goodbye was heard to its end, however many there are.
-use Rattle.std.proofs.Common.{◌≡◌, ℕ, zero, suc, ◌+◌, ◌<◌, ◌≤◌, ◌==◌, ◌&&◌, not, Bool, true, false, All, List, [], ◌∷◌, ◌++◌, length, map, refl, ap, sym, ◌∙◌, subst, append_assoc, length-append, arith}
+use Rattle.std.proofs.Common.{◌≡◌, ℕ, zero, suc, ◌+◌, ◌<◌, ◌≤◌, ◌==◌, ◌&&◌, not, Bool, true, false, All, Contains, List, [], ◌∷◌, ◌++◌, length, map, refl, ap, sym, ◌∙◌, subst, append_assoc, length-append, arith}
 use Rattle.std.proofs.lemmas.Bool.{false≢true}
-use Rattle.std.proofs.lemmas.List.{append-nil, length-map, nil_from_length}
+use Rattle.std.proofs.lemmas.List.{append-nil, get_or-map, length-map, nil_from_length}
 use Rattle.std.proofs.lemmas.List.Elements.{All-cons, All-head, All-nil, All-tail, All-weaker}
+use Rattle.std.proofs.lemmas.Simd.{map-map}
+use Rattle.std.specs.List.{slice_index_or}
 use mathlib.Core.List.{IsPrefix}
 use Rattle.dsn_lane.specs.Ends.{End, Identity, Out}
 use Rattle.dsn_outcome.specs.Agents.{from_agent}
@@ -11,9 +13,10 @@ use Rattle.dsn_outcome.specs.Request.{Request}
 use Rattle.dsn_outcome.specs.declared.answer.Answer.{Answer}
 use Rattle.dsn_outcome.proofs.HistoryLaws.{answers_length}
 use Rattle.dsn_crew.specs.Agent.{Ends, IsFinished}
-use Rattle.dsn_crew.specs.Close.{AreCrew, IsHeard}
+use Rattle.dsn_crew.specs.Close.{AreCrew, AreOf, IsHeard}
 use Rattle.dsn_crew.specs.Desk.{AreAnswered, Desk, IsDesk, all_gone, history}
 use Rattle.dsn_crew.specs.Place.{Place, place_at, place_of}
+use Rattle.dsn_crew.proofs.DeskLemmas.{first_end}
 
 -- ---- prefixes and lists
 
@@ -135,6 +138,22 @@ pub all_heard : (desk : Desk) (crew : List Ends) (room : List (End Request)) →
     → All (λ (end : End Request). IsPrefix (from_agent (λ (request : Request). request.agent) end.agent desk.requests.taken) end.sent) room → All (IsHeard desk) crew
 all_heard desk crew room closed room_is taken k d inside =
     heard desk _ (closed k d inside) (from_map (λ (end : End Request). IsPrefix (from_agent (λ (request : Request). request.agent) end.agent desk.requests.taken) end.sent) (λ (ends : Ends). ends.requests) crew (subst (All (λ (end : End Request). IsPrefix (from_agent (λ (request : Request). request.agent) end.agent desk.requests.taken) end.sent)) room_is taken) k d inside)
+
+-- what was taken is of agents of the crew
+same_agents : (lane : Identity Request) (crew : List Ends) (lines : List (End Answer)) → map place_of crew ≡ map (place_at lane) lines → map (λ (ends : Ends). ends.requests.agent) crew ≡ map (λ (end : End Answer). end.agent) lines
+same_agents lane crew lines same =
+    sym (map-map (λ (place : Place). place.agent) place_of crew) ∙ (ap (map (λ (place : Place). place.agent)) same ∙ map-map (λ (place : Place). place.agent) (place_at lane) lines)
+
+pub all_of_crew : (desk : Desk) (crew : List Ends) → IsDesk desk → AreCrew crew desk → AreOf crew desk.requests.taken
+all_of_crew desk crew kept same =
+    All-weaker (λ (request : Request). request.agent < length desk.answers) (λ (request : Request). Contains (map (λ (ends : Ends). ends.requests.agent) crew) request.agent)
+    (λ request inside. (
+      request.agent,
+      (let count = as_many desk.requests.lane crew desk.answers same in let long = length-map crew (λ (ends : Ends). ends.requests.agent) in omega (arith, inside)),
+      (let d : End Answer = first_end desk.answers request.agent inside in
+          ap (λ (agents : List ℕ). slice_index_or agents request.agent request.agent) (same_agents desk.requests.lane crew desk.answers same)
+          ∙ (get_or-map (λ (end : End Answer). end.agent) desk.answers request.agent d request.agent inside ∙ kept.lines request.agent d inside)),
+    )) desk.requests.taken kept.mine
 
 pub all_finished : (exchanges : List Exchange) (crew : List Ends) → All (IsAnswered exchanges) crew → All IsFinished crew
 all_finished exchanges crew closed = λ k d inside. (closed k d inside).finished

@@ -1,15 +1,16 @@
 -- Desks: what one more request, with its answer sent, leaves.
-use Rattle.std.proofs.Common.{◌≡◌, ◌≢◌, ℕ, zero, suc, ◌+◌, ◌<◌, ◌≤◌, ◌==◌, Bool, true, false, cond, List, [], ◌∷◌, ◌++◌, length, map, filter, set, refl, ap, sym, ◌∙◌, subst, eq-eqb, ne_eqb, length-append, arith}
+use Rattle.std.proofs.Common.{◌≡◌, ◌≢◌, ℕ, zero, suc, ◌+◌, ◌<◌, ◌≤◌, ◌==◌, Bool, true, false, cond, All, List, [], ◌∷◌, ◌++◌, length, map, filter, set, refl, ap, sym, ◌∙◌, subst, eq-eqb, ne_eqb, length-append, arith}
 use Rattle.std.specs.Prelude.{◌↔◌, IsTrue}
 use Rattle.std.specs.List.{slice_index_or}
 use Rattle.std.proofs.lemmas.List.{append-nil, get_or-set_same, get_or-set_other, set-get_or, length-set}
-use Rattle.std.proofs.lemmas.List.Elements.{filter-append}
+use Rattle.std.proofs.lemmas.List.Elements.{All-append, All-cons, All-nil, filter-append}
 use Rattle.std.proofs.lemmas.List.Sums.{length-filter, count_by-le-length}
 use Rattle.std.proofs.lemmas.Bool.{false≢true}
 use mathlib.Core.List.{IsPrefix}
 use native.Mathlib.Decide.{ℕ_discrete}
 use Rattle.dsn_book.specs.Book.{Book, Represents}
 use Rattle.dsn_lane.specs.Ends.{End, Out, Identity}
+use Rattle.dsn_lane.specs.Lane.{IsNumbered}
 use Rattle.dsn_outcome.specs.Agents.{from_agent}
 use Rattle.dsn_outcome.specs.History.{Limits, Exchange, answer_of, answers_to, exchange_of, history_of}
 use Rattle.dsn_outcome.specs.Request.{Request, Body, Append, Flush, Discard, Bye}
@@ -198,8 +199,18 @@ module _ (desk : Desk) (request : Request) (answer : Answer) (asked : IsAsked de
         )
 
     -- the collector stands for one request more
-    pub keeps : (sent : Bool) (d : End Answer) → AreTold sent desk.answers answer ends → Represents book (history desk ++ next_exchange desk request ∷ []) → (failed ≡ false → sent ≡ true) → IsDesk new
-    keeps sent d told book_is going_on =
+    -- what was taken is of its agents, with the request more
+    mine_new : length ends ≡ length desk.answers → All (λ (r : Request). r.agent < length ends) out.taken
+    mine_new same =
+        let past = asked.kept.past in
+        let from = asked.from in
+        subst (All (λ (r : Request). r.agent < length ends)) (sym (ap (λ (o : Out Request). o.taken) taken))
+        (All-append (λ (r : Request). r.agent < length ends) desk.requests.taken (request ∷ [])
+        (subst (λ (n : ℕ). All (λ (r : Request). r.agent < n) desk.requests.taken) (sym same) asked.kept.mine)
+        (All-cons (λ (r : Request). r.agent < length ends) request [] (omega arith) (All-nil (λ (r : Request). r.agent < length ends))))
+
+    pub keeps : ((a : ℕ) → IsNumbered (λ (r : Request). r.number) (from_agent (λ (r : Request). r.agent) a out.taken)) → (sent : Bool) (d : End Answer) → AreTold sent desk.answers answer ends → Represents book (history desk ++ next_exchange desk request ∷ []) → (failed ≡ false → sent ≡ true) → IsDesk new
+    keeps numbered sent d told book_is going_on =
         let same = long sent d told in
         let first = asked.kept.first in
         let past = asked.kept.past in
@@ -210,6 +221,8 @@ module _ (desk : Desk) (request : Request) (answer : Answer) (asked : IsAsked de
           first = omega arith;
           past = omega arith;
           few = omega arith;
+          mine = mine_new same;
+          numbered = numbered;
           lines = λ a d' inside. lines_new sent told a d' (omega arith);
           book = subst (Represents book) (sym history_new) book_is;
           sent = sent_new sent d told;

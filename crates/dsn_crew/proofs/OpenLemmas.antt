@@ -1,12 +1,16 @@
 -- Openings: a collector that has taken nothing, and the agents one after another.
-use Rattle.std.proofs.Common.{◌≡◌, ℕ, zero, suc, ◌+◌, ◌-◌, ◌<◌, ◌≤◌, List, [], ◌∷◌, ◌++◌, length, map, false, refl, ap, sym, ◌∙◌, subst, length-append, lt_of_not-le, arith}
+use Rattle.std.proofs.Common.{◌≡◌, ℕ, zero, suc, ◌+◌, ◌-◌, ◌<◌, ◌≤◌, All, List, [], ◌∷◌, ◌++◌, length, map, false, refl, ap, sym, ◌∙◌, subst, length-append, lt_of_not-le, arith}
 use Rattle.std.specs.List.{slice_index_or}
 use Rattle.std.specs.Prelude.{◌↔◌, IsSome, Option, Some, None}
 use Rattle.std.proofs.lemmas.List.{append-nil, map-append}
+use Rattle.std.proofs.lemmas.List.Elements.{All-nil}
 use Rattle.std.proofs.lemmas.Bool.{false≢true}
 use native.Mathlib.Decide.{ℕ_discrete}
 use Rattle.dsn_book.specs.Book.{Book, Represents}
 use Rattle.dsn_lane.specs.Ends.{End, Identity, Out, fresh_ends}
+use Rattle.dsn_lane.specs.Lane.{IsNumbered}
+use Rattle.dsn_lane.proofs.AgentLemmas.{numbered_none}
+use Rattle.dsn_outcome.specs.Agents.{from_agent}
 use Rattle.dsn_outcome.specs.History.{Limits, answers_to, history_after, history_of}
 use Rattle.dsn_outcome.specs.Request.{Request}
 use Rattle.dsn_outcome.specs.declared.answer.Answer.{Answer}
@@ -24,6 +28,8 @@ new_desk book requests ends none first past taken lines few =
       first = first;
       past = past;
       few = few;
+      mine = subst (All (λ (request : Request). request.agent < length ends)) (sym taken) (All-nil (λ (request : Request). request.agent < length ends));
+      numbered = λ agent. subst (λ (q : List Request). IsNumbered (λ (request : Request). request.number) (from_agent (λ (request : Request). request.agent) agent q)) (sym taken) (numbered_none (λ (request : Request). request.number));
       lines = λ a d inside. (lines a d inside).0;
       book = subst (λ (q : List Request). Represents book (history_of book.limits q)) (sym taken) none;
       sent = λ a d inside. ([], append-nil (slice_index_or ends a d).sent ∙ told a d inside);

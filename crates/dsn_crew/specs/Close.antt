@@ -1,5 +1,6 @@
 -- Closes: which agents are those of a collector, and what a crew that is closed came to.
-use Rattle.std.specs.Prelude.{◌≡◌, List, map}
+use Rattle.std.specs.Prelude.{◌≡◌, List, All, Contains, map}
+use Rattle.dsn_book.specs.Book.{Book}
 use Rattle.dsn_outcome.specs.Agents.{from_agent}
 use Rattle.dsn_outcome.specs.History.{answers_to}
 use Rattle.dsn_outcome.specs.Request.{Request}
@@ -16,7 +17,12 @@ pub record IsHeard (desk : Desk) (ends : Ends) : Type 0 where
   pub taken : from_agent (λ (request : Request). request.agent) ends.requests.agent desk.requests.taken ≡ ends.requests.sent
   pub got : ends.answers.taken ≡ answers_to ends.requests.agent (history desk)
 
--- the agents and the collector of a crew as they were at its close
-pub record Lists : Type 0 where
+-- these requests are of these agents
+abbrev pub AreOf : List Ends → List Request → Type 0
+AreOf crew requests = All (λ (request : Request). Contains (map (λ (ends : Ends). ends.requests.agent) crew) request.agent) requests
+
+-- a closed crew: its book, and its agents and its collector as they were at the close
+pub record Shut : Type 0 where
+  pub book : Book
   pub crew : List Ends
   pub desk : Desk

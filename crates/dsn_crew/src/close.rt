@@ -3,10 +3,9 @@ ghost use Rattle.std.specs.Prelude.{◌≡◌, ◌+◌, true, All};
 ghost use mathlib.Core.List.{IsPrefix};
 ghost use Rattle.dsn_book.specs.Book.{Represents};
 ghost use Rattle.dsn_crew.specs.Agent.{IsFinished};
-ghost use Rattle.dsn_crew.specs.Close.{AreCrew, IsHeard};
+ghost use Rattle.dsn_crew.specs.Close.{AreCrew, AreOf, IsHeard};
 ghost use Rattle.dsn_crew.specs.Desk.{all_gone, history};
 
-use crate::crew_lists::CrewLists;
 use crate::crew_shut::CrewShut;
 use crate::desk::Desk;
 use crate::ends::Ends;
@@ -14,21 +13,24 @@ use crate::finished::Finished;
 use crate::line::Line;
 use dsn_lane::{LaneIn, close_lane};
 use dsn_outcome::Request;
+use std::snapshot::Snapshot;
 use std::sync::Wait;
 
 /// Closes a crew, of which it takes all agents, in their order, and the collector. Each of its lanes
 /// is closed, in room that was taken when the crew was opened. It asks that all agents said goodbye
-/// and the collector has not failed (`Desk::all_gone`).
+/// and the collector has not failed (`Desk::all_gone`); an agent that never started has no end to
+/// give back, so its crew is dropped instead.
 pub fn close_crew(rt: &impl Wait, crew: Vec<Finished>, desk: Desk) -> CrewShut
     requires crew { AreCrew crew.items desk }
     requires gone { all_gone desk ≡ true }
     ensures heard { All (IsHeard desk) crew.items }
     ensures finished { All IsFinished crew.items }
-    ensures book { result.book ≡ desk.book }
+    ensures only { AreOf crew.items desk.requests.taken }
+    ensures shut { result ≡ record { book = desk.book; crew = crew.items; desk = desk } }
     ensures stands { Represents result.book (history desk) }
-    ensures lists { result.lists ≡ record { crew = crew.items; desk = desk } }
 {
-    let lists = CrewLists::of(&crew, &desk);
+    let agents = Snapshot::of(&crew);
+    let collector = Snapshot::of(&desk);
     let Desk {
         book,
         requests,
@@ -44,7 +46,7 @@ pub fn close_crew(rt: &impl Wait, crew: Vec<Finished>, desk: Desk) -> CrewShut
         room.push_reserved(close_line(rt, finished, line));
     }
     close_lane(rt, room, requests);
-    CrewShut { book, lists }
+    CrewShut::new(book, agents, collector)
 }
 
 /// Closes an agent's answer lane, and gives the end by which the agent asked.

@@ -4,7 +4,6 @@
 mod agent;
 mod ask_fault;
 mod close;
-mod crew_lists;
 mod crew_open_fault;
 mod crew_shut;
 mod desk;
@@ -22,7 +21,6 @@ mod turn;
 pub use agent::Agent;
 pub use ask_fault::AskFault;
 pub use close::close_crew;
-pub use crew_lists::CrewLists;
 pub use crew_open_fault::CrewOpenFault;
 pub use crew_shut::CrewShut;
 pub use desk::Desk;

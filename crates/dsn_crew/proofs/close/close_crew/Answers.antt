@@ -12,7 +12,7 @@ use Rattle.dsn_crew.specs.Agent.{Ends}
 use Rattle.dsn_crew.specs.Place.{Place, place_at, place_of}
 use Rattle.dsn_crew.specs.Desk.{Desk, IsDesk, history}
 use Rattle.dsn_crew.proofs.OpenLemmas.{none_left}
-use Rattle.dsn_crew.proofs.CloseLemmas.{IsAnswered, all_ends, all_finished, all_heard, as_many, closed_more, kept_all, kept_more, lines_answered, none_answered, paired, room_of_one_lane, some_left}
+use Rattle.dsn_crew.proofs.CloseLemmas.{IsAnswered, all_ends, all_finished, all_heard, all_of_crew, as_many, closed_more, kept_all, kept_more, lines_answered, none_answered, paired, room_of_one_lane, some_left}
 use Rattle.dsn_crew.proofs.close.close_crew.Goals as goal
 
 pub loop-finished-init : goal.loop-finished-init
@@ -81,3 +81,6 @@ returns-clause-heard g c =
 pub returns-clause-finished : goal.returns-clause-finished
 returns-clause-finished g c =
     all_finished _ _ (c.loop-finished.invariant.closed (none_answered _ _ (search rules)))
+
+pub returns-clause-only : goal.returns-clause-only
+returns-clause-only g c = all_of_crew c.args.desk c.args.crew.items (subst IsDesk c.desk.view_is c.desk.invariant.0) c.requires.crew

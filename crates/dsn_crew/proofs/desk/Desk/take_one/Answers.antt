@@ -34,7 +34,7 @@ invariant_of-self-then-tell g c =
     let d : End Answer = first_end _ _ (within _ _ _ asked) in
     let told : AreTold true c.self.inside.lines.items c.apply-letter.result.answer c.tell.new.lines.items = subst (λ (sent : Bool). AreTold sent c.self.inside.lines.items c.apply-letter.result.answer c.tell.new.lines.items) c.if-tell.true c.tell.ensures in
     let bye = goodbyes_more c.self.inside.gone c.from.result c.is_bye.result c.self.inside.requests.taken c.take.new.self.taken c.in-Ok.request c.self.invariant.2 c.in-Ok.ensures.item (search rules) (search rules) in (
-      keeps _ _ _ asked c.apply-letter.new.self c.take.new.self c.tell.new.lines.items c.self.inside.missed c.self.inside.failed c.apply-letter.ensures.limits (search rules) true d told (c.apply-letter.ensures.stands _ c.self.invariant.0.book) (λ _. refl),
+      keeps _ _ _ asked c.apply-letter.new.self c.take.new.self c.tell.new.lines.items c.self.inside.missed c.self.inside.failed c.apply-letter.ensures.limits (search rules) c.in-Ok.ensures.numbered true d told (c.apply-letter.ensures.stands _ c.self.invariant.0.book) (λ _. refl),
       counted_more _ _ _ _ c.self.invariant.1 c.in-Ok.ensures.item,
       bye,
       search rules,
@@ -46,7 +46,7 @@ returns-then-tell-clause-kept g c =
     let asked : IsAsked _ c.in-Ok.request c.apply-letter.result.answer = record { kept = c.self.invariant.0; going = search rules; from = search rules; number = search rules; answer_is = c.apply-letter.ensures.answer _ c.self.invariant.0.book } in
     let d : End Answer = first_end _ _ (within _ _ _ asked) in
     let told : AreTold true c.self.inside.lines.items c.apply-letter.result.answer c.tell.new.lines.items = subst (λ (sent : Bool). AreTold sent c.self.inside.lines.items c.apply-letter.result.answer c.tell.new.lines.items) c.if-tell.true c.tell.ensures in
-    keeps _ _ _ asked c.apply-letter.new.self c.take.new.self c.tell.new.lines.items c.self.inside.missed c.self.inside.failed c.apply-letter.ensures.limits (search rules) true d told (c.apply-letter.ensures.stands _ c.self.invariant.0.book) (λ _. refl)
+    keeps _ _ _ asked c.apply-letter.new.self c.take.new.self c.tell.new.lines.items c.self.inside.missed c.self.inside.failed c.apply-letter.ensures.limits (search rules) c.in-Ok.ensures.numbered true d told (c.apply-letter.ensures.stands _ c.self.invariant.0.book) (λ _. refl)
 
 pub returns-then-tell-clause-places : goal.returns-then-tell-clause-places
 returns-then-tell-clause-places g c =
@@ -61,7 +61,7 @@ invariant_of-self-else-tell g c =
     let lost : c.tell.result ≡ false = search rules in
     let told : AreTold false c.self.inside.lines.items c.apply-letter.result.answer c.tell.new.lines.items = subst (λ (sent : Bool). AreTold sent c.self.inside.lines.items c.apply-letter.result.answer c.tell.new.lines.items) lost c.tell.ensures in
     let bye = goodbyes_more c.self.inside.gone c.from.result c.is_bye.result c.self.inside.requests.taken c.take.new.self.taken c.in-Ok.request c.self.invariant.2 c.in-Ok.ensures.item (search rules) (search rules) in (
-      keeps _ _ _ asked c.apply-letter.new.self c.take.new.self c.tell.new.lines.items c.self.inside.missed true c.apply-letter.ensures.limits (search rules) false d told (c.apply-letter.ensures.stands _ c.self.invariant.0.book) (λ never. absurd (true≢false never)),
+      keeps _ _ _ asked c.apply-letter.new.self c.take.new.self c.tell.new.lines.items c.self.inside.missed true c.apply-letter.ensures.limits (search rules) c.in-Ok.ensures.numbered false d told (c.apply-letter.ensures.stands _ c.self.invariant.0.book) (λ never. absurd (true≢false never)),
       counted_more _ _ _ _ c.self.invariant.1 c.in-Ok.ensures.item,
       bye,
       search rules,
@@ -74,7 +74,7 @@ returns-else-tell-clause-kept g c =
     let d : End Answer = first_end _ _ (within _ _ _ asked) in
     let lost : c.tell.result ≡ false = search rules in
     let told : AreTold false c.self.inside.lines.items c.apply-letter.result.answer c.tell.new.lines.items = subst (λ (sent : Bool). AreTold sent c.self.inside.lines.items c.apply-letter.result.answer c.tell.new.lines.items) lost c.tell.ensures in
-    keeps _ _ _ asked c.apply-letter.new.self c.take.new.self c.tell.new.lines.items c.self.inside.missed true c.apply-letter.ensures.limits (search rules) false d told (c.apply-letter.ensures.stands _ c.self.invariant.0.book) (λ never. absurd (true≢false never))
+    keeps _ _ _ asked c.apply-letter.new.self c.take.new.self c.tell.new.lines.items c.self.inside.missed true c.apply-letter.ensures.limits (search rules) c.in-Ok.ensures.numbered false d told (c.apply-letter.ensures.stands _ c.self.invariant.0.book) (λ never. absurd (true≢false never))
 
 pub returns-else-tell-clause-places : goal.returns-else-tell-clause-places
 returns-else-tell-clause-places g c =

@@ -1,6 +1,7 @@
 -- Worked examples of an agent's session, made by the definitions: a connection with one discard.
-use Rattle.std.proofs.Common.{◌≡◌, ℕ, List, [], ◌∷◌, inl, Bool, true, false, refl, lit<, lit≤}
+use Rattle.std.proofs.Common.{◌≡◌, ◌≢◌, ℕ, List, [], ◌∷◌, inl, Bool, true, false, refl, lit<, lit≤}
 use Rattle.std.specs.Prelude.{Some, None, Ok, Err, codes}
+use Rattle.std.proofs.lemmas.List.Elements.{All-nil}
 use Rattle.dsn_device.specs.declared.drain.Drain.{Ghosts as Drain}
 use Rattle.dsn_device.specs.declared.source.Source.{Ghosts as Source}
 use Rattle.dsn_lane.specs.Ends.{Identity}
@@ -14,7 +15,8 @@ use Rattle.dsn_frame.specs.Request.{first_own_fault, StandsFor, Encodes}
 use Rattle.dsn_frame.specs.Session.{asked, given_up, written, begun, taken, stopped, well}
 use Rattle.dsn_frame.specs.Spoken.{answer_body, answer_bytes, answer_frames_from}
 use Rattle.dsn_frame.specs.Wire.{DiscardFields, body_bytes, own_bytes, head_bytes, text_bytes, number_bytes, FitsOwn}
-use Rattle.dsn_frame.specs.declared.spoken.Spoken.TheVariants.{Reply}
+use Rattle.dsn_frame.specs.declared.spoken.Spoken.{Spoken}
+use Rattle.dsn_frame.specs.declared.spoken.Spoken.TheVariants.{Refused, Reply}
 use Rattle.dsn_crew.specs.Agent.{Agent}
 use Rattle.dsn_crew.specs.Serve.{IsServed, numbered_from}
 use Rattle.dsn_crew.specs.declared.serve_fault.ServeFault.TheVariants.{Lost}
@@ -102,7 +104,7 @@ module _ (asks : Identity Request) (hears : Identity Answer) (body : Body) (repl
       read = refl;
       ends = stopped 41 refl refl;
     };
-    asked = record { agent_is = refl; idle = λ was. refl; replied = inl refl };
+    asked = record { agent_is = refl; idle = λ was. (refl, All-nil (λ (answer : Spoken). answer ≢ Refused 44)); replied = inl refl };
     written = refl;
     answered = tt;
     counts = record { failures = refl; no_flush = refl; steady = λ _. (tt, refl) };

@@ -1,11 +1,18 @@
 -- Sessions of an agent: what one frame adds to the agent that serves.
-use Rattle.std.proofs.Common.{◌≡◌, ℕ, suc, ◌+◌, inl, inr, Bool, true, false, List, [], ◌∷◌, ◌++◌, length, refl, ap, sym, subst, ◌∙◌, append_assoc, arith}
+use Rattle.std.proofs.Common.{◌≡◌, ◌≢◌, ℕ, suc, ◌+◌, ◌≤◌, lit≤, inl, inr, Bool, true, false, All, List, [], ◌∷◌, ◌++◌, length, refl, ap, sym, subst, ◌∙◌, append_assoc, arith}
 use Rattle.std.specs.Prelude.{Some, None, Result, Ok, Err, ◌||◌, is_some}
 use Rattle.std.specs.List.{flat_map}
 use Rattle.std.proofs.lemmas.Grind.{flat_map-append}
+use Rattle.std.proofs.lemmas.List.Elements.{All-append, All-cons, All-nil}
 use Rattle.std.proofs.lemmas.List.{append-nil, length-append}
 use Rattle.dsn_outcome.specs.Request.{Request, Body}
 use Rattle.dsn_outcome.specs.declared.answer.Answer.{Answer}
+use Rattle.dsn_outcome.specs.OutcomeFault.{outcome_fault_code}
+use Rattle.dsn_outcome.specs.declared.outcome_fault.OutcomeFault.{OutcomeFault}
+use Rattle.dsn_outcome.specs.declared.outcome_fault.OutcomeFault.TheVariants as outcome
+use Rattle.dsn_frame.specs.BodyFault.{body_fault_code}
+use Rattle.dsn_frame.specs.declared.body_fault.BodyFault.{BodyFault}
+use Rattle.dsn_frame.specs.declared.body_fault.BodyFault.TheVariants as faults
 use Rattle.dsn_frame.specs.Refusal.{refusal_code, refusal_end}
 use Rattle.dsn_frame.specs.Request.{Encodes}
 use Rattle.dsn_frame.specs.Session.{Connection, Takes, asked, used_up, given_up, given_up_after}
@@ -49,6 +56,42 @@ numbered-one : {A B : Type 0} (make : ℕ → A → B) (before : List B) (number
 unfolding numbered_from
 numbered-one make before number x = refl
 
+-- ---- refusals
+
+-- no body is refused by a number beyond 30
+outcome_few : (fault : OutcomeFault) → outcome_fault_code fault ≤ 30
+outcome_few outcome.BadRecipient = lit≤ tt
+outcome_few outcome.BadOriginal = lit≤ tt
+outcome_few outcome.BadAction = lit≤ tt
+outcome_few outcome.BadStatus = lit≤ tt
+outcome_few outcome.StatusClass = lit≤ tt
+outcome_few outcome.BadMta = lit≤ tt
+outcome_few outcome.LongDiagnostic = lit≤ tt
+outcome_few outcome.LongReason = lit≤ tt
+outcome_few outcome.NoMemory = lit≤ tt
+
+body_few : (fault : BodyFault) → body_fault_code fault ≤ 30
+body_few faults.Version = lit≤ tt
+body_few faults.Kind = lit≤ tt
+body_few faults.Short = lit≤ tt
+body_few faults.Extra = lit≤ tt
+body_few faults.Service = lit≤ tt
+body_few faults.QueueId = lit≤ tt
+body_few faults.Moment = lit≤ tt
+body_few faults.Header = lit≤ tt
+body_few faults.ReturnPath = lit≤ tt
+body_few faults.EnvelopeId = lit≤ tt
+body_few faults.NoMemory = lit≤ tt
+body_few (faults.Outcome fault) = outcome_few fault
+
+refusal_apart : (refusal : Refusal) → refusal_code refusal ≢ 44
+refusal_apart (refusals.Body fault) same = absurd (let few = body_few fault in omega arith)
+refusal_apart refusals.OutOfTurn same = absurd (omega arith)
+
+-- an answer that is none of them, alone
+one_apart : (code : ℕ) → code ≢ 44 → All (λ (answer : Spoken). answer ≢ spoken.Refused 44) (spoken.Refused code ∷ [])
+one_apart code apart = All-cons (λ (answer : Spoken). answer ≢ spoken.Refused 44) (spoken.Refused code) [] (λ same. apart cc) (All-nil (λ (answer : Spoken). answer ≢ spoken.Refused 44))
+
 -- ---- the agent
 
 or-false : (b : Bool) → (b || false) ≡ b
@@ -83,11 +126,11 @@ nothing-more agent =
 
 -- nothing was asked so far
 pub asked-nothing : (agent : Agent) → HasAsked agent agent [] [] false
-asked-nothing agent = record { agent_is = nothing-more agent; idle = λ _. refl; replied = refl }
+asked-nothing agent = record { agent_is = nothing-more agent; idle = λ _. (refl, All-nil (λ (answer : Spoken). answer ≢ spoken.Refused 44)); replied = refl }
 
 -- a refusal asks nothing
-asked-refused : (agent : Agent) (code : ℕ) → HasAsked agent agent [] (spoken.Refused code ∷ []) false
-asked-refused agent code = record { agent_is = nothing-more agent; idle = λ _. refl; replied = refl }
+asked-refused : (agent : Agent) (code : ℕ) → (agent.lost ≡ true → code ≢ 44) → HasAsked agent agent [] (spoken.Refused code ∷ []) false
+asked-refused agent code apart = record { agent_is = nothing-more agent; idle = λ was. (refl, one_apart code (apart was)); replied = refl }
 
 replied-then : (lost : Bool) (b c r s : ℕ) → b ≡ r → AreReplied lost c s → AreReplied lost (b + c) (r + s)
 replied-then false b c r s first then = omega (arith, first, then)
@@ -123,7 +166,7 @@ module _ (old mid new : Agent) (bodies more : List Body) (answers told : List Sp
     agent_is = agent-then;
     idle = λ was.
         let mid_lost = ap (λ (a : Agent). a.lost) first.agent_is ∙ (or-false old.lost ∙ was) in
-        (λ i. first.idle was i ++ then.idle mid_lost i);
+        ((λ i. (first.idle was).0 i ++ (then.idle mid_lost).0 i), All-append (λ (answer : Spoken). answer ≢ spoken.Refused 44) answers told (first.idle was).1 (then.idle mid_lost).1);
     replied = rw (length-append bodies more, flat_map-append reply_of answers told, length-append (flat_map reply_of answers) (flat_map reply_of told)) (replied-then lost (length bodies) (length more) (length (flat_map reply_of answers)) (length (flat_map reply_of told)) first.replied then.replied);
   }
 
@@ -146,7 +189,7 @@ module _ (old new : Agent) (body : Body) (place : ℕ) (bytes : List ℕ) (encod
     takes = given_up body encoded refl;
     asked = record {
       agent_is = ask.2 ∙ (λ i. with_lists old (sym (numbered-none (numbered_request old.ends.requests.agent) old.ends.requests.sent (length old.ends.requests.sent)) i) (sym (numbered-none (numbered_answer old.ends.requests.agent) old.ends.answers.taken (length old.ends.requests.sent)) i) (sym (or-true old.lost) i));
-      idle = λ was. refl;
+      idle = λ was. (refl, All-nil (λ (answer : Spoken). answer ≢ spoken.Refused 44));
       replied = inl refl;
     };
   }
@@ -162,11 +205,14 @@ module _ (old new : Agent) (body : Body) (place : ℕ) (bytes : List ℕ) (encod
   turn-asked (Err (Limit back)) ask = record {
     bodies = [];
     takes = used_up body encoded ask.1;
-    asked = subst (λ (a : Agent). HasAsked old a [] (spoken.Refused 44 ∷ []) false) (sym ask.3) (asked-refused old 44);
+    asked = subst (λ (a : Agent). HasAsked old a [] (spoken.Refused 44 ∷ []) false) (sym ask.3) (asked-refused old 44 (λ was. never old.lost ask.0 was));
   }
+
+one-refused : (agent : Agent) (refusal : Refusal) → HasAsked agent agent [] (spoken.Refused (refusal_code refusal) ∷ []) false
+one-refused agent refusal = asked-refused agent (refusal_code refusal) (λ _. refusal_apart refusal)
 
 -- a frame that was refused, and ended the session or not
 pub turn-refused : (agent : Agent) (place : ℕ) (bytes : List ℕ) (refusal : Refusal) → Takes Connection agent.limit (length agent.ends.requests.sent) place bytes [] (spoken.Refused (refusal_code refusal) ∷ []) (refusal_end refusal)
     → IsTurn agent agent place bytes (Some (record { answer = spoken.Refused (refusal_code refusal); over = is_some (refusal_end refusal) }))
-turn-refused agent place bytes (refusals.Body fault) takes = record { bodies = []; takes = takes; asked = asked-refused agent (refusal_code (refusals.Body fault)) }
-turn-refused agent place bytes refusals.OutOfTurn takes = record { bodies = []; takes = takes; asked = asked-refused agent 46 }
+turn-refused agent place bytes (refusals.Body fault) takes = record { bodies = []; takes = takes; asked = one-refused agent (refusals.Body fault) }
+turn-refused agent place bytes refusals.OutOfTurn takes = record { bodies = []; takes = takes; asked = one-refused agent refusals.OutOfTurn }

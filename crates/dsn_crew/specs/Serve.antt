@@ -1,5 +1,5 @@
 -- Sessions of an agent: what became of one connection, of the agent that served it, and of the answers' frames.
-use Rattle.std.specs.Prelude.{◌≡◌, ℕ, suc, Bool, true, false, ◌||◌, ◌⊎◌, List, [], ◌∷◌, ◌++◌, length, Option, Some, None, Result, Ok, Err, IfOk, if◌then◌else◌}
+use Rattle.std.specs.Prelude.{◌≡◌, ◌≢◌, ℕ, suc, Bool, true, false, ◌||◌, ◌⊎◌, List, [], ◌∷◌, ◌++◌, All, length, Option, Some, None, Result, Ok, Err, IfOk, if◌then◌else◌}
 use Rattle.std.specs.List.{flat_map}
 use Rattle.dsn_device.specs.Failures.{counted}
 use Rattle.dsn_device.specs.declared.drain.Drain.{Ghosts as Drain}
@@ -108,10 +108,10 @@ AreReplied false bodies replies = bodies ≡ replies
 AreReplied true bodies replies = (bodies ≡ replies) ⊎ (bodies ≡ suc replies)
 
 -- what an agent that serves comes to: it sent requests with these bodies, and got the replies among these answers; where
--- a lane was lost before, it sent none
+-- a lane was lost before, it sent none, and told nobody that its requests are used up
 pub record HasAsked (old new : Agent) (bodies : List Body) (answers : List Spoken) (lost : Bool) : Type 0 where
   pub agent_is : new ≡ after_requests old bodies (flat_map reply_of answers) lost
-  pub idle : old.lost ≡ true → bodies ≡ []
+  pub idle : old.lost ≡ true → (bodies ≡ []) × All (λ (answer : Spoken). answer ≢ spoken.Refused 44) answers
   pub replied : AreReplied lost (length bodies) (length (flat_map reply_of answers))
 
 -- ---- a session

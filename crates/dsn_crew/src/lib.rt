@@ -2,6 +2,7 @@
 #![tactic(auto)]
 
 mod agent;
+mod agent_line;
 mod ask_fault;
 mod close;
 mod crew_open_fault;
@@ -12,25 +13,33 @@ mod ends;
 mod finished;
 mod gate;
 mod line;
+mod next;
 mod open;
+mod port;
+mod port_end;
 mod serve;
 mod serve_fault;
+mod serve_port;
 mod served;
+mod start_serving;
 mod turn;
 
 pub use agent::Agent;
+pub use agent_line::AgentLine;
 pub use ask_fault::AskFault;
 pub use close::close_crew;
 pub use crew_open_fault::CrewOpenFault;
 pub use crew_shut::CrewShut;
 pub use desk::Desk;
 pub use desk_fault::DeskFault;
+pub use dsn_post::Sink;
 pub use finished::Finished;
 pub use gate::{Gate, NoGate};
+pub use next::Next;
 pub use open::open_crew;
+pub use port::Port;
 pub use serve_fault::ServeFault;
 pub use served::Served;
-pub use dsn_post::Sink;
 
 #[cfg(test)]
 mod tests;

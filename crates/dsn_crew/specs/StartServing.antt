@@ -1,0 +1,42 @@
+-- Starts of the agents' threads, and what comes of them once they are joined.
+use Rattle.std.specs.Prelude.{◌≡◌, ℕ, List, [], ◌∷◌, length, filter, Option, Some, None, is_none}
+use Rattle.std.specs.declared.thread.PromisedHandle.{PromisedHandle}
+use Rattle.dsn_crew.specs.Agent.{Agent}
+use Rattle.dsn_crew.specs.Port.{IsPortServed}
+use Rattle.dsn_crew.specs.declared.port.Port.{Ghosts as Port}
+use Rattle.dsn_crew.specs.declared.port_end.PortEnd.{PortEnd}
+use Rattle.dsn_crew.specs.declared.start_serving.Serves.{Serves}
+
+-- the thread was started with this agent and this port
+abbrev pub HasBegun : {P : Type 0} → Agent → P → Serves P → Type 0
+HasBegun agent port promise = (promise.agent.value ≡ agent) × (promise.port.value ≡ port)
+
+-- each agent's thread was started with the agent and with the port in its place, or there is none
+abbrev pub AreStarted : {P : Type 0} → List Agent → List P → List (Option (PromisedHandle PortEnd (Serves P))) → Type 0
+AreStarted [] [] [] = Unit {0}
+AreStarted (agent ∷ agents) (port ∷ ports) (None ∷ handles) = AreStarted agents ports handles
+AreStarted (agent ∷ agents) (port ∷ ports) (Some handle ∷ handles) = HasBegun agent port handle.promise × AreStarted agents ports handles
+AreStarted agents ports handles = ⊥
+
+-- how many threads there are not
+abbrev pub missing : {H : Type 0} → List (Option H) → ℕ
+missing handles = length (filter is_none handles)
+
+-- what came of a thread, if there was one: what its promise says
+abbrev pub IsJoined : {P S : Type 0} → Port P S → Option (PromisedHandle PortEnd (Serves P)) → Option PortEnd → Type 0
+IsJoined port None end = end ≡ None
+IsJoined port (Some handle) None = ⊥
+IsJoined port (Some handle) (Some end) = IsPortServed (port.conns handle.promise.port.value) handle.promise.agent.value end
+
+-- and of each of these threads
+abbrev pub AreJoined : {P S : Type 0} → Port P S → List (Option (PromisedHandle PortEnd (Serves P))) → List (Option PortEnd) → Type 0
+AreJoined port [] [] = Unit {0}
+AreJoined port (handle ∷ handles) (end ∷ ends) = IsJoined port handle end × AreJoined port handles ends
+AreJoined port handles ends = ⊥
+
+-- what came of each agent and its port: the service of the port, where the agent's thread was started
+abbrev pub AreServed : {P S : Type 0} → Port P S → List Agent → List P → List (Option PortEnd) → Type 0
+AreServed port [] [] [] = Unit {0}
+AreServed port (agent ∷ agents) (served ∷ ports) (None ∷ ends) = AreServed port agents ports ends
+AreServed port (agent ∷ agents) (served ∷ ports) (Some end ∷ ends) = IsPortServed (port.conns served) agent end × AreServed port agents ports ends
+AreServed port agents ports ends = ⊥

@@ -2,8 +2,10 @@ pub mod AgentLemmas
 pub mod CloseLemmas
 pub mod DeskLemmas
 pub mod OpenLemmas
+pub mod PortLemmas
 pub mod RunLemmas
 pub mod SendLemmas
 mod ServeExamples
 pub mod ServeLemmas
 pub mod ServedLemmas
+pub mod ServingSendLemmas

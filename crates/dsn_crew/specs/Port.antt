@@ -1,6 +1,6 @@
 -- Ports: the connections that a port tells, the sessions of the agent that serves them, and what the agent comes to.
-use Rattle.std.specs.Prelude.{◌≡◌, ◌≢◌, ℕ, ◌+◌, ◌<◌, ◌≤◌, ◌⊎◌, Bool, true, false, List, [], ◌∷◌, All, length, filter, Option, Some, None, is_some, IfSome}
-use Rattle.std.specs.List.{flat_map}
+use Rattle.std.specs.Prelude.{◌≡◌, ◌≢◌, ℕ, ◌+◌, ◌<◌, ◌≤◌, ◌⊎◌, Bool, true, false, List, [], ◌∷◌, ◌++◌, All, length, filter, Option, Some, None, is_some, IfSome}
+use Rattle.std.specs.List.{AllZip, flat_map}
 use Rattle.dsn_device.specs.Failures.{most_failures}
 use Rattle.dsn_device.specs.declared.source.Source.{Ghosts as Source}
 use Rattle.dsn_outcome.specs.Request.{Body, Bye}
@@ -61,13 +61,15 @@ answers_of sessions = flat_map (λ (session : Session). session.answers) session
 abbrev pub faults_of : List Session → ℕ
 faults_of sessions = length (filter (λ (session : Session). is_some session.end) sessions)
 
--- sessions of an agent one after another: each is what its stream's bytes make it, at the agent's limit and after all
--- requests that were accepted before it
+-- the session of an agent with this limit, after so many accepted requests: it is what its stream's bytes make it
+abbrev pub IsSessionAt : ℕ → ℕ → Session → Type 0
+IsSessionAt limit accepted session =
+    IsSession Connection limit accepted session.start session.left session.frames session.bodies session.answers session.end
+
+-- sessions of an agent, one after another
 abbrev pub AreSessions : ℕ → ℕ → List Session → Type 0
 AreSessions limit accepted [] = Unit {0}
-AreSessions limit accepted (session ∷ rest) =
-    IsSession Connection limit accepted session.start session.left session.frames session.bodies session.answers session.end
-    × AreSessions limit (accepted + length session.bodies) rest
+AreSessions limit accepted (session ∷ rest) = IsSessionAt limit accepted session × AreSessions limit (accepted + length session.bodies) rest
 
 -- a session over this connection: over its bytes; and where its stream may not fail it doesn't end with a read or a write
 -- that failed
@@ -75,17 +77,13 @@ pub record IsOver (conn : Conn) (session : Session) : Type 0 where
   pub bytes : session.start ≡ Some conn.bytes
   pub steady : conn.may_fail ≡ false → (session.end ≢ Some 14) × (session.end ≢ Some 35)
 
--- one session over each of these connections, in order, from the first on; these connections are left
-abbrev pub AreOver : List Conn → List Session → List Conn → Type 0
-AreOver conns [] left = left ≡ conns
-AreOver [] (session ∷ more) left = ⊥
-AreOver (conn ∷ rest) (session ∷ more) left = IsOver conn session × AreOver rest more left
-
--- the sessions over the connections of a port that tells them: over all of these, but for those beyond the 1,000,000 that
--- an agent serves, unless the agent lost a lane; and the port did not fail
+-- the sessions over the connections of a port that tells them: one over each, in order, from the first on. None is left but
+-- those beyond the 1,000,000 that an agent serves, unless a lane was lost; and the port is not told to have failed
 pub record AreOverConns (conns : List Conn) (sessions : List Session) (lost port_failed : Bool) : Type 0 where
+  pub served : List Conn
   pub left : List Conn
-  pub over : AreOver conns sessions left
+  pub conns_are : conns ≡ served ++ left
+  pub over : AllZip IsOver served sessions
   pub all : lost ≡ false → (left ≡ []) ⊎ (length sessions ≡ 1000000)
   pub good : port_failed ≡ false
 

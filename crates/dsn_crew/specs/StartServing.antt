@@ -28,12 +28,6 @@ IsJoined port None end = end ≡ None
 IsJoined port (Some handle) None = ⊥
 IsJoined port (Some handle) (Some end) = IsPortServed (port.conns handle.promise.port.value) handle.promise.agent.value end
 
--- and of each of these threads
-abbrev pub AreJoined : {P S : Type 0} → Port P S → List (Option (PromisedHandle PortEnd (Serves P))) → List (Option PortEnd) → Type 0
-AreJoined port [] [] = Unit {0}
-AreJoined port (handle ∷ handles) (end ∷ ends) = IsJoined port handle end × AreJoined port handles ends
-AreJoined port handles ends = ⊥
-
 -- what came of each agent and its port: the service of the port, where the agent's thread was started
 abbrev pub AreServed : {P S : Type 0} → Port P S → List Agent → List P → List (Option PortEnd) → Type 0
 AreServed port [] [] [] = Unit {0}

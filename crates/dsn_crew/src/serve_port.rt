@@ -1,6 +1,8 @@
 //! An agent's service of its port, from the first connection to the goodbye.
+ghost use Rattle.std.specs.Prelude.{◌≡◌, length};
 ghost use Rattle.dsn_crew.specs.Agent.{IsAgent};
 ghost use Rattle.dsn_crew.specs.Port.{HasServed, IsPortServed};
+ghost use Rattle.dsn_crew.specs.Serve.{is_lost as lost};
 
 use crate::agent::Agent;
 use crate::agent_line::AgentLine;
@@ -9,6 +11,7 @@ use crate::next::Next;
 use crate::port::Port;
 use crate::port_end::PortEnd;
 use crate::serve_fault::ServeFault;
+use crate::served::Served;
 use std::alloc::Global;
 use std::sync::Wait;
 
@@ -48,7 +51,7 @@ fn serve_connections<P: Port, G: Gate>(
     ensures kept { IsAgent agent.new }
 {
     let mut line = AgentLine {
-        requests: agent.ends.requests.count(),
+        requests: agent.requests(),
         connections: 0,
         faults: 0,
         port_failed: false,
@@ -66,14 +69,31 @@ fn serve_connections<P: Port, G: Gate>(
         };
         let served = agent.serve(rt, alloc, &mut stream, gate);
         line = AgentLine {
-            requests: agent.ends.requests.count(),
+            requests: agent.requests(),
             connections: line.connections + 1,
             faults: line.faults + u32::from(served.is_err()),
             port_failed: false,
         };
-        if let Err(ServeFault::Lost) = served {
+        if is_lost(&served) {
             return line;
         }
     }
     line
+}
+
+/// Whether a session found the collector gone.
+fn is_lost(served: &Result<Served, ServeFault>) -> bool
+    ensures { result ≡ lost served.now }
+{
+    matches!(served, Err(ServeFault::Lost))
+}
+
+impl Agent {
+    /// How many requests the agent has made.
+    fn requests(&self) -> u32
+        ensures count { result ≡ length self.now.ends.requests.sent }
+        ensures kept { IsAgent self.now }
+    {
+        self.ends.requests.count()
+    }
 }

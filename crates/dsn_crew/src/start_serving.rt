@@ -1,7 +1,7 @@
 //! The starts and the ends of the agents' threads.
 ghost use Rattle.std.specs.Prelude.{◌≡◌, ◌≤◌, [], length, IfSome, vec_capacity};
-ghost use Rattle.dsn_crew.specs.Port.{IsPortServed};
-ghost use Rattle.dsn_crew.specs.StartServing.{AreJoined, AreStarted, HasBegun, IsJoined, missing};
+ghost use Rattle.std.specs.List.{AllZip};
+ghost use Rattle.dsn_crew.specs.StartServing.{AreStarted, HasBegun, IsJoined, missing};
 
 use crate::agent::Agent;
 use crate::gate::Gate;
@@ -106,7 +106,7 @@ pub(crate) fn join_all<P: Port + Drop>(
     room: Vec<Option<PortEnd>>,
 ) -> Vec<Option<PortEnd>>
     requires room { (room.items ≡ []) × (length handles.items ≤ vec_capacity room) }
-    ensures { AreJoined P.Port handles.items result.items }
+    ensures { AllZip (IsJoined P.Port) handles.items result.items }
 {
     let mut ends = room;
     for handle in handles {

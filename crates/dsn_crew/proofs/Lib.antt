@@ -9,3 +9,4 @@ mod ServeExamples
 pub mod ServeLemmas
 pub mod ServedLemmas
 pub mod ServingSendLemmas
+pub mod StartServingLemmas

@@ -1,5 +1,5 @@
 -- Starts of the agents' threads, and what comes of them once they are joined.
-use Rattle.std.specs.Prelude.{◌≡◌, ℕ, List, [], ◌∷◌, length, filter, Option, Some, None, is_none}
+use Rattle.std.specs.Prelude.{◌≡◌, ℕ, List, [], ◌∷◌, length, filter, Option, Some, None, is_none, IfSome}
 use Rattle.std.specs.declared.thread.PromisedHandle.{PromisedHandle}
 use Rattle.dsn_crew.specs.Agent.{Agent}
 use Rattle.dsn_crew.specs.Port.{IsPortServed}
@@ -11,11 +11,10 @@ use Rattle.dsn_crew.specs.declared.start_serving.Serves.{Serves}
 abbrev pub HasBegun : {P : Type 0} → Agent → P → Serves P → Type 0
 HasBegun agent port promise = (promise.agent.value ≡ agent) × (promise.port.value ≡ port)
 
--- each agent's thread was started with the agent and with the port in its place, or there is none
+-- each agent's thread was started with the agent and with the port in its place, where there is a thread
 abbrev pub AreStarted : {P : Type 0} → List Agent → List P → List (Option (PromisedHandle PortEnd (Serves P))) → Type 0
 AreStarted [] [] [] = Unit {0}
-AreStarted (agent ∷ agents) (port ∷ ports) (None ∷ handles) = AreStarted agents ports handles
-AreStarted (agent ∷ agents) (port ∷ ports) (Some handle ∷ handles) = HasBegun agent port handle.promise × AreStarted agents ports handles
+AreStarted (agent ∷ agents) (port ∷ ports) (handle ∷ handles) = IfSome handle (λ started. HasBegun agent port started.promise) × AreStarted agents ports handles
 AreStarted agents ports handles = ⊥
 
 -- how many threads there are not
@@ -28,9 +27,8 @@ IsJoined port None end = end ≡ None
 IsJoined port (Some handle) None = ⊥
 IsJoined port (Some handle) (Some end) = IsPortServed (port.conns handle.promise.port.value) handle.promise.agent.value end
 
--- what came of each agent and its port: the service of the port, where the agent's thread was started
+-- what came of each agent and the port in its place: the service of that port, where there was a thread
 abbrev pub AreServed : {P S : Type 0} → Port P S → List Agent → List P → List (Option PortEnd) → Type 0
 AreServed port [] [] [] = Unit {0}
-AreServed port (agent ∷ agents) (served ∷ ports) (None ∷ ends) = AreServed port agents ports ends
-AreServed port (agent ∷ agents) (served ∷ ports) (Some end ∷ ends) = IsPortServed (port.conns served) agent end × AreServed port agents ports ends
+AreServed port (agent ∷ agents) (served ∷ ports) (end ∷ ends) = IfSome end (IsPortServed (port.conns served) agent) × AreServed port agents ports ends
 AreServed port agents ports ends = ⊥

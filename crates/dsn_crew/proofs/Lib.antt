@@ -1,6 +1,8 @@
 pub mod AgentLemmas
 pub mod CloseLemmas
+pub mod CrewLemmas
 pub mod DeskLemmas
+pub mod GatheredLemmas
 pub mod OpenLemmas
 pub mod PortLemmas
 pub mod RunLemmas

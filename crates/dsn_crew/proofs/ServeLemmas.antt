@@ -37,7 +37,7 @@ numbered-append make number (x ∷ xs) ys =
     let same : suc number + length xs ≡ number + suc (length xs) = omega arith in
     rw (numbered-append make (suc number) xs ys, same) refl
 
-numbered-length : {A B : Type 0} (make : ℕ → A → B) (number : ℕ) (xs : List A) → length (numbered_from make number xs) ≡ length xs
+pub numbered-length : {A B : Type 0} (make : ℕ → A → B) (number : ℕ) (xs : List A) → length (numbered_from make number xs) ≡ length xs
 unfolding numbered_from
 numbered-length make number [] = refl
 numbered-length make number (x ∷ xs) = ap (λ (n : ℕ). suc n) (numbered-length make (suc number) xs)

@@ -1,5 +1,7 @@
 //! Why a collector stopped.
-ghost use Rattle.std.specs.Prelude.{◌≡◌};
+ghost use Rattle.std.specs.Prelude.{◌≡◌, Err};
+ghost use Rattle.dsn_book.specs.Step.{letters_in};
+ghost use Rattle.dsn_crew.specs.Desk.{letter_kept};
 
 use dsn_outcome::Letter;
 
@@ -15,6 +17,17 @@ pub enum DeskFault {
 }
 
 impl DeskFault {
+    /// The letter that was sealed and not handed on, if there is one.
+    pub fn into_letter(self) -> Option<Letter>
+        ensures { letters_in result ≡ letter_kept (Err self) }
+    {
+        match self {
+            DeskFault::Requests => None,
+            DeskFault::Answers(_, letter) => letter,
+            DeskFault::Letters(letter) => Some(letter),
+        }
+    }
+
     /// The number of the fault, 41.
     pub fn code(&self) -> u32
         ensures { result ≡ 41 }

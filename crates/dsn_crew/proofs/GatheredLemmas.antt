@@ -1,0 +1,32 @@
+-- What came of the agents' threads: one agent more that said goodbye.
+use Rattle.std.proofs.Common.{◌≡◌, List, [], ◌∷◌, ◌++◌, length, sym, subst, append_assoc}
+use Rattle.std.specs.Prelude.{Option, Some, None}
+use Rattle.std.proofs.lemmas.List.{append-nil, nil_from_length}
+use Rattle.dsn_crew.specs.Agent.{Ends}
+use Rattle.dsn_crew.specs.Gathered.{AreEnded}
+use Rattle.dsn_crew.specs.declared.agent_line.AgentLine.{AgentLine}
+use Rattle.dsn_crew.specs.declared.port_end.PortEnd.{PortEnd}
+
+-- with these lines and agents, any that end what is left end all
+abbrev pub EndedSoFar : List (Option PortEnd) → List (Option PortEnd) → List AgentLine → List Ends → Type 0
+EndedSoFar whole left lines agents = (l : List AgentLine) (a : List Ends) → AreEnded left l a → AreEnded whole (lines ++ l) (agents ++ a)
+
+pub ended_begun : (whole left : List (Option PortEnd)) (lines : List AgentLine) (agents : List Ends) → left ≡ whole → lines ≡ [] → agents ≡ [] → EndedSoFar whole left lines agents
+ended_begun whole left lines agents same no_lines no_agents = λ l a ended.
+    subst (λ (ls : List AgentLine). AreEnded whole (ls ++ l) (agents ++ a)) (sym no_lines)
+    (subst (λ (es : List Ends). AreEnded whole l (es ++ a)) (sym no_agents) (subst (λ (ends : List (Option PortEnd)). AreEnded ends l a) same ended))
+
+pub ended_more : (whole left then : List (Option PortEnd)) (lines lines' : List AgentLine) (agents agents' : List Ends) (line : AgentLine) (agent : Ends) (end : Option PortEnd) → left ≡ end ∷ then → end ≡ Some (record { line = line; finished = Some agent })
+    → lines' ≡ lines ++ line ∷ [] → agents' ≡ agents ++ agent ∷ [] → EndedSoFar whole left lines agents → EndedSoFar whole then lines' agents'
+ended_more whole left then lines lines' agents agents' line agent end left_is end_is lines_are agents_are so_far = λ l a ended.
+    let here : AreEnded left (line ∷ l) (agent ∷ a) = subst (λ (ends : List (Option PortEnd)). AreEnded ends (line ∷ l) (agent ∷ a)) (sym left_is) (end_is, ended) in
+    let all = so_far (line ∷ l) (agent ∷ a) here in
+    subst (λ (ls : List AgentLine). AreEnded whole (ls ++ l) (agents' ++ a)) (sym lines_are)
+    (subst (λ (ls : List AgentLine). AreEnded whole ls (agents' ++ a)) (sym (append_assoc lines (line ∷ []) l))
+    (subst (λ (es : List Ends). AreEnded whole (lines ++ line ∷ l) (es ++ a)) (sym agents_are)
+    (subst (λ (es : List Ends). AreEnded whole (lines ++ line ∷ l) es) (sym (append_assoc agents (agent ∷ []) a)) all)))
+
+pub ended_all : (whole left : List (Option PortEnd)) (lines : List AgentLine) (agents : List Ends) → length left ≡ 0 → EndedSoFar whole left lines agents → AreEnded whole lines agents
+ended_all whole left lines agents none so_far =
+    let all = so_far [] [] (subst (λ (ends : List (Option PortEnd)). AreEnded ends [] []) (sym (nil_from_length left none)) tt) in
+    subst (λ (ls : List AgentLine). AreEnded whole ls agents) (append-nil lines) (subst (AreEnded whole (lines ++ [])) (append-nil agents) all)

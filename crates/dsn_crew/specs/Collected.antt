@@ -1,0 +1,14 @@
+-- How the collector's part of a run ended.
+use Rattle.std.specs.Prelude.{◌≡◌, true, Result, Ok, Err, Option}
+use Rattle.dsn_book.specs.Step.{letters_in}
+use Rattle.dsn_post.specs.LetterSink.{LetterSink, TakesLetter}
+use Rattle.dsn_crew.specs.Desk.{Desk, IsDesk, IsRun, all_gone, letter_kept}
+use Rattle.dsn_crew.specs.declared.collected.Collected.{Collected}
+use Rattle.dsn_crew.specs.declared.collected.Collected.TheVariants.{Whole, Failed}
+use Rattle.dsn_crew.specs.declared.desk_fault.DeskFault.{DeskFault}
+
+-- the collector ran to its end, or failed with the letter that it held
+abbrev pub HasCollected : Desk → LetterSink → LetterSink → Collected → Type 0
+HasCollected old sink after (Whole new) = IsRun TakesLetter old new sink after (Ok tt) × (all_gone new ≡ true) × IsDesk new
+HasCollected old sink after (Failed letter new) =
+    (fault : DeskFault) × IsRun TakesLetter old new.value sink after (Err fault) × (letters_in letter ≡ letter_kept (Err fault)) × IsDesk new.value

@@ -1,0 +1,65 @@
+-- How a run is concluded, from how it was collected, what came of its agents, and what was posted.
+use Rattle.std.specs.Prelude.{◌≡◌, ◌≢◌, true, List, [], ◌++◌, All as Each, Option, Result, Ok, Err}
+use Rattle.dsn_book.specs.Book.{Represents}
+use Rattle.dsn_book.specs.Step.{letters_in}
+use Rattle.dsn_outcome.specs.Letter.{Letter}
+use Rattle.dsn_post.specs.declared.posted.Posted.{Posted}
+use Rattle.dsn_crew.specs.Agent.{Ends, IsFinished}
+use Rattle.dsn_crew.specs.Close.{AreCrew, AreOf, IsHeard}
+use Rattle.dsn_crew.specs.Crew.{Account, CrewFault}
+use Rattle.dsn_crew.specs.Desk.{Desk, all_gone, history}
+use Rattle.dsn_crew.specs.declared.agent_line.AgentLine.{AgentLine}
+use Rattle.dsn_crew.specs.declared.collected.Collected.{Collected}
+use Rattle.dsn_crew.specs.declared.collected.Collected.TheVariants.{Whole, Failed}
+use Rattle.dsn_crew.specs.declared.crew_cause.CrewCause.{CrewCause}
+use Rattle.dsn_crew.specs.declared.crew_cause.CrewCause.TheVariants as causes
+use Rattle.dsn_crew.specs.declared.gathered.Gathered.{Gathered}
+use Rattle.dsn_crew.specs.declared.gathered.Gathered.TheVariants.{All, Missing, Lost}
+
+-- where all went well, the agents are those of the collector, and all of them are gone
+abbrev pub MayClose : Collected → Gathered → Type 0
+MayClose (Whole desk) (All lines agents) = AreCrew agents.items desk × (all_gone desk ≡ true)
+MayClose (Whole desk) Missing = Unit {0}
+MayClose (Whole desk) Lost = Unit {0}
+MayClose (Failed held desk) gathered = Unit {0}
+
+-- what a closed crew comes to, with its outbox
+abbrev pub account_of : {W : Type 0} → List AgentLine → List Ends → Desk → Posted W → Account W
+account_of lines agents desk posted = record {
+  agents = lines;
+  letters = posted.posted;
+  unsent = posted.unsent;
+  whole = posted.whole;
+  outbox = posted.outbox;
+  book = desk.book;
+  taken = desk.requests.taken;
+  ends = agents;
+}
+
+-- what is left of one that isn't, with the letter that the collector held
+abbrev pub fault_of : {W : Type 0} → CrewCause → List Letter → Desk → Posted W → CrewFault W
+fault_of cause held desk posted =
+    record { cause = cause; outbox = posted.outbox; unsent = posted.unsent ++ held; taken = desk.requests.taken }
+
+-- a crew that was closed
+pub record HasClosed {W : Type 0} (lines : List AgentLine) (agents : List Ends) (desk : Desk) (posted : Posted W) (account : Account W) : Type 0 where
+  pub all : posted.all ≡ true
+  pub account_is : account ≡ account_of lines agents desk posted
+  pub heard : Each (IsHeard desk) agents
+  pub finished : Each IsFinished agents
+  pub only : AreOf agents desk.requests.taken
+  pub stands : Represents account.book (history desk)
+
+-- one that was not, though its collector ran to its end
+pub record HasFaulted {W : Type 0} (desk : Desk) (posted : Posted W) (fault : CrewFault W) : Type 0 where
+  pub fault_is : fault ≡ fault_of fault.cause [] desk posted
+  pub counted : fault.cause ≢ causes.PortCount
+  pub all : fault.cause ≡ causes.Refused → posted.all ≡ true
+
+abbrev pub Concludes : {W : Type 0} → Collected → Gathered → Posted W → Result (Account W) (CrewFault W) → Type 0
+Concludes (Whole desk) (All lines agents) posted (Ok account) = HasClosed lines.items agents.items desk posted account
+Concludes (Whole desk) Missing posted (Ok account) = ⊥
+Concludes (Whole desk) Lost posted (Ok account) = ⊥
+Concludes (Whole desk) gathered posted (Err fault) = HasFaulted desk posted fault
+Concludes (Failed held desk) gathered posted (Ok account) = ⊥
+Concludes (Failed held desk) gathered posted (Err fault) = fault ≡ fault_of causes.Lost (letters_in held) desk.value posted

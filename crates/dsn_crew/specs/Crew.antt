@@ -1,0 +1,110 @@
+-- Crews: what a run of a whole crew comes to, and what its fault tells.
+use Rattle.std.specs.Prelude.{◌≡◌, ◌≢◌, ℕ, suc, ◌+◌, ◌<◌, ◌≤◌, ◌⊎◌, Bool, false, List, [], ◌∷◌, ◌++◌, All, length, Option, Some, None}
+use Rattle.std.specs.List.{flat_map}
+use Rattle.dsn_book.specs.Book.{Book, Represents}
+use Rattle.dsn_device.specs.declared.drain.Drain.{Ghosts as Drain}
+use Rattle.dsn_frame.specs.Spoken.{reply_of}
+use Rattle.dsn_outcome.specs.Agents.{from_agent}
+use Rattle.dsn_outcome.specs.History.{Limits, answers_to, history_of, sealed_letters}
+use Rattle.dsn_outcome.specs.Letter.{Letter}
+use Rattle.dsn_outcome.specs.Request.{Request, Bye}
+use Rattle.dsn_outcome.specs.declared.answer.Reply.TheVariants.{Gone}
+use Rattle.dsn_post.specs.Posting.{IsUntouched}
+use Rattle.dsn_report.specs.Outgoing.{IsOutbox}
+use Rattle.dsn_crew.specs.Agent.{Ends}
+use Rattle.dsn_crew.specs.Port.{AreOverPort, AreSessions, Conn, Session, answers_of, bodies_of, faults_of}
+use Rattle.dsn_crew.specs.Serve.{answers_from, numbered_answer, numbered_request, requests_from}
+use Rattle.dsn_crew.specs.declared.agent_line.AgentLine.{AgentLine}
+use Rattle.dsn_crew.specs.declared.crew_cause.CrewCause.{CrewCause}
+use Rattle.dsn_crew.specs.declared.crew_cause.CrewCause.TheVariants.{Lost, Refused, PortCount}
+use Rattle.dsn_crew.specs.declared.port.Port.{Ghosts as Port}
+
+abbrev pub crew_cause_code : CrewCause → ℕ
+crew_cause_code Lost = 41
+crew_cause_code Refused = 42
+crew_cause_code PortCount = 43
+
+-- a run that ended well: what each agent did; how many letters were posted, and those that were not, in order; the outbox,
+-- and whether nothing failed in it; the book at the end; the requests that the collector took, in order; and each agent's
+-- two ends, with all that it sent and got
+pub record Account (W : Type 0) : Type 0 where
+  pub agents : List AgentLine
+  pub letters : ℕ
+  pub unsent : List Letter
+  pub whole : Bool
+  pub outbox : W
+  pub book : Book
+  pub taken : List Request
+  pub ends : List Ends
+
+-- what is true of one agent whose port told these connections, where the collector took these requests. All that the agent
+-- sent was taken, in that order, and what it got are the answers of the history. What it sent is what the sessions over its
+-- connections ask, one after another, and then its only goodbye; what it got are their replies, and then Gone. Its line
+-- counts its requests, its connections, and the sessions among them that ended with a fault, none of them for a lost lane
+pub record IsAgentAccount (conns : Option (List Conn)) (limits : Limits) (taken : List Request) (agent : ℕ) (line : AgentLine) (ends : Ends) : Type 0 where
+  pub number : ends.requests.agent ≡ agent
+  pub taken_all : from_agent (λ (request : Request). request.agent) agent taken ≡ ends.requests.sent
+  pub answered : ends.answers.taken ≡ answers_to agent (history_of limits taken)
+  pub sessions : List Session
+  pub follow : AreSessions limits.requests 0 sessions
+  pub over : AreOverPort conns sessions false line.port_failed
+  pub heard : All (λ (session : Session). session.end ≢ Some 41) sessions
+  pub sent : ends.requests.sent ≡ requests_from agent 0 (bodies_of sessions) ++ numbered_request agent line.requests Bye ∷ []
+  pub got : ends.answers.taken ≡ answers_from agent 0 (flat_map reply_of (answers_of sessions)) ++ numbered_answer agent line.requests Gone ∷ []
+  pub requests : line.requests ≡ length (bodies_of sessions)
+  pub connections : line.connections ≡ length sessions
+  pub faults : line.faults ≡ faults_of sessions
+  pub few : length sessions ≤ 1000000
+
+-- what is true of each agent, from one on, with the port in its place
+abbrev pub AreAgentAccounts : {P S : Type 0} → Port P S → Limits → List Request → ℕ → List P → List AgentLine → List Ends → Type 0
+AreAgentAccounts port limits taken agent [] [] [] = Unit {0}
+AreAgentAccounts port limits taken agent (one ∷ ports) (line ∷ lines) (ends ∷ crew) =
+    IsAgentAccount (port.conns one) limits taken agent line ends × AreAgentAccounts port limits taken (suc agent) ports lines crew
+AreAgentAccounts port limits taken agent ports lines crew = ⊥
+
+-- what a run that ended well comes to: each agent's part; nothing else was taken; the book stands for the history of what
+-- was taken, and the outbox is that of the letters which this history sealed, in order, each of them posted or unsent
+pub record IsAccount {P S W : Type 0} (port : Port P S) (drain : Drain W) (host : List ℕ) (limits : Limits) (ports : List P) (start : W) (account : Account W) : Type 0 where
+  pub agents : AreAgentAccounts port limits account.taken 0 ports account.agents account.ends
+  pub only : All (λ (request : Request). request.agent < length ports) account.taken
+  pub book_limits : account.book.limits ≡ limits
+  pub book : Represents account.book (history_of limits account.taken)
+  pub count : account.letters + length account.unsent ≡ length (sealed_letters (history_of limits account.taken))
+  pub outbox : IsOutbox drain host start account.outbox account.whole account.unsent (sealed_letters (history_of limits account.taken))
+
+-- a run that ended with a fault: its cause, the outbox, the letters that are not in it, and the requests that were taken
+pub record CrewFault (W : Type 0) : Type 0 where
+  pub cause : CrewCause
+  pub outbox : W
+  pub unsent : List Letter
+  pub taken : List Request
+
+-- a run that never began: nothing was taken, and nothing is written
+pub record IsUnbegun {W : Type 0} (drain : Drain W) (start : W) (fault : CrewFault W) : Type 0 where
+  pub taken : fault.taken ≡ []
+  pub unsent : fault.unsent ≡ []
+  pub outbox : IsUntouched drain start fault.outbox
+
+-- what is left of a run that was broken off. The letters that came to the poster are the first of those which the history
+-- of the requests taken sealed; those that are not in the outbox are unsent, in order. After them comes at most one later
+-- letter of that history, which the collector still held
+pub record IsBrokenOff {W : Type 0} (drain : Drain W) (host : List ℕ) (limits : Limits) (start : W) (fault : CrewFault W) : Type 0 where
+  pub letters : List Letter
+  pub between : List Letter
+  pub held : List Letter
+  pub sealed : sealed_letters (history_of limits fault.taken) ≡ letters ++ (between ++ held)
+  pub one : length held ≤ 1
+  pub whole : Bool
+  pub unsent : List Letter
+  pub unsent_are : fault.unsent ≡ unsent ++ held
+  pub outbox : IsOutbox drain host start fault.outbox whole unsent letters
+
+-- what a run that ended with a fault comes to. 43: there are not 1 to 16 ports, and the outbox comes back as it was. 42: it
+-- never began; or the thread of an agent could not be made, and all letters came to the poster. 41: a lane was lost
+abbrev pub IsCrewFault : {W : Type 0} → Drain W → List ℕ → Limits → W → CrewFault W → CrewCause → Type 0
+IsCrewFault drain host limits start fault PortCount = (fault.outbox ≡ start) × (fault.unsent ≡ []) × (fault.taken ≡ [])
+IsCrewFault drain host limits start fault Refused =
+    IsUnbegun drain start fault
+    ⊎ ((broken : IsBrokenOff drain host limits start fault) × (broken.letters ≡ sealed_letters (history_of limits fault.taken)))
+IsCrewFault drain host limits start fault Lost = IsBrokenOff drain host limits start fault

@@ -1,0 +1,10 @@
+-- What a collector had taken whose run was broken off.
+use Rattle.std.specs.Prelude.{List, [], Option, Some, None}
+use Rattle.std.specs.declared.snapshot.Snapshot.{Snapshot}
+use Rattle.dsn_outcome.specs.Request.{Request}
+use Rattle.dsn_crew.specs.Desk.{Desk}
+
+-- the requests that a collector had taken, if there was one
+abbrev pub taken_by : Option (Snapshot Desk) → List Request
+taken_by None = []
+taken_by (Some desk) = desk.value.requests.taken

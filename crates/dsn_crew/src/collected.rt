@@ -1,0 +1,31 @@
+//! How the collector's part of a run ended.
+ghost use Rattle.dsn_crew.specs.Collected.{HasCollected};
+
+use crate::desk::Desk;
+use dsn_outcome::Letter;
+use dsn_post::LetterSink;
+use std::snapshot::Snapshot;
+use std::sync::Wait;
+
+/// How the collector's part of a run ended.
+#[derive(Drop)]
+pub(crate) enum Collected {
+    /// All agents are gone.
+    Whole(Desk),
+    /// The collector has failed, and its ends are given up, so that no agent waits for them: the
+    /// letter that it still held, and the collector as it was, for contracts.
+    Failed(Option<Letter>, Snapshot<Desk>),
+}
+
+impl Collected {
+    /// Takes the agents' requests until all agents are gone, or the collector fails.
+    pub(crate) fn by(rt: &impl Wait, desk: Desk, sink: &mut LetterSink) -> Collected
+        ensures { HasCollected desk sink.old sink.new result }
+    {
+        let mut desk = desk;
+        match desk.run(rt, sink) {
+            Ok(()) => Collected::Whole(desk),
+            Err(fault) => Collected::Failed(fault.into_letter(), Snapshot::of(&desk)),
+        }
+    }
+}

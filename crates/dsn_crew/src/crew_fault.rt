@@ -1,0 +1,68 @@
+//! What is left of a crew whose run ended with a fault.
+ghost use Rattle.std.specs.Prelude.{◌≡◌, [], ◌∷◌, ◌++◌};
+ghost use Rattle.dsn_book.specs.Step.{letters_in};
+
+use crate::crew_cause::CrewCause;
+use crate::desk::Desk;
+use dsn_outcome::{Letter, Letters};
+use std::marker::Model;
+use std::snapshot::Snapshot;
+
+/// A crew's run that ended with a fault. Contracts see, beside its fields, the requests that the
+/// collector took; that takes no bytes.
+#[derive(Drop)]
+pub struct CrewFault<W> {
+    /// Why.
+    pub cause: CrewCause,
+    /// The outbox.
+    pub outbox: W,
+    /// The letters that are not in the outbox, in order.
+    pub unsent: Letters,
+    desk: Option<Snapshot<Desk>>,
+}
+
+impl<W> Model for CrewFault<W> {
+    ghost use Rattle.dsn_crew.specs.Crew.{CrewFault};
+    ghost use Rattle.dsn_crew.specs.TakenBy.{taken_by};
+
+    ghost Value = { CrewFault W };
+
+    ghost view = { λ f. record { cause = f.cause; outbox = f.outbox; unsent = f.unsent; taken = taken_by f.desk } };
+}
+
+impl<W> CrewFault<W> {
+    /// The fault of a run that never began.
+    pub(crate) fn unbegun(cause: CrewCause, outbox: W) -> CrewFault<W>
+        ensures { result ≡ record { cause = cause; outbox = outbox; unsent = []; taken = [] } }
+    {
+        CrewFault {
+            cause,
+            outbox,
+            unsent: Letters::new(),
+            desk: None,
+        }
+    }
+
+    /// The fault of a run that was broken off, with the collector as it was then, and with the
+    /// letter that the collector still held.
+    pub(crate) fn broken_off(
+        cause: CrewCause,
+        outbox: W,
+        unsent: Letters,
+        held: Option<Letter>,
+        desk: Snapshot<Desk>,
+    ) -> CrewFault<W>
+        ensures { result ≡ record { cause = cause; outbox = outbox; unsent = unsent ++ letters_in held; taken = desk.value.requests.taken } }
+    {
+        let mut unsent = unsent;
+        if let Some(letter) = held {
+            unsent.push(letter);
+        }
+        CrewFault {
+            cause,
+            outbox,
+            unsent,
+            desk: Some(desk),
+        }
+    }
+}

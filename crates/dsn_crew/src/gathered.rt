@@ -1,0 +1,55 @@
+//! What came of the agents' threads, taken together.
+ghost use Rattle.std.specs.Prelude.{◌≡◌, ◌≤◌, [], length, vec_capacity};
+ghost use Rattle.dsn_crew.specs.Gathered.{IsGathered};
+
+use crate::agent_line::AgentLine;
+use crate::finished::Finished;
+use crate::port_end::PortEnd;
+
+/// What came of the agents' threads, taken together.
+#[derive(Drop)]
+pub(crate) enum Gathered {
+    /// All agents said goodbye: their lines, and the agents, in their order.
+    All(Vec<AgentLine>, Vec<Finished>),
+    /// Threads could not be made; all other agents said goodbye.
+    Missing,
+    /// An agent lost a lane.
+    Lost,
+}
+
+impl Gathered {
+    /// Puts together what came of each agent.
+    pub(crate) fn of(
+        ends: Vec<Option<PortEnd>>,
+        lines: Vec<AgentLine>,
+        finished: Vec<Finished>,
+    ) -> Gathered
+        requires lines { (lines.items ≡ []) × (length ends.items ≤ vec_capacity lines) }
+        requires finished { (finished.items ≡ []) × (length ends.items ≤ vec_capacity finished) }
+        ensures { IsGathered ends.items result }
+    {
+        let mut lines = lines;
+        let mut agents = finished;
+        let mut missing = false;
+        let mut lost = false;
+        for end in ends {
+            match end {
+                None => missing = true,
+                Some(PortEnd { line, finished }) => {
+                    lines.push_reserved(line);
+                    match finished {
+                        None => lost = true,
+                        Some(agent) => agents.push_reserved(agent),
+                    }
+                }
+            }
+        }
+        if lost {
+            Gathered::Lost
+        } else if missing {
+            Gathered::Missing
+        } else {
+            Gathered::All(lines, agents)
+        }
+    }
+}

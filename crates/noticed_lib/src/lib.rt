@@ -3,16 +3,12 @@
 
 mod batch_end;
 mod ending;
-#[cfg(test)]
-mod fakes;
 mod memory_run;
 mod memory_source;
 mod notes;
 mod reading;
 mod reading_end;
 mod run;
-#[cfg(test)]
-mod tests;
 mod turn;
 mod whole_run;
 

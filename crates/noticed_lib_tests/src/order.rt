@@ -2,9 +2,9 @@
 ghost use Rattle.std.specs.Prelude.{Some};
 
 use super::input::ONE_MESSAGE;
-use super::program_limits;
-use crate::{Site, batch};
+use super::runs::{PROGRAM, limits_of};
 use dsn_outcome::Plain;
+use noticed_lib::{Site, batch};
 use std::io;
 use std::io::{ErrorKind, Read, Write};
 use std::sync::atomic::{AtomicU64, Ordering};
@@ -123,7 +123,7 @@ fn run_noted(rt: &HostRuntime, good: usize) -> Result<(Vec<u8>, usize), Fail> {
     let outbox = Plain::new(writer(rt, &clock));
     let end = batch(
         rt.alloc(),
-        &program_limits()?,
+        &limits_of(PROGRAM)?,
         site,
         &mut source,
         outbox,

@@ -1,13 +1,13 @@
 //! Outboxes as a mail program gets them, written out from the profile.
 
 /// The outbox of a run that sealed no log.
-pub(crate) const EMPTY: &[u8; 27] = b"\
+pub(super) const EMPTY: &[u8; 27] = b"\
 EHLO mx.example.net\r\n\
 QUIT\r\n\
 ";
 
 /// One failed recipient of the message A1B2C3.
-pub(crate) const ONE_NOTICE: &[u8; 1003] = b"\
+pub(super) const ONE_NOTICE: &[u8; 1003] = b"\
 EHLO mx.example.net\r\n\
 MAIL FROM:<>\r\n\
 RCPT TO:<ann@example.com>\r\n\
@@ -49,7 +49,7 @@ QUIT\r\n\
 ";
 
 /// The same with every optional field, and two returned lines.
-pub(crate) const ALL_FIELDS: &[u8; 1333] = b"\
+pub(super) const ALL_FIELDS: &[u8; 1333] = b"\
 EHLO mx.example.net\r\n\
 MAIL FROM:<>\r\n\
 RCPT TO:<ann@example.com>\r\n\
@@ -103,7 +103,7 @@ QUIT\r\n\
 ";
 
 /// The same where a returned line rules the first boundary out.
-pub(crate) const COLLISION: &[u8; 1162] = b"\
+pub(super) const COLLISION: &[u8; 1162] = b"\
 EHLO mx.example.net\r\n\
 MAIL FROM:<>\r\n\
 RCPT TO:<ann@example.com>\r\n\
@@ -152,7 +152,7 @@ QUIT\r\n\
 ";
 
 /// A failed and a delayed recipient of the message X1.
-pub(crate) const TWO_SERVICES: &[u8; 1944] = b"\
+pub(super) const TWO_SERVICES: &[u8; 1944] = b"\
 EHLO mx.example.net\r\n\
 MAIL FROM:<>\r\n\
 RCPT TO:<ann@example.com>\r\n\
@@ -230,7 +230,7 @@ QUIT\r\n\
 ";
 
 /// A bounce's outbox up to what it tells a person of each recipient.
-pub(crate) const BEFORE_LINES: &[u8; 660] = b"\
+pub(super) const BEFORE_LINES: &[u8; 660] = b"\
 EHLO mx.example.net\r\n\
 MAIL FROM:<>\r\n\
 RCPT TO:<ann@example.com>\r\n\
@@ -256,7 +256,7 @@ Your message could not be delivered to the recipients below.\r\n\
 ";
 
 /// From there up to the groups of its recipients.
-pub(crate) const BEFORE_GROUPS: &[u8; 192] = b"\
+pub(super) const BEFORE_GROUPS: &[u8; 192] = b"\
 \r\n\
 --B.A1B2C3.1700000000.0000\r\n\
 Content-Description: Delivery report\r\n\
@@ -267,7 +267,7 @@ Arrival-Date: Tue, 14 Nov 2023 21:13:20 +0000\r\n\
 ";
 
 /// From there to its end.
-pub(crate) const AFTER_GROUPS: &[u8; 41] = b"\
+pub(super) const AFTER_GROUPS: &[u8; 41] = b"\
 \r\n\
 --B.A1B2C3.1700000000.0000--\r\n\
 .\r\n\

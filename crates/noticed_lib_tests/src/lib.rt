@@ -1,0 +1,20 @@
+//! Tests of whole runs over what `noticed_lib` makes public, in a crate of their own: so they are
+//! proved beside the wrong edits of `noticed_lib`, and without its proofs.
+#![tactic(auto)]
+
+#[cfg(test)]
+mod devices;
+#[cfg(test)]
+mod fakes;
+#[cfg(test)]
+mod input;
+#[cfg(test)]
+mod notices;
+#[cfg(test)]
+mod order;
+#[cfg(test)]
+mod outboxes;
+#[cfg(test)]
+mod runs;
+#[cfg(test)]
+mod sessions;

@@ -63,6 +63,3 @@ pub use short_text::{SHORT_ROOM, ShortText};
 pub use stamp::{LAST_MOMENT, Stamp};
 pub use status::{LONGEST_STATUS, Status};
 pub use text::TextFault;
-
-#[cfg(test)]
-mod tests;

@@ -1,0 +1,165 @@
+//! Letters from their parts to their end.
+ghost use Rattle.std.specs.Prelude.{◌≡◌, IfOk, IsSome};
+
+use super::outcomes::PARTS;
+use dsn_outcome::{
+    Address, Chain, Draft, EnvelopeId, Key, Letter, Letters, MOST_OUTCOMES, Node, Outcome, QueueId,
+    RawHeader, Service, Stamp,
+};
+use std::alloc::Global;
+use std::process::Abort;
+use std::test::Fail;
+
+/// An outcome of a bounce's log.
+fn bounced(alloc: Global, recipient: &[u8]) -> Result<Box<Node>, Fail>
+    ensures { IfOk result (λ node. node.value.outcome.service ≡ Service.Bounce) }
+{
+    let mut parts = PARTS;
+    parts.recipient = recipient;
+    Ok(Outcome::new(alloc, Service::Bounce, parts)?)
+}
+
+/// A draft of a notice that is made at this moment.
+fn draft(alloc: Global, seconds: u64) -> Result<Draft, Fail>
+    ensures { IfOk result (λ draft. IsSome draft.return_path) }
+{
+    Ok(Draft::new(
+        alloc,
+        Stamp::new(seconds).ok_or("the moment")?,
+        Stamp::new(1_699_996_400).ok_or("the arrival")?,
+        Some(Address::new(alloc, b"ann@example.com")?),
+        Some(EnvelopeId::new(alloc, b"QQ 314159")?),
+        RawHeader::new(alloc, b"Subject: hi\n")?,
+    )?)
+}
+
+/// The key of a message's bounce log.
+fn key(id: &[u8]) -> Result<Key, Fail>
+    ensures { IfOk result (λ key. key.service ≡ Service.Bounce) }
+{
+    Ok(Key {
+        service: Service::Bounce,
+        id: QueueId::new(id).ok_or("the queue id")?,
+    })
+}
+
+/// A letter of three outcomes.
+fn letter_of_three(alloc: Global) -> Result<Letter, Fail> {
+    let mut chain = Chain::new();
+    chain.push(bounced(alloc, b"one@example.org")?);
+    chain.push(bounced(alloc, b"two@example.org")?);
+    chain.push(bounced(alloc, b"six@example.org")?);
+    let draft = draft(alloc, 1_700_000_000)?;
+    Ok(Letter::seal(key(b"A1B2C3")?, draft, chain))
+}
+
+/// Asserts the texts of a letter, and its envelope id.
+fn expect_texts(rt: &impl Abort, letter: &Letter) {
+    assert_eq!(rt; letter.return_path().bytes(), b"ann@example.com".as_slice());
+    assert_eq!(rt; letter.header().bytes(), b"Subject: hi\n".as_slice());
+    let id = match letter.envelope_id() {
+        Some(id) => id.bytes(),
+        None => b"",
+    };
+    assert_eq!(rt; id, b"QQ 314159".as_slice());
+}
+
+/// Asserts the recipients of a letter, in order.
+fn expect_recipients(rt: &impl Abort, letter: &Letter) -> Result<(), Fail> {
+    let mut outcomes = letter.outcomes();
+    for wanted in [b"one@example.org", b"two@example.org", b"six@example.org"] {
+        let outcome = outcomes.next().ok_or("an outcome is missing")?;
+        assert_eq!(rt; outcome.recipient().bytes(), wanted.as_slice());
+    }
+    assert!(rt; outcomes.next().is_none());
+    Ok(())
+}
+
+#[test]
+fn a_letter_has_all_that_it_was_sealed_with(rt: HostRuntime) -> Result<(), Fail> {
+    let letter = letter_of_three(rt.alloc())?;
+    assert_eq!(rt; letter.key(), key(b"A1B2C3")?);
+    let moments = (letter.moment().seconds(), letter.arrival().seconds());
+    assert_eq!(rt; moments, (1_700_000_000, 1_699_996_400));
+    expect_texts(&rt, &letter);
+    expect_recipients(&rt, &letter)
+}
+
+#[test]
+fn a_draft_and_a_chain_tell_what_they_have(rt: HostRuntime) -> Result<(), Fail> {
+    let draft = draft(rt.alloc(), 1_700_000_000)?;
+    assert!(rt; draft.has_return());
+    let mut chain = Chain::new();
+    for _ in 0..3 {
+        let node = bounced(rt.alloc(), b"one@example.org")?;
+        assert!(rt; chain.len() < MOST_OUTCOMES);
+        chain.push(node);
+    }
+    assert_eq!(rt; chain.len(), 3);
+    Ok(())
+}
+
+/// A letter with one outcome, which its moment tells from others.
+fn letter(alloc: Global, seconds: u64) -> Result<Letter, Fail> {
+    let draft = draft(alloc, seconds)?;
+    let mut chain = Chain::new();
+    chain.push(bounced(alloc, b"bob@example.org")?);
+    Ok(Letter::seal(key(b"K1")?, draft, chain))
+}
+
+/// The moment of the first letter, which is taken.
+fn popped(letters: &mut Letters) -> Option<u64> {
+    let letter = letters.pop()?;
+    Some(letter.moment().seconds())
+}
+
+#[test]
+fn letters_are_taken_in_order(rt: HostRuntime) -> Result<(), Fail> {
+    let mut letters = Letters::new();
+    // Pushes in order, then pops as many as are told.
+    let mut next: u64 = 1;
+    let mut taken: u64 = 1;
+    for (pushed, popped_then, left) in [(0, 0, 0), (2, 1, 1), (2, 1, 2), (1, 0, 3), (0, 3, 0)] {
+        for _ in 0..pushed {
+            letters.push(letter(rt.alloc(), next)?);
+            next = next.wrapping_add(1);
+        }
+        for _ in 0..popped_then {
+            assert!(rt; !letters.is_empty());
+            assert_eq!(rt; popped(&mut letters), Some(taken));
+            taken = taken.wrapping_add(1);
+        }
+        assert_eq!(rt; letters.len(), left);
+        if left == 0 {
+            assert_eq!(rt; popped(&mut letters), None);
+            assert!(rt; letters.is_empty());
+        }
+    }
+    Ok(())
+}
+
+#[test]
+fn many_letters_are_freed(rt: HostRuntime) -> Result<(), Fail> {
+    let mut letters = Letters::new();
+    for seconds in 0..100_000 {
+        letters.push(letter(rt.alloc(), seconds)?);
+    }
+    assert_eq!(rt; letters.len(), 100_000);
+    assert_eq!(rt; popped(&mut letters), Some(0));
+    letters.push(letter(rt.alloc(), 100_000)?);
+    drop(letters);
+    Ok(())
+}
+
+#[test]
+fn a_full_log_is_freed(rt: HostRuntime) -> Result<(), Fail> {
+    let mut chain = Chain::new();
+    for _ in 0..1_000 {
+        let node = bounced(rt.alloc(), b"bob@example.org")?;
+        assert!(rt; chain.len() < MOST_OUTCOMES);
+        chain.push(node);
+    }
+    assert_eq!(rt; chain.len(), 1_000);
+    drop(chain);
+    Ok(())
+}

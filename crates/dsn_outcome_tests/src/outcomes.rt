@@ -1,0 +1,133 @@
+//! Outcomes from their fields, and refusals in their order.
+use super::texts::text_of;
+use dsn_outcome::{Action, Address, Clean, MtaName, Outcome, OutcomeFault, Parts, Service};
+use std::process::Abort;
+use std::test::Fail;
+
+/// Fields without a fault, for a bounce.
+pub(super) const PARTS: Parts<'static> = Parts {
+    recipient: b"bob@example.org",
+    original: b"bob@example.net",
+    action: 1,
+    status: b"5.1.1",
+    mta: b"mx.example.org",
+    diagnostic: b"smtp; 550 no\tsuch user",
+    reason: b"user unknown",
+};
+
+/// The faults of fields, in the order in which they are named.
+const FAULTS: [OutcomeFault; 8] = [
+    OutcomeFault::BadRecipient,
+    OutcomeFault::BadOriginal,
+    OutcomeFault::BadAction,
+    OutcomeFault::BadStatus,
+    OutcomeFault::StatusClass,
+    OutcomeFault::BadMta,
+    OutcomeFault::LongDiagnostic,
+    OutcomeFault::LongReason,
+];
+
+/// The text of an optional address; an empty one where there is none.
+fn address_text(address: Option<&Address>) -> &[u8] {
+    match address {
+        Some(address) => address.bytes(),
+        None => b"",
+    }
+}
+
+/// The same of the name of a system.
+fn name_text(name: Option<&MtaName>) -> &[u8] {
+    match name {
+        Some(name) => name.bytes(),
+        None => b"",
+    }
+}
+
+/// The same of a remark.
+fn clean_text(remark: Option<&Clean>) -> &[u8] {
+    match remark {
+        Some(remark) => remark.bytes(),
+        None => b"",
+    }
+}
+
+/// Asserts the texts of an outcome.
+fn expect_texts(rt: &impl Abort, outcome: &Outcome, want: &Parts<'_>) {
+    let original = address_text(outcome.original());
+    let mta = name_text(outcome.mta());
+    let diagnostic = clean_text(outcome.diagnostic());
+    let reason = clean_text(outcome.reason());
+    assert_eq!(rt; outcome.recipient().bytes(), want.recipient);
+    assert_eq!(rt; original, want.original);
+    assert_eq!(rt; mta, want.mta);
+    assert_eq!(rt; diagnostic, want.diagnostic);
+    assert_eq!(rt; reason, want.reason);
+}
+
+#[test]
+fn outcomes_keep_their_fields(rt: HostRuntime) -> Result<(), Fail> {
+    let node = Outcome::new(rt.alloc(), Service::Bounce, PARTS)?;
+    let outcome = node.outcome();
+    assert_eq!(rt; outcome.service(), Service::Bounce);
+    assert_eq!(rt; outcome.action(), Action::Failed);
+    assert_eq!(rt; outcome.status().bytes(), b"5.1.1".as_slice());
+    let cleaned = Parts {
+        diagnostic: b"smtp; 550 no?such user",
+        ..PARTS
+    };
+    expect_texts(&rt, outcome, &cleaned);
+    Ok(())
+}
+
+#[test]
+fn an_outcome_of_the_longest_texts_is_kept(rt: HostRuntime) -> Result<(), Fail> {
+    let address = text_of(rt.alloc(), 256)?;
+    let name = text_of(rt.alloc(), 255)?;
+    let remark = text_of(rt.alloc(), 800)?;
+    let parts = Parts {
+        recipient: &address,
+        original: &address,
+        mta: &name,
+        diagnostic: &remark,
+        reason: &remark,
+        ..PARTS
+    };
+    let node = Outcome::new(rt.alloc(), Service::Bounce, parts)?;
+    expect_texts(&rt, node.outcome(), &parts);
+    Ok(())
+}
+
+/// The fields with this fault put into them.
+fn spoiled<'a>(parts: Parts<'a>, fault: OutcomeFault, long: &'a [u8]) -> Parts<'a> {
+    let mut spoiled = parts;
+    match fault {
+        OutcomeFault::BadRecipient => spoiled.recipient = b"a b",
+        OutcomeFault::BadOriginal => spoiled.original = b"<",
+        OutcomeFault::BadAction => spoiled.action = 2,
+        OutcomeFault::BadStatus => spoiled.status = b"5.01.1",
+        OutcomeFault::StatusClass => spoiled.status = b"2.0.0",
+        OutcomeFault::BadMta => spoiled.mta = b"mx example",
+        OutcomeFault::LongDiagnostic => spoiled.diagnostic = long,
+        OutcomeFault::LongReason => spoiled.reason = long,
+        OutcomeFault::NoMemory => {}
+    }
+    spoiled
+}
+
+#[test]
+fn each_fault_comes_before_later_ones(rt: HostRuntime) -> Result<(), Fail> {
+    let alloc = rt.alloc();
+    let long = vec![in alloc; b'a'; 801]?;
+    for first in FAULTS {
+        for later in FAULTS {
+            if later.code() < first.code() {
+                continue;
+            }
+            let parts = spoiled(PARTS, later, long.as_slice());
+            let parts = spoiled(parts, first, long.as_slice());
+            let fault = Outcome::new(alloc, Service::Bounce, parts).err();
+            assert_eq!(rt; fault, Some(first), "before {later:?}");
+        }
+    }
+    Ok(())
+}

@@ -1,8 +1,8 @@
 //! Sixteen agents, each on a thread of its own, beside their collector.
 use super::bodies::append;
 use super::collect::collect;
-use crate::{Agent, open_crew};
 use dsn_book::Limits;
+use dsn_crew::{Agent, open_crew};
 use dsn_outcome::Reply;
 use std::alloc::Global;
 use std::sync::Wait;

@@ -4,7 +4,7 @@ ghost use Rattle.dsn_crew.specs.Agent.{Ends};
 ghost use Rattle.dsn_crew.specs.Close.{AreCrew};
 ghost use Rattle.dsn_crew.specs.Desk.{all_gone};
 
-use crate::{Desk, Sink};
+use dsn_crew::{Desk, Sink};
 use dsn_outcome::Letter;
 use std::sync::Wait;
 

@@ -8,8 +8,8 @@ ghost use Rattle.dsn_crew.specs.Desk.{all_gone};
 
 use super::bodies::append;
 use super::collect::collect;
-use crate::{Agent, AskFault, Desk, Finished, close_crew, open_crew};
 use dsn_book::{Book, Limits};
+use dsn_crew::{Agent, AskFault, Desk, Finished, close_crew, open_crew};
 use dsn_outcome::{Body, Reply};
 use std::alloc::Global;
 use std::sync::Wait;
@@ -20,12 +20,32 @@ use std::thread::Threads;
 /// What two agents were told, each of which may ask once.
 #[derive(Drop)]
 struct Told {
-    /// The reply to the first one's request.
+    /// The reply to the first one's request. Its second one was handed back as one too many.
     reply: Reply,
-    /// Whether its second one was handed back as one too many.
-    limited: bool,
     first: Finished,
     second: Finished,
+}
+
+/// The reply to an append.
+fn append_once(rt: &impl Wait, alloc: Global, agent: &mut Agent) -> Option<Reply>
+    ensures { IfSome result (λ _. place_of agent.new.ends ≡ place_of agent.old.ends) }
+{
+    let body = append(alloc, b"K1")?;
+    match agent.ask(rt, body) {
+        Ok(answer) => Some(answer.reply),
+        Err(_) => None,
+    }
+}
+
+/// An append that is handed back as one request too many; where it isn't, none.
+fn append_too_many(rt: &impl Wait, alloc: Global, agent: &mut Agent) -> Option<()>
+    ensures { IfSome result (λ _. place_of agent.new.ends ≡ place_of agent.old.ends) }
+{
+    let body = append(alloc, b"K1")?;
+    match agent.ask(rt, body) {
+        Err(AskFault::Limit(Body::Append(_, _))) => Some(()),
+        _ => None,
+    }
 }
 
 /// The first agent asks twice, the second one not at all; both say goodbye.
@@ -33,15 +53,14 @@ fn ask(rt: &impl Wait, alloc: Global, first: Agent, second: Agent) -> Option<Tol
     ensures { IfSome result (λ told. (place_of told.first ≡ place_of first.ends) × (place_of told.second ≡ place_of second.ends)) }
 {
     let mut first = first;
-    let answer = first.ask(rt, append(alloc, b"K1")?).ok()?;
-    let again = first.ask(rt, append(alloc, b"K1")?);
-    let limited = matches!(again, Err(AskFault::Limit(Body::Append(_, _))));
-    drop(again);
+    let reply = append_once(rt, alloc, &mut first)?;
+    append_too_many(rt, alloc, &mut first)?;
+    let first = first.bye(rt).ok()?;
+    let second = second.bye(rt).ok()?;
     Some(Told {
-        reply: answer.reply,
-        limited,
-        first: first.bye(rt).ok()?,
-        second: second.bye(rt).ok()?,
+        reply,
+        first,
+        second,
     })
 }
 
@@ -51,7 +70,7 @@ fn two_agents<R: Threads + Wait + Sync>(
     alloc: Global,
     crew: Vec<Agent>,
     desk: Desk,
-) -> Option<(Reply, bool, u32, u32, Book)>
+) -> Option<(Reply, u32, u32, Book)>
     requires { (first : Agent) × (second : Agent) × (crew.items ≡ first ∷ second ∷ []) × AreCrew (first.ends ∷ second.ends ∷ []) desk }
 {
     let mut crew = crew;
@@ -69,21 +88,18 @@ fn two_agents<R: Threads + Wait + Sync>(
     ended.push_reserved(told.first);
     ended.push_reserved(told.second);
     let shut = close_crew(rt, ended, desk);
-    Some((told.reply, told.limited, first, second, shut.book))
+    Some((told.reply, first, second, shut.book))
 }
 
 /// The same of a crew that was just opened, with the log that stays open.
-fn limit_of_one<R: Threads + Wait + Sync>(
-    rt: &R,
-    alloc: Global,
-) -> Option<(Reply, bool, u32, u32, u32)> {
+fn limit_of_one<R: Threads + Wait + Sync>(rt: &R, alloc: Global) -> Option<(Reply, u32, u32, u32)> {
     let limits = Limits::new(8, 8, 1)?;
     let (crew, desk) = open_crew(rt, alloc, limits, 2).ok()?;
-    let (reply, limited, first, second, book) = two_agents(rt, alloc, crew, desk)?;
+    let (reply, first, second, book) = two_agents(rt, alloc, crew, desk)?;
     let open = book.open_lines(alloc).ok()?;
     let line = open.first()?;
     if open.len() == 1 && line.key.id.bytes() == b"K1".as_slice() {
-        Some((reply, limited, first, second, line.count))
+        Some((reply, first, second, line.count))
     } else {
         None
     }
@@ -92,6 +108,6 @@ fn limit_of_one<R: Threads + Wait + Sync>(
 #[test]
 fn agent_counts_and_request_limit(rt: HostRuntime) -> Result<(), Fail> {
     let told = limit_of_one(&rt, rt.alloc()).expect(&rt, "a crew that ends well");
-    assert_eq!(rt; told, (Reply::Logged(0), true, 1, 0, 1));
+    assert_eq!(rt; told, (Reply::Logged(0), 1, 0, 1));
     Ok(())
 }

@@ -1,9 +1,9 @@
 //! Connections that an agent serves one after another, while its collector answers it.
 ghost use Rattle.std.specs.Thread.{IsSync};
 
+use super::opened::opened;
 use super::peer::Peer;
-use crate::{Agent, Desk, Gate, NoGate, open_crew};
-use dsn_book::Limits;
+use dsn_crew::{Agent, Desk, Gate, NoGate};
 use dsn_device::Plain;
 use std::alloc::Global;
 use std::process::Abort;
@@ -72,8 +72,26 @@ fn serve_one<G: Gate>(
     }
 }
 
-/// Serves each connection in turn.
-fn serve_each(rt: &impl Wait, alloc: Global, work: Work) -> Option<Vec<Told>> {
+/// Serves a connection over which this is sent.
+fn serve_sent(
+    rt: &impl Wait,
+    alloc: Global,
+    agent: &mut Agent,
+    sent: &'static [u8],
+    most: usize,
+    room: usize,
+) -> Told {
+    let peer = Peer {
+        sent,
+        most,
+        heard: Vec::new(alloc),
+        room,
+    };
+    serve_one(rt, alloc, agent, peer, &NoGate)
+}
+
+/// Serves each connection in turn, as far as there is memory for what becomes of them.
+fn serve_each(rt: &impl Wait, alloc: Global, work: Work) -> Vec<Told> {
     let Work {
         mut agent,
         inputs,
@@ -82,17 +100,13 @@ fn serve_each(rt: &impl Wait, alloc: Global, work: Work) -> Option<Vec<Told>> {
     } = work;
     let mut all = Vec::new(alloc);
     for sent in inputs {
-        let peer = Peer {
-            sent,
-            most,
-            heard: Vec::new(alloc),
-            room,
-        };
-        let told = serve_one(rt, alloc, &mut agent, peer, &NoGate);
-        all.push(told).ok()?;
+        let told = serve_sent(rt, alloc, &mut agent, sent, most, room);
+        if all.push(told).is_err() {
+            return all;
+        }
         room = usize::MAX;
     }
-    Some(all)
+    all
 }
 
 /// Answers up to 100 requests, until the agent is gone.
@@ -105,9 +119,8 @@ fn answer_each(rt: &impl Wait, desk: &mut Desk) {
 }
 
 /// An agent that may make so many requests, and its collector.
-fn opened(rt: &impl Wait, alloc: Global, requests: u32) -> Option<(Agent, Desk)> {
-    let limits = Limits::new(8, 8, requests)?;
-    let (mut agents, desk) = open_crew(rt, alloc, limits, 1).ok()?;
+fn one_agent(rt: &impl Wait, alloc: Global, requests: u32) -> Option<(Agent, Desk)> {
+    let (mut agents, desk) = opened(rt, alloc, requests, 1)?.ok()?;
     Some((agents.pop()?, desk))
 }
 
@@ -128,7 +141,7 @@ fn served<R: Threads + Wait + Sync>(
             match scope.spawn(move || serve_each(rt, alloc, work)) {
                 Ok(handle) => {
                     answer_each(rt, &mut desk);
-                    handle.join(rt)
+                    Some(handle.join(rt))
                 }
                 Err(_) => None,
             }
@@ -150,7 +163,7 @@ fn assert_served<R: Threads + Wait + Sync + Abort>(
         for (sent, _, _) in connections {
             inputs.push(*sent)?;
         }
-        let (agent, desk) = opened(rt, alloc, requests).ok_or("a crew")?;
+        let (agent, desk) = one_agent(rt, alloc, requests).ok_or("a crew")?;
         let work = Work {
             agent,
             inputs,
@@ -231,7 +244,7 @@ impl<R: Clock> Gate for Calls<'_, R> {
 /// What becomes of two connections, each with a discard, where the collector is gone; and how often
 /// the gate was called before an ask and after an answer.
 fn without_desk<R: Clock + Wait>(rt: &R, alloc: Global) -> Option<(Told, Told, u64, u64)> {
-    let (mut agent, desk) = opened(rt, alloc, 8)?;
+    let (mut agent, desk) = one_agent(rt, alloc, 8)?;
     drop(desk);
     let gate = Calls {
         rt,

@@ -1,0 +1,20 @@
+//! Tests of crews over what `dsn_crew` makes public, in a crate of their own: so they are proved
+//! beside the wrong edits of `dsn_crew`, and without its proofs.
+#![tactic(auto)]
+
+#[cfg(test)]
+mod bodies;
+#[cfg(test)]
+mod collect;
+#[cfg(test)]
+mod gone;
+#[cfg(test)]
+mod limit;
+#[cfg(test)]
+mod opened;
+#[cfg(test)]
+mod peer;
+#[cfg(test)]
+mod serving;
+#[cfg(test)]
+mod sixteen;

@@ -1,5 +1,5 @@
 -- Starts and ends of the agents' threads, one after another.
-use Rattle.std.proofs.Common.{◌≡◌, List, [], ◌∷◌, ◌++◌, length, sym, subst, ◌∙◌, append_assoc}
+use Rattle.std.proofs.Common.{◌≡◌, suc, List, [], ◌∷◌, ◌++◌, length, refl, ap, sym, subst, ◌∙◌, append_assoc}
 use Rattle.std.specs.Prelude.{Option, Some, None, IfSome}
 use Rattle.std.specs.List.{AllZip}
 use Rattle.std.specs.declared.thread.PromisedHandle.{PromisedHandle}
@@ -44,6 +44,15 @@ module _ {P : Type 0} where
       → (more : List (Option (PromisedHandle PortEnd (Serves P)))) → AreStarted rest left more → AreStarted agents ports (handle ∷ more)
   starts-more agents rest ports left agent port handle agents_are ports_are begun more started =
       subst (λ l. AreStarted l ports (handle ∷ more)) (sym agents_are) (subst (λ l. AreStarted (agent ∷ rest) l (handle ∷ more)) (sym ports_are) (begun, started))
+
+  -- as many threads as agents, those counted that there are not
+  pub starts-length : (agents : List Agent) (ports : List P) (handles : List (Option (PromisedHandle PortEnd (Serves P)))) → AreStarted agents ports handles → length handles ≡ length agents
+  starts-length [] [] [] started = refl
+  starts-length [] [] (handle ∷ handles) started = absurd started
+  starts-length [] (port ∷ ports) handles started = absurd started
+  starts-length (agent ∷ agents) [] handles started = absurd started
+  starts-length (agent ∷ agents) (port ∷ ports) [] started = absurd started
+  starts-length (agent ∷ agents) (port ∷ ports) (handle ∷ handles) started = ap (λ n. suc n) (starts-length agents ports handles started.1)
 
   pub starts-end : (agents : List Agent) (ports : List P) → length agents ≡ 0 → length ports ≡ length agents → AreStarted agents ports []
   starts-end agents ports none pairs =

@@ -4,6 +4,7 @@ pub mod CrewLemmas
 pub mod DeskLemmas
 pub mod GatheredLemmas
 pub mod OpenLemmas
+mod PortExamples
 pub mod PortLemmas
 pub mod RunLemmas
 pub mod SendLemmas

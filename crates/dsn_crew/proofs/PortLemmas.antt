@@ -1,7 +1,7 @@
 -- Ports: an agent's service of a port begins, goes on with one more session, and ends.
 use mir.Val.{bool_byte}
-use Rattle.std.proofs.Common.{◌≡◌, ℕ, ◌+◌, ◌<◌, ◌≤◌, inl, inr, Bool, true, false, List, [], ◌∷◌, ◌++◌, length, refl, ap, sym, subst, ◌∙◌, append_assoc, arith}
-use Rattle.std.specs.Prelude.{◌≢◌, ◌||◌, All, Option, Some, None, Result, Ok, Err, filter, is_err, is_some}
+use Rattle.std.proofs.Common.{◌≡◌, ℕ, suc, ◌+◌, ◌<◌, ◌≤◌, inl, inr, Bool, true, false, List, [], ◌∷◌, ◌++◌, length, refl, ap, sym, subst, ◌∙◌, append_assoc, arith}
+use Rattle.std.specs.Prelude.{◌≢◌, All, Option, Some, None, Result, Ok, Err, filter, is_err, is_some}
 use Rattle.std.specs.List.{AllZip, flat_map}
 use Rattle.std.specs.Result.{result_ok}
 use Rattle.std.proofs.lemmas.Bool.{lt-ltb, or_parts}
@@ -11,12 +11,13 @@ use Rattle.std.proofs.lemmas.List.Elements.{All-nil, All-push, filter-append}
 use Rattle.dsn_device.specs.Failures.{counted, most_failures}
 use Rattle.dsn_device.specs.declared.drain.Drain.{Ghosts as Drain}
 use Rattle.dsn_device.specs.declared.source.Source.{Ghosts as Source}
-use Rattle.dsn_outcome.specs.Request.{Body}
+use Rattle.dsn_outcome.specs.Request.{Bye, Request}
+use Rattle.dsn_outcome.specs.declared.answer.Reply.TheVariants.{Gone}
+use Rattle.dsn_frame.specs.Spoken.{reply_of}
 use Rattle.dsn_frame.specs.declared.frame_fault.FrameFault.TheVariants as frames
-use Rattle.dsn_frame.specs.declared.spoken.Spoken.{Spoken}
-use Rattle.dsn_crew.specs.Agent.{Agent, Ends, IsGoodbye}
-use Rattle.dsn_crew.specs.Port.{Conn, Gives, HasServed, IsPortServed, AreOverConns, AreOverPort, AreSessions, IsOver, IsSessionAt, IsStream, Session, answers_of, bodies_of, faults_of}
-use Rattle.dsn_crew.specs.Serve.{HasAsked, IsServed, is_lost, is_stream_failed, served_end}
+use Rattle.dsn_crew.specs.Agent.{Agent, Ends, IsGoodbye, after_reply}
+use Rattle.dsn_crew.specs.Port.{Conn, Gives, HasServed, IsPortServed, AreOverConns, AreOverPort, AreSessions, IsOver, IsSessionAt, Session, answers_of, bodies_of, faults_of}
+use Rattle.dsn_crew.specs.Serve.{HasAsked, after_requests, IsServed, is_lost, is_stream_failed, served_end}
 use Rattle.dsn_crew.specs.declared.ask_fault.AskFault.{AskFault}
 use Rattle.dsn_crew.specs.declared.agent_line.AgentLine.{AgentLine}
 use Rattle.dsn_crew.specs.declared.next.Next.TheVariants as next
@@ -328,3 +329,36 @@ service-ends conns agent last line served (Ok finished) bye = record {
   goodbye = ((or_parts agent.lost served.lost (sym (ap (λ (a : Agent). a.lost) served.asked.agent_is) ∙ bye.0)).1, bye.1);
 }
 service-ends conns agent last line served (Err fault) bye = record { last = last; served = served; goodbye = tt }
+
+-- ---- what follows for an agent that was heard
+
+module _ (conns : Option (List Conn)) (agent : Agent) (line : AgentLine) (ends : Ends) (is : IsPortServed conns agent (record { line = line; finished = Some ends })) where
+  -- its lists are those of its sessions, and then the goodbye
+  pub heard-ends : ends ≡ after_reply (after_requests agent (bodies_of is.served.sessions) (flat_map reply_of (answers_of is.served.sessions)) false).ends Bye Gone
+  heard-ends =
+      is.goodbye.1 ∙ ap (λ (a : Agent). after_reply a.ends Bye Gone) (is.served.asked.agent_is ∙ ap (after_requests agent (bodies_of is.served.sessions) (flat_map reply_of (answers_of is.served.sessions))) is.goodbye.0)
+
+  -- its line counts what it sent but for the goodbye
+  pub heard-requests : length ends.requests.sent ≡ line.requests + 1
+  heard-requests =
+      let sent = ap (λ (e : Ends). length e.requests.sent) is.goodbye.1 in
+      let bye : Request = record { agent = is.last.ends.requests.agent; number = length is.last.ends.requests.sent; body = Bye } in
+      omega (arith, sent, is.served.requests, length-append is.last.ends.requests.sent (bye ∷ []))
+
+zipped-length : {A B : Type 0} (R : A → B → Type 0) (xs : List A) (ys : List B) → AllZip R xs ys → length xs ≡ length ys
+zipped-length R [] [] pairs = refl
+zipped-length R [] (y ∷ ys) pairs = absurd pairs
+zipped-length R (x ∷ xs) [] pairs = absurd pairs
+zipped-length R (x ∷ xs) (y ∷ ys) pairs = ap (λ n. suc n) (zipped-length R xs ys pairs.1)
+
+-- a port that tells fewer than 1,000,000 connections: each of them is counted
+pub heard-connections : (conns : List Conn) (agent : Agent) (line : AgentLine) (ends : Ends) → IsPortServed (Some conns) agent (record { line = line; finished = Some ends }) → length conns < 1000000 → line.connections ≡ length conns
+heard-connections conns agent line ends is few =
+    let over = is.served.over in
+    let zipped = zipped-length IsOver over.served is.served.sessions over.over in
+    let long = ap length over.conns_are in
+    let split = length-append over.served over.left in
+    elim (over.all is.goodbye.0) [
+      | inl none ↦ let nothing = ap length none in let count = is.served.connections in omega (arith, zipped, long, split, nothing, count)
+      | inr full ↦ absurd (omega (arith, zipped, long, split, full, few))
+    ]

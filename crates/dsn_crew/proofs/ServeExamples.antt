@@ -22,13 +22,13 @@ use Rattle.dsn_crew.specs.Serve.{IsServed, numbered_from}
 use Rattle.dsn_crew.specs.declared.serve_fault.ServeFault.TheVariants.{Lost}
 
 -- a discard with number 0, and what it asks
-discard_body : List ℕ
+unfoldable pub discard_body : List ℕ
 discard_body = 1 ∷ 3 ∷ 0 ∷ 0 ∷ 0 ∷ 0 ∷ 1 ∷ 0 ∷ 2 ∷ 75 ∷ 49 ∷ []
 
-discard : Body
+pub discard : Body
 discard = Discard (record { service = Bounce; id = codes "K1" })
 
-discard_is_encoded : Encodes discard_body 0 discard
+pub discard_is_encoded : Encodes discard_body 0 discard
 unfolding discard_body discard body_bytes own_bytes head_bytes text_bytes number_bytes FitsOwn first_own_fault StandsFor
 discard_is_encoded = record {
   wire = DiscardFields (record { number = 0; service = 1; id = codes "K1" });

@@ -1,5 +1,5 @@
 -- Each connection that the port gives is served before it is asked for the next one.
-use Rattle.std.proofs.Common.{◌≡◌, ◌+◌, Fits, arith, ap, sym, ◌∙◌}
+use Rattle.std.proofs.Common.{◌+◌, arith, ap, sym, ◌∙◌}
 use mir.Val.{bool_byte}
 use Rattle.dsn_crew.proofs.PortLemmas.{serves-nothing, serves-more, serves-done, serves-failed, serves-full, serves-lost, byte_most}
 use Rattle.dsn_crew.proofs.serve_port.serve_connections.Goals as goal

@@ -1,5 +1,5 @@
 -- Each agent's thread, or none, is added at the end.
-use Rattle.std.proofs.Common.{rules, ap, ◌∙◌, ◌≡◌, ◌+◌, ◌≤◌, length, length-append, ◌∷◌, [], arith}
+use Rattle.std.proofs.Common.{rules, ap, ◌∙◌, length, length-append, ◌∷◌, [], arith}
 use Rattle.dsn_crew.proofs.StartServingLemmas.{Fits, completes-more, completes-all, starts-more, starts-end}
 use Rattle.dsn_crew.proofs.start_serving.start_all.Goals as goal
 

@@ -16,6 +16,7 @@ use Rattle.dsn_outcome.specs.declared.answer.Reply.TheVariants.{Gone}
 use Rattle.dsn_frame.specs.Spoken.{reply_of}
 use Rattle.dsn_frame.specs.declared.frame_fault.FrameFault.TheVariants as frames
 use Rattle.dsn_crew.specs.Agent.{Agent, Ends, IsGoodbye, after_reply}
+use Rattle.dsn_crew.specs.Place.{place_of}
 use Rattle.dsn_crew.specs.Port.{Conn, Gives, HasServed, IsPortServed, AreOverConns, AreOverPort, AreSessions, IsOver, IsSessionAt, Session, answers_of, bodies_of, faults_of}
 use Rattle.dsn_crew.specs.Serve.{HasAsked, after_requests, IsServed, is_lost, is_stream_failed, served_end}
 use Rattle.dsn_crew.specs.declared.ask_fault.AskFault.{AskFault}
@@ -337,6 +338,10 @@ module _ (conns : Option (List Conn)) (agent : Agent) (line : AgentLine) (ends :
   pub heard-ends : ends ≡ after_reply (after_requests agent (bodies_of is.served.sessions) (flat_map reply_of (answers_of is.served.sessions)) false).ends Bye Gone
   heard-ends =
       is.goodbye.1 ∙ ap (λ (a : Agent). after_reply a.ends Bye Gone) (is.served.asked.agent_is ∙ ap (after_requests agent (bodies_of is.served.sessions) (flat_map reply_of (answers_of is.served.sessions))) is.goodbye.0)
+
+  -- it stands at its place in the crew
+  pub heard-place : place_of ends ≡ place_of agent.ends
+  heard-place = ap place_of heard-ends
 
   -- its line counts what it sent but for the goodbye
   pub heard-requests : length ends.requests.sent ≡ line.requests + 1

@@ -1,12 +1,12 @@
 -- Closes: each agent that said goodbye was heard to its end, however many there are.
-use Rattle.std.proofs.Common.{◌≡◌, ℕ, zero, suc, ◌+◌, ◌<◌, ◌≤◌, ◌==◌, ◌&&◌, not, Bool, true, false, All, Contains, List, [], ◌∷◌, ◌++◌, length, map, refl, ap, sym, ◌∙◌, subst, append_assoc, length-append, arith}
+use Rattle.std.proofs.Common.{◌≡◌, ℕ, ◌+◌, ◌<◌, ◌≤◌, ◌&&◌, not, Bool, true, false, All, Contains, List, [], ◌∷◌, ◌++◌, length, map, refl, ap, sym, ◌∙◌, subst, append_assoc, length-append, arith}
 use Rattle.std.proofs.lemmas.Bool.{false≢true}
 use Rattle.std.proofs.lemmas.List.{append-nil, get_or-map, length-map, nil_from_length}
 use Rattle.std.proofs.lemmas.List.Elements.{All-cons, All-head, All-nil, All-tail, All-weaker}
 use Rattle.std.proofs.lemmas.Simd.{map-map}
 use Rattle.std.specs.List.{slice_index_or}
 use mathlib.Core.List.{IsPrefix}
-use Rattle.dsn_lane.specs.Ends.{End, Identity, Out}
+use Rattle.dsn_lane.specs.Ends.{End, Identity}
 use Rattle.dsn_outcome.specs.Agents.{from_agent}
 use Rattle.dsn_outcome.specs.History.{Exchange, answers_to}
 use Rattle.dsn_outcome.specs.Request.{Request}
@@ -14,7 +14,7 @@ use Rattle.dsn_outcome.specs.declared.answer.Answer.{Answer}
 use Rattle.dsn_outcome.proofs.HistoryLaws.{answers_length}
 use Rattle.dsn_crew.specs.Agent.{Ends, IsFinished}
 use Rattle.dsn_crew.specs.Close.{AreCrew, AreOf, IsHeard}
-use Rattle.dsn_crew.specs.Desk.{AreAnswered, Desk, IsDesk, all_gone, history}
+use Rattle.dsn_crew.specs.Desk.{Desk, IsDesk, all_gone, history}
 use Rattle.dsn_crew.specs.Place.{Place, place_at, place_of}
 use Rattle.dsn_crew.proofs.DeskLemmas.{first_end}
 

@@ -12,7 +12,7 @@ use Rattle.dsn_book.specs.Book.{Book, Represents}
 use Rattle.dsn_lane.specs.Ends.{End, Out, Identity}
 use Rattle.dsn_lane.specs.Lane.{IsNumbered}
 use Rattle.dsn_outcome.specs.Agents.{from_agent}
-use Rattle.dsn_outcome.specs.History.{Limits, Exchange, answer_of, answers_to, exchange_of, history_of}
+use Rattle.dsn_outcome.specs.History.{answer_of, answers_to, exchange_of, history_of}
 use Rattle.dsn_outcome.specs.Request.{Request, Body, Append, Flush, Discard, Bye}
 use Rattle.dsn_outcome.specs.declared.answer.Answer.{Answer}
 use Rattle.dsn_outcome.proofs.HistoryLaws.{answers_length, answers_mine, answers_more, answers_other, history_more}

@@ -1,5 +1,5 @@
 -- Openings: a collector that has taken nothing, and the agents one after another.
-use Rattle.std.proofs.Common.{◌≡◌, ℕ, zero, suc, ◌+◌, ◌-◌, ◌<◌, ◌≤◌, All, List, [], ◌∷◌, ◌++◌, length, map, false, refl, ap, sym, ◌∙◌, subst, length-append, lt_of_not-le, arith}
+use Rattle.std.proofs.Common.{◌≡◌, ℕ, zero, suc, ◌+◌, ◌-◌, ◌<◌, ◌≤◌, All, List, [], ◌∷◌, ◌++◌, length, map, false, refl, ap, sym, ◌∙◌, subst, length-append, arith}
 use Rattle.std.specs.List.{slice_index_or}
 use Rattle.std.specs.Prelude.{◌↔◌, IsSome, Option, Some, None}
 use Rattle.std.proofs.lemmas.List.{append-nil, map-append}
@@ -17,20 +17,20 @@ use Rattle.dsn_outcome.specs.declared.answer.Answer.{Answer}
 use Rattle.dsn_crew.specs.Agent.{Agent}
 use Rattle.dsn_crew.specs.Desk.{AreAnswered, Desk, IsDesk}
 use Rattle.dsn_crew.specs.Close.{AreCrew}
-use Rattle.dsn_crew.specs.Open.{AreLines, IsOpened, opened_agent}
+use Rattle.dsn_crew.specs.Open.{AreLines, IsLine, IsOpened, opened_agent}
 use Rattle.dsn_crew.specs.Place.{place_at, place_of}
 
 -- a collector that has taken nothing
 pub new_desk : (book : Book) (requests : Out Request) (ends : List (End Answer)) → Represents book [] → requests.first ≡ 0 → requests.past ≡ length ends → requests.taken ≡ [] → AreLines ends → length ends ≤ 16 → IsDesk (record { book = book; requests = requests; answers = ends; missed = 0; failed = false })
 unfolding answers_to history_after
 new_desk book requests ends none first past taken lines few =
-    let told : AreAnswered ends (history_of book.limits requests.taken) = λ a d inside. (lines a d inside).1 ∙ ap (λ (q : List Request). answers_to a (history_of book.limits q)) (sym taken) in record {
+    let told : AreAnswered ends (history_of book.limits requests.taken) = λ a d inside. (lines a d inside).unused ∙ ap (λ (q : List Request). answers_to a (history_of book.limits q)) (sym taken) in record {
       first = first;
       past = past;
       few = few;
       mine = subst (All (λ (request : Request). request.agent < length ends)) (sym taken) (All-nil (λ (request : Request). request.agent < length ends));
       numbered = λ agent. subst (λ (q : List Request). IsNumbered (λ (request : Request). request.number) (from_agent (λ (request : Request). request.agent) agent q)) (sym taken) (numbered_none (λ (request : Request). request.number));
-      lines = λ a d inside. (lines a d inside).0;
+      lines = λ a d inside. (lines a d inside).agent_is;
       book = subst (λ (q : List Request). Represents book (history_of book.limits q)) (sym taken) none;
       sent = λ a d inside. ([], append-nil (slice_index_or ends a d).sent ∙ told a d inside);
       answered = λ _. told;
@@ -55,17 +55,17 @@ at_end : (ends : List (End Answer)) (end d : End Answer) → slice_index_or (end
 at_end [] end d = refl
 at_end (first ∷ ends) end d = at_end ends end d
 
-pub lines_push : (old new : List (End Answer)) (end : End Answer) → AreLines old → end.agent ≡ length old → end.sent ≡ [] → end.lane.capacity ≡ 1 → new ≡ old ++ end ∷ [] → AreLines new
-lines_push old new end lines agent unused one is a d inside =
+pub lines_push : (old new : List (End Answer)) (end : End Answer) → AreLines old → IsLine (length old) end → new ≡ old ++ end ∷ [] → AreLines new
+lines_push old new end lines line is a d inside =
     let long : length new ≡ length old + 1 = ap length is ∙ length-append old (end ∷ []) in
     elim (ℕ_discrete a (length old)) [
       | yes same ↦
           let here : slice_index_or new a d ≡ end = ap (λ (es : List (End Answer)). slice_index_or es a d) is ∙ (ap (λ (k : ℕ). slice_index_or (old ++ end ∷ []) k d) same ∙ at_end old end d) in
-          (ap (λ (e : End Answer). e.agent) here ∙ (agent ∙ sym same), ap (λ (e : End Answer). e.sent) here ∙ unused, ap (λ (e : End Answer). e.lane.capacity) here ∙ one)
+          subst (λ (k : ℕ). IsLine k (slice_index_or new a d)) (sym same) (subst (IsLine (length old)) (sym here) line)
       | no other ↦
           let below : a < length old = omega (arith, other) in
           let here : slice_index_or new a d ≡ slice_index_or old a d = ap (λ (es : List (End Answer)). slice_index_or es a d) is ∙ at_push old end d a below in
-          (ap (λ (e : End Answer). e.agent) here ∙ (lines a d below).0, ap (λ (e : End Answer). e.sent) here ∙ (lines a d below).1, ap (λ (e : End Answer). e.lane.capacity) here ∙ (lines a d below).2)
+          subst (IsLine a) (sym here) (lines a d below)
     ]
 
 -- one more agent

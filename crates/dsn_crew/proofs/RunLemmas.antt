@@ -1,14 +1,13 @@
 -- Runs: what one request, with its letter handed on or not, adds to a run, and one run after another.
-use Rattle.std.proofs.Common.{◌≡◌, ◌≢◌, ℕ, zero, suc, ◌+◌, ◌-◌, ◌<◌, ◌≤◌, ◌==◌, ◌&&◌, not, Bool, true, false, ◌||◌, List, [], ◌∷◌, ◌++◌, length, map, take, refl, ap, sym, ◌∙◌, subst, append_assoc, length-append, true≢false, eq-eqb, arith}
-use Rattle.std.specs.Prelude.{Result, Ok, Err, is_err, Option, Some, None}
+use Rattle.std.proofs.Common.{◌≡◌, ℕ, zero, suc, ◌+◌, ◌-◌, ◌<◌, ◌==◌, ◌&&◌, not, Bool, true, false, ◌||◌, List, [], ◌∷◌, ◌++◌, length, take, refl, ap, sym, ◌∙◌, subst, append_assoc, length-append, true≢false, eq-eqb, arith}
+use Rattle.std.specs.Prelude.{Result, Ok, Err, is_err, Some, None}
 use Rattle.std.proofs.lemmas.Bool.{false≢true}
 use Rattle.std.proofs.lemmas.List.{append-nil, length-map, take-append-le}
 use Rattle.std.proofs.Math.Decide.{dec_lt}
 use Rattle.std.proofs.Math.Seq.{take-append-add}
-use Rattle.dsn_book.specs.Book.{Book}
 use Rattle.dsn_book.specs.Step.{letters_in}
 use Rattle.dsn_lane.specs.Ends.{End, Out}
-use Rattle.dsn_outcome.specs.History.{Exchange, exchange_of, history_of, letter_of, sealed_letters}
+use Rattle.dsn_outcome.specs.History.{exchange_of, history_of, letter_of, sealed_letters}
 use Rattle.dsn_outcome.specs.Letter.{Letter}
 use Rattle.dsn_outcome.specs.declared.answer.Answer.{Answer}
 use Rattle.dsn_outcome.specs.Request.{Request}

@@ -1,9 +1,13 @@
--- An agent may go to a thread of its own, and come back from it once it said goodbye.
+-- An agent and the allocator may go to a thread of their own; the agent may come back from it once it said goodbye.
 use denote.Param.Send.{IsSend, sendable}
 use Rattle.std.proofs.Crossing.{crosses}
+use Rattle.std.specs.contracts.alloc.Global as Global
 use Rattle.dsn_crew.specs.contracts.agent.Agent as Agent
 use Rattle.dsn_crew.specs.contracts.finished.Finished as Finished
 use Rattle.dsn_lane.proofs.SendLemmas.{requests_in_send, answers_out_send}
+
+pub global_send : IsSend Global.the_row
+global_send = search sendable depth 20
 
 pub agent_send : IsSend Agent.the_row
 agent_send = search (requests_in_send, answers_out_send, sendable) depth 20

@@ -12,10 +12,7 @@ use Rattle.std.specs.contracts.alloc.Global as Global
 use Rattle.dsn_lane.proofs.SendLemmas.{closure_send}
 use Rattle.dsn_crew.specs.contracts.agent.Agent as Agent
 use Rattle.dsn_crew.specs.contracts.port_end.PortEnd as PortEnd
-use Rattle.dsn_crew.proofs.SendLemmas.{agent_send, finished_send}
-
-global_send : IsSend Global.the_row
-global_send = search sendable depth 20
+use Rattle.dsn_crew.proofs.SendLemmas.{agent_send, finished_send, global_send}
 
 -- what the closure holds: the runtime, the allocator, the agent, its port, and the gate
 abbrev pub captured : NamedLft → NamedLft → RattleType → RattleType → RattleType → List RattleType

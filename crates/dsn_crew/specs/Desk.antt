@@ -43,6 +43,10 @@ all_gone desk = not desk.failed && (goodbyes desk.requests.taken + desk.missed =
 abbrev pub AreLeft : Desk → List Request → Type 0
 AreLeft desk requests = goodbyes requests + desk.missed ≢ length desk.answers
 
+-- a collector by its parts
+abbrev pub desk_of : Book → Out Request → List (End Answer) → ℕ → Bool → Desk
+desk_of book requests answers missed failed = record { book = book; requests = requests; answers = answers; missed = missed; failed = failed }
+
 -- what the requests come to that it took, and so with these requests more
 abbrev pub history : Desk → List Exchange
 history desk = history_of desk.book.limits desk.requests.taken
@@ -72,6 +76,14 @@ pub record IsDesk (desk : Desk) : Type 0 where
   pub sent : (a : ℕ) (d : End Answer) → a < length desk.answers → IsPrefix (slice_index_or desk.answers a d).sent (answers_to a (history desk))
   pub answered : desk.failed ≡ false → AreAnswered desk.answers (history desk)
 
+-- the counts of what a collector took: the requests, and the goodbyes among them
+abbrev pub AreCounted : List Request → ℕ → ℕ → Type 0
+AreCounted requests taken gone = (taken ≡ length requests) × (gone ≡ goodbyes requests)
+
+-- what holds nothing yet, and has room for an end of each agent
+abbrev pub HasRoom : List (End Answer) → List (End Request) → ℕ → Type 0
+HasRoom answers held capacity = (held ≡ []) × (length answers ≤ capacity)
+
 -- an answer lane's end once an answer was sent, or was lost
 abbrev pub answered_more : Bool → End Answer → Answer → End Answer
 answered_more true end answer = record { lane = end.lane; agent = end.agent; sent = end.sent ++ answer ∷ [] }
@@ -87,17 +99,11 @@ taken_request out request = record { lane = out.lane; first = out.first; past = 
 
 -- a collector that failed, or not, with nothing else changed
 abbrev pub with_failed : Desk → Bool → Desk
-with_failed desk failed = record { book = desk.book; requests = desk.requests; answers = desk.answers; missed = desk.missed; failed = failed }
+with_failed desk failed = desk_of desk.book desk.requests desk.answers desk.missed failed
 
 -- a collector that is told of so many agents more that never start, with nothing else changed
 abbrev pub missing : Desk → ℕ → Desk
-missing desk agents = record {
-  book = desk.book;
-  requests = desk.requests;
-  answers = desk.answers;
-  missed = desk.missed + agents;
-  failed = desk.failed;
-}
+missing desk agents = desk_of desk.book desk.requests desk.answers (desk.missed + agents) desk.failed
 
 -- what taking one request comes to. Ok: it was answered as the history defines, and the letter is the one that it sealed.
 -- `Requests`: nothing was taken. `Answers`: the request was taken, and its answer is lost

@@ -1,5 +1,5 @@
 -- Openings: what a crew is before its first request.
-use Rattle.std.specs.Prelude.{◌≡◌, ℕ, suc, ◌<◌, ◌+◌, false, List, [], length, map}
+use Rattle.std.specs.Prelude.{◌≡◌, ℕ, ◌<◌, ◌+◌, false, List, [], length, map}
 use Rattle.std.specs.List.{slice_index_or}
 use Rattle.dsn_lane.specs.Ends.{End, Identity}
 use Rattle.dsn_outcome.specs.History.{Limits}
@@ -25,10 +25,15 @@ opened_agent limit lane end = record {
   lost = false;
 }
 
--- answer lanes of the agents from 0 on, each for one item, over which nothing was sent
+-- the end of an answer lane of this agent, for one item, over which nothing was sent
+pub record IsLine (agent : ℕ) (end : End Answer) : Type 0 where
+  pub agent_is : end.agent ≡ agent
+  pub unused : end.sent ≡ []
+  pub capacity : end.lane.capacity ≡ 1
+
+-- so it is of the agents from 0 on
 abbrev pub AreLines : List (End Answer) → Type 0
-AreLines ends =
-    (a : ℕ) (d : End Answer) → a < length ends → ((slice_index_or ends a d).agent ≡ a) × ((slice_index_or ends a d).sent ≡ []) × ((slice_index_or ends a d).lane.capacity ≡ 1)
+AreLines ends = (a : ℕ) (d : End Answer) → a < length ends → IsLine a (slice_index_or ends a d)
 
 -- a crew of so many agents, before the first request: each agent has the lane on which it asks, and the one on which the
 -- collector answers it; requests wait up to 64, and answers to an agent up to 1

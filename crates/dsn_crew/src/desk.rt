@@ -5,7 +5,7 @@ ghost use Rattle.dsn_book.specs.Book.{Represents};
 ghost use Rattle.dsn_lane.specs.Ends.{End};
 ghost use Rattle.dsn_outcome.specs.declared.answer.Answer.{Answer};
 ghost use Rattle.dsn_crew.specs.Open.{AreLines};
-ghost use Rattle.dsn_crew.specs.Desk.{AreTold, IsDesk, IsRun, IsTaken, all_gone, goodbyes, missing, places_of};
+ghost use Rattle.dsn_crew.specs.Desk.{AreTold, HasRoom, IsDesk, IsRun, IsTaken, all_gone, desk_of, goodbyes, missing, places_of};
 
 use crate::desk_fault::DeskFault;
 use crate::line::Line;
@@ -32,14 +32,14 @@ pub struct Desk {
 }
 
 impl Model for Desk {
-    ghost use Rattle.std.specs.Prelude.{◌≡◌, ◌≤◌, [], length, vec_capacity};
-    ghost use Rattle.dsn_crew.specs.Desk.{Desk, IsDesk, goodbyes};
+    ghost use Rattle.std.specs.Prelude.{vec_capacity};
+    ghost use Rattle.dsn_crew.specs.Desk.{AreCounted, Desk, HasRoom, IsDesk, desk_of};
 
     ghost Value = { Desk };
 
-    ghost view = { λ d. record { book = d.book; requests = d.requests; answers = d.lines.items; missed = d.missed; failed = d.failed } };
+    ghost view = { λ d. desk_of d.book d.requests d.lines.items d.missed d.failed };
 
-    ghost invariant = { λ d. IsDesk (record { book = d.book; requests = d.requests; answers = d.lines.items; missed = d.missed; failed = d.failed }) × (d.taken ≡ length d.requests.taken) × (d.gone ≡ goodbyes d.requests.taken) × (d.room.items ≡ []) × (length d.lines.items ≤ vec_capacity d.room) };
+    ghost invariant = { λ d. IsDesk (desk_of d.book d.requests d.lines.items d.missed d.failed) × AreCounted d.requests.taken d.taken d.gone × HasRoom d.lines.items d.room.items (vec_capacity d.room) };
 }
 
 impl Desk {
@@ -53,8 +53,8 @@ impl Desk {
         requires book { Represents book [] }
         requires requests { (requests.first ≡ 0) × (requests.past ≡ length lines.items) × (requests.taken ≡ []) }
         requires lines { AreLines lines.items × (length lines.items ≤ 16) }
-        requires room { (room.items ≡ []) × (length lines.items ≤ vec_capacity room) }
-        ensures new { result ≡ record { book = book; requests = requests; answers = lines.items; missed = 0; failed = false } }
+        requires room { HasRoom lines.items room.items (vec_capacity room) }
+        ensures new { result ≡ desk_of book requests lines.items 0 false }
         ensures kept { IsDesk result }
     {
         Desk {

@@ -52,3 +52,6 @@ pub use port::Port;
 pub use run::run_crew;
 pub use serve_fault::ServeFault;
 pub use served::Served;
+
+#[cfg(test)]
+mod tests;

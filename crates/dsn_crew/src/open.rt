@@ -1,6 +1,6 @@
 //! A crew, from its first step on.
 ghost use Rattle.std.specs.Prelude.{◌≡◌, ◌<◌, ◌≤◌, ◌↔◌, ◌⊎◌, [], IfOk, IfErr};
-ghost use Rattle.dsn_crew.specs.Open.{IsOpened, opened_agent};
+ghost use Rattle.dsn_crew.specs.Open.{IsLine, IsOpened, opened_agent};
 
 use crate::agent::Agent;
 use crate::crew_open_fault::CrewOpenFault;
@@ -77,7 +77,7 @@ fn open_room(
 }
 
 /// An agent with this end for its requests, and the collector's end for its answers.
-fn open_agent(
+pub(crate) fn open_agent(
     rt: &impl Wait,
     alloc: Global,
     limits: Limits,
@@ -87,7 +87,7 @@ fn open_agent(
     requires agent { (requests.agent ≡ agent) × (agent < 16) }
     requires unused { requests.sent ≡ [] }
     ensures agent { IfOk result (λ pair. pair.0 ≡ opened_agent limits.requests requests.lane pair.1) }
-    ensures line { IfOk result (λ pair. (pair.1.agent ≡ agent) × (pair.1.sent ≡ []) × (pair.1.lane.capacity ≡ 1)) }
+    ensures line { IfOk result (λ pair. IsLine agent pair.1) }
 {
     let (mut ends, answers) = open_lane(rt, alloc, agent, 1, 1)?;
     let Some(end) = ends.pop() else {

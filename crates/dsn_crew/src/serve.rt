@@ -75,6 +75,7 @@ impl Agent {
         ensures turn { IsTurn self.old self.new place bytes.now result }
         ensures kept { IsAgent self.new }
     {
+        // Opens the agent's model: the proof needs what it keeps.
         let _ = &self.ends;
         match next_request(alloc, place, bytes) {
             Ok(body) => self.ask_at(rt, gate, body),

@@ -18,7 +18,8 @@ pub(super) fn opened(
 
 #[test]
 fn crew_has_1_to_16_agents(rt: HostRuntime) -> Result<(), Fail> {
-    for (agents, code) in [(0, 43), (1, 0), (16, 0), (17, 43)] {
+    for agents in 0..18u32 {
+        let code = if agents == 0 || agents == 17 { 43 } else { 0 };
         let opened = opened(&rt, rt.alloc(), 1, agents).expect(&rt, "limits");
         let told = match opened {
             Ok(crew) => u32::from(crew.0.len() != agents as usize),

@@ -17,12 +17,20 @@ use std::time::{Clock, Duration};
 /// A discard of `B K1` with number 0.
 const DISCARD: &[u8] = b"\0\0\0\x0b\x01\x03\0\0\0\0\x01\0\x02K1";
 
+/// The same with numbers 0 and 1.
+const DISCARD_TWICE: &[u8] =
+    b"\0\0\0\x0b\x01\x03\0\0\0\0\x01\0\x02K1\0\0\0\x0b\x01\x03\0\0\0\x01\x01\0\x02K1";
+
 /// A flush of `B K1` with number 5.
 const FLUSH: &[u8] =
     b"\0\0\0\x30\x01\x02\0\0\0\x05\x01\0\x02K1\0\0\0\0\x65\x53\xf1\0\0\0\0\0\x65\x53\xe2\xf0\0\x0fann@example.com\0\0\0\0";
 
 /// The first answer of a connection: nothing was logged that could be discarded.
 const DISCARDED: &[u8] = b"\0\0\0\x0a\x01\x08\0\0\0\0\0\0\0\0";
+
+/// Both answers of a connection: the same, and that the log is closed.
+const DISCARDED_AND_CLOSED: &[u8] =
+    b"\0\0\0\x0a\x01\x08\0\0\0\0\0\0\0\0\0\0\0\x0a\x01\x02\0\0\0\x01\0\0\0\0";
 
 /// The first answer of a connection: the log was discarded before.
 const CLOSED: &[u8] = b"\0\0\0\x0a\x01\x02\0\0\0\0\0\0\0\0";
@@ -193,6 +201,28 @@ fn next_connection_is_served_after_a_fault(rt: HostRuntime) -> Result<(), Fail> 
             (DISCARD, (0, 1), DISCARDED),
             (b"", (0, 0), b""),
         ],
+        usize::MAX,
+    )
+}
+
+#[test]
+fn frames_of_a_connection_are_answered_in_turn(rt: HostRuntime) -> Result<(), Fail> {
+    assert_served(
+        &rt,
+        rt.alloc(),
+        2,
+        &[(DISCARD_TWICE, (0, 2), DISCARDED_AND_CLOSED)],
+        usize::MAX,
+    )
+}
+
+#[test]
+fn frame_beyond_the_limit_is_not_answered(rt: HostRuntime) -> Result<(), Fail> {
+    assert_served(
+        &rt,
+        rt.alloc(),
+        1,
+        &[(DISCARD_TWICE, (47, 0), DISCARDED)],
         usize::MAX,
     )
 }

@@ -25,8 +25,8 @@ loop-finished-init g c =
       crew = ap (map place_of) gives ∙ (c.requires.crew ∙ ap (map (place_at c.args.desk.requests.lane)) (sym lines));
       len = c.into_iter-lines.ensures.len ∙ (c.desk.inside.lines.ok.0 ∙ sym (ap length c.into_iter-lines.ensures.rest));
       answered = subst (All (λ (end : End Answer). end.sent ≡ answers_to end.agent (history c.args.desk))) (sym lines) (lines_answered c.args.desk (subst IsDesk c.desk.view_is c.desk.invariant.0) c.requires.gone);
-      asked = ap (λ (room : List (End Request)). room ++ map (λ (ends : Ends). ends.requests) (into_iter_items c.into_iter-finished-iterator.result)) c.desk.invariant.3 ∙ ap (map (λ (ends : Ends). ends.requests)) gives;
-      room = (let none = ap length c.desk.invariant.3 in let room = c.desk.invariant.4 in let same = ap length (ap (λ (desk : Desk). desk.answers) c.desk.view_is) in let long = ap length gives in omega arith);
+      asked = ap (λ (room : List (End Request)). room ++ map (λ (ends : Ends). ends.requests) (into_iter_items c.into_iter-finished-iterator.result)) c.desk.invariant.2.0 ∙ ap (map (λ (ends : Ends). ends.requests)) gives;
+      room = (let none = ap length c.desk.invariant.2.0 in let room = c.desk.invariant.2.1 in let same = ap length (ap (λ (desk : Desk). desk.answers) c.desk.view_is) in let long = ap length gives in omega arith);
       closed = λ all. subst (All (IsAnswered (history c.args.desk))) gives all;
     }
 

@@ -1,8 +1,8 @@
 -- Each agent gets the next end of the request lane, and an answer lane of its own.
-use Rattle.std.proofs.Common.{rules, ◌≡◌, ap, sym, ◌∙◌, length, arith}
+use Rattle.std.proofs.Common.{rules, ℕ, ap, sym, subst, ◌∙◌, length, arith}
 use Rattle.dsn_lane.specs.Ends.{End, Identity}
 use Rattle.dsn_outcome.specs.Request.{Request}
-use Rattle.dsn_crew.specs.Open.{opened_agent}
+use Rattle.dsn_crew.specs.Open.{IsLine, opened_agent}
 use Rattle.dsn_crew.proofs.OpenLemmas.{crew_push, length-ends, lines_push, next_end, none_left}
 use Rattle.dsn_crew.proofs.open.open_room.Goals as goal
 
@@ -32,7 +32,7 @@ loop-agent-preserved g c =
           crew_push _ _ _ _ _ _ c.in-Ok-open_agent.one c.in-Ok-open_agent.line c.loop-agent.invariant.crew c.push_reserved.ensures.items c.push_reserved-in-loop-agent.ensures.items
           (c.in-Ok-open_agent.ensures.agent ∙ ap (λ (of : Identity Request). opened_agent c.args.limits.requests of c.in-Ok-open_agent.line) lane);
       lines =
-          lines_push _ _ c.in-Ok-open_agent.line c.loop-agent.invariant.lines (c.in-Ok-open_agent.ensures.line.0 ∙ sym c.loop-agent.invariant.count.0) c.in-Ok-open_agent.ensures.line.1 c.in-Ok-open_agent.ensures.line.2 c.push_reserved-in-loop-agent.ensures.items;
+          lines_push _ _ c.in-Ok-open_agent.line c.loop-agent.invariant.lines (subst (λ (k : ℕ). IsLine k c.in-Ok-open_agent.line) (sym c.loop-agent.invariant.count.0) c.in-Ok-open_agent.ensures.line) c.push_reserved-in-loop-agent.ensures.items;
       count = (search rules, search rules);
       room = (search rules, search rules);
     }

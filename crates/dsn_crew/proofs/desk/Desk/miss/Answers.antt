@@ -1,5 +1,5 @@
 -- There are at most 16 agents, so their count fits.
-use Rattle.std.proofs.Common.{ℕ, ap, length, arith}
+use Rattle.std.proofs.Common.{ap, length, arith}
 use Rattle.dsn_crew.specs.Desk.{Desk}
 use Rattle.dsn_crew.proofs.desk.Desk.miss.Goals as goal
 

@@ -1,7 +1,6 @@
 -- An answer that is sent is the one that the history defines, and the collector stands for one request more.
-use Rattle.std.proofs.Common.{rules, ◌≡◌, Bool, false, true, refl, ap, ◌∙◌, subst, true≢false, arith}
+use Rattle.std.proofs.Common.{rules, ◌≡◌, Bool, false, true, refl, ap, ◌∙◌, subst, true≢false}
 use Rattle.dsn_lane.specs.Ends.{End}
-use Rattle.dsn_outcome.specs.Request.{Request}
 use Rattle.dsn_outcome.specs.declared.answer.Answer.{Answer}
 use Rattle.dsn_outcome.specs.History.{letter_of}
 use Rattle.dsn_crew.proofs.DeskLemmas.{IsAsked, counted_more, first_end, goodbyes_fit, goodbyes_more, keeps, line_agent, line_number, small, told_places, told_none, told_room, within}
@@ -10,7 +9,7 @@ use Rattle.dsn_crew.proofs.desk.Desk.take_one.Goals as goal
 
 pub overflow_add-self-2 : goal.overflow_add-self-2
 overflow_add-self-2 g c =
-    record { fits = goodbyes_fit c.self.inside.gone c.from.result c.self.inside.taken 4294967296 c.is_bye.result c.self.inside.requests.taken c.self.invariant.2 c.self.invariant.1 (search rules) (search rules) }
+    record { fits = goodbyes_fit c.self.inside.gone c.from.result c.self.inside.taken 4294967296 c.is_bye.result c.self.inside.requests.taken c.self.invariant.1.1 c.self.invariant.1.0 (search rules) (search rules) }
 
 pub tell-requires-clause-within : goal.tell-requires-clause-within
 tell-requires-clause-within g c =
@@ -33,12 +32,10 @@ invariant_of-self-then-tell g c =
     let asked : IsAsked _ c.in-Ok.request c.apply-letter.result.answer = record { kept = c.self.invariant.0; going = search rules; from = search rules; number = search rules; answer_is = c.apply-letter.ensures.answer _ c.self.invariant.0.book } in
     let d : End Answer = first_end _ _ (within _ _ _ asked) in
     let told : AreTold true c.self.inside.lines.items c.apply-letter.result.answer c.tell.new.lines.items = subst (λ (sent : Bool). AreTold sent c.self.inside.lines.items c.apply-letter.result.answer c.tell.new.lines.items) c.if-tell.true c.tell.ensures in
-    let bye = goodbyes_more c.self.inside.gone c.from.result c.is_bye.result c.self.inside.requests.taken c.take.new.self.taken c.in-Ok.request c.self.invariant.2 c.in-Ok.ensures.item (search rules) (search rules) in (
+    let bye = goodbyes_more c.self.inside.gone c.from.result c.is_bye.result c.self.inside.requests.taken c.take.new.self.taken c.in-Ok.request c.self.invariant.1.1 c.in-Ok.ensures.item (search rules) (search rules) in (
       keeps _ _ _ asked c.apply-letter.new.self c.take.new.self c.tell.new.lines.items c.self.inside.missed c.self.inside.failed c.apply-letter.ensures.limits (search rules) c.in-Ok.ensures.numbered true d told (c.apply-letter.ensures.stands _ c.self.invariant.0.book) (λ _. refl),
-      counted_more _ _ _ _ c.self.invariant.1 c.in-Ok.ensures.item,
-      bye,
-      search rules,
-      told_room true _ _ c.apply-letter.result.answer _ d told c.self.invariant.4,
+      (counted_more _ _ _ _ c.self.invariant.1.0 c.in-Ok.ensures.item, bye),
+      (search rules, told_room true _ _ c.apply-letter.result.answer _ d told c.self.invariant.2.1),
     )
 
 pub returns-then-tell-clause-kept : goal.returns-then-tell-clause-kept
@@ -60,12 +57,10 @@ invariant_of-self-else-tell g c =
     let d : End Answer = first_end _ _ (within _ _ _ asked) in
     let lost : c.tell.result ≡ false = search rules in
     let told : AreTold false c.self.inside.lines.items c.apply-letter.result.answer c.tell.new.lines.items = subst (λ (sent : Bool). AreTold sent c.self.inside.lines.items c.apply-letter.result.answer c.tell.new.lines.items) lost c.tell.ensures in
-    let bye = goodbyes_more c.self.inside.gone c.from.result c.is_bye.result c.self.inside.requests.taken c.take.new.self.taken c.in-Ok.request c.self.invariant.2 c.in-Ok.ensures.item (search rules) (search rules) in (
+    let bye = goodbyes_more c.self.inside.gone c.from.result c.is_bye.result c.self.inside.requests.taken c.take.new.self.taken c.in-Ok.request c.self.invariant.1.1 c.in-Ok.ensures.item (search rules) (search rules) in (
       keeps _ _ _ asked c.apply-letter.new.self c.take.new.self c.tell.new.lines.items c.self.inside.missed true c.apply-letter.ensures.limits (search rules) c.in-Ok.ensures.numbered false d told (c.apply-letter.ensures.stands _ c.self.invariant.0.book) (λ never. absurd (true≢false never)),
-      counted_more _ _ _ _ c.self.invariant.1 c.in-Ok.ensures.item,
-      bye,
-      search rules,
-      told_room false _ _ c.apply-letter.result.answer _ d told c.self.invariant.4,
+      (counted_more _ _ _ _ c.self.invariant.1.0 c.in-Ok.ensures.item, bye),
+      (search rules, told_room false _ _ c.apply-letter.result.answer _ d told c.self.invariant.2.1),
     )
 
 pub returns-else-tell-clause-kept : goal.returns-else-tell-clause-kept

@@ -261,7 +261,7 @@ module _ {P S W : Type 0} (port : Port P S) (drain : Drain W) (host : List ℕ) 
         account_at new lines crew run kept ended all heard stands =
             let limited = limits_are new run in
             let sealed = post.all_came all ∙ (sym (append-nil after.letters) ∙ (sym (letters_are new run) ∙ ap (λ (l : Limits). sealed_letters (history_of l new.requests.taken)) limited)) in record {
-              agents = agent_accounts port limits desk.requests.lane new limited 0 desk.answers ports ends lines crew (are_from 0 desk.answers (λ a d inside. (opened.lines a d inside).0 ∙ (let same : a ≡ 0 + a = omega arith in same))) served ended heard;
+              agents = agent_accounts port limits desk.requests.lane new limited 0 desk.answers ports ends lines crew (are_from 0 desk.answers (λ a d inside. (opened.lines a d inside).agent_is ∙ (let same : a ≡ 0 + a = omega arith in same))) served ended heard;
               only = subst (λ (k : ℕ). All (λ (request : Request). request.agent < k) new.requests.taken) (lines_length new run) kept.mine;
               book_limits = limited;
               book = subst (λ (l : Limits). Represents new.book (history_of l new.requests.taken)) limited stands;

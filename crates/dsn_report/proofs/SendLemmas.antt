@@ -30,10 +30,10 @@ module _ (W : RattleType) (send : IsSend W) where
   poster_send =
       view_send (PosterInside.the_row W) _ _ _ _
       (declared_send (PosterInside.the_type W)
-        (as_row_send (row_field Site.the_row) site_send, (as_row_send (row_field (LineWriter.the_row W)) line_writer_send, (bool_send, tt))))
+      (as_row_send (row_field Site.the_row) site_send, (as_row_send (row_field (LineWriter.the_row W)) line_writer_send, (bool_send, tt))))
 
   pub outgoing_send : IsSend (Outgoing.the_row W)
   outgoing_send =
       view_send (OutgoingInside.the_row W) _ _ _ _
       (declared_send (OutgoingInside.the_type W)
-        (as_row_send (row_field (Poster.the_row W)) poster_send, (as_row_send (row_field Letters.the_row) letters_send, tt)))
+      (as_row_send (row_field (Poster.the_row W)) poster_send, (as_row_send (row_field Letters.the_row) letters_send, tt)))

@@ -16,7 +16,8 @@ pub struct CrewFault<W> {
     pub cause: CrewCause,
     /// The outbox.
     pub outbox: W,
-    /// The letters that are not in the outbox, in order.
+    /// The letters that came to the poster and are not in the outbox, in order, and then the one
+    /// that the collector still held.
     pub unsent: Letters,
     desk: Option<Snapshot<Desk>>,
 }

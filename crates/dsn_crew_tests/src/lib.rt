@@ -7,14 +7,30 @@ mod bodies;
 #[cfg(test)]
 mod collect;
 #[cfg(test)]
+mod frames;
+#[cfg(test)]
 mod gone;
+#[cfg(test)]
+mod hold;
 #[cfg(test)]
 mod limit;
 #[cfg(test)]
+mod memory_port;
+#[cfg(test)]
 mod opened;
+#[cfg(test)]
+mod outbox_text;
 #[cfg(test)]
 mod peer;
 #[cfg(test)]
+mod ports;
+#[cfg(test)]
+mod posting;
+#[cfg(test)]
 mod serving;
 #[cfg(test)]
+mod side_by_side;
+#[cfg(test)]
 mod sixteen;
+#[cfg(test)]
+mod whole_crew;

@@ -1,0 +1,96 @@
+//! A gate that holds asks until something else has come to pass, for tests.
+use dsn_crew::Gate;
+use std::sync::atomic::{AtomicU64, Ordering};
+use std::thread;
+use std::time::{Clock, Duration};
+
+/// How often a hold looks again, a millisecond each, before it runs out.
+const TURNS: u32 = 10_000;
+
+/// What is held, and until when.
+#[derive(Clone, Copy, Debug)]
+pub(super) struct Until {
+    /// The agents below this one are held,
+    pub(super) agents: u32,
+    /// each before its request of this number,
+    pub(super) number: u32,
+    /// until so many agents have begun their request of this number,
+    pub(super) begun: u64,
+    /// and so many requests were answered
+    pub(super) answered: u64,
+    /// to this agent,
+    pub(super) to: u32,
+    /// and the outbox was written to so often.
+    pub(super) written: u64,
+}
+
+/// The gate, with what it has seen.
+#[derive(Drop)]
+pub struct Hold<'a, R> {
+    rt: &'a R,
+    until: Until,
+    begun: AtomicU64,
+    answered: AtomicU64,
+    written: AtomicU64,
+    ran_out: AtomicU64,
+}
+
+impl<'a, R> Hold<'a, R> {
+    /// A gate that has seen nothing.
+    pub(super) fn new(rt: &'a R, until: Until) -> Hold<'a, R> {
+        Hold {
+            rt,
+            until,
+            begun: AtomicU64::new(0),
+            answered: AtomicU64::new(0),
+            written: AtomicU64::new(0),
+            ran_out: AtomicU64::new(0),
+        }
+    }
+
+    /// How many holds ran out.
+    pub(super) fn ran_out(&self) -> u64 {
+        self.ran_out.load(Ordering::SeqCst)
+    }
+}
+
+impl<R: Clock> Hold<'_, R> {
+    /// Waits until the count has come to so many, or runs out.
+    fn wait(&self, seen: &AtomicU64, wanted: u64) {
+        for _ in 0..TURNS {
+            if seen.load(Ordering::SeqCst) >= wanted {
+                return;
+            }
+            thread::sleep(self.rt, Duration::from_millis(1));
+        }
+        self.ran_out.fetch_add(1, Ordering::SeqCst);
+    }
+
+    /// Called where a write to the outbox begins: the first one waits until so many requests were
+    /// answered.
+    pub(super) fn before_write(&self, answered: u64) {
+        if self.written.fetch_add(1, Ordering::SeqCst) == 0 {
+            self.wait(&self.answered, answered);
+        }
+    }
+}
+
+impl<R: Clock> Gate for Hold<'_, R> {
+    fn before_ask(&self, agent: u32, number: u32) {
+        if number != self.until.number {
+            return;
+        }
+        self.begun.fetch_add(1, Ordering::SeqCst);
+        if agent < self.until.agents {
+            self.wait(&self.begun, self.until.begun);
+            self.wait(&self.answered, self.until.answered);
+            self.wait(&self.written, self.until.written);
+        }
+    }
+
+    fn after_answer(&self, agent: u32, _number: u32) {
+        if agent == self.until.to {
+            self.answered.fetch_add(1, Ordering::SeqCst);
+        }
+    }
+}

@@ -1,0 +1,189 @@
+//! Agents of a crew that work at the same time: each of these runs is held so that a crew which
+//! serves its connections one after another, or in turns, runs out.
+use super::frames::Frames;
+use super::hold::{Hold, Until};
+use super::memory_port::MemoryPort;
+use super::peer::Peer;
+use super::whole_crew::{EMPTY, Told, line, open, outbox, port, run_over};
+use dsn_device::Plain;
+use std::alloc::Global;
+use std::process::Abort;
+use std::sync::Wait;
+use std::test::Fail;
+use std::thread::Threads;
+use std::time::Clock;
+
+/// Ports with one connection each, over which this is sent.
+pub(super) fn ports_of<'a>(alloc: Global, all: &'a [Frames]) -> Result<Vec<MemoryPort<'a>>, Fail> {
+    let mut ports = Vec::new(alloc);
+    for frames in all {
+        ports.push(port(alloc, &[(frames.bytes.as_slice(), true)], false)?)?;
+    }
+    Ok(ports)
+}
+
+/// What comes of these agents, and how many holds ran out.
+fn held<R: Threads + Wait + Clock + Sync>(
+    rt: &R,
+    alloc: Global,
+    all: &[Frames],
+    until: Until,
+) -> Result<(Told<Plain<Peer<'static>>>, u64), Fail> {
+    let hold = Hold::new(rt, until);
+    let ports = ports_of(alloc, all)?;
+    let told = run_over(rt, alloc, 100, ports, outbox(alloc, usize::MAX), &hold)?;
+    Ok((told, hold.ran_out()))
+}
+
+/// So many appends of `x@y` to this log.
+fn appends(alloc: Global, count: u32, message: &[u8]) -> Result<Frames, Fail> {
+    let mut frames = Frames::new(alloc);
+    for number in 0..count {
+        frames.append(alloc, number, message, b"x@y")?;
+    }
+    Ok(frames)
+}
+
+/// Asserts that a run ended well, that no hold ran out, and that no letter was made.
+fn assert_empty<R: Abort>(rt: &R, told: (Told<Plain<Peer<'static>>>, u64), requests: u32) {
+    let (told, ran_out) = told;
+    assert_eq!(rt; (told.code, ran_out, told.letters), (0, 0, 0));
+    for agent in told.agents {
+        assert_eq!(rt; agent, line(requests, 1));
+    }
+    assert!(rt; told.whole);
+    let heard = told.outbox.into_inner().heard;
+    assert_eq!(rt; heard.as_slice(), EMPTY.as_slice());
+}
+
+#[test]
+fn agents_side_by_side(rt: HostRuntime) -> Result<(), Fail> {
+    let until = Until {
+        agents: 1,
+        number: 0,
+        begun: 0,
+        answered: 1,
+        to: 1,
+        written: 0,
+    };
+    let all = [
+        appends(rt.alloc(), 1, b"Q1")?,
+        appends(rt.alloc(), 1, b"Q2")?,
+    ];
+    let told = held(&rt, rt.alloc(), &all, until)?;
+    let lines = [open(b"Q1", 1)?, open(b"Q2", 1)?];
+    assert_eq!(rt; told.0.open.as_slice(), lines.as_slice());
+    assert_eq!(rt; told.0.agents.len(), 2);
+    assert_empty(&rt, told, 1);
+    Ok(())
+}
+
+#[test]
+fn agents_cross(rt: HostRuntime) -> Result<(), Fail> {
+    let until = Until {
+        agents: 2,
+        number: 1,
+        begun: 2,
+        answered: 0,
+        to: 0,
+        written: 0,
+    };
+    let all = [
+        appends(rt.alloc(), 2, b"Q1")?,
+        appends(rt.alloc(), 2, b"Q2")?,
+    ];
+    let told = held(&rt, rt.alloc(), &all, until)?;
+    let lines = [open(b"Q1", 2)?, open(b"Q2", 2)?];
+    assert_eq!(rt; told.0.open.as_slice(), lines.as_slice());
+    assert_eq!(rt; told.0.agents.len(), 2);
+    assert_empty(&rt, told, 2);
+    Ok(())
+}
+
+#[test]
+fn sixteen_agents(rt: HostRuntime) -> Result<(), Fail> {
+    let until = Until {
+        agents: 16,
+        number: 0,
+        begun: 16,
+        answered: 0,
+        to: 0,
+        written: 0,
+    };
+    let mut all = Vec::new(rt.alloc());
+    for _ in 0..16u32 {
+        all.push(appends(rt.alloc(), 10, b"Q1")?)?;
+    }
+    let told = held(&rt, rt.alloc(), &all, until)?;
+    assert_eq!(rt; told.0.open.as_slice(), [open(b"Q1", 160)?].as_slice());
+    assert_eq!(rt; told.0.agents.len(), 16);
+    assert_empty(&rt, told, 10);
+    Ok(())
+}
+
+/// Fifty appends to `B Q1`, of the recipients `a00@x` to `a49@x` where this byte is `a`.
+fn fifty(alloc: Global, who: u8) -> Result<Frames, Fail> {
+    let mut frames = Frames::new(alloc);
+    for number in 0..50u8 {
+        let end = group_end(who, number);
+        frames.append(alloc, u32::from(number), b"Q1", &end[1..6])?;
+    }
+    Ok(frames)
+}
+
+/// The end of the line with this recipient in its group, with the blank before it.
+fn group_end(who: u8, number: u8) -> [u8; 7] {
+    let tens = b'0'.wrapping_add(number / 10);
+    let ones = b'0'.wrapping_add(number % 10);
+    [b' ', who, tens, ones, b'@', b'x', b'\r']
+}
+
+/// How many groups of the recipients that begin with this byte stand in a text one after another,
+/// in the order of their numbers.
+fn groups_in_order(text: &[u8], who: u8) -> u8 {
+    let mut next = 0u8;
+    for window in text.windows(7) {
+        if window == group_end(who, next).as_slice() {
+            next = next.wrapping_add(1);
+        }
+    }
+    next
+}
+
+/// How many groups of recipients a text has.
+fn groups(text: &[u8]) -> u32 {
+    let mut count = 0u32;
+    for window in text.windows(16) {
+        if window == b"Final-Recipient:".as_slice() {
+            count = count.wrapping_add(1);
+        }
+    }
+    count
+}
+
+#[test]
+fn two_agents_one_log(rt: HostRuntime) -> Result<(), Fail> {
+    let until = Until {
+        agents: 1,
+        number: 50,
+        begun: 0,
+        answered: 50,
+        to: 1,
+        written: 0,
+    };
+    let mut first = fifty(rt.alloc(), b'a')?;
+    first.flush(rt.alloc(), 50, b"Q1")?;
+    let all = [first, fifty(rt.alloc(), b'b')?];
+    let (told, ran_out) = held(&rt, rt.alloc(), &all, until)?;
+    assert_eq!(rt; (told.code, ran_out, told.letters), (0, 0, 1));
+    assert_eq!(rt;
+        told.agents.as_slice(),
+        [line(51, 1), line(50, 1)].as_slice()
+    );
+    assert!(rt; told.whole && told.open.is_empty());
+    let heard = told.outbox.into_inner().heard;
+    assert_eq!(rt; groups(&heard), 100);
+    assert_eq!(rt; groups_in_order(&heard, b'a'), 50);
+    assert_eq!(rt; groups_in_order(&heard, b'b'), 50);
+    Ok(())
+}

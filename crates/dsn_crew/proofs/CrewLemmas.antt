@@ -48,7 +48,7 @@ use Rattle.dsn_crew.specs.declared.port.Port.{Ghosts as Port}
 use Rattle.dsn_crew.specs.declared.port_end.PortEnd.{PortEnd}
 use Rattle.dsn_crew.specs.declared.start_serving.Serves.{Serves}
 use Rattle.dsn_crew.proofs.ServeLemmas.{numbered-length}
-use Rattle.dsn_crew.proofs.StartServingLemmas.{are-served}
+use Rattle.dsn_crew.proofs.StartServingLemmas.{are-served, starts-length}
 
 -- ---- one agent
 
@@ -198,17 +198,9 @@ module _ {W : Type 0} (drain : Drain W) (host : List ℕ) (limits : Limits) (sta
 
 -- ---- the whole
 
-started_length : {P : Type 0} (agents : List Agent) (ports : List P) (handles : List (Option (PromisedHandle PortEnd (Serves P)))) → AreStarted agents ports handles → length handles ≡ length agents
-started_length [] [] [] started = refl
-started_length [] [] (handle ∷ handles) started = absurd started
-started_length [] (port ∷ ports) handles started = absurd started
-started_length (agent ∷ agents) [] handles started = absurd started
-started_length (agent ∷ agents) (port ∷ ports) [] started = absurd started
-started_length (agent ∷ agents) (port ∷ ports) (handle ∷ handles) started = ap suc (started_length agents ports handles started.1)
-
 module _ {P S W : Type 0} (port : Port P S) (drain : Drain W) (host : List ℕ) (limits : Limits) (ports : List P) (start : W) (count : ℕ) (agents : List Agent) (desk : Desk) (opened : IsOpened limits count agents desk) (count_is : count ≡ length ports) (handles : List (Option (PromisedHandle PortEnd (Serves P)))) (started : AreStarted agents ports handles) where
   pub handles_length : length handles ≡ count
-  handles_length = started_length agents ports handles started ∙ (ap length opened.crew_is ∙ (length-map desk.answers (opened_agent limits.requests desk.requests.lane) ∙ opened.count))
+  handles_length = starts-length agents ports handles started ∙ (ap length opened.crew_is ∙ (length-map desk.answers (opened_agent limits.requests desk.requests.lane) ∙ opened.count))
 
   -- no more agents are missed than there are
   pub missing_few : missing handles ≤ count

@@ -1,20 +1,7 @@
-//! The daemon as a library: `batch` turns a stream of framed requests into an outbox and notes.
+//! The daemon as a library: `batch` runs the requests of one input.
 #![tactic(auto)]
 
-mod batch_end;
-mod ending;
-mod memory_run;
-mod memory_source;
-mod notes;
-mod reading;
-mod reading_end;
-mod run;
-mod turn;
-mod whole_run;
-
-pub use batch_end::BatchEnd;
 pub use dsn_book::Limits;
 pub use dsn_frame::Spoken;
 pub use dsn_report::Site;
-pub use memory_run::{MemoryRun, batch_bytes};
-pub use whole_run::batch;
+pub use noticed_batch::{BatchEnd, MemoryRun, batch, batch_bytes};

@@ -1,0 +1,4 @@
+pub mod BatchLemmas
+pub mod MemoryLemmas
+pub mod ReadingLemmas
+pub mod RunLemmas

@@ -1,0 +1,48 @@
+//! Reading an input to its end, one frame after another.
+ghost use Rattle.std.specs.Prelude.{◌≡◌, ℕ, [], List, Option};
+ghost use Rattle.dsn_outcome.specs.History.{Limits as Bounds};
+ghost use Rattle.noticed_batch.specs.Reading.{Heard};
+ghost use Rattle.noticed_batch.specs.Requests.{requests_of};
+ghost use Rattle.noticed_batch.specs.Run.{Stands};
+
+use crate::reading_end::ReadingEnd;
+use crate::run::Run;
+use dsn_frame::read_frame;
+use dsn_outcome::{Drain, Source, send};
+use noticed_notes::answer_line;
+use std::alloc::Global;
+
+/// Reads and answers frames, as many as the limit allows, and tells each answer in a line of its
+/// own, before the next frame is read. Nothing is read once a line could not be written.
+pub(crate) fn read_all<R: Source, W: Drain, N: Drain>(
+    alloc: Global,
+    requests: u32,
+    input: &mut R,
+    run: &mut Run<W>,
+    notes: &mut N,
+) -> ReadingEnd
+    requires { run.old.accepted ≡ 0 }
+    ensures heard { (limits : Bounds) (host : List ℕ) (start : W) → limits.requests ≡ requests → Stands W.Drain limits host start run.old (requests_of []) →
+        Heard R.Source W.Drain N.Drain limits host start input.old input.new run.new notes.old notes.new result }
+    ensures steady { R.steady input.old → R.steady input.new × (R.failures input.new ≡ R.failures input.old) }
+{
+    for position in 0..requests {
+        let frame = match read_frame(alloc, input) {
+            Ok(Some(frame)) => frame,
+            Ok(None) => return ReadingEnd::AtEnd,
+            Err(fault) => return ReadingEnd::Unreadable(fault),
+        };
+        let turn = run.answer(alloc, position, frame.body());
+        if send(notes, answer_line(position, turn.answer).bytes()).is_err() {
+            return ReadingEnd::NotesLost;
+        }
+        if turn.over {
+            return ReadingEnd::OutOfTurn;
+        }
+    }
+    match read_frame(alloc, input) {
+        Ok(None) => ReadingEnd::AtEnd,
+        Ok(Some(_)) => ReadingEnd::TooMany,
+        Err(fault) => ReadingEnd::Unreadable(fault),
+    }
+}

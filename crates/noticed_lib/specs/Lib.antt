@@ -1,9 +1,0 @@
-pub mod Batch
-pub mod Harvest
-pub mod MemoryRun
-pub mod Notes
-pub mod Reading
-pub mod ReadingEnd
-pub mod Requests
-pub mod Run
-pub mod Telling

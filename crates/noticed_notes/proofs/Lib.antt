@@ -1,0 +1,3 @@
+pub mod NotesLemmas
+pub mod OpenLogsLemmas
+pub mod TellingLemmas

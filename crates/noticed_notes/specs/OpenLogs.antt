@@ -1,0 +1,12 @@
+-- Open logs: the list of the logs that a run leaves open, as its notes tell them.
+use Rattle.std.specs.Prelude.{List, Option, MatchOption, IsPermutation}
+use Rattle.std.specs.List.Sorted.{IsSortedByKey}
+use Rattle.dsn_book.specs.OpenLine.{open_lines_after}
+use Rattle.dsn_book.specs.declared.line.OpenLine.{OpenLine}
+use Rattle.dsn_outcome.specs.History.{Exchange}
+use Rattle.dsn_outcome.specs.Key.{key_cmp}
+
+-- the lines of the logs that a history leaves open, in key order; none where their list found no memory
+abbrev pub AreOpenLines : List Exchange → Option (List OpenLine) → Type 0
+AreOpenLines history logs =
+    MatchOption logs (Unit {0}) (λ lines. IsPermutation (open_lines_after history) lines × IsSortedByKey (λ (line : OpenLine). line.key) key_cmp lines)

@@ -97,34 +97,3 @@ impl Limits {
         self.requests
     }
 }
-
-#[cfg(test)]
-mod tests {
-    use super::*;
-
-    #[test]
-    fn bounds(rt: HostRuntime) {
-        for (logs, entries, requests, want) in [
-            (1, 1, 1, true),
-            (65_536, 1_000, 1_000_000, true),
-            (0, 1, 1, false),
-            (1, 0, 1, false),
-            (1, 1, 0, false),
-            (65_537, 1, 1, false),
-            (1, 1_001, 1, false),
-            (1, 1, 1_000_001, false),
-        ] {
-            assert_eq!(rt; Limits::new(logs, entries, requests).is_some(), want);
-        }
-    }
-
-    #[test]
-    fn limits_are_kept(rt: HostRuntime) {
-        let Some(limits) = Limits::new(10, 20, 30) else {
-            panic!(rt; "no limits");
-        };
-        assert_eq!(rt; limits.logs(), 10);
-        assert_eq!(rt; limits.entries(), 20);
-        assert_eq!(rt; limits.requests(), 30);
-    }
-}

@@ -112,6 +112,3 @@ fn answer_from(kind: u8, value: u32) -> Option<Spoken>
     };
     Some(Spoken::Reply(reply))
 }
-
-#[cfg(test)]
-mod tests;

@@ -116,6 +116,3 @@ fn checked_moments(fields: FlushParts<'_>) -> Result<(Stamp, Stamp), BodyFault>
     }
     Ok((moment, arrival))
 }
-
-#[cfg(test)]
-mod tests;

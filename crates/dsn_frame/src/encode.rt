@@ -141,6 +141,3 @@ fn clean_text(text: Option<&Clean>) -> &[u8]
         None => b"",
     }
 }
-
-#[cfg(test)]
-mod tests;

@@ -120,6 +120,3 @@ pub(crate) fn number_in(bytes: &[u8]) -> u32
 {
     u32::from_be_bytes([bytes[0], bytes[1], bytes[2], bytes[3]])
 }
-
-#[cfg(test)]
-mod tests;

@@ -5,4 +5,3 @@ mod Examples
 pub mod RuleLemmas
 pub mod SendLemmas
 pub mod SumLemmas
-pub mod TestLemmas

@@ -23,6 +23,3 @@ pub use lane_out::LaneOut;
 pub use lane_shut::LaneShut;
 pub use lost::Lost;
 pub use open::open_lane;
-
-#[cfg(test)]
-mod tests;

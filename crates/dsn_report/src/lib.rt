@@ -15,8 +15,6 @@ mod post_fault;
 mod poster;
 mod ruled_out;
 mod site;
-#[cfg(test)]
-mod tests;
 mod transaction;
 mod wording;
 

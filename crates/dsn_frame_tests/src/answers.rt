@@ -1,0 +1,76 @@
+//! Answers with their bytes, and bytes that are no answer.
+use dsn_frame::{Spoken, decode_answer, encode_answer};
+use dsn_outcome::Reply;
+use std::test::Fail;
+
+/// Each reply, and a refusal, with its frame's bytes after the number.
+const ANSWERS: [(Spoken, u8, [u8; 4]); 11] = [
+    (Spoken::Reply(Reply::Logged(0)), 1, [0, 0, 0, 0]),
+    (Spoken::Reply(Reply::Logged(0x0102_0304)), 1, [1, 2, 3, 4]),
+    (Spoken::Reply(Reply::Closed), 2, [0, 0, 0, 0]),
+    (Spoken::Reply(Reply::TableFull), 3, [0, 0, 0, 0]),
+    (Spoken::Reply(Reply::LogFull), 4, [0, 0, 0, 0]),
+    (Spoken::Reply(Reply::Nothing), 5, [0, 0, 0, 0]),
+    (Spoken::Reply(Reply::NoReturn(7)), 6, [0, 0, 0, 7]),
+    (Spoken::Reply(Reply::Sealed(1_000)), 7, [0, 0, 3, 232]),
+    (
+        Spoken::Reply(Reply::Discarded(u32::MAX)),
+        8,
+        [255, 255, 255, 255],
+    ),
+    (Spoken::Reply(Reply::Gone), 9, [0, 0, 0, 0]),
+    (Spoken::Refused(46), 10, [0, 0, 0, 46]),
+];
+
+#[test]
+fn frames_and_answers_encoded(rt: HostRuntime) -> Result<(), Fail> {
+    let sealed = encode_answer(1, &Spoken::Reply(Reply::Sealed(1)));
+    assert_eq!(rt;
+        sealed.as_slice(),
+        b"\0\0\0\x0a\x01\x07\0\0\0\x01\0\0\0\x01".as_slice()
+    );
+    let refused = encode_answer(0, &Spoken::Refused(24));
+    assert_eq!(rt;
+        refused.as_slice(),
+        b"\0\0\0\x0a\x01\x0a\0\0\0\0\0\0\0\x18".as_slice()
+    );
+    for (answer, kind, value) in ANSWERS {
+        for number in [0, 1, 999_999, u32::MAX] {
+            let [n0, n1, n2, n3] = number.to_be_bytes();
+            let [v0, v1, v2, v3] = value;
+            let want = [0, 0, 0, 10, 1, kind, n0, n1, n2, n3, v0, v1, v2, v3];
+            let bytes = encode_answer(number, &answer);
+            assert_eq!(rt; bytes.as_slice(), want.as_slice(), "{answer:?}");
+            let (place, said) = decode_answer(&bytes[4..]).ok().ok_or("an answer")?;
+            assert_eq!(rt; place, number, "{answer:?}");
+            assert_eq!(rt; said, answer);
+        }
+    }
+    Ok(())
+}
+
+#[test]
+fn bodies_that_are_no_answer(rt: HostRuntime) -> Result<(), Fail> {
+    for (bytes, want) in [
+        (b"".as_slice(), 23),
+        (b"\0".as_slice(), 21),
+        (b"\x02\x0b".as_slice(), 21),
+        (b"\x01".as_slice(), 23),
+        (b"\x01\0".as_slice(), 22),
+        (b"\x01\x0b".as_slice(), 22),
+        (b"\x01\x01".as_slice(), 23),
+        (b"\x01\x02\0\0\0\0\0\0\0\x05".as_slice(), 34),
+        (b"\x01\x03\0\0\0\0\0\0\x01\0".as_slice(), 34),
+        (b"\x01\x04\0\0\0\0\0\x01\0\0".as_slice(), 34),
+        (b"\x01\x05\0\0\0\0\x80\0\0\0".as_slice(), 34),
+        (b"\x01\x09\0\0\0\0\0\0\0\x01".as_slice(), 34),
+        (b"\x01\x02\0\0\0\0\0\0\x05".as_slice(), 23),
+        (b"\x01\x02\0\0\0\0\0\0\0\x05\0".as_slice(), 24),
+        (b"\x01\x07\0\0\0\0\0\0\0\x05\0".as_slice(), 24),
+        (b"\0\x0b\0\0\0\0\0\0\0\x05\0".as_slice(), 21),
+    ] {
+        let fault = decode_answer(bytes).err().ok_or("no fault")?;
+        assert_eq!(rt; fault.code(), want, "{bytes:?}");
+    }
+    Ok(())
+}

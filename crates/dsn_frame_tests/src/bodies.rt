@@ -1,0 +1,191 @@
+//! Bodies from outside: short ones, whole ones, and ones that are a byte away from a bound.
+mod bounds;
+mod near;
+
+use dsn_frame::decode_request;
+use dsn_outcome::{Body, Parts, Service};
+use std::test::Fail;
+
+/// An append of version 1 to `B K1` without optional texts.
+const APPEND: Parts<'static> = Parts {
+    recipient: b"x@y",
+    original: b"",
+    action: 1,
+    status: b"5.0.0",
+    mta: b"",
+    diagnostic: b"",
+    reason: b"",
+};
+
+/// The fields of a flush on the wire, whether they are legal or not.
+#[derive(Clone, Copy)]
+struct FlushParts<'a> {
+    moment: u64,
+    arrival: u64,
+    return_path: &'a [u8],
+    envelope_id: &'a [u8],
+    header: &'a [u8],
+}
+
+/// A flush of `B K1` without optional texts.
+const FLUSH: FlushParts<'static> = FlushParts {
+    moment: 1_700_000_000,
+    arrival: 1_699_996_400,
+    return_path: b"ann@example.com",
+    envelope_id: b"",
+    header: b"",
+};
+
+fn push_text(body: &mut Vec<u8>, text: &[u8]) -> Result<(), Fail> {
+    let size = u16::try_from(text.len())
+        .ok()
+        .ok_or("the text is too long")?;
+    body.extend_from_slice(&size.to_be_bytes())?;
+    body.extend_from_slice(text)?;
+    Ok(())
+}
+
+fn head_bytes(rt: &HostRuntime, kind: u8, service: u8, id: &[u8]) -> Result<Vec<u8>, Fail> {
+    let mut body = vec![in rt.alloc(); 1, kind, 0, 0, 0, 7, service]?;
+    push_text(&mut body, id)?;
+    Ok(body)
+}
+
+/// The number of the refusal of a body, or 0.
+fn refusal(rt: &impl AllocGlobal, bytes: &[u8]) -> u32 {
+    match decode_request(rt.alloc(), bytes) {
+        Ok(_) => 0,
+        Err(fault) => fault.code(),
+    }
+}
+
+fn append_refusal(rt: &HostRuntime, service: u8, parts: Parts<'_>) -> Result<u32, Fail> {
+    let mut body = head_bytes(rt, 1, service, b"K1")?;
+    push_text(&mut body, parts.original)?;
+    push_text(&mut body, parts.recipient)?;
+    body.push(parts.action)?;
+    push_text(&mut body, parts.status)?;
+    push_text(&mut body, parts.mta)?;
+    push_text(&mut body, parts.diagnostic)?;
+    push_text(&mut body, parts.reason)?;
+    Ok(refusal(rt, &body))
+}
+
+fn flush_refusal(rt: &HostRuntime, parts: FlushParts<'_>) -> Result<u32, Fail> {
+    let mut body = head_bytes(rt, 2, 1, b"K1")?;
+    body.extend_from_slice(&parts.moment.to_be_bytes())?;
+    body.extend_from_slice(&parts.arrival.to_be_bytes())?;
+    push_text(&mut body, parts.return_path)?;
+    push_text(&mut body, parts.envelope_id)?;
+    push_text(&mut body, parts.header)?;
+    Ok(refusal(rt, &body))
+}
+
+#[test]
+fn short_bodies(rt: HostRuntime) -> Result<(), Fail> {
+    for (bytes, want) in [
+        (b"".as_slice(), 23),
+        (b"\x00".as_slice(), 21),
+        (b"\x01".as_slice(), 23),
+        (b"\x01\x04".as_slice(), 22),
+        (b"\x01\x09".as_slice(), 22),
+        (b"\x01\x03".as_slice(), 23),
+        (b"\x02\x09".as_slice(), 21),
+        (b"\x01\x03\0\0\0\0\x01\0\x02K1".as_slice(), 0),
+        (b"\x01\x03\0\0\0\0\x01\0\x02K".as_slice(), 23),
+        (b"\x01\x03\0\0\0\0\x01\0\x02K1\0".as_slice(), 24),
+        (b"\x01\x03\0\0\0\0\x01\0\x02K-".as_slice(), 26),
+        (b"\x01\x03\0\0\0\0\x04\0\x02K-".as_slice(), 25),
+    ] {
+        assert_eq!(rt; refusal(&rt, bytes), want, "{bytes:?}");
+    }
+    let discard = b"\x01\x03\0\0\0\0\x01\0\x02K1";
+    let (number, body) = decode_request(rt.alloc(), discard).ok().ok_or("a discard")?;
+    assert_eq!(rt; number, 0);
+    let Body::Discard(key) = body else {
+        return Err("no discard")?;
+    };
+    assert_eq!(rt; key.service, Service::Bounce);
+    assert_eq!(rt; key.id.bytes(), b"K1".as_slice());
+    Ok(())
+}
+
+#[test]
+fn one_append_one_flush(rt: HostRuntime) -> Result<(), Fail> {
+    let append =
+        b"\x01\x01\0\0\0\0\x01\0\x06A1B2C3\0\0\0\x0fbob@example.org\x01\0\x055.1.1\0\0\0\0\0\0";
+    let (number, body) = decode_request(rt.alloc(), append).ok().ok_or("an append")?;
+    assert_eq!(rt; number, 0);
+    let Body::Append(id, node) = body else {
+        return Err("no append")?;
+    };
+    assert_eq!(rt; id.bytes(), b"A1B2C3".as_slice());
+    assert_eq!(rt;
+        node.outcome().recipient().bytes(),
+        b"bob@example.org".as_slice()
+    );
+    assert_eq!(rt; node.outcome().status().bytes(), b"5.1.1".as_slice());
+    assert!(rt; node.outcome().mta().is_none());
+    let flush =
+        b"\x01\x02\0\0\0\x01\x01\0\x06A1B2C3\0\0\0\0\x65\x53\xf1\0\0\0\0\0\x65\x53\xe2\xf0\0\x0fann@example.com\0\0\0\0";
+    let (number, body) = decode_request(rt.alloc(), flush).ok().ok_or("a flush")?;
+    assert_eq!(rt; number, 1);
+    let Body::Flush(key, draft) = body else {
+        return Err("no flush")?;
+    };
+    assert_eq!(rt; key.id.bytes(), b"A1B2C3".as_slice());
+    assert!(rt; draft.has_return());
+    Ok(())
+}
+
+#[test]
+fn a_body_cut_anywhere_is_short(rt: HostRuntime) {
+    let append =
+        b"\x01\x01\0\0\0\0\x01\0\x06A1B2C3\0\0\0\x0fbob@example.org\x01\0\x055.1.1\0\0\0\0\0\0";
+    for end in 0..append.len() {
+        assert_eq!(rt; refusal(&rt, &append[..end]), 23, "{end} bytes");
+    }
+}
+
+#[test]
+fn statuses_refused(rt: HostRuntime) -> Result<(), Fail> {
+    for (status, want) in [
+        (b"5.01.1".as_slice(), 4),
+        (b"3.0.0".as_slice(), 4),
+        (b"5.1000.1".as_slice(), 4),
+        (b"2.0.0".as_slice(), 5),
+        (b"4.4.7".as_slice(), 0),
+    ] {
+        let parts = Parts { status, ..APPEND };
+        assert_eq!(rt; append_refusal(&rt, 1, parts)?, want, "{status:?}");
+    }
+    Ok(())
+}
+
+#[test]
+fn actions_and_services(rt: HostRuntime) -> Result<(), Fail> {
+    for (service, action, status, want) in [
+        (1, 2, b"5.0.0".as_slice(), 3),
+        (1, 6, b"5.0.0".as_slice(), 3),
+        (2, 2, b"4.4.1".as_slice(), 0),
+        (3, 5, b"2.0.0".as_slice(), 0),
+    ] {
+        let parts = Parts {
+            action,
+            status,
+            ..APPEND
+        };
+        assert_eq!(rt; append_refusal(&rt, service, parts)?, want, "{action}");
+    }
+    Ok(())
+}
+
+#[test]
+fn a_null_return_path_is_accepted(rt: HostRuntime) -> Result<(), Fail> {
+    let parts = FlushParts {
+        return_path: b"",
+        ..FLUSH
+    };
+    assert_eq!(rt; flush_refusal(&rt, parts)?, 0);
+    Ok(())
+}

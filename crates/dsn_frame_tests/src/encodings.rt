@@ -1,0 +1,268 @@
+//! Requests to frames and back, in all their shapes.
+use dsn_frame::{decode_request, encode_request};
+use dsn_outcome::{
+    Address, Body, Clean, Draft, EnvelopeId, Key, MtaName, Outcome, Parts, QueueId, RawHeader,
+    Service, Stamp,
+};
+use std::test::Fail;
+
+/// A failed recipient with every optional text.
+const ALL: Parts<'static> = Parts {
+    recipient: b"bob@example.org",
+    original: b"bob.alias@example.org",
+    action: 1,
+    status: b"5.1.1",
+    mta: b"mail.example.org",
+    diagnostic: b"550 5.1.1 no such user",
+    reason: b"host said:?no such user",
+};
+
+/// The texts of a flush.
+#[derive(Clone, Copy)]
+struct Texts<'a> {
+    return_path: &'a [u8],
+    envelope_id: &'a [u8],
+    header: &'a [u8],
+}
+
+fn id(text: &[u8]) -> Result<QueueId, Fail> {
+    Ok(QueueId::new(text).ok_or("a queue id")?)
+}
+
+fn append(rt: &HostRuntime, service: Service, text: &[u8], parts: Parts<'_>) -> Result<Body, Fail> {
+    Ok(Body::Append(id(text)?, Outcome::new(rt.alloc(), service, parts)?))
+}
+
+fn flush(rt: &HostRuntime, seconds: [u64; 2], texts: Texts<'_>) -> Result<Body, Fail> {
+    let [moment, arrival] = seconds;
+    let return_path = match texts.return_path {
+        [] => None,
+        text => Some(Address::new(rt.alloc(), text)?),
+    };
+    let envelope_id = match texts.envelope_id {
+        [] => None,
+        text => Some(EnvelopeId::new(rt.alloc(), text)?),
+    };
+    let draft = Draft::new(
+        rt.alloc(),
+        Stamp::new(moment).ok_or("a moment")?,
+        Stamp::new(arrival).ok_or("a moment")?,
+        return_path,
+        envelope_id,
+        RawHeader::new(rt.alloc(), texts.header)?,
+    )?;
+    let key = Key {
+        service: Service::Defer,
+        id: id(b"Q")?,
+    };
+    Ok(Body::Flush(key, draft))
+}
+
+fn same_outcome(a: &Outcome, b: &Outcome) -> bool {
+    a.service() == b.service()
+        && a.recipient().bytes() == b.recipient().bytes()
+        && a.original().map(Address::bytes) == b.original().map(Address::bytes)
+        && a.action() == b.action()
+        && a.status().bytes() == b.status().bytes()
+        && a.mta().map(MtaName::bytes) == b.mta().map(MtaName::bytes)
+        && a.diagnostic().map(Clean::bytes) == b.diagnostic().map(Clean::bytes)
+        && a.reason().map(Clean::bytes) == b.reason().map(Clean::bytes)
+}
+
+fn same_draft(a: &Draft, b: &Draft) -> bool {
+    a.moment() == b.moment()
+        && a.arrival() == b.arrival()
+        && a.return_path().map(Address::bytes) == b.return_path().map(Address::bytes)
+        && a.return_path().is_some() == b.return_path().is_some()
+        && a.envelope_id().map(EnvelopeId::bytes) == b.envelope_id().map(EnvelopeId::bytes)
+        && a.envelope_id().is_some() == b.envelope_id().is_some()
+        && a.header().bytes() == b.header().bytes()
+}
+
+fn same_body(a: &Body, b: &Body) -> bool {
+    match (a, b) {
+        (Body::Append(i, node), Body::Append(j, other)) => i == j
+            && same_outcome(node.outcome(), other.outcome()),
+        (Body::Flush(key, draft), Body::Flush(other, later)) => key == other
+            && same_draft(draft, later),
+        (Body::Discard(key), Body::Discard(other)) => key == other,
+        _ => false,
+    }
+}
+
+/// The frame of a request that isn't a goodbye.
+fn frame_of(rt: &HostRuntime, number: u32, body: &Body) -> Result<Vec<u8>, Fail> {
+    if body.is_bye() {
+        return Err("a goodbye has no frame")?;
+    }
+    Ok(encode_request(rt.alloc(), number, body)?)
+}
+
+/// Encodes a request, decodes the frame's body, compares, and tells the body's length.
+fn goes_and_comes_back(rt: &HostRuntime, number: u32, body: &Body) -> Result<usize, Fail> {
+    let frame = frame_of(rt, number, body)?;
+    let Some((&[a, b, c, d], bytes)) = frame.split_first_chunk::<4>() else {
+        return Err("no length")?;
+    };
+    let length = u32::from_be_bytes([a, b, c, d]) as usize;
+    if length != bytes.len() {
+        return Err("another length")?;
+    }
+    let (place, back) = decode_request(rt.alloc(), bytes)
+        .ok()
+        .ok_or("it was refused")?;
+    if place != number || !same_body(body, &back) {
+        return Err("another request")?;
+    }
+    Ok(length)
+}
+
+#[test]
+fn frames_and_answers_encoded(rt: HostRuntime) -> Result<(), Fail> {
+    let parts = Parts {
+        original: b"",
+        mta: b"",
+        diagnostic: b"",
+        reason: b"",
+        ..ALL
+    };
+    let body = append(&rt, Service::Bounce, b"A1B2C3", parts)?;
+    let frame = frame_of(&rt, 0, &body)?;
+    let want =
+        b"\0\0\0\x30\x01\x01\0\0\0\0\x01\0\x06A1B2C3\0\0\0\x0fbob@example.org\x01\0\x055.1.1\0\0\0\0\0\0";
+    assert_eq!(rt; frame.as_slice(), want.as_slice());
+    assert_eq!(rt; goes_and_comes_back(&rt, 0, &body)?, 48);
+    Ok(())
+}
+
+#[test]
+fn a_flush_and_a_discard_encoded(rt: HostRuntime) -> Result<(), Fail> {
+    let texts = Texts {
+        return_path: b"a@b",
+        envelope_id: b"Q1",
+        header: b"h\n\0",
+    };
+    let body = flush(&rt, [1_700_000_000, 1_699_996_400], texts)?;
+    let frame = frame_of(&rt, 8, &body)?;
+    let want =
+        b"\0\0\0\x28\x01\x02\0\0\0\x08\x02\0\x01Q\0\0\0\0\x65\x53\xf1\0\0\0\0\0\x65\x53\xe2\xf0\0\x03a@b\0\x02Q1\0\x03h\n\0";
+    assert_eq!(rt; frame.as_slice(), want.as_slice());
+    let key = Key {
+        service: Service::Trace,
+        id: id(b"K1")?,
+    };
+    let frame = frame_of(&rt, u32::MAX, &Body::Discard(key))?;
+    let want = b"\0\0\0\x0b\x01\x03\xff\xff\xff\xff\x03\0\x02K1";
+    assert_eq!(rt; frame.as_slice(), want.as_slice());
+    Ok(())
+}
+
+#[test]
+fn a_cleaned_text_is_written(rt: HostRuntime) -> Result<(), Fail> {
+    let parts = Parts {
+        diagnostic: b"a\tb",
+        reason: b"host said:\nno such user",
+        ..ALL
+    };
+    let body = append(&rt, Service::Bounce, b"K1", parts)?;
+    let frame = frame_of(&rt, 0, &body)?;
+    assert!(rt;
+        frame
+            .as_slice()
+            .ends_with(b"\0\x03a?b\0\x17host said:?no such user")
+    );
+    goes_and_comes_back(&rt, 0, &body)?;
+    Ok(())
+}
+
+fn text_if(there: bool, text: &'static [u8]) -> &'static [u8] {
+    if there { text } else { b"" }
+}
+
+#[test]
+fn appends_read_back(rt: HostRuntime) -> Result<(), Fail> {
+    let long = vec![in rt.alloc(); b'a'; 800]?;
+    for shape in 0..16u8 {
+        let parts = Parts {
+            original: text_if(shape & 1 != 0, ALL.original),
+            mta: text_if(shape & 2 != 0, ALL.mta),
+            diagnostic: text_if(shape & 4 != 0, b" "),
+            reason: text_if(shape & 8 != 0, ALL.reason),
+            ..ALL
+        };
+        let body = append(&rt, Service::Bounce, b"0", parts)?;
+        goes_and_comes_back(&rt, u32::from(shape), &body)?;
+    }
+    let longest = Parts {
+        recipient: &long[..256],
+        original: &long[..256],
+        action: 5,
+        status: b"2.999.999",
+        mta: &long[..255],
+        diagnostic: &long,
+        reason: &long,
+    };
+    let body = append(&rt, Service::Trace, &long[..32], longest)?;
+    assert_eq!(rt; goes_and_comes_back(&rt, 999_999, &body)?, 2_430);
+    Ok(())
+}
+
+#[test]
+fn actions_read_back(rt: HostRuntime) -> Result<(), Fail> {
+    for (service, action, status) in [
+        (Service::Bounce, 1, b"4.0.0".as_slice()),
+        (Service::Defer, 2, b"4.4.1".as_slice()),
+        (Service::Trace, 1, b"5.10.0".as_slice()),
+        (Service::Trace, 2, b"4.4.1".as_slice()),
+        (Service::Trace, 3, b"2.0.0".as_slice()),
+        (Service::Trace, 4, b"2.0.0".as_slice()),
+        (Service::Trace, 5, b"2.0.0".as_slice()),
+    ] {
+        let parts = Parts {
+            action,
+            status,
+            ..ALL
+        };
+        goes_and_comes_back(&rt, 7, &append(&rt, service, b"Zz9", parts)?)?;
+    }
+    Ok(())
+}
+
+/// Sends a flush of these texts there and back, and compares the length of its body.
+fn flush_comes_back(rt: &HostRuntime, seconds: [u64; 2], texts: Texts<'_>) -> Result<(), Fail> {
+    let body = flush(rt, seconds, texts)?;
+    let length = goes_and_comes_back(rt, 1, &body)?;
+    let fields = [texts.return_path, texts.envelope_id, texts.header];
+    let want = fields
+        .iter()
+        .fold(32usize, |sum, text| sum.saturating_add(text.len()));
+    if length != want {
+        return Err("another length")?;
+    }
+    Ok(())
+}
+
+#[test]
+fn flushes_read_back(rt: HostRuntime) -> Result<(), Fail> {
+    for shape in 0..8u8 {
+        let texts = Texts {
+            return_path: text_if(shape & 1 != 0, b"x"),
+            envelope_id: text_if(shape & 2 != 0, b" "),
+            header: text_if(shape & 4 != 0, b"\0\xff\r\n"),
+        };
+        flush_comes_back(&rt, [0, 253_402_300_799], texts)?;
+        flush_comes_back(&rt, [253_402_300_799, 1], texts)?;
+    }
+    Ok(())
+}
+
+#[test]
+fn a_longest_flush_reads_back(rt: HostRuntime) -> Result<(), Fail> {
+    let long = vec![in rt.alloc(); b'a'; 32_768]?;
+    let texts = Texts {
+        return_path: &long[..256],
+        envelope_id: &long[..100],
+        header: &long,
+    };
+    flush_comes_back(&rt, [1_700_000_000, 1_699_996_400], texts)
+}

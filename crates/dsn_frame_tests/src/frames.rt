@@ -1,0 +1,125 @@
+//! Frames from readers that give them in pieces, end anywhere and fail anywhere.
+ghost use Rattle.std.specs.Prelude.{Some};
+
+use dsn_frame::{LONGEST_BODY, read_frame};
+use dsn_outcome::Plain;
+use std::io;
+use std::io::{ErrorKind, Read};
+use std::test::Fail;
+
+/// A reader over bytes in memory, which gives at most `most` bytes a call, but at least one; the
+/// call after `good` calls is interrupted.
+#[derive(Drop)]
+struct PieceReader<'a> {
+    rest: &'a [u8],
+    most: usize,
+    good: usize,
+}
+
+impl Read for PieceReader<'_> {
+    ghost remaining = { λ r. Some r.rest.now };
+
+    fn read(&mut self, buffer: &mut [u8]) -> io::Result<usize> {
+        if self.good == 0 {
+            self.good = usize::MAX;
+            return Err(io::Error::from(ErrorKind::Interrupted));
+        }
+        self.good -= 1;
+        let room = buffer.len().min(self.most.max(1));
+        self.rest.read(&mut buffer[..room])
+    }
+}
+
+const TWO_FRAMES: &[u8] = b"\0\0\0\x03abc\0\0\0\x01d";
+
+fn source(rest: &[u8], most: usize, good: usize) -> Plain<PieceReader<'_>> {
+    Plain::new(PieceReader { rest, most, good })
+}
+
+/// The number of the fault of the first frame, or 0.
+fn fault(rt: &HostRuntime, input: &[u8], good: usize) -> u32 {
+    match read_frame(rt.alloc(), &mut source(input, 1, good)) {
+        Ok(_) => 0,
+        Err(fault) => fault.code(),
+    }
+}
+
+#[test]
+fn frames_in_pieces(rt: HostRuntime) -> Result<(), Fail> {
+    for most in 1..20 {
+        let mut source = source(TWO_FRAMES, most, 100);
+        for want in [b"abc".as_slice(), b"d".as_slice()] {
+            let frame = read_frame(rt.alloc(), &mut source).ok().ok_or("no fault")?;
+            assert_eq!(rt; frame.ok_or("a frame")?.body(), want, "by {most}");
+        }
+        let end = read_frame(rt.alloc(), &mut source).ok().ok_or("no fault")?;
+        assert!(rt; end.is_none(), "by {most}");
+    }
+    Ok(())
+}
+
+#[test]
+fn bad_lengths(rt: HostRuntime) {
+    for (input, want) in [
+        (b"".as_slice(), 0),
+        (b"\0\0\0\0".as_slice(), 12),
+        (b"\0\x01\0\x01".as_slice(), 11),
+        (b"\xff\xff\xff\xff".as_slice(), 11),
+        (b"\0\0\0".as_slice(), 13),
+        (b"\xff\xff".as_slice(), 13),
+        (b"\0\0\0\x02a".as_slice(), 13),
+        (b"\0\x01\0\0".as_slice(), 13),
+    ] {
+        assert_eq!(rt; fault(&rt, input, 100), want, "{input:?}");
+    }
+}
+
+#[test]
+fn long_bodies(rt: HostRuntime) -> Result<(), Fail> {
+    for size in [40_000u32, 65_536] {
+        let mut input = Vec::new(rt.alloc());
+        input.extend_from_slice(&size.to_be_bytes())?;
+        input.resize(4 + size as usize, 7)?;
+        let frame = read_frame(rt.alloc(), &mut source(&input, 5_000, 100))
+            .ok()
+            .ok_or("no fault")?;
+        assert_eq!(rt; frame.ok_or("a frame")?.body(), &input[4..], "{size} bytes");
+    }
+    Ok(())
+}
+
+#[test]
+fn a_reader_that_fails(rt: HostRuntime) {
+    for good in 0..7 {
+        assert_eq!(rt; fault(&rt, TWO_FRAMES, good), 14, "after {good} bytes");
+    }
+    assert_eq!(rt;
+        fault(&rt, TWO_FRAMES, 7),
+        0,
+        "a whole frame asks for no more"
+    );
+    assert_eq!(rt; fault(&rt, b"\0\0\0\0", 4), 12, "a length alone decides");
+}
+
+/// How many reads it took to read the first frame by so many bytes a call.
+fn reads_of(rt: &HostRuntime, input: &[u8], most: usize) -> Result<usize, Fail> {
+    let mut source = source(input, most, 100_000);
+    let frame = read_frame(rt.alloc(), &mut source).ok().ok_or("no fault")?;
+    let frame = frame.ok_or("a frame")?;
+    if frame.body() != input.get(4..).ok_or("a length")? {
+        return Err("another body")?;
+    }
+    Ok(100_000usize.saturating_sub(source.into_inner().good))
+}
+
+#[test]
+fn a_reader_of_one_byte_a_call(rt: HostRuntime) -> Result<(), Fail> {
+    let mut input = vec![in rt.alloc(); 0, 1, 0, 0]?;
+    for at in 0..LONGEST_BODY {
+        input.push((at % 251) as u8)?;
+    }
+    assert_eq!(rt; reads_of(&rt, &input, 1)?, 65_540);
+    assert_eq!(rt; reads_of(&rt, &input, 65_536)?, 2);
+    assert_eq!(rt; reads_of(&rt, b"\0\0\0\x01a", 1)?, 5);
+    Ok(())
+}

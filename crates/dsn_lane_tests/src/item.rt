@@ -1,0 +1,82 @@
+//! A small item, and lists of what was taken.
+ghost use Rattle.std.specs.Prelude.{◌≡◌};
+
+use dsn_lane::{LaneIn, LaneOut};
+use dsn_outcome::Carried;
+use std::alloc::AllocError;
+use std::sync::Wait;
+
+/// An item that is its agent and its number.
+#[derive(Clone, Copy, Debug, PartialEq, Eq)]
+pub struct Item {
+    pub agent: u32,
+    pub number: u32,
+}
+
+impl Carried for Item {
+    ghost agent = { λ item. item.agent };
+
+    ghost number = { λ item. item.number };
+
+    fn agent(&self) -> u32 {
+        self.agent
+    }
+
+    fn number(&self) -> u32 {
+        self.number
+    }
+}
+
+/// Sends the next item of an agent; false where the receiving end is gone.
+pub fn send_next(rt: &impl Wait, end: &mut LaneIn<Item>, agent: u32) -> bool
+    requires { agent ≡ end.old.agent }
+    ensures { (end.new.lane ≡ end.old.lane) × (end.new.agent ≡ end.old.agent) }
+{
+    let number = end.count();
+    number < u32::MAX && end.send(rt, Item { agent, number }).is_ok()
+}
+
+/// Sends so many items of an agent, one after another.
+pub fn send_many(rt: &impl Wait, end: &mut LaneIn<Item>, agent: u32, more: u32) -> bool
+    requires { agent ≡ end.old.agent }
+    ensures { (end.new.lane ≡ end.old.lane) × (end.new.agent ≡ end.old.agent) }
+{
+    for _ in 0..more {
+        if !send_next(rt, end, agent) {
+            return false;
+        }
+    }
+    true
+}
+
+/// Takes so many items, or fewer where the lane ends before, and adds them to a list.
+pub fn take_many(
+    rt: &impl Wait,
+    out: &mut LaneOut<Item>,
+    items: &mut Vec<Item>,
+    more: u32,
+) -> Result<(), AllocError>
+    ensures { (out.new.lane ≡ out.old.lane) × (out.new.first ≡ out.old.first) × (out.new.past ≡ out.old.past) }
+{
+    for _ in 0..more {
+        let Ok(item) = out.take(rt) else {
+            return Ok(());
+        };
+        items.push(item)?;
+    }
+    Ok(())
+}
+
+/// How many items of each agent a list has; `None` where those of one aren't numbered from 0 in
+/// their order.
+pub fn counts(items: &[Item]) -> Option<[u32; 16]> {
+    let mut counts = [0; 16];
+    for item in items {
+        let count = counts.get_mut(item.agent as usize)?;
+        if *count != item.number {
+            return None;
+        }
+        *count = item.number.wrapping_add(1);
+    }
+    Some(counts)
+}

@@ -1,0 +1,88 @@
+//! The letters and the site of all tests, and which hosts are a site.
+ghost use Rattle.std.specs.Prelude.{◌≡◌, ◌≢◌, [], All};
+
+use dsn_outcome::{
+    Address, Chain, Draft, EnvelopeId, Key, Letter, Outcome, Parts, QueueId, RawHeader, Service,
+    Stamp,
+};
+use dsn_report::{Site, SiteFault};
+use std::alloc::Global;
+use std::test::Fail;
+
+/// A failed recipient without optional texts.
+pub(crate) const BOB: Parts<'static> = Parts {
+    recipient: b"bob@example.org",
+    original: b"",
+    action: 1,
+    status: b"5.1.1",
+    mta: b"",
+    diagnostic: b"",
+    reason: b"",
+};
+
+/// What a letter is sealed with, its outcome apart.
+#[derive(Clone, Copy)]
+pub(crate) struct Flush<'a> {
+    pub(crate) id: &'a [u8],
+    pub(crate) moment: u64,
+    pub(crate) envelope_id: &'a [u8],
+    pub(crate) header: &'a [u8],
+}
+
+/// A flush of the message A1B2C3 without optional texts.
+pub(crate) const A1B2C3: Flush<'static> = Flush {
+    id: b"A1B2C3",
+    moment: 1_700_000_000,
+    envelope_id: b"",
+    header: b"",
+};
+
+/// A letter to the sender about one recipient of the bounce service.
+pub(crate) fn letter(alloc: Global, parts: Parts<'_>, flush: Flush<'_>) -> Result<Letter, Fail> {
+    let mut chain = Chain::new();
+    chain.push(Outcome::new(alloc, Service::Bounce, parts)?);
+    sealed(alloc, chain, flush)
+}
+
+/// A letter to the sender about these outcomes of the bounce service.
+pub(crate) fn sealed(alloc: Global, chain: Chain, flush: Flush<'_>) -> Result<Letter, Fail>
+    requires reports { chain ≢ [] }
+    requires of_service { All (λ outcome. outcome.service ≡ Service.Bounce) chain }
+{
+    let envelope_id = if flush.envelope_id.is_empty() {
+        None
+    } else {
+        Some(EnvelopeId::new(alloc, flush.envelope_id)?)
+    };
+    let draft = Draft::new(
+        alloc,
+        Stamp::new(flush.moment).ok_or("the moment")?,
+        Stamp::new(1_699_996_400).ok_or("the arrival")?,
+        Some(Address::new(alloc, b"ann@example.com")?),
+        envelope_id,
+        RawHeader::new(alloc, flush.header)?,
+    )?;
+    let key = Key {
+        service: Service::Bounce,
+        id: QueueId::new(flush.id).ok_or("the queue id")?,
+    };
+    Ok(Letter::seal(key, draft, chain))
+}
+
+/// The site of all tests.
+pub(crate) fn site(alloc: Global) -> Result<Site, Fail> {
+    Ok(Site::new(alloc, b"mx.example.net")?)
+}
+
+#[test]
+fn hosts(rt: HostRuntime) -> Result<(), Fail> {
+    let site = Site::new(rt.alloc(), b"mx.example.net")?;
+    assert_eq!(rt; site.bytes(), b"mx.example.net".as_slice());
+    assert!(rt; Site::is_valid(b"--help"));
+    let fault = Site::new(rt.alloc(), b"a_b")
+        .err()
+        .ok_or("`a_b` is a host")?;
+    assert_eq!(rt; fault, SiteFault::BadHost);
+    assert_eq!(rt; fault.code(), 51);
+    Ok(())
+}

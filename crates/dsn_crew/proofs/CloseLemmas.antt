@@ -12,10 +12,10 @@ use Rattle.dsn_outcome.specs.History.{Exchange, answers_to}
 use Rattle.dsn_outcome.specs.Request.{Request}
 use Rattle.dsn_outcome.specs.declared.answer.Answer.{Answer}
 use Rattle.dsn_outcome.proofs.HistoryLaws.{answers_length}
-use Rattle.dsn_crew.specs.Agent.{Ends, IsFinished}
+use Rattle.dsn_agent.specs.Agent.{Ends, IsFinished}
 use Rattle.dsn_crew.specs.Close.{AreCrew, AreOf, IsHeard}
 use Rattle.dsn_crew.specs.Desk.{Desk, IsDesk, all_gone, history}
-use Rattle.dsn_crew.specs.Place.{Place, place_at, place_of}
+use Rattle.dsn_agent.specs.Place.{Place, place_at, place_of}
 use Rattle.dsn_crew.proofs.DeskLemmas.{first_end}
 
 -- ---- prefixes and lists

@@ -1,9 +1,9 @@
 -- Crews: what each agent's thread, the collector and the poster came to, put together.
-use Rattle.std.proofs.Common.{◌≡◌, ◌≢◌, ℕ, zero, suc, ◌+◌, ◌<◌, ◌≤◌, ◌⊎◌, inl, inr, Bool, true, false, All, List, [], ◌∷◌, ◌++◌, length, map, refl, ap, sym, ◌∙◌, subst, append_assoc, length-append, arith}
+use Rattle.std.proofs.Common.{◌≡◌, ◌≢◌, ℕ, suc, ◌+◌, ◌<◌, ◌≤◌, inr, Bool, true, All, List, [], ◌∷◌, ◌++◌, length, map, refl, ap, sym, ◌∙◌, subst, append_assoc, arith}
 use Rattle.std.specs.Prelude.{IfErr, IfOk, IfSome, Option, Some, None, Result, Ok, Err, is_none, not}
 use Rattle.std.specs.declared.thread.PromisedHandle.{PromisedHandle}
 use Rattle.std.specs.List.{AllZip, flat_map, slice_index_or}
-use Rattle.std.proofs.lemmas.List.{append-nil, length-map, nil_from_length}
+use Rattle.std.proofs.lemmas.List.{append-nil, length-map}
 use Rattle.std.proofs.lemmas.List.Elements.{All-head, All-tail}
 use Rattle.std.proofs.lemmas.List.Filters.{length-filter_both}
 use Rattle.std.proofs.lemmas.Slice.Zip.{AllZip-long}
@@ -23,31 +23,30 @@ use Rattle.dsn_post.specs.Posting.{IsPosted}
 use Rattle.dsn_post.specs.declared.posted.Posted.{Posted}
 use Rattle.dsn_post.proofs.LetterSinkLemmas.{handed_letters}
 use Rattle.dsn_report.specs.Outgoing.{IsOutbox}
-use Rattle.dsn_crew.specs.Agent.{Agent, Ends, after_reply}
-use Rattle.dsn_crew.specs.Close.{AreCrew, IsHeard}
+use Rattle.dsn_agent.specs.Agent.{Agent, Ends, after_reply}
+use Rattle.dsn_crew.specs.Close.{IsHeard}
 use Rattle.dsn_crew.specs.Collected.{HasCollected}
-use Rattle.dsn_crew.specs.Conclude.{Concludes, HasClosed, HasFaulted, MayClose, account_of, fault_of}
+use Rattle.dsn_crew.specs.Conclude.{Concludes, HasFaulted, MayClose, account_of, fault_of}
 use Rattle.dsn_crew.specs.Crew.{Account, AreAgentAccounts, CrewFault, IsAccount, IsAgentAccount, IsBrokenOff, IsCrewFault}
 use Rattle.dsn_crew.specs.Desk.{Desk, IsDesk, IsRun, goodbyes, history, letter_kept, missing as missing_more, places_of}
 use Rattle.dsn_crew.specs.Gathered.{AreEnded, IsGathered}
-use Rattle.dsn_crew.specs.Open.{AreLines, IsOpened, opened_agent}
-use Rattle.dsn_crew.specs.Place.{place_at, place_of}
-use Rattle.dsn_crew.specs.Port.{AreOverPort, AreSessions, Conn, IsPortServed, Session, answers_of, bodies_of}
-use Rattle.dsn_crew.specs.Serve.{after_requests, answers_from, numbered_answer, numbered_from, numbered_request, requests_from}
+use Rattle.dsn_crew.specs.Open.{IsOpened, opened_agent}
+use Rattle.dsn_agent.specs.Place.{place_at, place_of}
+use Rattle.dsn_agent.specs.Port.{AreOverPort, Conn, IsPortServed, Session, answers_of, bodies_of}
+use Rattle.dsn_agent.specs.Serve.{after_requests, answers_from, numbered_answer, numbered_from, numbered_request, requests_from}
 use Rattle.dsn_crew.specs.StartServing.{AreServed, AreStarted, IsJoined, missing}
-use Rattle.dsn_crew.specs.declared.agent_line.AgentLine.{AgentLine}
+use Rattle.dsn_agent.specs.declared.agent_line.AgentLine.{AgentLine}
 use Rattle.dsn_crew.specs.declared.collected.Collected.{Collected}
 use Rattle.dsn_crew.specs.declared.collected.Collected.TheVariants.{Whole, Failed}
 use Rattle.dsn_crew.specs.declared.crew_cause.CrewCause.{CrewCause}
 use Rattle.dsn_crew.specs.declared.crew_cause.CrewCause.TheVariants as causes
 use Rattle.dsn_crew.specs.declared.desk_fault.DeskFault.{DeskFault}
-use Rattle.dsn_crew.specs.declared.desk_fault.DeskFault.TheVariants as faults
 use Rattle.dsn_crew.specs.declared.gathered.Gathered.{Gathered}
 use Rattle.dsn_crew.specs.declared.gathered.Gathered.TheVariants as gathered
-use Rattle.dsn_crew.specs.declared.port.Port.{Ghosts as Port}
-use Rattle.dsn_crew.specs.declared.port_end.PortEnd.{PortEnd}
+use Rattle.dsn_agent.specs.declared.port.Port.{Ghosts as Port}
+use Rattle.dsn_agent.specs.declared.port_end.PortEnd.{PortEnd}
 use Rattle.dsn_crew.specs.declared.start_serving.Serves.{Serves}
-use Rattle.dsn_crew.proofs.ServeLemmas.{numbered-length}
+use Rattle.dsn_agent.proofs.ServeLemmas.{numbered-length}
 use Rattle.dsn_crew.proofs.StartServingLemmas.{are-served, starts-length}
 
 -- ---- one agent

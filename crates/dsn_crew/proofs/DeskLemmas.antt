@@ -17,7 +17,7 @@ use Rattle.dsn_outcome.specs.Request.{Request, Body, Append, Flush, Discard, Bye
 use Rattle.dsn_outcome.specs.declared.answer.Answer.{Answer}
 use Rattle.dsn_outcome.proofs.HistoryLaws.{answers_length, answers_mine, answers_more, answers_other, history_more}
 use Rattle.dsn_crew.specs.Desk.{Desk, IsDesk, AreAnswered, AreTold, answered_more, goodbyes, history, is_goodbye, next_exchange, places_of, taken_request}
-use Rattle.dsn_crew.specs.Place.{Place, place_at}
+use Rattle.dsn_agent.specs.Place.{Place, place_at}
 
 -- ---- the ends of the answer lanes
 

@@ -1,11 +1,11 @@
 -- What came of the agents' threads: one agent more that said goodbye.
 use Rattle.std.proofs.Common.{◌≡◌, List, [], ◌∷◌, ◌++◌, length, sym, subst, append_assoc}
-use Rattle.std.specs.Prelude.{Option, Some, None}
+use Rattle.std.specs.Prelude.{Option, Some}
 use Rattle.std.proofs.lemmas.List.{append-nil, nil_from_length}
-use Rattle.dsn_crew.specs.Agent.{Ends}
+use Rattle.dsn_agent.specs.Agent.{Ends}
 use Rattle.dsn_crew.specs.Gathered.{AreEnded}
-use Rattle.dsn_crew.specs.declared.agent_line.AgentLine.{AgentLine}
-use Rattle.dsn_crew.specs.declared.port_end.PortEnd.{PortEnd}
+use Rattle.dsn_agent.specs.declared.agent_line.AgentLine.{AgentLine}
+use Rattle.dsn_agent.specs.declared.port_end.PortEnd.{PortEnd}
 
 -- with these lines and agents, any that end what is left end all
 abbrev pub EndedSoFar : List (Option PortEnd) → List (Option PortEnd) → List AgentLine → List Ends → Type 0

@@ -14,11 +14,11 @@ use Rattle.dsn_outcome.specs.Agents.{from_agent}
 use Rattle.dsn_outcome.specs.History.{Limits, answers_to, history_after, history_of}
 use Rattle.dsn_outcome.specs.Request.{Request}
 use Rattle.dsn_outcome.specs.declared.answer.Answer.{Answer}
-use Rattle.dsn_crew.specs.Agent.{Agent}
+use Rattle.dsn_agent.specs.Agent.{Agent}
 use Rattle.dsn_crew.specs.Desk.{AreAnswered, Desk, IsDesk}
 use Rattle.dsn_crew.specs.Close.{AreCrew}
 use Rattle.dsn_crew.specs.Open.{AreLines, IsLine, IsOpened, opened_agent}
-use Rattle.dsn_crew.specs.Place.{place_at, place_of}
+use Rattle.dsn_agent.specs.Place.{place_at, place_of}
 
 -- a collector that has taken nothing
 pub new_desk : (book : Book) (requests : Out Request) (ends : List (End Answer)) → Represents book [] → requests.first ≡ 0 → requests.past ≡ length ends → requests.taken ≡ [] → AreLines ends → length ends ≤ 16 → IsDesk (record { book = book; requests = requests; answers = ends; missed = 0; failed = false })

@@ -15,7 +15,7 @@ use Rattle.dsn_outcome.proofs.HistoryLaws.{history_more, letters_more}
 use Rattle.dsn_crew.specs.declared.desk_fault.DeskFault.{DeskFault}
 use Rattle.dsn_crew.specs.declared.desk_fault.DeskFault.TheVariants.{Requests, Answers, Letters}
 use Rattle.dsn_post.specs.Sink.{Handed}
-use Rattle.dsn_crew.specs.Place.{place_at}
+use Rattle.dsn_agent.specs.Place.{place_at}
 use Rattle.dsn_crew.specs.Desk.{AreAnswered, AreLeft, Desk, EndsBy, IsDesk, IsLast, IsRun, IsTaken, all_gone, goodbyes, history, history_with, places_of, letter_kept, next_exchange, taken_request, taken_requests, with_failed}
 
 -- the letters of one request more

@@ -1,4 +1,4 @@
--- What an agent's thread is given may go to it, and what it gives back may come from there.
+-- What an agent's thread is given may go to it.
 use Rattle.std.proofs.Common.{List, [], ◌∷◌}
 use mir.Syntax.{Sym}
 use denote.Param.{param}
@@ -6,13 +6,10 @@ use denote.Param.Send.{IsSend, IsSync, sendable}
 use denote.RattleType.{RattleType}
 use denote.Ref.{NamedLft, ShrRef}
 use denote.Struct.Tuple.{TupleAt}
-use Rattle.std.proofs.Crossing.{crosses}
-use Rattle.std.proofs.option.Option.TheSendSync as option
 use Rattle.std.specs.contracts.alloc.Global as Global
 use Rattle.dsn_lane.proofs.SendLemmas.{closure_send}
-use Rattle.dsn_crew.specs.contracts.agent.Agent as Agent
-use Rattle.dsn_crew.specs.contracts.port_end.PortEnd as PortEnd
-use Rattle.dsn_crew.proofs.SendLemmas.{agent_send, finished_send, global_send}
+use Rattle.dsn_agent.specs.contracts.agent.Agent as Agent
+use Rattle.dsn_agent.proofs.SendLemmas.{agent_send, global_send}
 
 -- what the closure holds: the runtime, the allocator, the agent, its port, and the gate
 abbrev pub captured : NamedLft → NamedLft → RattleType → RattleType → RattleType → List RattleType
@@ -23,6 +20,3 @@ borrowed_send r n R sync = search (sync, sendable) depth 20
 
 pub serving_send : (ν : Sym) (r g : NamedLft) (R P G : RattleType) → IsSync (param 1 R) → IsSend (param 2 P) → IsSync (param 3 G) → IsSend (TupleAt ν (captured r g R P G))
 serving_send ν r g R P G sync send gated = closure_send ν (captured r g R P G) (borrowed_send r 1 R sync, (global_send, (agent_send, (send, (borrowed_send g 3 G gated, tt)))))
-
-pub port_end_send : IsSend PortEnd.the_row
-port_end_send = search (finished_send, crosses, option.the_field_send, sendable) depth 20

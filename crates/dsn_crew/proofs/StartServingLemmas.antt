@@ -4,11 +4,11 @@ use Rattle.std.specs.Prelude.{Option, Some, None, IfSome}
 use Rattle.std.specs.List.{AllZip}
 use Rattle.std.specs.declared.thread.PromisedHandle.{PromisedHandle}
 use Rattle.std.proofs.lemmas.List.{append-nil, nil_from_length}
-use Rattle.dsn_crew.specs.Agent.{Agent}
-use Rattle.dsn_crew.specs.Port.{IsPortServed}
+use Rattle.dsn_agent.specs.Agent.{Agent}
+use Rattle.dsn_agent.specs.Port.{IsPortServed}
 use Rattle.dsn_crew.specs.StartServing.{AreServed, AreStarted, HasBegun, IsJoined}
-use Rattle.dsn_crew.specs.declared.port.Port.{Ghosts as Port}
-use Rattle.dsn_crew.specs.declared.port_end.PortEnd.{PortEnd}
+use Rattle.dsn_agent.specs.declared.port.Port.{Ghosts as Port}
+use Rattle.dsn_agent.specs.declared.port_end.PortEnd.{PortEnd}
 use Rattle.dsn_crew.specs.declared.start_serving.Serves.{Serves}
 
 -- ---- results that are made one after another

@@ -4,9 +4,9 @@ use Rattle.dsn_book.specs.Book.{Book}
 use Rattle.dsn_outcome.specs.Agents.{from_agent}
 use Rattle.dsn_outcome.specs.History.{answers_to}
 use Rattle.dsn_outcome.specs.Request.{Request}
-use Rattle.dsn_crew.specs.Agent.{Ends}
+use Rattle.dsn_agent.specs.Agent.{Ends}
 use Rattle.dsn_crew.specs.Desk.{Desk, history, places_of}
-use Rattle.dsn_crew.specs.Place.{place_of}
+use Rattle.dsn_agent.specs.Place.{place_of}
 
 -- these are all agents of this collector, in their order
 abbrev pub AreCrew : List Ends → Desk → Type 0

@@ -1,5 +1,5 @@
 -- How the collector's part of a run ended.
-use Rattle.std.specs.Prelude.{◌≡◌, true, Result, Ok, Err, Option}
+use Rattle.std.specs.Prelude.{◌≡◌, true, Ok, Err}
 use Rattle.dsn_book.specs.Step.{letters_in}
 use Rattle.dsn_post.specs.LetterSink.{LetterSink, TakesLetter}
 use Rattle.dsn_crew.specs.Desk.{Desk, IsDesk, IsRun, all_gone, letter_kept}

@@ -1,14 +1,14 @@
 -- How a run is concluded, from how it was collected, what came of its agents, and what was posted.
-use Rattle.std.specs.Prelude.{◌≡◌, ◌≢◌, true, List, [], ◌++◌, All as Each, Option, Result, Ok, Err}
+use Rattle.std.specs.Prelude.{◌≡◌, ◌≢◌, true, List, [], ◌++◌, All as Each, Result, Ok, Err}
 use Rattle.dsn_book.specs.Book.{Represents}
 use Rattle.dsn_book.specs.Step.{letters_in}
 use Rattle.dsn_outcome.specs.Letter.{Letter}
 use Rattle.dsn_post.specs.declared.posted.Posted.{Posted}
-use Rattle.dsn_crew.specs.Agent.{Ends, IsFinished}
+use Rattle.dsn_agent.specs.Agent.{Ends, IsFinished}
 use Rattle.dsn_crew.specs.Close.{AreCrew, AreOf, IsHeard}
 use Rattle.dsn_crew.specs.Crew.{Account, CrewFault}
 use Rattle.dsn_crew.specs.Desk.{Desk, all_gone, history}
-use Rattle.dsn_crew.specs.declared.agent_line.AgentLine.{AgentLine}
+use Rattle.dsn_agent.specs.declared.agent_line.AgentLine.{AgentLine}
 use Rattle.dsn_crew.specs.declared.collected.Collected.{Collected}
 use Rattle.dsn_crew.specs.declared.collected.Collected.TheVariants.{Whole, Failed}
 use Rattle.dsn_crew.specs.declared.crew_cause.CrewCause.{CrewCause}

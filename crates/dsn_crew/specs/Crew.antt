@@ -1,5 +1,5 @@
 -- Crews: what a run of a whole crew comes to, and what its fault tells.
-use Rattle.std.specs.Prelude.{◌≡◌, ◌≢◌, ℕ, suc, ◌+◌, ◌<◌, ◌≤◌, ◌⊎◌, Bool, false, List, [], ◌∷◌, ◌++◌, All, length, Option, Some, None}
+use Rattle.std.specs.Prelude.{◌≡◌, ◌≢◌, ℕ, suc, ◌+◌, ◌<◌, ◌≤◌, ◌⊎◌, Bool, false, List, [], ◌∷◌, ◌++◌, All, length, Option, Some}
 use Rattle.std.specs.List.{flat_map}
 use Rattle.dsn_book.specs.Book.{Book, Represents}
 use Rattle.dsn_device.specs.declared.drain.Drain.{Ghosts as Drain}
@@ -11,13 +11,13 @@ use Rattle.dsn_outcome.specs.Request.{Request, Bye}
 use Rattle.dsn_outcome.specs.declared.answer.Reply.TheVariants.{Gone}
 use Rattle.dsn_post.specs.Posting.{IsUntouched}
 use Rattle.dsn_report.specs.Outgoing.{IsOutbox}
-use Rattle.dsn_crew.specs.Agent.{Ends}
-use Rattle.dsn_crew.specs.Port.{AreOverPort, AreSessions, Conn, Session, answers_of, bodies_of, faults_of}
-use Rattle.dsn_crew.specs.Serve.{answers_from, numbered_answer, numbered_request, requests_from}
-use Rattle.dsn_crew.specs.declared.agent_line.AgentLine.{AgentLine}
+use Rattle.dsn_agent.specs.Agent.{Ends}
+use Rattle.dsn_agent.specs.Port.{AreOverPort, AreSessions, Conn, Session, answers_of, bodies_of, faults_of}
+use Rattle.dsn_agent.specs.Serve.{answers_from, numbered_answer, numbered_request, requests_from}
+use Rattle.dsn_agent.specs.declared.agent_line.AgentLine.{AgentLine}
 use Rattle.dsn_crew.specs.declared.crew_cause.CrewCause.{CrewCause}
 use Rattle.dsn_crew.specs.declared.crew_cause.CrewCause.TheVariants.{Lost, Refused, PortCount}
-use Rattle.dsn_crew.specs.declared.port.Port.{Ghosts as Port}
+use Rattle.dsn_agent.specs.declared.port.Port.{Ghosts as Port}
 
 abbrev pub crew_cause_code : CrewCause → ℕ
 crew_cause_code Lost = 41

@@ -12,7 +12,7 @@ use Rattle.dsn_outcome.specs.Letter.{Letter}
 use Rattle.dsn_outcome.specs.Request.{Request, Body, Append, Flush, Discard, Bye}
 use Rattle.dsn_outcome.specs.declared.answer.Answer.{Answer}
 use Rattle.dsn_post.specs.Sink.{Handed}
-use Rattle.dsn_crew.specs.Place.{Place, place_at}
+use Rattle.dsn_agent.specs.Place.{Place, place_at}
 use Rattle.dsn_crew.specs.declared.desk_fault.DeskFault.{DeskFault}
 use Rattle.dsn_crew.specs.declared.desk_fault.DeskFault.TheVariants.{Requests, Answers, Letters}
 

@@ -1,10 +1,10 @@
 -- What came of the agents' threads, taken together.
-use Rattle.std.specs.Prelude.{◌≡◌, Bool, List, [], ◌∷◌, Option, Some}
-use Rattle.dsn_crew.specs.Agent.{Ends}
-use Rattle.dsn_crew.specs.declared.agent_line.AgentLine.{AgentLine}
+use Rattle.std.specs.Prelude.{◌≡◌, List, [], ◌∷◌, Option, Some}
+use Rattle.dsn_agent.specs.Agent.{Ends}
+use Rattle.dsn_agent.specs.declared.agent_line.AgentLine.{AgentLine}
 use Rattle.dsn_crew.specs.declared.gathered.Gathered.{Gathered}
 use Rattle.dsn_crew.specs.declared.gathered.Gathered.TheVariants.{All, Missing, Lost}
-use Rattle.dsn_crew.specs.declared.port_end.PortEnd.{PortEnd}
+use Rattle.dsn_agent.specs.declared.port_end.PortEnd.{PortEnd}
 
 -- each agent said goodbye, with the line and the ends in its place
 abbrev pub AreEnded : List (Option PortEnd) → List AgentLine → List Ends → Type 0

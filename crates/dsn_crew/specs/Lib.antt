@@ -1,4 +1,3 @@
-pub mod Agent
 pub mod Close
 pub mod Collected
 pub mod Conclude
@@ -6,9 +5,6 @@ pub mod Crew
 pub mod Desk
 pub mod Gathered
 pub mod Open
-pub mod Place
-pub mod Port
 pub mod Room
-pub mod Serve
 pub mod StartServing
 pub mod TakenBy

@@ -5,7 +5,7 @@ use Rattle.dsn_lane.specs.Ends.{End, Identity}
 use Rattle.dsn_outcome.specs.History.{Limits}
 use Rattle.dsn_outcome.specs.Request.{Request}
 use Rattle.dsn_outcome.specs.declared.answer.Answer.{Answer}
-use Rattle.dsn_crew.specs.Agent.{Agent}
+use Rattle.dsn_agent.specs.Agent.{Agent}
 use Rattle.dsn_crew.specs.Desk.{Desk, IsDesk}
 use Rattle.dsn_crew.specs.declared.crew_open_fault.CrewOpenFault.{CrewOpenFault}
 use Rattle.dsn_crew.specs.declared.crew_open_fault.CrewOpenFault.TheVariants.{NoMemory, AgentCount}

@@ -1,5 +1,5 @@
 -- Rooms: what a run of a crew has before its first thread is started.
-use Rattle.std.specs.Prelude.{◌≡◌, ℕ, ◌≤◌, false, List, [], vec_capacity}
+use Rattle.std.specs.Prelude.{◌≡◌, ℕ, ◌≤◌, false, [], vec_capacity}
 use Rattle.dsn_outcome.specs.History.{Limits}
 use Rattle.dsn_crew.specs.Open.{IsOpened}
 use Rattle.dsn_crew.specs.declared.room.Room.{Room}

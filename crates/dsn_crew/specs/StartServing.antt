@@ -3,10 +3,10 @@
 -- how many agents had no thread.
 use Rattle.std.specs.Prelude.{◌≡◌, ℕ, List, [], ◌∷◌, length, filter, Option, Some, None, is_none, IfSome}
 use Rattle.std.specs.declared.thread.PromisedHandle.{PromisedHandle}
-use Rattle.dsn_crew.specs.Agent.{Agent}
-use Rattle.dsn_crew.specs.Port.{IsPortServed}
-use Rattle.dsn_crew.specs.declared.port.Port.{Ghosts as Port}
-use Rattle.dsn_crew.specs.declared.port_end.PortEnd.{PortEnd}
+use Rattle.dsn_agent.specs.Agent.{Agent}
+use Rattle.dsn_agent.specs.Port.{IsPortServed}
+use Rattle.dsn_agent.specs.declared.port.Port.{Ghosts as Port}
+use Rattle.dsn_agent.specs.declared.port_end.PortEnd.{PortEnd}
 use Rattle.dsn_crew.specs.declared.start_serving.Serves.{Serves}
 
 -- the thread was started with this agent and this port

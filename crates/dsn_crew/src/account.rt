@@ -1,8 +1,8 @@
 //! What a crew's run that ended well comes to.
 ghost use Rattle.std.specs.Prelude.{◌≡◌};
 
-use crate::agent_line::AgentLine;
 use crate::crew_shut::CrewShut;
+use dsn_agent::AgentLine;
 use dsn_book::Book;
 use dsn_outcome::Letters;
 use std::marker::Model;

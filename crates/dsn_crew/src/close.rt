@@ -2,15 +2,14 @@
 ghost use Rattle.std.specs.Prelude.{◌≡◌, ◌+◌, true, All};
 ghost use mathlib.Core.List.{IsPrefix};
 ghost use Rattle.dsn_book.specs.Book.{Represents};
-ghost use Rattle.dsn_crew.specs.Agent.{IsFinished};
+ghost use Rattle.dsn_agent.specs.Agent.{IsFinished};
 ghost use Rattle.dsn_crew.specs.Close.{AreCrew, AreOf, IsHeard};
 ghost use Rattle.dsn_crew.specs.Desk.{all_gone, history};
 
 use crate::crew_shut::CrewShut;
 use crate::desk::Desk;
-use crate::ends::Ends;
-use crate::finished::Finished;
 use crate::line::Line;
+use dsn_agent::Finished;
 use dsn_lane::{LaneIn, close_lane};
 use dsn_outcome::Request;
 use std::snapshot::Snapshot;
@@ -56,12 +55,7 @@ fn close_line(rt: &impl Wait, finished: Finished, line: Line) -> LaneIn<Request>
     ensures got { IsPrefix finished.answers.taken line.sent }
     ensures finished { IsFinished finished }
 {
-    let Finished { ends } = finished;
-    let Ends {
-        requests,
-        answers,
-        ..
-    } = ends;
+    let (requests, answers) = finished.into_ends();
     let Line { end, mut room } = line;
     room.push_reserved(end);
     close_lane(rt, room, answers);

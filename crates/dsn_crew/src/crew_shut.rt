@@ -2,7 +2,7 @@
 ghost use Rattle.std.specs.Prelude.{◌≡◌};
 
 use crate::desk::Desk;
-use crate::finished::Finished;
+use dsn_agent::Finished;
 use dsn_book::Book;
 use std::marker::Model;
 use std::snapshot::Snapshot;

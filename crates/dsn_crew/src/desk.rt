@@ -78,8 +78,8 @@ impl Desk {
     }
 
     /// Counts so many agents more as gone: agents whose threads could not be started, so that they
-    /// will never say goodbye.
-    pub(crate) fn miss(&mut self, agents: u32)
+    /// will never say goodbye. It asks that they are among those that haven't.
+    pub fn miss(&mut self, agents: u32)
         requires left { goodbyes self.old.requests.taken + self.old.missed + agents ≤ length self.old.answers }
         ensures missed { self.new ≡ missing self.old agents }
         ensures kept { IsDesk self.new }

@@ -2,9 +2,7 @@
 ghost use Rattle.std.specs.Prelude.{◌≡◌, ◌≤◌, [], length, vec_capacity};
 ghost use Rattle.dsn_crew.specs.Gathered.{IsGathered};
 
-use crate::agent_line::AgentLine;
-use crate::finished::Finished;
-use crate::port_end::PortEnd;
+use dsn_agent::{AgentLine, Finished, PortEnd};
 
 /// What came of the agents' threads, taken together.
 #[derive(Drop)]

@@ -2,11 +2,10 @@
 ghost use Rattle.std.specs.Prelude.{◌≡◌, ◌<◌, ◌≤◌, ◌↔◌, ◌⊎◌, [], IfOk, IfErr};
 ghost use Rattle.dsn_crew.specs.Open.{IsLine, IsOpened, opened_agent};
 
-use crate::agent::Agent;
 use crate::crew_open_fault::CrewOpenFault;
 use crate::desk::Desk;
-use crate::ends::Ends;
 use crate::line::Line;
+use dsn_agent::Agent;
 use dsn_book::{Book, Limits};
 use dsn_lane::{LaneIn, open_lane};
 use dsn_outcome::{NoMemory, Request};
@@ -93,6 +92,6 @@ pub(crate) fn open_agent(
     let Some(end) = ends.pop() else {
         unreachable!()
     };
-    let asks = Agent::new(Ends::new(agent, requests, answers), limits.requests());
+    let asks = Agent::new(agent, requests, answers, limits.requests());
     Ok((asks, Line::new(end, ends)))
 }

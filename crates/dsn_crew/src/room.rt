@@ -2,14 +2,10 @@
 ghost use Rattle.std.specs.Prelude.{◌≤◌, IfOk};
 ghost use Rattle.dsn_crew.specs.Room.{IsRoom};
 
-use crate::agent::Agent;
-use crate::agent_line::AgentLine;
 use crate::desk::Desk;
-use crate::finished::Finished;
 use crate::open::open_crew;
-use crate::port::Port;
-use crate::port_end::PortEnd;
 use crate::start_serving::Serves;
+use dsn_agent::{Agent, AgentLine, Finished, Port, PortEnd};
 use dsn_book::Limits;
 use dsn_outcome::NoMemory;
 use dsn_post::{LetterSink, LetterSource, open_post};

@@ -3,11 +3,7 @@ ghost use Rattle.std.specs.Prelude.{◌≡◌, ◌≤◌, [], length, IfSome, ve
 ghost use Rattle.std.specs.List.{AllZip};
 ghost use Rattle.dsn_crew.specs.StartServing.{AreStarted, HasBegun, IsJoined, missing};
 
-use crate::agent::Agent;
-use crate::gate::Gate;
-use crate::port::Port;
-use crate::port_end::PortEnd;
-use crate::serve_port::serve_port;
+use dsn_agent::{Agent, Gate, Port, PortEnd, serve_port};
 use std::alloc::Global;
 use std::snapshot::Snapshot;
 use std::sync::Wait;
@@ -21,7 +17,7 @@ pub(crate) struct Serves<P> {
 }
 
 impl<P: Port> Promise<PortEnd> for Serves<P> {
-    ghost use Rattle.dsn_crew.specs.Port.{IsPortServed};
+    ghost use Rattle.dsn_agent.specs.Port.{IsPortServed};
 
     ghost kept_by = { λ p r. IsPortServed (P.conns p.port.value) p.agent.value r };
 }

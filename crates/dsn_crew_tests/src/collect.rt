@@ -1,6 +1,6 @@
 //! A collector that runs until its agents are gone.
 ghost use Rattle.std.specs.Prelude.{◌≡◌, List, true, IfSome};
-ghost use Rattle.dsn_crew.specs.Agent.{Ends};
+ghost use Rattle.dsn_agent.specs.Agent.{Ends};
 ghost use Rattle.dsn_crew.specs.Close.{AreCrew};
 ghost use Rattle.dsn_crew.specs.Desk.{all_gone};
 

@@ -1,25 +1,11 @@
 //! What comes when one side of a crew is gone.
-ghost use Rattle.std.specs.Prelude.{◌≢◌, IfSome};
-ghost use Rattle.dsn_outcome.specs.Body.{body_of};
-ghost use Rattle.dsn_outcome.specs.Request.{Bye as Goodbye};
-
+use super::bodies::discard;
 use super::opened::opened;
-use dsn_crew::{Agent, AskFault, Desk, DeskFault};
-use dsn_outcome::{Body, Key, QueueId, Service};
+use dsn_book::Limits;
+use dsn_crew::{Agent, AskFault, Desk, DeskFault, open_crew};
 use std::alloc::Global;
 use std::sync::Wait;
 use std::test::Fail;
-
-/// A discard of a log.
-fn discard() -> Option<Body>
-    ensures { IfSome result (λ body. body_of body ≢ Goodbye) }
-{
-    let id = QueueId::new(b"K1")?;
-    Some(Body::Discard(Key {
-        service: Service::Bounce,
-        id,
-    }))
-}
 
 /// Whether an ask is lost and hands its body back.
 fn loses_with_body(rt: &impl Wait, agent: &mut Agent) -> Option<bool> {
@@ -69,5 +55,23 @@ fn without_agents(rt: &impl Wait, alloc: Global) -> Option<(bool, bool)> {
 fn collector_without_agents_has_failed(rt: HostRuntime) -> Result<(), Fail> {
     let told = without_agents(&rt, rt.alloc()).expect(&rt, "a crew");
     assert_eq!(rt; told, (true, true));
+    Ok(())
+}
+
+/// Whether a collector says that both its agents are gone: once one is counted that never starts,
+/// and once the other is.
+fn missed(rt: &impl Wait, alloc: Global) -> Option<(bool, bool)> {
+    let limits = Limits::new(8, 8, 1)?;
+    let (_agents, mut desk) = open_crew(rt, alloc, limits, 2).ok()?;
+    desk.miss(1);
+    let one = desk.all_gone();
+    desk.miss(1);
+    Some((one, desk.all_gone()))
+}
+
+#[test]
+fn agents_that_never_start_are_not_awaited(rt: HostRuntime) -> Result<(), Fail> {
+    let told = missed(&rt, rt.alloc()).expect(&rt, "a crew");
+    assert_eq!(rt; told, (false, true));
     Ok(())
 }

@@ -1,7 +1,9 @@
-//! Tests of crews over what `dsn_crew` makes public, in a crate of their own: so they are proved
-//! beside the wrong edits of `dsn_crew`, and without its proofs.
+//! Tests of agents and crews over what `dsn_crew` makes public, in a crate of their own: so they are
+//! proved beside the wrong edits of `dsn_agent` and `dsn_crew`, and without their proofs.
 #![tactic(auto)]
 
+#[cfg(test)]
+mod alone;
 #[cfg(test)]
 mod bodies;
 #[cfg(test)]
@@ -13,7 +15,11 @@ mod gone;
 #[cfg(test)]
 mod hold;
 #[cfg(test)]
+mod letters;
+#[cfg(test)]
 mod limit;
+#[cfg(test)]
+mod memory;
 #[cfg(test)]
 mod memory_port;
 #[cfg(test)]

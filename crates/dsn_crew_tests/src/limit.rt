@@ -1,9 +1,9 @@
 //! Two agents on a thread beside their collector: what each is answered, the limit of its requests,
 //! and the close of the crew.
 ghost use Rattle.std.specs.Prelude.{◌≡◌, List, true, [], ◌∷◌, IfSome};
-ghost use Rattle.dsn_crew.specs.Agent.{Ends};
+ghost use Rattle.dsn_agent.specs.Agent.{Ends};
 ghost use Rattle.dsn_crew.specs.Close.{AreCrew};
-ghost use Rattle.dsn_crew.specs.Place.{place_of};
+ghost use Rattle.dsn_agent.specs.Place.{place_of};
 ghost use Rattle.dsn_crew.specs.Desk.{all_gone};
 
 use super::bodies::append;

@@ -8,8 +8,8 @@ use Rattle.dsn_outcome.specs.Agents.{from_agent}
 use Rattle.dsn_outcome.specs.History.{answers_to}
 use Rattle.dsn_outcome.specs.declared.answer.Answer.{Answer}
 use Rattle.dsn_outcome.specs.Request.{Request}
-use Rattle.dsn_crew.specs.Agent.{Ends}
-use Rattle.dsn_crew.specs.Place.{Place, place_at, place_of}
+use Rattle.dsn_agent.specs.Agent.{Ends}
+use Rattle.dsn_agent.specs.Place.{Place, place_at, place_of}
 use Rattle.dsn_crew.specs.Desk.{Desk, IsDesk, history}
 use Rattle.dsn_crew.proofs.OpenLemmas.{none_left}
 use Rattle.dsn_crew.proofs.CloseLemmas.{IsAnswered, all_ends, all_finished, all_heard, all_of_crew, as_many, closed_more, kept_all, kept_more, lines_answered, none_answered, paired, room_of_one_lane, some_left}

@@ -4,8 +4,8 @@ use Rattle.std.specs.Vec.Iter.{into_iter_items, into_iter_len}
 use Rattle.dsn_lane.specs.Ends.{End}
 use Rattle.dsn_outcome.specs.History.{answers_to}
 use Rattle.dsn_outcome.specs.declared.answer.Answer.{Answer}
-use Rattle.dsn_crew.specs.Agent.{Ends}
-use Rattle.dsn_crew.specs.Place.{place_at, place_of}
+use Rattle.dsn_agent.specs.Agent.{Ends}
+use Rattle.dsn_agent.specs.Place.{place_at, place_of}
 use Rattle.dsn_crew.specs.Desk.{history}
 use Rattle.dsn_crew.proofs.CloseLemmas.{IsAnswered}
 use Rattle.dsn_crew.proofs.close.close_crew.Given as goal

@@ -1,5 +1,5 @@
 -- What the threads, the collector and the poster came to is put together.
-use Rattle.std.proofs.Common.{rules, refl, ap, sym, ◌∙◌, ◌≡◌, ◌+◌, ◌≤◌, length, subst, arith}
+use Rattle.std.proofs.Common.{rules, ap, sym, ◌∙◌, subst, arith}
 use Rattle.dsn_post.specs.LetterSink.{LetterSink}
 use Rattle.dsn_post.specs.Posting.{IsPosted, Posts}
 use Rattle.dsn_crew.proofs.CrewLemmas.{account_is, collected_lane, ends_length, fault_is, handles_length, may_close, may_miss, missing_few}

@@ -2,7 +2,8 @@
 use denote.Exit.{no}
 use denote.Param.Send.{param_send, arg_send}
 use mir.Syntax.{named}
-use Rattle.dsn_crew.proofs.ServingSendLemmas.{port_end_send, serving_send}
+use Rattle.dsn_agent.proofs.SendLemmas.{port_end_send}
+use Rattle.dsn_crew.proofs.ServingSendLemmas.{serving_send}
 use Rattle.dsn_crew.proofs.start_serving.start_one.Goals as goal
 
 pub spawn_with-requires-send-F : goal.spawn_with-requires-send-F

@@ -9,8 +9,8 @@ use Rattle.std.proofs.Crossing.{crosses}
 use Rattle.std.proofs.option.Option.TheSendSync as option
 use Rattle.std.specs.contracts.alloc.Global as Global
 use Rattle.dsn_lane.proofs.SendLemmas.{closure_send}
-use Rattle.dsn_crew.proofs.SendLemmas.{agent_send, finished_send}
-use Rattle.dsn_crew.specs.contracts.agent.Agent as Agent
+use Rattle.dsn_agent.proofs.SendLemmas.{agent_send, finished_send}
+use Rattle.dsn_agent.specs.contracts.agent.Agent as Agent
 use Rattle.dsn_crew_tests.specs.contracts.limit.Told as Told
 use Rattle.dsn_crew_tests.proofs.limit.two_agents.Goals as goal
 

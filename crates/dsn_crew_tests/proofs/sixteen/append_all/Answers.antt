@@ -1,7 +1,7 @@
 -- Each thread gets one agent with its log.
 use denote.Exit.{no}
 use denote.Param.Send.{IsSend, param_send, arg_send, sendable}
-use Rattle.dsn_crew.proofs.SendLemmas.{agent_send}
+use Rattle.dsn_agent.proofs.SendLemmas.{agent_send}
 use Rattle.dsn_crew_tests.specs.contracts.sixteen.Job as Job
 use Rattle.dsn_crew_tests.proofs.sixteen.append_all.Goals as goal
 

@@ -1,9 +1,9 @@
 -- What came of an agent is added at the end, or is told apart.
-use Rattle.std.proofs.Common.{rules, refl, ap, sym, ◌∙◌, ◌≡◌, ◌+◌, ◌≤◌, length, length-append, ◌∷◌, [], true, false, arith}
+use Rattle.std.proofs.Common.{rules, ap, sym, ◌∙◌, ◌≡◌, length, length-append, arith}
 use Rattle.std.proofs.lemmas.Bool.{false≢true}
 use Rattle.std.specs.Prelude.{Option, Some}
 use Rattle.std.specs.Vec.Iter.{into_iter_items}
-use Rattle.dsn_crew.specs.Agent.{Ends}
+use Rattle.dsn_agent.specs.Agent.{Ends}
 use Rattle.dsn_crew.proofs.GatheredLemmas.{ended_all, ended_begun, ended_more}
 use Rattle.dsn_crew.proofs.gathered.Gathered.of.Goals as goal
 

@@ -8,7 +8,7 @@ use denote.Param.Send.{IsSend, param_send, param_sync, arg_send, shr_send, senda
 use Rattle.std.proofs.Crossing.{crosses}
 use Rattle.std.specs.contracts.alloc.Global as Global
 use Rattle.dsn_lane.proofs.SendLemmas.{closure_send}
-use Rattle.dsn_crew.proofs.SendLemmas.{agent_send}
+use Rattle.dsn_agent.proofs.SendLemmas.{agent_send}
 use Rattle.dsn_crew_tests.specs.contracts.serving.Work as Work
 use Rattle.dsn_crew_tests.proofs.serving.fn.served.scope.Goals as goal
 

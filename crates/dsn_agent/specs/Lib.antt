@@ -1,0 +1,4 @@
+pub mod Agent
+pub mod Place
+pub mod Port
+pub mod Serve

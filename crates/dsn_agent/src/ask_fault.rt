@@ -1,0 +1,27 @@
+//! Why a request has no answer.
+ghost use Rattle.std.specs.Prelude.{◌≡◌};
+ghost use Rattle.dsn_agent.specs.Agent.{ask_fault_code};
+
+use dsn_outcome::Body;
+
+/// Why a request has no answer.
+#[derive(Drop)]
+pub enum AskFault {
+    /// The agent's requests are used up: the body is handed back, and the agent may say goodbye.
+    Limit(Body),
+    /// A lane's other end is gone, now or at an earlier request. The body is handed back where the
+    /// request was not sent.
+    Lost(Option<Body>),
+}
+
+impl AskFault {
+    /// The number of the fault: 44 or 41.
+    pub fn code(&self) -> u32
+        ensures { result ≡ ask_fault_code self.now }
+    {
+        match self {
+            AskFault::Limit(_) => 44,
+            AskFault::Lost(_) => 41,
+        }
+    }
+}

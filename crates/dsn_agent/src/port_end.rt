@@ -1,0 +1,11 @@
+//! What an agent's thread gives back.
+use crate::agent_line::AgentLine;
+use crate::finished::Finished;
+
+/// What came of an agent that served its port.
+#[derive(Drop)]
+pub struct PortEnd {
+    pub line: AgentLine,
+    /// The agent, once it said goodbye and was heard; none where a lane was lost.
+    pub finished: Option<Finished>,
+}

@@ -1,5 +1,5 @@
 -- Frames: how bodies follow one another in an input, and how an input ends (this project's profile).
-use Rattle.std.specs.Prelude.{◌≡◌, ℕ, ◌+◌, ◌<◌, ◌≤◌, List, [], ◌++◌, length, take, Option, Some, None}
+use Rattle.std.specs.Prelude.{◌≡◌, ℕ, ◌+◌, ◌<◌, ◌≤◌, List, [], ◌++◌, length, take, drop, Option, Some, None}
 use Rattle.std.specs.Io.KnownBytes.{Consumes, IsAtEnd}
 use Rattle.std.specs.Int.{w32, to_be_bytes, from_be_bytes}
 use Rattle.std.specs.List.{flat_map, AllByRecursion}
@@ -10,6 +10,11 @@ use Rattle.dsn_frame.specs.declared.frame_fault.FrameFault.TheVariants.{NoMemory
 -- a frame: its body's length in four bytes, the highest first, and then the body
 abbrev pub frame : List ℕ → List ℕ
 frame body = to_be_bytes w32 (length body) ++ body
+
+-- bytes that are a frame, whose body stands after the first four
+pub record IsHeld (bytes : List ℕ) : Type 0 where
+  pub legal : IsFrameBody (drop 4 bytes)
+  pub whole : bytes ≡ frame (drop 4 bytes)
 
 -- the length that the first four bytes declare
 abbrev pub declared_length : List ℕ → ℕ

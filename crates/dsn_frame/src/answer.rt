@@ -33,6 +33,7 @@ pub fn encode_answer(number: u32, answer: &Spoken) -> [u8; 14]
 #[tactic(auto, unfolding(crate::specs::Spoken::first_answer_fault, crate::specs::Spoken::answer_body))]
 pub fn decode_answer(bytes: &[u8]) -> Result<(u32, Spoken), AnswerFault>
     ensures encoded { IfOk result (λ read. bytes.now ≡ answer_body read.0 read.1) }
+    ensures fits { IfOk result (λ read. FitsAnswer read.0 read.1) }
     ensures exact { (number : ℕ) (said : Said) → FitsAnswer number said → bytes.now ≡ answer_body number said → result ≡ Ok (number, said) }
     ensures accepted { OnOk result (first_answer_fault bytes.now ≡ None) }
     ensures refused { IfErr result (λ fault. first_answer_fault bytes.now ≡ Some fault) }

@@ -1,10 +1,10 @@
 //! Frames: a length in four bytes, and a body of that length.
-ghost use Rattle.std.specs.Prelude.{◌≡◌, ℕ, length, IfOk, IfErr, MatchOption};
+ghost use Rattle.std.specs.Prelude.{◌≡◌, ℕ, ◌+◌, length, drop, IfOk, IfErr, OnOk, MatchOption};
 ghost use Rattle.std.specs.Int.{w32, from_be_bytes, to_be_bytes};
 ghost use Rattle.std.specs.Io.KnownBytes.{Consumes, IsAtEnd, Keeps};
 ghost use Rattle.dsn_device.specs.Failures.{counted};
 ghost use Rattle.dsn_frame.specs.FrameBody.{IsFrameLength, IsFrameBody};
-ghost use Rattle.dsn_frame.specs.Frame.{BodyMissing, ReadsLength, ReadsNext, ReadsNone};
+ghost use Rattle.dsn_frame.specs.Frame.{BodyMissing, IsHeld, ReadsLength, ReadsNext, ReadsNone, frame};
 ghost use Rattle.dsn_frame.specs.FrameFault.{source_failed};
 
 use crate::frame_fault::FrameFault;
@@ -15,21 +15,25 @@ use std::marker::Model;
 /// The longest body of a frame, in bytes.
 pub const LONGEST_BODY: usize = 65_536;
 
+/// How many bytes a frame's length has.
+const LENGTH: usize = 4;
+
 /// A frame that was read.
 #[derive(Debug, Drop)]
 pub struct Frame {
-    body: Vec<u8>,
+    /// The length, and then the body.
+    bytes: Vec<u8>,
 }
 
 impl Model for Frame {
-    ghost use Rattle.std.specs.Prelude.{ℕ, List};
-    ghost use Rattle.dsn_frame.specs.FrameBody.{IsFrameBody};
+    ghost use Rattle.std.specs.Prelude.{ℕ, List, drop};
+    ghost use Rattle.dsn_frame.specs.Frame.{IsHeld};
 
     ghost Value = { List ℕ };
 
-    ghost view = { λ f. f.body.items };
+    ghost view = { λ f. drop 4 f.bytes.items };
 
-    ghost invariant = { λ f. IsFrameBody f.body.items };
+    ghost invariant = { λ f. IsHeld f.bytes.items };
 }
 
 impl Frame {
@@ -38,7 +42,14 @@ impl Frame {
         ensures same { result.now ≡ self.now }
         ensures whole { IsFrameBody self.now }
     {
-        self.body.as_slice()
+        &self.bytes[LENGTH..]
+    }
+
+    /// The whole frame: its length in four bytes, and the body.
+    pub fn bytes(&self) -> &[u8]
+        ensures { result.now ≡ frame self.now }
+    {
+        self.bytes.as_slice()
     }
 }
 
@@ -58,8 +69,8 @@ pub fn read_frame<S: Source>(alloc: Global, source: &mut S) -> Result<Option<Fra
     let Some(size) = read_length(source)? else {
         return Ok(None);
     };
-    let body = read_body(alloc, source, size)?;
-    Ok(Some(Frame { body }))
+    let bytes = read_after_length(alloc, source, size)?;
+    Ok(Some(Frame { bytes }))
 }
 
 /// Reads the length of the next frame's body, or none where the input ends before its first byte.
@@ -91,25 +102,49 @@ fn read_length<S: Source>(source: &mut S) -> Result<Option<usize>, FrameFault>
     Ok(Some(size))
 }
 
-/// Reads the body of a frame, after its length.
-fn read_body<S: Source>(alloc: Global, source: &mut S, size: usize) -> Result<Vec<u8>, FrameFault>
-    ensures body { IfOk result (λ body. (length body.items ≡ size) × Consumes (S.remaining source.old) (S.remaining source.new) body.items) }
+/// Reads the body of a frame, after its length, and gives the whole frame.
+fn read_after_length<S: Source>(
+    alloc: Global,
+    source: &mut S,
+    size: usize,
+) -> Result<Vec<u8>, FrameFault>
+    requires legal { IsFrameLength size }
+    ensures whole { IfOk result (λ bytes. IsHeld bytes.items) }
+    ensures body { IfOk result (λ bytes. (length (drop 4 bytes.items) ≡ size) × Consumes (S.remaining source.old) (S.remaining source.new) (drop 4 bytes.items)) }
     ensures refused { IfErr result (λ fault. BodyMissing (S.remaining source.old) (S.remaining source.new) size fault) }
     ensures held { Keeps (S.holds source.old) (S.holds source.new) }
     ensures no_flush { S.flushes source.new ≡ S.flushes source.old }
     ensures count { S.failures source.new ≡ counted (source_failed result) (S.failures source.old) }
     ensures steady { S.steady source.old → S.steady source.new × (S.failures source.new ≡ S.failures source.old) }
 {
-    let Ok(mut body) = vec![in alloc; 0; size] else {
+    let Ok(mut bytes) = vec![in alloc; 0; LENGTH + size] else {
         return Err(FrameFault::NoMemory);
     };
-    let Ok(count) = fill(source, &mut body) else {
+    fill_frame(source, size, &mut bytes)?;
+    Ok(bytes)
+}
+
+/// Writes a length into the room for a whole frame, and reads the body after it.
+fn fill_frame<S: Source>(source: &mut S, size: usize, room: &mut [u8]) -> Result<(), FrameFault>
+    requires legal { IsFrameLength size }
+    requires room { length room.old ≡ 4 + size }
+    ensures long { length room.new ≡ 4 + size }
+    ensures whole { OnOk result (IsHeld room.new) }
+    ensures body { OnOk result ((length (drop 4 room.new) ≡ size) × Consumes (S.remaining source.old) (S.remaining source.new) (drop 4 room.new)) }
+    ensures refused { IfErr result (λ fault. BodyMissing (S.remaining source.old) (S.remaining source.new) size fault) }
+    ensures held { Keeps (S.holds source.old) (S.holds source.new) }
+    ensures no_flush { S.flushes source.new ≡ S.flushes source.old }
+    ensures count { S.failures source.new ≡ counted (source_failed result) (S.failures source.old) }
+    ensures steady { S.steady source.old → S.steady source.new × (S.failures source.new ≡ S.failures source.old) }
+{
+    room[..LENGTH].copy_from_slice(&(size as u32).to_be_bytes());
+    let Ok(count) = fill(source, &mut room[LENGTH..]) else {
         return Err(FrameFault::Read);
     };
     if count < size {
         return Err(FrameFault::CutShort);
     }
-    Ok(body)
+    Ok(())
 }
 
 /// The number that four bytes are, the highest first.

@@ -1,0 +1,4 @@
+pub mod Ask
+pub mod Counts
+pub mod Send
+pub mod SendFault

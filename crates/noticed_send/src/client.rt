@@ -1,0 +1,99 @@
+//! The client's loop: a frame is sent, its answer is read, and its line is told, before the next
+//! frame is read.
+ghost use Rattle.std.specs.Prelude.{◌≡◌, ◌<◌, Ok, Err};
+ghost use Rattle.std.specs.Result.{result_err};
+ghost use Rattle.noticed_send.specs.Ask.{IsAsked};
+ghost use Rattle.noticed_send.specs.Counts.{Counts};
+ghost use Rattle.noticed_send.specs.Send.{HandsOver, IsSend};
+ghost use Rattle.noticed_send.specs.SendFault.{is_stream_failed};
+
+use crate::send_end::SendEnd;
+use crate::send_fault::SendFault;
+use dsn_device::{Drain, Source, Stream};
+use dsn_frame::{Frame, Spoken, decode_answer, read_frame};
+use noticed_notes::answer_line;
+use std::alloc::Global;
+use std::sync::Wait;
+
+/// How many frames may be sent: as many as a daemon takes on one connection.
+const MOST_FRAMES: u32 = 1_000_000;
+
+/// Sends the frames of `input` over `stream`, each in one write and the next one only after the
+/// last answer, and tells each answer in a line of `notes`. The first fault ends it, and nothing
+/// is read or written after it; an answer out of turn has no line. It makes no flush. Memory is
+/// taken only to read a frame and an answer.
+pub fn send<R: Source, S: Stream, N: Drain>(
+    _rt: &impl Wait,
+    alloc: Global,
+    input: &mut R,
+    stream: &mut S,
+    notes: &mut N,
+) -> SendEnd
+    ensures { IsSend R.Source S.Source S.Drain N.Drain input.old input.new stream.old stream.new notes.old notes.new result }
+{
+    match hand_over(alloc, input, stream, notes) {
+        Ok(()) => SendEnd {
+            status: 0,
+            fault: None,
+        },
+        Err(fault) => SendEnd {
+            status: 1,
+            fault: Some(fault.code()),
+        },
+    }
+}
+
+/// Sends each frame of the input and tells its answer.
+fn hand_over<R: Source, S: Stream, N: Drain>(
+    alloc: Global,
+    input: &mut R,
+    stream: &mut S,
+    notes: &mut N,
+) -> Result<(), SendFault>
+    ensures { HandsOver R.Source S.Source S.Drain N.Drain input.old input.new stream.old stream.new notes.old notes.new (result_err result) }
+{
+    for position in 0..MOST_FRAMES {
+        let frame = match read_frame(alloc, input) {
+            Ok(Some(frame)) => frame,
+            Ok(None) => return Ok(()),
+            Err(fault) => return Err(SendFault::Input(fault)),
+        };
+        let answer = match ask(alloc, stream, position, &frame) {
+            Ok(answer) => answer,
+            Err(fault) => return Err(fault),
+        };
+        if dsn_device::send(notes, answer_line(position, answer).bytes()).is_err() {
+            return Err(SendFault::NotesLost);
+        }
+    }
+    match read_frame(alloc, input) {
+        Ok(None) => Ok(()),
+        Ok(Some(_)) => Err(SendFault::TooMany),
+        Err(fault) => Err(SendFault::Input(fault)),
+    }
+}
+
+/// Sends the frame at this position, and reads its answer.
+fn ask<S: Stream>(
+    alloc: Global,
+    stream: &mut S,
+    position: u32,
+    frame: &Frame,
+) -> Result<Spoken, SendFault>
+    ensures asked { IsAsked position frame.now (S.contents stream.old) (S.contents stream.new) (S.remaining stream.old) (S.remaining stream.new) result }
+    ensures counts { Counts (S.Source.failures) (S.Source.flushes) (S.Source.steady) (is_stream_failed (result_err result)) stream.old stream.new }
+{
+    if dsn_device::send(stream, frame.bytes()).is_err() {
+        return Err(SendFault::NotSent);
+    }
+    let answer = match read_frame(alloc, stream) {
+        Ok(Some(answer)) => answer,
+        Ok(None) => return Err(SendFault::Unanswered),
+        Err(fault) => return Err(SendFault::AnswerFrame(fault)),
+    };
+    match decode_answer(answer.body()) {
+        Ok((number, answer)) if number == position => Ok(answer),
+        Ok(_) => Err(SendFault::OutOfTurn),
+        Err(fault) => Err(SendFault::Answer(fault)),
+    }
+}

@@ -2,3 +2,4 @@ pub mod Ask
 pub mod Counts
 pub mod Send
 pub mod SendFault
+pub mod SendLaws

@@ -3,9 +3,11 @@
 #![tactic(auto)]
 
 mod client;
+mod laws;
 mod send_end;
 mod send_fault;
 
 pub use client::send;
+pub use laws::sends_are_sessions_of_a_client;
 pub use send_end::SendEnd;
 pub use send_fault::SendFault;

@@ -1,0 +1,38 @@
+//! The command `batch`.
+use crate::refusal::Refusal;
+use crate::room::ROOM;
+use dsn_outcome::Plain;
+use dsn_report::Site;
+use noticed_lib::{BatchEnd, Limits, batch};
+use std::io::{BufReader, BufWriter};
+
+/// Runs `batch` over the standard streams, and tells its status.
+pub(crate) fn run_batch(rt: &HostRuntime, site: Site) -> Result<u8, Refusal> {
+    let reader = BufReader::with_capacity(rt.alloc(), ROOM, rt.stdin()).map_err(
+        |_| Refusal::NoMemory,
+    )?;
+    let writer = BufWriter::with_capacity(rt.alloc(), ROOM, rt.stdout()).map_err(
+        |_| Refusal::NoMemory,
+    )?;
+    let mut input = Plain::new(reader);
+    let mut notes = Plain::new(rt.stderr());
+    let end = batch(
+        rt.alloc(),
+        &Limits::of_program(),
+        site,
+        &mut input,
+        Plain::new(writer),
+        &mut notes,
+    );
+    let BatchEnd {
+        outbox,
+        whole: _,
+        fault: _,
+        unsent: _,
+        status,
+    } = end;
+    // After a fault the buffer may hold a part of a letter that was handed back: it is let go
+    // here, since a buffer that is dropped would write it.
+    let _ = outbox.into_inner().into_parts();
+    Ok(status)
+}

@@ -1,0 +1,46 @@
+//! The run of the daemon over any ports.
+ghost use Rattle.noticed_serve.specs.Serve.{IsServe};
+
+use crate::serve_end::ServeEnd;
+use crate::telling::{tell_account, tell_fault};
+use dsn_book::Limits;
+use dsn_crew::{CrewFault, Gate, Port, run_crew};
+use dsn_device::Drain;
+use dsn_report::Site;
+use std::alloc::Global;
+use std::sync::Wait;
+use std::thread::Threads;
+
+/// Serves these ports by a crew, as [`run_crew`] does, posts a notice of each sealed log to
+/// `outbox`, and then tells in `notes` what each agent did and how the run ended.
+pub fn serve_ports<
+    R: Threads + Wait + Sync,
+    P: Port + Drop + Send,
+    W: Drain + Drop + Send,
+    G: Gate + Sync,
+    N: Drain,
+>(
+    rt: &R,
+    alloc: Global,
+    site: Site,
+    limits: Limits,
+    ports: Vec<P>,
+    outbox: W,
+    gate: &G,
+    notes: &mut N,
+) -> ServeEnd<W>
+    ensures { IsServe P.Port W.Drain N.Drain site limits ports.items outbox notes.old notes.new result }
+{
+    match run_crew(rt, alloc, site, limits, ports, outbox, gate) {
+        Ok(account) => tell_account(alloc, account, notes),
+        Err(fault) => {
+            let CrewFault {
+                cause,
+                outbox,
+                unsent,
+                ..
+            } = fault;
+            tell_fault(alloc, cause, outbox, unsent, notes)
+        }
+    }
+}

@@ -1,0 +1,57 @@
+//! The run of the daemon over a listening socket.
+ghost use Rattle.std.specs.Prelude.{◌≡◌, length, IfOk};
+ghost use Rattle.noticed_serve.specs.Serve.{IsSocketServe};
+
+use crate::over_ports::serve_ports;
+use crate::serve_end::ServeEnd;
+use crate::socket_port::SocketPort;
+use crate::telling::tell_fault;
+use dsn_book::Limits;
+use dsn_crew::{CrewCause, NoGate};
+use dsn_device::Drain;
+use dsn_outcome::{Letters, NoMemory};
+use dsn_report::Site;
+use std::alloc::Global;
+use std::os::unix::net::UnixListener;
+use std::sync::Wait;
+use std::thread::Threads;
+
+/// Serves what connects to `listener` by a crew of `agents` agents, each of which serves `max_use`
+/// connections, one after another; see [`serve_ports`]. All agents accept on the one listener.
+pub fn serve<R: Threads + Wait + Sync, W: Drain + Drop + Send, N: Drain>(
+    rt: &R,
+    alloc: Global,
+    listener: &UnixListener,
+    site: Site,
+    limits: Limits,
+    agents: u32,
+    max_use: u32,
+    outbox: W,
+    notes: &mut N,
+) -> ServeEnd<W>
+    ensures { IsSocketServe W.Drain N.Drain site limits agents outbox notes.old notes.new result }
+{
+    match socket_ports(alloc, listener, agents, max_use) {
+        Ok(ports) => serve_ports(rt, alloc, site, limits, ports, outbox, &NoGate, notes),
+        Err(NoMemory) => tell_fault(alloc, CrewCause::Refused, outbox, Letters::new(), notes),
+    }
+}
+
+/// So many ports over one listener.
+fn socket_ports<'a>(
+    alloc: Global,
+    listener: &'a UnixListener,
+    agents: u32,
+    max_use: u32,
+) -> Result<Vec<SocketPort<'a>>, NoMemory>
+    ensures { IfOk result (λ ports. length ports.items ≡ agents) }
+{
+    let mut ports = Vec::with_capacity(alloc, agents as usize).map_err(|_| NoMemory)?;
+    for _ in 0..agents {
+        ports.push_reserved(SocketPort {
+            listener,
+            left: max_use,
+        });
+    }
+    Ok(ports)
+}

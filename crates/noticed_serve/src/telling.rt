@@ -1,0 +1,98 @@
+//! The notes of a run, and its exit status.
+ghost use Rattle.std.specs.Prelude.{◌≡◌, ◌||◌, not, List, is_some, if◌then◌else◌};
+ghost use Rattle.std.specs.List.{list_any};
+ghost use Rattle.dsn_book.specs.Book.{Represents};
+ghost use Rattle.dsn_device.specs.UntilFailure.{WritesUntilFailure};
+ghost use Rattle.dsn_outcome.specs.History.{Exchange};
+ghost use Rattle.noticed_serve.specs.Lines.{agent_lines, port_fault};
+ghost use Rattle.noticed_serve.specs.Serve.{TellsAccount, TellsFault};
+
+use crate::lines::agent_line;
+use crate::serve_end::ServeEnd;
+use dsn_book::OpenLine;
+use dsn_crew::{Account, AgentLine, CrewCause};
+use dsn_device::{Drain, UntilFailure};
+use dsn_outcome::Letters;
+use noticed_notes::tell_end;
+use std::alloc::Global;
+
+/// The number of the fault of a port.
+const PORT: u32 = 61;
+
+/// Tells what each agent did, and how the run ended.
+pub(crate) fn tell_account<W: Drop, N: Drain>(
+    alloc: Global,
+    account: Account<W>,
+    notes: &mut N,
+) -> ServeEnd<W>
+    ensures { (history : List Exchange) → Represents account.book history → TellsAccount N.Drain history account notes.old notes.new result }
+{
+    let Account {
+        agents,
+        unsent,
+        whole,
+        outbox,
+        book,
+        ..
+    } = account;
+    let logs = book.open_lines(alloc);
+    let mut telling = UntilFailure::new();
+    tell_agents(notes, &mut telling, agents.as_slice());
+    let fault = port_fault(agents.as_slice());
+    drop(tell_end(notes, &mut telling, fault, whole, unsent, &logs));
+    let status = status_of(telling.failed, fault, whole, logs.is_ok());
+    ServeEnd { outbox, status }
+}
+
+/// Tells the number of a crew's fault, and the letters that were not written.
+pub(crate) fn tell_fault<W, N: Drain>(
+    alloc: Global,
+    cause: CrewCause,
+    outbox: W,
+    unsent: Letters,
+    notes: &mut N,
+) -> ServeEnd<W>
+    ensures { TellsFault N.Drain cause outbox unsent notes.old notes.new result }
+{
+    let mut telling = UntilFailure::new();
+    let no_logs = Ok(Vec::new(alloc));
+    drop(tell_end(notes, &mut telling, Some(cause.code()), true, unsent, &no_logs));
+    ServeEnd { outbox, status: 1 }
+}
+
+fn tell_agents<N: Drain>(notes: &mut N, telling: &mut UntilFailure, agents: &[AgentLine])
+    ensures { WritesUntilFailure N.Drain telling.old.failed telling.new.failed notes.old notes.new (agent_lines agents.now) }
+{
+    for (agent, line) in agents.iter().enumerate() {
+        telling.write(notes, agent_line(agent, line).as_bytes());
+    }
+}
+
+/// The number of the fault of the ports, where one of them failed.
+fn port_fault(agents: &[AgentLine]) -> Option<u32>
+    ensures { result ≡ port_fault agents.now }
+{
+    if has_failed_port(agents) {
+        Some(PORT)
+    } else {
+        None
+    }
+}
+
+/// Whether the port of any agent failed.
+fn has_failed_port(agents: &[AgentLine]) -> bool
+    ensures { result ≡ list_any (λ line. line.port_failed) agents.now }
+{
+    agents.iter().any(|line| line.port_failed)
+}
+
+/// The exit status.
+fn status_of(lost: bool, fault: Option<u32>, whole: bool, listed: bool) -> u8
+    ensures { result ≡ (if lost || (is_some fault || (not whole || not listed)) then 1 else 0) }
+{
+    if lost || fault.is_some() || !whole || !listed {
+        1
+    } else {
+        0
+    }
+}

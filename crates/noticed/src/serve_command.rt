@@ -13,13 +13,11 @@ use std::sync::Wait;
 use std::thread::Threads;
 
 /// Runs `serve` over a socket that it makes, and tells its status.
-pub(crate) fn run_serve<R: Files + Net + Threads + Wait + Sync, O: Write + Drop + Send, E: Write + Drop>(
-    rt: &R,
-    alloc: Global,
-    serving: Serving,
-    output: O,
-    notes: E,
-) -> Result<u8, Refusal> {
+pub(crate) fn run_serve<
+    R: Files + Net + Threads + Wait + Sync,
+    O: Write + Drop + Send,
+    E: Write + Drop,
+>(rt: &R, alloc: Global, serving: Serving, output: O, notes: E) -> Result<u8, Refusal> {
     let Serving {
         socket,
         site,

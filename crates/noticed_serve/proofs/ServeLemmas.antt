@@ -1,5 +1,5 @@
 -- Serve: a run over ports that don't tell their connections, whatever they are.
-use Rattle.std.proofs.Common.{◌≡◌, ℕ, suc, ◌<◌, List, [], ◌∷◌, length, replicate, inl, inr, subst}
+use Rattle.std.proofs.Common.{◌≡◌, ℕ, suc, List, [], ◌∷◌, length, replicate, inl, inr, subst}
 use Rattle.std.proofs.lemmas.List.{length-replicate}
 use Rattle.std.specs.Prelude.{None}
 use Rattle.dsn_crew.specs.Agent.{Ends}

@@ -1,7 +1,7 @@
 -- Serve: what the daemon's run over ports comes to.
-use Rattle.std.specs.Prelude.{◌≡◌, ◌≢◌, ℕ, ◌<◌, ◌≤◌, ◌⊎◌, ◌↔◌, Bool, false, not, ◌||◌, List, [], length, Option, None, replicate, is_some, is_none, if◌then◌else◌}
+use Rattle.std.specs.Prelude.{◌≡◌, ℕ, ◌<◌, ◌≤◌, ◌⊎◌, ◌↔◌, Bool, false, not, ◌||◌, List, [], length, Option, None, replicate, is_some, is_none, if◌then◌else◌}
 use Rattle.dsn_book.specs.declared.line.OpenLine.{OpenLine}
-use Rattle.dsn_crew.specs.Crew.{Account, CrewFault, IsAccount, IsCrewFault, IsUnbegun}
+use Rattle.dsn_crew.specs.Crew.{Account, CrewFault, IsAccount, IsCrewFault}
 use Rattle.dsn_crew.specs.declared.crew_cause.CrewCause.{CrewCause}
 use Rattle.dsn_crew.specs.declared.crew_cause.CrewCause.TheVariants.{Refused, PortCount}
 use Rattle.dsn_crew.specs.declared.port.Port.{Ghosts as Port}

@@ -11,8 +11,11 @@ use std::alloc::Global;
 use std::sync::Wait;
 use std::thread::Threads;
 
-/// Serves these ports by a crew, as [`run_crew`] does, posts a notice of each sealed log to
-/// `outbox`, and then tells in `notes` what each agent did and how the run ended.
+/// Serves these ports by a crew, as [`run_crew`] does, which posts a notice of each sealed log to
+/// `outbox`. Then it tells in `notes` what each agent did, and how the run ended: with a port that
+/// failed (61), with an outbox that failed (31), which letters were not written, and which logs are
+/// open, or that their list found no memory (9). Of a crew's fault (41, 42, 43) it tells the number
+/// and the letters alone. Nothing is told once a line could not be written.
 pub fn serve_ports<
     R: Threads + Wait + Sync,
     P: Port + Drop + Send,

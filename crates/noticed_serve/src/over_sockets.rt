@@ -16,8 +16,9 @@ use std::os::unix::net::UnixListener;
 use std::sync::Wait;
 use std::thread::Threads;
 
-/// Serves what connects to `listener` by a crew of `agents` agents, each of which serves `max_use`
-/// connections, one after another; see [`serve_ports`]. All agents accept on the one listener.
+/// Serves what connects to `listener` by a crew of `agents` agents, as [`serve_ports`] does. All of
+/// them accept on the one listener, and each is done once it has served `max_use` connections; its
+/// port fails where an accept fails. Refused memory for the ports is told as the crew's is (42).
 pub fn serve<R: Threads + Wait + Sync, W: Drain + Drop + Send, N: Drain>(
     rt: &R,
     alloc: Global,

@@ -55,8 +55,10 @@ pub(crate) fn tell_fault<W, N: Drain>(
     ensures { TellsFault N.Drain cause outbox unsent notes.old notes.new result }
 {
     let mut telling = UntilFailure::new();
+    // No more than these is told of it, so the outbox goes for whole, and no log for open.
     let no_logs = Ok(Vec::new(alloc));
-    drop(tell_end(notes, &mut telling, Some(cause.code()), true, unsent, &no_logs));
+    let fault = Some(cause.code());
+    drop(tell_end(notes, &mut telling, fault, true, unsent, &no_logs));
     ServeEnd { outbox, status: 1 }
 }
 

@@ -1,4 +1,4 @@
-use Rattle.std.proofs.Common.{◌≡◌, length, take}
+use Rattle.std.proofs.Common.{take}
 use Rattle.dsn_device.specs.UntilFailure.{WritesUntilFailure}
 use Rattle.noticed_serve.specs.Lines.{agent_lines}
 use Rattle.noticed_serve.proofs.telling.tell_agents.Given as goal

@@ -2,10 +2,10 @@
 use Rattle.std.proofs.Common.{◌≡◌, ℕ, suc, List, [], ◌∷◌, length, replicate, inl, inr, subst}
 use Rattle.std.proofs.lemmas.List.{length-replicate}
 use Rattle.std.specs.Prelude.{None}
-use Rattle.dsn_crew.specs.Agent.{Ends}
+use Rattle.dsn_agent.specs.Agent.{Ends}
 use Rattle.dsn_crew.specs.Crew.{Account, AreAgentAccounts, IsAccount, IsAgentAccount}
-use Rattle.dsn_crew.specs.declared.agent_line.AgentLine.{AgentLine}
-use Rattle.dsn_crew.specs.declared.port.Port.{Ghosts as Port}
+use Rattle.dsn_agent.specs.declared.agent_line.AgentLine.{AgentLine}
+use Rattle.dsn_agent.specs.declared.port.Port.{Ghosts as Port}
 use Rattle.dsn_device.specs.declared.drain.Drain.{Ghosts as Drain}
 use Rattle.dsn_outcome.specs.History.{Limits}
 use Rattle.dsn_outcome.specs.Request.{Request}

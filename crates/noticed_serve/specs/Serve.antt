@@ -4,7 +4,7 @@ use Rattle.dsn_book.specs.declared.line.OpenLine.{OpenLine}
 use Rattle.dsn_crew.specs.Crew.{Account, CrewFault, IsAccount, IsCrewFault}
 use Rattle.dsn_crew.specs.declared.crew_cause.CrewCause.{CrewCause}
 use Rattle.dsn_crew.specs.declared.crew_cause.CrewCause.TheVariants.{Refused, PortCount}
-use Rattle.dsn_crew.specs.declared.port.Port.{Ghosts as Port}
+use Rattle.dsn_agent.specs.declared.port.Port.{Ghosts as Port}
 use Rattle.dsn_device.specs.UntilFailure.{WritesUntilFailure}
 use Rattle.dsn_device.specs.declared.drain.Drain.{Ghosts as Drain}
 use Rattle.dsn_outcome.specs.History.{Exchange, Limits, history_of}

@@ -10,7 +10,6 @@ USAGE = b"usage: noticed batch HOST | serve SOCKET HOST AGENTS MAX-USE | send SO
 HOST = "mx.example.net"
 SOCKET = "/nonexistent/noticed.socket"
 
-# wrong for good
 WRONG = {
     "no argument": [],
     "an empty command": [""],
@@ -44,24 +43,34 @@ WRONG = {
     "serve with a socket and a host": ["serve", SOCKET, HOST],
     "serve without MAX-USE": ["serve", SOCKET, HOST, "2"],
     "serve with a word too many": ["serve", SOCKET, HOST, "2", "1", "1"],
+    "serve with an empty word too many": ["serve", SOCKET, HOST, "2", "1", ""],
+    "serve with its words exchanged": ["serve", HOST, SOCKET, "2", "1"],
     "serve with a bad host": ["serve", SOCKET, "a_b", "2", "1"],
-    "serve with no agent": ["serve", SOCKET, HOST, "0", "1"],
-    "serve with 17 agents": ["serve", SOCKET, HOST, "17", "1"],
-    "serve with a leading zero": ["serve", SOCKET, HOST, "02", "1"],
-    "serve with a sign": ["serve", SOCKET, HOST, "+2", "1"],
-    "serve with a number that is none": ["serve", SOCKET, HOST, "two", "1"],
-    "serve with an empty number": ["serve", SOCKET, HOST, "2", ""],
-    "serve with no connection": ["serve", SOCKET, HOST, "2", "0"],
-    "serve with 1,000,001 connections": ["serve", SOCKET, HOST, "2", "1000001"],
-    "serve with a number past 64 bits": ["serve", SOCKET, HOST, "2", "18446744073709551617"],
+    "serve with an empty host": ["serve", SOCKET, "", "2", "1"],
+    "serve with a host of 256 bytes": ["serve", SOCKET, "a" * 256, "2", "1"],
+    "serve with a socket that is no UTF-8": ["serve", b"\xff", HOST, "2", "1"],
+    "SERVE in capitals": ["SERVE", SOCKET, HOST, "2", "1"],
     "send with nothing": ["send"],
     "send with a word too many": ["send", SOCKET, HOST],
+    "send with an empty word too many": ["send", SOCKET, ""],
+    "send with a socket that is no UTF-8": ["send", b"/\xff"],
 }
 
-# wrong as long as the program has no such command: to be removed with the command's arrival
-NOT_YET = {
-    "serve as it will be": ["serve", SOCKET, HOST, "2", "1"],
-    "send as it will be": ["send", SOCKET],
+# wrong as AGENTS and as MAX-USE: not a decimal number of at least 1 without leading zeros
+NO_NUMBERS = [
+    "", "0", "00", "01", "001", "+1", "-1", " 1", "1 ", "1\n", "1.0", "1.", "1e3", "0x1", "1_0", "1,0", "two", "\u0661",
+    "18446744073709551617", "4294967297", "340282366920938463463374607431768211457",
+]
+NO_AGENTS = [*NO_NUMBERS, "17", "100", "016"]
+NO_USES = [*NO_NUMBERS, "1000001", "01000000", "4294967296"]
+
+# right, but no socket can be bound there, or nobody listens: fault 61, and nothing on standard output
+RIGHT = {
+    "one agent, one connection": ["serve", SOCKET, HOST, "1", "1"],
+    "the most of both": ["serve", SOCKET, HOST, "16", "1000000"],
+    "a host like an option": ["serve", SOCKET, "--help", "2", "1"],
+    "a socket like an option": ["send", "--help"],
+    "a client": ["send", SOCKET],
 }
 
 # hosts that look like something else: there are no options, so each is a host name
@@ -69,13 +78,18 @@ ODD_HOSTS = ["-h", "--help", "--", "-", ".", "..", "0", "a", "A" * 255]
 
 
 def main():
-    checks = Checks("arguments: status 2 and the usage line alone for wrong ones; odd host names run")
+    checks = Checks("arguments: status 2 and the usage line alone for wrong ones; odd ones that are right run")
     given = (EXAMPLES / "one-bounce.frames").read_bytes()
-    for what, words in {**WRONG, **NOT_YET}.items():
+    wrong = dict(WRONG)
+    wrong |= {f"{it!r} agents": ["serve", SOCKET, HOST, it, "1"] for it in NO_AGENTS}
+    wrong |= {f"{it!r} connections": ["serve", SOCKET, HOST, "2", it] for it in NO_USES}
+    for what, words in wrong.items():
         checks.equal(what, run(words, given), Ran(b"", USAGE, 2))
+    for what, words in RIGHT.items():
+        checks.equal(what, run(words, given), Ran(b"", b"fault 61\n", 1))
     for host in ODD_HOSTS:
         checks.equal(f"batch {host[:20]}", run(["batch", host]), Ran(empty_outbox(host), b"", 0))
-    print(f"  {len(WRONG) + len(NOT_YET)} wrong, {len(ODD_HOSTS)} odd and right")
+    print(f"  {len(wrong)} wrong, {len(RIGHT) + len(ODD_HOSTS)} odd and right")
     checks.done()
 
 

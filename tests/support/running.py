@@ -38,7 +38,8 @@ def run(words, given=b"", **how) -> Ran:
         how["input"] = given
     how.setdefault("stdout", subprocess.PIPE)
     how.setdefault("stderr", subprocess.PIPE)
-    ended = subprocess.run([program(), *words], timeout=LIMIT, check=False, **how)
+    how.setdefault("timeout", LIMIT)
+    ended = subprocess.run([program(), *words], check=False, **how)
     return Ran(ended.stdout or b"", ended.stderr or b"", ended.returncode)
 
 

@@ -1,0 +1,45 @@
+#!/usr/bin/env python3
+"""Measures crews of 1, 4 and 16 agents over connections in memory (the program crew_probe): requests a second, and
+processor time a request. Beside them two threads that exchange as many messages over the same kind of channels alone.
+
+    python3 bench/crew.py [REQUESTS]      so many requests in all, 400,000 unless said
+"""
+import os
+import resource
+import subprocess
+import sys
+import time
+from pathlib import Path
+
+ROOT = Path(__file__).resolve().parents[1]
+PROBE = os.environ.get("CREW_PROBE") or str(ROOT / "crates/crew_probe/out/crew_probe")
+
+
+def measured(words) -> tuple:
+    """Runs the program: its seconds, and its processor seconds (of its own and of the system for it)."""
+    before, began = resource.getrusage(resource.RUSAGE_CHILDREN), time.monotonic()
+    ended = subprocess.run([PROBE, *words], stdout=subprocess.PIPE, check=True)
+    seconds, after = time.monotonic() - began, resource.getrusage(resource.RUSAGE_CHILDREN)
+    if not ended.stdout.startswith((b"ok\n", b"messages ")):
+        raise RuntimeError(ended.stdout[:80])
+    return seconds, after.ru_utime - before.ru_utime, after.ru_stime - before.ru_stime
+
+
+def show(what: str, count: int, measure: tuple):
+    """One line: so many items of a kind, with what they took."""
+    seconds, own, system = measure
+    each = 1e6 * (own + system) / count
+    print(f"{what}: {count} in {seconds:.2f} s, {count / seconds:.0f} a second; {each:.2f} us of processor time each ({1e6 * own / count:.2f} its own, {1e6 * system / count:.2f} the system's)")
+    sys.stdout.flush()
+
+
+def main():
+    total = int(sys.argv[1]) if len(sys.argv) > 1 else 400_000
+    print(f"{len(os.sched_getaffinity(0))} processors")
+    for agents in (1, 4, 16):
+        show(f"requests of {agents} agents", total, measured([str(agents), str(total // agents)]))
+    show("messages and answers over channels alone, two threads", total, measured(["channel", str(total)]))
+
+
+if __name__ == "__main__":
+    main()

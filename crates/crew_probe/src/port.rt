@@ -1,0 +1,34 @@
+//! A port with one connection in memory.
+ghost use Rattle.std.specs.Prelude.{None};
+
+use crate::peer::Peer;
+use dsn_crew::{Next, Port};
+use dsn_device::Plain;
+
+/// A port with one connection in memory. It doesn't tell it.
+#[derive(Drop)]
+pub(crate) struct PeerPort {
+    peer: Option<Peer>,
+}
+
+impl PeerPort {
+    /// A port with a connection that asks for so many appends, and of agent 0 for a flush.
+    pub(crate) fn new(agent: u32, appends: u32) -> PeerPort {
+        PeerPort {
+            peer: Some(Peer::new(agent, appends)),
+        }
+    }
+}
+
+impl Port for PeerPort {
+    type Stream = Plain<Peer>;
+
+    ghost conns = { λ _. None };
+
+    fn next(&mut self) -> Next<Plain<Peer>> {
+        match self.peer.take() {
+            Some(peer) => Next::Conn(Plain::new(peer)),
+            None => Next::Done,
+        }
+    }
+}

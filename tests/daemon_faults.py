@@ -1,0 +1,196 @@
+#!/usr/bin/env python3
+"""Runs `noticed serve` where something is wanting: the socket, an output, descriptors, memory or a thread. Each end is
+one that is written down, and nobody waits for ever."""
+import os
+import re
+import resource
+import subprocess
+import sys
+import tempfile
+from pathlib import Path
+
+sys.path.insert(0, str(Path(__file__).parent / "support"))
+from daemon import FIRST_FRAME, FRAMES, NOTES, OUTBOX, PATIENCE, Daemon, answer, append, asked, closed_pipe, flush, line  # noqa: E402
+from running import HOST, Checks, Ran, empty_outbox, run  # noqa: E402
+
+SUPPORT = Path(__file__).parent / "support"
+MOST = 200  # growths of a run; more than this and the sweep is broken
+UNBOUND = Ran(b"", b"fault 61\n", 1)
+UNBEGUN = Ran(b"", b"fault 9\n", 1)
+REFUSED = Ran(b"", b"fault 42\n", 1)
+
+
+def sockets(checks: Checks):
+    """A socket that can't be bound: nothing on standard output, and what stood there before stays."""
+    with tempfile.TemporaryDirectory() as room:
+        taken = Path(room) / "taken"
+        taken.write_bytes(b"kept")
+        longest = room + "/" + "s" * (107 - len(room) - 1)
+        paths = {
+            "a file that exists": str(taken),
+            "a folder that isn't there": f"{room}/none/socket",
+            "a folder": room,
+            "a path of 108 bytes": longest + "s",
+            "a path of 300 bytes": longest + "s" * 193,
+            "a folder under a file": f"{taken}/socket",
+        }
+        for what, path in paths.items():
+            checks.equal(what, run(["serve", path, HOST, "2", "1"], timeout=PATIENCE), UNBOUND)
+        checks.equal("the file is as it was", taken.read_bytes(), b"kept")
+        with Daemon(1, 1, longest) as daemon:
+            checks.equal("a path of 107 bytes", daemon.send(), Ran(NOTES, b"", 0))
+            checks.equal("a second daemon on it", run(["serve", longest, HOST, "1", "1"], timeout=PATIENCE), UNBOUND)
+            checks.equal("its daemon", daemon.end(), Ran(OUTBOX, line(0, 2), 0))
+        checks.equal("a daemon where one has ended", run(["serve", longest, HOST, "1", "1"], timeout=PATIENCE), UNBOUND)
+        os.unlink(longest)
+        with Daemon(1, 1, longest) as daemon:
+            checks.equal("once its file is removed", daemon.send(), Ran(NOTES, b"", 0))
+
+
+def bad_outboxes(checks: Checks):
+    """An outbox that can't be written at all: the client is answered all the same, and the letter is named as unsent."""
+    for what, opened in (("closed", closed_pipe), ("full", lambda: os.open("/dev/full", os.O_WRONLY))):
+        outbox = opened()
+        try:
+            with Daemon(1, 1, stdout=outbox) as daemon:
+                checks.equal(f"{what} standard output, the client", daemon.send(), Ran(NOTES, b"", 0))
+                checks.equal(f"{what} standard output", daemon.end(), Ran(b"", line(0, 2) + b"fault 31\nunsent B A1B2C3\n", 1))
+            with Daemon(1, 1, stdout=outbox) as daemon:
+                daemon.send(FRAMES[:FIRST_FRAME])
+                checks.equal(f"{what}, no letter", daemon.end(), Ran(b"", line(0, 1) + b"fault 31\nopen B A1B2C3 1\n", 1))
+        finally:
+            os.close(outbox)
+
+
+def letter_from(reading: int) -> bytes:
+    """The bytes of a pipe up to the end of a letter."""
+    got = b""
+    while not got.endswith(b"\r\n.\r\n"):
+        got += os.read(reading, 65536)
+    return got
+
+
+def breaking_outbox(checks: Checks):
+    """An outbox whose reader leaves after the first letter: the later ones are named as unsent, in their order."""
+    reading, writing = os.pipe()
+    with Daemon(1, 1, stdout=writing) as daemon:
+        os.close(writing)
+        with daemon.connect() as client:
+            checks.equal("the first letter", asked(client, FRAMES, 2), answer(1) + answer(7, 1, 1))
+            got = letter_from(reading)
+            checks.equal("the outbox before it breaks", got, OUTBOX.removesuffix(b"QUIT\r\n"))
+            os.close(reading)
+            rest = append(2, b"K2") + flush(3, b"K2") + append(4, b"K3") + flush(5, b"K3")
+            wanted = answer(1, 2) + answer(7, 3, 1) + answer(1, 4) + answer(7, 5, 1)
+            checks.equal("later letters are sealed", asked(client, rest, 4), wanted)
+        notes = line(0, 6) + b"fault 31\nunsent B K2\nunsent B K3\n"
+        checks.equal("a pipe that breaks", daemon.end(), Ran(b"", notes, 1))
+
+
+def bad_notes(checks: Checks):
+    """Notes that can't be written: the outbox is whole, and the status tells."""
+    for what, opened in (("closed", closed_pipe), ("full", lambda: os.open("/dev/full", os.O_WRONLY))):
+        notes = opened()
+        try:
+            with Daemon(1, 1, stderr=notes) as daemon:
+                checks.equal(f"{what} standard error, the client", daemon.send(), Ran(NOTES, b"", 0))
+                checks.equal(f"{what} standard error", daemon.end(), Ran(OUTBOX, b"", 1))
+        finally:
+            os.close(notes)
+
+
+def descriptors(count: int):
+    """A limit on the files of a process."""
+    return lambda: resource.setrlimit(resource.RLIMIT_NOFILE, (count, count))
+
+
+def few_descriptors(checks: Checks):
+    """None for a connection beside the socket's; and one for two agents. The ports that failed are told once."""
+    with Daemon(2, 1, preexec_fn=descriptors(4)) as daemon:
+        notes = line(0, 0, 0) + line(1, 0, 0) + b"fault 61\n"
+        checks.equal("none for a connection", daemon.end(), Ran(empty_outbox(), notes, 1))
+    with Daemon(2, 1, preexec_fn=descriptors(5)) as daemon:
+        checks.equal("one for two agents, the client", daemon.send(), Ran(NOTES, b"", 0))
+        ended = daemon.end()
+        checks.true("its notes", ended.notes in (line(0, 2) + line(1, 0, 0) + b"fault 61\n", line(0, 0, 0) + line(1, 2) + b"fault 61\n"))
+        checks.equal("its outbox", (ended.outbox, ended.status), (OUTBOX, 1))
+
+
+def sweep(library: Path, given: bytes) -> list:
+    """How a daemon with one agent ends where its first growth is refused, its second, and so on up to the first run that
+    is whole."""
+    with Daemon(1, 1) as daemon:
+        daemon.send(given)
+        whole = daemon.end()
+    ends = []
+    for number in range(1, MOST):
+        environment = {**os.environ, "LD_PRELOAD": str(library), "REFUSE": str(number)}
+        with Daemon(1, 1, env=environment) as daemon:
+            daemon.send(given)
+            ends.append(daemon.end())
+        if ends[-1] == whole:
+            break
+    return ends
+
+
+def compare(checks: Checks, about: str, ends: list, wanted: dict):
+    """Compares the ends, which come in the order of the wanted ones, with each of these met."""
+    named = {(end.outbox, end.notes, end.status): name for name, end in wanted.items()}
+    met = [named.get((it.outbox, it.notes, it.status), f"another end: {it}") for it in ends]
+    in_order = [name for at, name in enumerate(met) if at == 0 or met[at - 1] != name]
+    checks.equal(about, in_order, list(wanted))
+    print(f"  {about}: {len(ends) - 1} growths, each refused once")
+
+
+def growths(checks: Checks, library: Path):
+    """Each growth of memory refused in turn, with a client that bounces a message."""
+    is_open = b"open B A1B2C3 1\n"
+    compare(checks, "growths of a daemon", sweep(library, FRAMES), {
+        "before the run": UNBEGUN,
+        "for the crew, or for the poster's thread": REFUSED,
+        "for the agent's thread": Ran(empty_outbox(), b"fault 42\n", 1),
+        "for the first frame": Ran(empty_outbox(), line(0, 0, 1, 1), 0),
+        "for the append": Ran(empty_outbox(), line(0, 1), 0),
+        "for the second frame": Ran(empty_outbox(), line(0, 1, 1, 1) + is_open, 0),
+        "for the flush": Ran(empty_outbox(), line(0, 1) + is_open, 0),
+        "none": Ran(OUTBOX, line(0, 2), 0),
+    })
+
+
+def threads(checks: Checks, library: Path):
+    """Each start of a thread refused in turn: without the poster nothing is begun; without an agent the others serve."""
+    for agents in (1, 2, 4):
+        for number in range(1, agents + 3):
+            environment = {**os.environ, "LD_PRELOAD": str(library), "REFUSE_THREAD": str(number)}
+            with Daemon(agents, 1, env=environment) as daemon:
+                served = agents - (2 <= number <= agents + 1) if number > 1 else 0
+                told = [daemon.send() for _ in range(served)]
+                ended = daemon.end()
+            about = f"{agents} agents, thread {number} refused"
+            checks.equal(f"{about}: its clients", [it.status for it in told], [0] * served)
+            if number == 1:
+                checks.equal(about, ended, REFUSED)
+            elif number <= agents + 1:
+                checks.equal(about, ended, Ran(OUTBOX if served else empty_outbox(), b"fault 42\n", 1))
+            else:
+                checks.equal(f"{about}: none", (ended.outbox, ended.status), (OUTBOX, 0))
+
+
+def preloaded(room: str, name: str) -> Path:
+    """A library of tests/support, compiled."""
+    library = Path(room) / f"{name}.so"
+    subprocess.run(["gcc", "-O2", "-shared", "-fPIC", "-o", str(library), str(SUPPORT / f"{name}.c"), "-ldl"], check=True)
+    return library
+
+
+def main():
+    checks = Checks("daemon_faults: sockets, outputs, descriptors, memory and threads that a daemon wants")
+    for check in (sockets, bad_outboxes, breaking_outbox, bad_notes, few_descriptors):
+        check(checks)
+    with tempfile.TemporaryDirectory() as room:
+        growths(checks, preloaded(room, "refuse"))
+        threads(checks, preloaded(room, "refuse_thread"))
+    checks.done()
+
+
+main()

@@ -1,0 +1,153 @@
+"""What the scripts that run `noticed serve` and `noticed send` share: a daemon on a socket of its own, and clients."""
+import os
+import signal
+import socket
+import struct
+import subprocess
+import tempfile
+import time
+from pathlib import Path
+
+from running import EXAMPLES, HOST, Ran, frames_module, program, run
+
+PATIENCE = 10  # seconds that a daemon or a client may take for one step
+MOMENT = 0.002  # seconds between two looks at something that is about to happen
+
+FRAMES = (EXAMPLES / "one-bounce.frames").read_bytes()
+OUTBOX = (EXAMPLES / "one-bounce.outbox").read_bytes()
+NOTES = (EXAMPLES / "one-bounce.notes").read_bytes()
+FIRST_FRAME = 52  # bytes of the example's append
+
+frames = frames_module()
+
+
+def answer(reply: int, number: int = 0, value: int = 0) -> bytes:
+    """The frame of an answer."""
+    return struct.pack(">IBBII", 10, 1, reply, number, value)
+
+
+def line(agent: int, requests: int, connections: int = 1, faults: int = 0) -> bytes:
+    """The line of an agent in the notes."""
+    return b"agent %d requests %d connections %d faults %d\n" % (agent, requests, connections, faults)
+
+
+def append(number: int, message: bytes = b"Q1", recipient: bytes = b"x@y") -> bytes:
+    """An append of a failed recipient to a bounce log."""
+    return frames.append(number, 1, message, recipient, 1, b"5.0.0")
+
+
+def flush(number: int, message: bytes = b"Q1") -> bytes:
+    """A flush of a bounce log."""
+    return frames.flush(number, 1, message)
+
+
+class Daemon:
+    """`noticed serve` with so many agents and connections, on a socket in a folder that is removed at the end. Its
+    outputs go to files, unless `stdout` or `stderr` say otherwise; a daemon that is still there at the end is killed."""
+
+    def __init__(self, agents: int, uses: int, path=None, **how):
+        self.room = tempfile.TemporaryDirectory(prefix="noticed-")
+        self.path = str(path or Path(self.room.name) / "socket")
+        self.files = {it: open(Path(self.room.name) / it, "w+b") for it in ("stdout", "stderr")}
+        streams = {"stdin": subprocess.DEVNULL, **self.files, **how}
+        words = [program(), "serve", self.path, HOST, str(agents), str(uses)]
+        self.running = subprocess.Popen(words, **streams)
+
+    def __enter__(self):
+        return self
+
+    def __exit__(self, *_):
+        if self.running.poll() is None:
+            self.running.kill()
+            self.running.wait()
+        for it in self.files.values():
+            it.close()
+        self.room.cleanup()
+
+    def connect(self) -> socket.socket:
+        """A connection, as soon as the daemon listens; ConnectionRefusedError where it has ended."""
+        began = time.monotonic()
+        while True:
+            client = socket.socket(socket.AF_UNIX, socket.SOCK_STREAM)
+            client.settimeout(PATIENCE)
+            try:
+                client.connect(self.path)
+                return client
+            except (FileNotFoundError, ConnectionRefusedError) as why:
+                client.close()
+                if self.running.poll() is not None or time.monotonic() - began > PATIENCE:
+                    raise ConnectionRefusedError from why
+                time.sleep(MOMENT)
+
+    def listens(self) -> bool:
+        """Waits until the socket is there and is listened on, without a connection; false where the daemon has ended."""
+        began = time.monotonic()
+        while time.monotonic() - began < PATIENCE:
+            with open("/proc/net/unix", encoding="ascii") as sockets:
+                # flags 00010000: listening
+                if any(it.split()[3] == "00010000" for it in sockets if it.rstrip().endswith(" " + self.path)):
+                    return True
+            if self.running.poll() is not None:
+                return False
+            time.sleep(MOMENT)
+        return False
+
+    def send(self, given: bytes = FRAMES, **how) -> Ran:
+        """Runs `noticed send` on these frames, once the daemon listens."""
+        self.listens()
+        return run(["send", self.path], given, **how)
+
+    def has_written(self, size: int) -> bool:
+        """Waits until the outbox has so many bytes: a letter is written beside the answer of its flush."""
+        began = time.monotonic()
+        while os.fstat(self.files["stdout"].fileno()).st_size < size:
+            if time.monotonic() - began > PATIENCE:
+                return False
+            time.sleep(MOMENT)
+        return True
+
+    def end(self) -> Ran:
+        """Waits for the daemon's end: what it wrote, and its status."""
+        status = self.running.wait(timeout=PATIENCE)
+        written = []
+        for it in self.files.values():
+            it.seek(0)
+            written.append(it.read())
+        return Ran(*written, status)
+
+    def stop(self) -> Ran:
+        """Stops the daemon by a signal."""
+        self.running.send_signal(signal.SIGTERM)
+        return self.end()
+
+
+def heard(client: socket.socket, size: int) -> bytes:
+    """So many bytes of a connection, or what there is before its end."""
+    got = b""
+    while len(got) < size:
+        more = client.recv(size - len(got))
+        if not more:
+            break
+        got += more
+    return got
+
+
+def asked(client: socket.socket, given: bytes, answers: int = 1) -> bytes:
+    """The bytes of so many answers to these frames."""
+    client.sendall(given)
+    return heard(client, 14 * answers)
+
+
+def is_ended(client: socket.socket) -> bool:
+    """Whether the daemon has closed a connection: it is at its end, or was reset."""
+    try:
+        return client.recv(1) == b""
+    except ConnectionResetError:
+        return True
+
+
+def closed_pipe() -> int:
+    """The writing end of a pipe that nobody reads."""
+    reading, writing = os.pipe()
+    os.close(reading)
+    return writing

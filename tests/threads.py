@@ -1,0 +1,120 @@
+#!/usr/bin/env python3
+"""Refuses the first, the second, .. start of a thread, and the first, the second, .. growth of memory, of a crew over
+connections in memory (the program crew_probe), by small libraries that are preloaded (tests/support/refuse_thread.c and
+refuse.c, compiled here with gcc). Each run ends, and as it should: without its poster nothing is begun, without an agent
+the others are served to their ends."""
+import os
+import subprocess
+import sys
+import tempfile
+from pathlib import Path
+
+sys.path.insert(0, str(Path(__file__).parent / "support"))
+from running import EXAMPLES, ROOT, Checks, Ran, empty_outbox  # noqa: E402
+
+SUPPORT = Path(__file__).parent / "support"
+PROBE = os.environ.get("CREW_PROBE") or str(ROOT / "crates/crew_probe/out/crew_probe")
+PATIENCE = 20  # seconds that a run may take
+MOST = 300  # growths of a run; more than this and the sweep is broken
+
+# the notice that agent 0's log comes to
+OUTBOX = (EXAMPLES / "one-bounce.outbox").read_bytes().replace(b"ann@example.com", b"ann@example")
+UNBEGUN = Ran(b"", b"", 1)  # the program's own memory was refused
+
+
+def crew(agents: int, **refused) -> Ran:
+    """A crew of so many agents: each appends once to a log of its own, and agent 0 then flushes it."""
+    environment = {**os.environ, **{name: str(value) for name, value in refused.items()}}
+    ended = subprocess.run([PROBE, str(agents), "1"], capture_output=True, env=environment, timeout=PATIENCE, check=False)
+    return Ran(ended.stdout, ended.stderr, ended.returncode)
+
+
+def shown(answered: int, agents: list, letters: int, outbox: bytes) -> Ran:
+    """What a run shows that ended well: the requests and faults of each agent, the letters, the outbox."""
+    lines = b"".join(b"requests %d connections 1 faults %d\n" % it for it in agents)
+    return Ran(b"ok\nanswered %d\n" % answered + lines + b"letters %d unsent 0 whole true\n" % letters + outbox, b"", 0)
+
+
+def refused(answered: int, outbox: bytes) -> Ran:
+    """What a run shows that was refused memory or a thread."""
+    return Ran(b"fault 42\nanswered %d\nunsent 0\n" % answered + outbox, b"", 0)
+
+
+def whole(agents: int) -> Ran:
+    """What a run shows that was refused nothing."""
+    return shown(agents + 1, [(2, 0)] + [(1, 0)] * (agents - 1), 1, OUTBOX)
+
+
+def threads(checks: Checks, library: Path, agents: int):
+    """The poster's thread is refused, then each agent's in turn, then none."""
+    wanted = [refused(0, b""), refused(agents - 1, empty_outbox())]
+    wanted += [refused(agents, OUTBOX)] * (agents - 1) + [whole(agents)]
+    for number, end in enumerate(wanted, 1):
+        checks.equal(f"{agents} agents, thread {number} refused", crew(agents, LD_PRELOAD=library, REFUSE_THREAD=number), end)
+
+
+def sweep(library: Path, agents: int) -> list:
+    """How the run ends where its first growth is refused, its second, and so on up to the first run that is whole."""
+    ends = []
+    for number in range(1, MOST):
+        ends.append(crew(agents, LD_PRELOAD=library, REFUSE=number))
+        if ends[-1] == whole(agents):
+            break
+    return ends
+
+
+def growths_of_one(checks: Checks, ends: list):
+    """The ends of a crew of one agent come in the order of its growths, and each of them is met."""
+    wanted = [
+        ("before the run", UNBEGUN),
+        ("for the crew, or for the poster's thread", refused(0, b"")),
+        ("for the agent's thread", refused(0, empty_outbox())),
+        ("for the first frame", shown(0, [(0, 1)], 0, empty_outbox())),
+        ("for a body", shown(1, [(1, 0)], 0, empty_outbox())),
+        ("for the second frame", shown(1, [(1, 1)], 0, empty_outbox())),
+        ("for a body", shown(1, [(1, 0)], 0, empty_outbox())),
+        ("none", whole(1)),
+    ]
+    named = {(end.outbox, end.status): name for name, end in wanted}
+    met = [named.get((it.outbox, it.status), f"another end: {it}") for it in ends]
+    in_order = [name for at, name in enumerate(met) if at == 0 or met[at - 1] != name]
+    checks.equal("growths of a crew of one agent", in_order, [name for name, _ in wanted])
+
+
+def growths_of_many(checks: Checks, agents: int, ends: list):
+    """Up to the first thread every growth that is refused ends the run with nothing written; later ones end it by a
+    refused start, or refuse one request or one connection of an agent."""
+    begun = next(at for at, end in enumerate(ends) if end not in (UNBEGUN, refused(0, b"")))
+    checks.true(f"{agents} agents: growths before the first thread", ends[:begun].count(refused(0, b"")) > 4)
+    for number, end in enumerate(ends[begun:], begun + 1):
+        is_known = end.outbox.startswith((b"ok\n", b"fault 42\n")) and end.outbox.endswith((OUTBOX, empty_outbox()))
+        checks.true(f"{agents} agents, growth {number} refused: {end}", is_known and (end.notes, end.status) == (b"", 0))
+
+
+def preloaded(room: str, name: str) -> Path:
+    """A library of tests/support, compiled."""
+    library = Path(room) / f"{name}.so"
+    subprocess.run(["gcc", "-O2", "-shared", "-fPIC", "-o", str(library), str(SUPPORT / f"{name}.c"), "-ldl"], check=True)
+    return library
+
+
+def main():
+    checks = Checks("threads: each start of a thread of a crew refused in turn, and each growth of its memory")
+    if not os.access(PROBE, os.X_OK):
+        print(f"there is no program {PROBE}: run the gate, or name one in CREW_PROBE")
+        sys.exit(1)
+    with tempfile.TemporaryDirectory() as room:
+        growth, start = preloaded(room, "refuse"), preloaded(room, "refuse_thread")
+        for agents in (1, 2, 4):
+            checks.equal(f"{agents} agents", crew(agents), whole(agents))
+            threads(checks, start, agents)
+            ends = sweep(growth, agents)
+            checks.equal(f"{agents} agents: the last growth is passed", ends[-1], whole(agents))
+            growths_of_one(checks, ends) if agents == 1 else growths_of_many(checks, agents, ends)
+            print(f"  {agents} agents: {agents + 1} threads and {len(ends) - 1} growths, each refused once")
+    checks.equal("no agent", crew(0), Ran(b"fault 43\nanswered 0\nunsent 0\n", b"", 0))
+    checks.equal("17 agents", crew(17), Ran(b"fault 43\nanswered 0\nunsent 0\n", b"", 0))
+    checks.done()
+
+
+main()

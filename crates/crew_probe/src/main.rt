@@ -39,17 +39,15 @@ enum Task {
 }
 
 fn main(rt: HostRuntime) -> ExitCode {
-    let Some(task) = asked_for(&rt) else {
-        return ExitCode::from(2);
-    };
-    let done = match task {
-        Task::Crew(agents, requests) => run(&rt, rt.alloc(), agents, requests),
-        Task::Channel(messages) => exchange(&rt, rt.alloc(), messages),
+    let done = match asked_for(&rt) {
+        Some(Task::Crew(agents, requests)) => run(&rt, rt.alloc(), agents, requests),
+        Some(Task::Channel(messages)) => exchange(&rt, rt.alloc(), messages),
+        None => None,
     };
     ExitCode::from(u8::from(done.is_none()))
 }
 
-/// What the arguments ask for.
+/// What the arguments ask for; none where they are wrong, or memory was refused.
 fn asked_for(rt: &(impl Env + Alloc)) -> Option<Task> {
     let mut words = env::args(rt).ok()?;
     let _program = words.next();

@@ -3,23 +3,32 @@ r"""Hands the notices of an outbox to a mail system, one at a time, and waits fo
 
     noticed batch mx.example.net < frames | python3 examples/feed.py localhost:25
     noticed batch mx.example.net < frames | python3 examples/feed.py sendmail -i
+    python3 examples/feed.py --follow /var/lib/noticed/outbox localhost:25
 
 The outbox is read from standard input as it grows. With HOST:PORT each notice is a mail transaction with that
 server (SMTP, RFC 5321), over one connection that is made anew where it was lost; any other words are a local
 submission program, run once for each notice with `-f <> -- RECIPIENT` after them and the message on its input.
 
+With --follow the outbox is a file that grows; once it was read to its end and another file stands under its name
+(that of the next daemon), that one is read. It ends by SIGTERM or SIGINT, between two notices.
+
 A notice that is refused (its recipient, its text) is left out: one line on standard error has its key and the
 reply. The last line says how many were handed in and how many were left out. The status is 0 where each notice
-was handed in and the outbox was whole, 1 where one was left out or the outbox was cut short, 2 for wrong arguments.
+was handed in and each outbox was whole, 1 where one was left out or cut short, 2 for wrong arguments.
 """
 import contextlib
+import os
 import re
+import signal
 import smtplib
 import subprocess
 import sys
+import time
 from dataclasses import dataclass
 
 PATIENCE = 300  # seconds that a reply may take (RFC 5321 section 4.5.3.2)
+CLOSING = 421  # the reply of a server that closes the connection, for instance after a long pause (section 3.8)
+PAUSE = 0.2  # seconds between two looks at a file that grows
 
 
 @dataclass
@@ -37,6 +46,52 @@ class Notice:
 
 class CutShort(Exception):
     """The outbox ended before its QUIT."""
+
+
+class Stopped(Exception):
+    """A signal came while nothing was in hand."""
+
+
+class Growing:
+    """An outbox in a file that grows, read line by line; it is at its end once another file has its name."""
+
+    def __init__(self, path: str, is_stopped):
+        self.path, self.is_stopped, self.begun, self.file = path, is_stopped, b"", None
+        while self.file is None:
+            with contextlib.suppress(FileNotFoundError):
+                self.file = open(path, "rb")
+            self.pause(0 if self.file else PAUSE)
+
+    def readline(self) -> bytes:
+        """The next line once it is whole; what there is of it at the end."""
+        while True:
+            is_last = self.is_replaced()
+            self.begun += self.file.readline()
+            is_whole = self.begun.endswith(b"\n")
+            self.pause(0 if is_whole or is_last else PAUSE)
+            if is_whole or is_last:
+                line, self.begun = self.begun, b""
+                return line
+
+    def is_replaced(self) -> bool:
+        """Whether another file has the outbox's name, so that nothing more is written to this one."""
+        try:
+            return not os.path.samestat(os.stat(self.path), os.fstat(self.file.fileno()))
+        except FileNotFoundError:
+            return False
+
+    def wait_for_next(self):
+        """Waits until another file has the outbox's name."""
+        while not self.is_replaced():
+            self.pause(PAUSE)
+        self.file.close()
+
+    def pause(self, seconds: float):
+        """Waits so long; after a signal it goes no further."""
+        if self.is_stopped():
+            raise Stopped
+        if seconds:
+            time.sleep(seconds)
 
 
 def line_of(stream) -> bytes:
@@ -75,14 +130,17 @@ class Server:
         self.connection = None
 
     def send(self, notice: Notice):
-        """Hands in one notice from the null sender; a lost connection is made anew once."""
+        """Hands in one notice from the null sender; a connection that was lost, or that the server gives up, is made
+        anew once."""
         for again in (True, False):
             if self.connection is None:
                 self.connection = smtplib.SMTP(self.host, int(self.port), timeout=PATIENCE)
             try:
                 self.connection.sendmail("", [notice.recipient], notice.message)
                 return
-            except smtplib.SMTPServerDisconnected:
+            except (smtplib.SMTPServerDisconnected, smtplib.SMTPResponseException) as lost:
+                if getattr(lost, "smtp_code", CLOSING) != CLOSING:
+                    raise
                 self.connection = None
                 if not again:
                     raise
@@ -120,32 +178,55 @@ def said(refused: Exception) -> str:
     return f"{code} {reply.decode(errors='replace')}".replace("\n", " ")
 
 
-def feed(stream, mailer) -> int:
-    """Hands in each notice of the outbox, and gives the exit status."""
-    handed, left_out, whole = 0, 0, True
-    try:
-        for notice in notices_of(stream):
-            try:
-                mailer.send(notice)
-                handed += 1
-            except (smtplib.SMTPException, subprocess.SubprocessError, OSError) as refused:
-                left_out += 1
-                print(f"left out {notice.key()}: {said(refused)}", file=sys.stderr, flush=True)
-    except CutShort:
-        whole = False
-        print("the outbox was cut short", file=sys.stderr)
-    mailer.close()
-    print(f"{handed} handed in, {left_out} left out", file=sys.stderr)
-    return 0 if whole and left_out == 0 else 1
+class Feeder:
+    """Hands the notices of outboxes to a mailer, and counts what comes of them."""
+
+    def __init__(self, mailer):
+        self.mailer, self.handed, self.left_out, self.cut = mailer, 0, 0, 0
+
+    def feed(self, stream):
+        """Hands in each notice of an outbox, to its QUIT or its end."""
+        try:
+            for notice in notices_of(stream):
+                try:
+                    self.mailer.send(notice)
+                    self.handed += 1
+                except (smtplib.SMTPException, subprocess.SubprocessError, OSError) as refused:
+                    self.left_out += 1
+                    print(f"left out {notice.key()}: {said(refused)}", file=sys.stderr, flush=True)
+        except CutShort:
+            self.cut += 1
+            print("the outbox was cut short", file=sys.stderr, flush=True)
+
+    def follow(self, path: str):
+        """The same for an outbox in a file that grows, and then for the next one of this name, until a signal comes."""
+        signals = []
+        for it in (signal.SIGTERM, signal.SIGINT):
+            signal.signal(it, lambda number, _: signals.append(number))
+        with contextlib.suppress(Stopped):
+            while True:
+                outbox = Growing(path, lambda: signals)
+                self.feed(outbox)
+                outbox.wait_for_next()
+
+    def end(self) -> int:
+        """Ends the mailer, says the counts, and gives the exit status."""
+        self.mailer.close()
+        print(f"{self.handed} handed in, {self.left_out} left out", file=sys.stderr)
+        return 1 if self.left_out or self.cut else 0
 
 
 def main():
-    words = sys.argv[1:]
+    words, path = sys.argv[1:], None
+    if len(words) > 1 and words[0] == "--follow":
+        path, words = words[1], words[2:]
     if not words or words[0].startswith("-"):
-        print("usage: feed.py HOST:PORT | PROGRAM [OPTION]..", file=sys.stderr)
+        print("usage: feed.py [--follow OUTBOX] HOST:PORT | PROGRAM [OPTION]..", file=sys.stderr)
         sys.exit(2)
     is_server = len(words) == 1 and re.fullmatch(r"[^/]*:[0-9]+", words[0])
-    sys.exit(feed(sys.stdin.buffer, Server(words[0]) if is_server else Program(words)))
+    feeder = Feeder(Server(words[0]) if is_server else Program(words))
+    feeder.follow(path) if path else feeder.feed(sys.stdin.buffer)
+    sys.exit(feeder.end())
 
 
 if __name__ == "__main__":

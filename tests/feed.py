@@ -1,13 +1,20 @@
 #!/usr/bin/env python3
 """Checks examples/feed.py: it hands each notice of an outbox to a mail server, one at a time, and leaves out what is
-refused; or to a submission program. The server is a small one of this script's own, and the outbox is the built
-program's."""
+refused; or to a submission program. The server is a small one of this script's own, and aiosmtpd where that is
+installed; the outbox is the built program's."""
+import signal
 import socket
 import subprocess
 import sys
 import tempfile
 import threading
+import time
 from pathlib import Path
+
+try:
+    from aiosmtpd.controller import Controller
+except ImportError:
+    Controller = None
 
 sys.path.insert(0, str(Path(__file__).parent / "support"))
 from running import EXAMPLES, LIMIT, Checks, batch, frames_module  # noqa: E402
@@ -36,10 +43,10 @@ def messages_of(outbox: bytes) -> list:
 
 class MailServer:
     """A mail server that takes connections until it is closed: it refuses each recipient of a set, hangs up after so
-    many messages, and keeps what it was told and given."""
+    many messages, or gives up the connection (421), and keeps what it was told and given."""
 
-    def __init__(self, refused=(), hangs_up_after=None):
-        self.refused, self.hangs_up_after = refused, hangs_up_after
+    def __init__(self, refused=(), hangs_up_after=None, closes_after=None):
+        self.refused, self.hangs_up_after, self.closes_after = refused, hangs_up_after, closes_after
         self.taken, self.commands = [], []
         self.listener = socket.create_server(("127.0.0.1", 0))
         self.address = "127.0.0.1:%d" % self.listener.getsockname()[1]
@@ -61,6 +68,9 @@ class MailServer:
         while line := stream.readline():
             command = line.strip()
             self.commands.append(command)
+            if given == self.closes_after:
+                self.say(stream, b"421 closing")
+                return
             if command.upper().startswith(b"RCPT TO:<"):
                 recipient = command[9:-1]
                 self.say(stream, b"550 5.1.1 no such user" if recipient in self.refused else b"250 ok")
@@ -91,7 +101,7 @@ def feed(words, outbox: bytes):
 def servers(checks: Checks, outbox: bytes):
     """All notices are taken; every second is refused; the server hangs up after each."""
     wanted = [(b"sender%d@example.com" % at, it) for at, it in enumerate(messages_of(outbox))]
-    for about, server in (("a server", MailServer()), ("one that hangs up", MailServer(hangs_up_after=1))):
+    for about, server in (("a server", MailServer()), ("one that hangs up", MailServer(hangs_up_after=1)), ("one that closes", MailServer(closes_after=1))):
         checks.equal(f"{about}: end", feed([server.address], outbox), (0, [f"{MESSAGES} handed in, 0 left out"]))
         checks.true(f"{about}: what it was given", server.taken == wanted)
         senders = [it.upper() for it in server.commands if it.upper().startswith(b"MAIL")]
@@ -104,6 +114,74 @@ def servers(checks: Checks, outbox: bytes):
     checks.equal("what is left out", said[:-1], [f"left out B K{at}: 550 5.1.1 no such user" for at in (1, 3, 5)])
     status, said = feed(["127.0.0.1:1"], outbox)
     checks.equal("no server", (status, said[-1:]), (1, [f"0 handed in, {MESSAGES} left out"]))
+
+
+class Handler:
+    """What a real server asks of a test: it refuses each recipient of a set, and keeps the messages."""
+
+    def __init__(self, refused):
+        self.refused, self.taken, self.senders = refused, [], set()
+
+    async def handle_RCPT(self, server, session, envelope, address, rcpt_options):
+        if address.encode() in self.refused:
+            return "550 5.1.1 no such user"
+        envelope.rcpt_tos.append(address)
+        return "250 ok"
+
+    async def handle_DATA(self, server, session, envelope):
+        self.taken.append((envelope.rcpt_tos[0].encode(), envelope.content))
+        self.senders.add(envelope.mail_from)
+        return "250 taken"
+
+
+def real_server(checks: Checks, outbox: bytes):
+    """The same with a server that others wrote: all are taken; every second is refused."""
+    if Controller is None:
+        print("  aiosmtpd isn't installed: only this script's own server was tried")
+        return
+    wanted = [(b"sender%d@example.com" % at, it) for at, it in enumerate(messages_of(outbox))]
+    for refused, taken in (((), wanted), ({to for to, _ in wanted[1::2]}, wanted[::2])):
+        handler = Handler(refused)
+        with socket.create_server(("127.0.0.1", 0)) as it:
+            port = it.getsockname()[1]
+        server = Controller(handler, hostname="127.0.0.1", port=port)
+        server.start()
+        status, said = feed([f"127.0.0.1:{port}"], outbox)
+        server.stop()
+        left_out = MESSAGES - len(taken)
+        checks.equal("aiosmtpd: end", (status, said[-1:]), (int(left_out > 0), [f"{len(taken)} handed in, {left_out} left out"]))
+        checks.true("aiosmtpd: what is taken", handler.taken == taken)
+        checks.true("aiosmtpd: the null sender", handler.senders <= {"", "<>"})
+
+
+def comes_to(count, wanted: int) -> bool:
+    """Whether a count comes to a number in time."""
+    for _ in range(1000):
+        if count() >= wanted:
+            return count() == wanted
+        time.sleep(0.01)
+    return False
+
+
+def followed(checks: Checks, outbox: bytes):
+    """A file that grows is handed in as it does; then the next one of its name; a signal ends it."""
+    server, first_end = MailServer(), outbox.index(b"\r\n.\r\n") + 5
+    with tempfile.TemporaryDirectory() as room:
+        path = Path(room) / "outbox"
+        words = [*FEED, "--follow", str(path), server.address]
+        with subprocess.Popen(words, stderr=subprocess.PIPE, text=True) as running, path.open("wb", 0) as growing:
+            growing.write(outbox[: first_end + 10])
+            checks.true("the first notice", comes_to(lambda: len(server.taken), 1))
+            growing.write(outbox[first_end + 10 :])
+            checks.true("all of it", comes_to(lambda: len(server.taken), MESSAGES))
+            for cut in (outbox[: first_end + 10], outbox):
+                path.rename(path.with_suffix(".1"))
+                path.write_bytes(cut)
+                time.sleep(0.5)
+            checks.true("the next two, the first of them cut", comes_to(lambda: len(server.taken), 2 * MESSAGES + 1))
+            running.send_signal(signal.SIGTERM)
+            said = running.communicate(timeout=LIMIT)[1].splitlines()
+            checks.equal("its end", (running.returncode, said), (1, ["the outbox was cut short", f"{2 * MESSAGES + 1} handed in, 0 left out"]))
 
 
 def programs(checks: Checks, outbox: bytes):
@@ -135,9 +213,11 @@ def main():
     checks = Checks("feed: each notice of an outbox goes to a mail server, and what is refused is left out")
     outbox = outbox_of(MESSAGES)
     servers(checks, outbox)
+    real_server(checks, outbox)
+    followed(checks, outbox)
     programs(checks, outbox)
     cut(checks, outbox)
-    for words in ([], ["--help"]):
+    for words in ([], ["--help"], ["--follow", "outbox"]):
         checks.equal(f"arguments {words}", feed(words, outbox)[0], 2)
     checks.done()
 

@@ -3,19 +3,21 @@ r"""Writes request frames for `noticed` from a description in words.
 
     python3 examples/frames.py NAME.requests > NAME.frames
     python3 examples/frames.py NAME.requests | noticed batch mx.example.net
+    python3 examples/frames.py - | noticed send /run/noticed/socket
 
-A description has one frame a line; empty lines and lines that begin with '#' are left out.
+A description has one frame a line; empty lines and lines that begin with '#' are left out. With - it is read from
+standard input, and each frame is written as soon as its line is there.
 
     append NUMBER SERVICE ID RECIPIENT ACTION STATUS [original=T] [mta=T] [diagnostic=T] [reason=T]
     flush NUMBER SERVICE ID [return=T] [moment=N] [arrival=N] [envelope=T] [header=T]
     discard NUMBER SERVICE ID
     hex DIGITS               these bytes as they are, for input that is not as it should be
 
-SERVICE is bounce, defer or trace, ACTION is failed, delayed, delivered, relayed or expanded (or either is the
+NUMBER is the frame's place, from 0; a dot stands for it. SERVICE is bounce, defer or trace, ACTION is failed, delayed, delivered, relayed or expanded (or either is the
 byte's number). A word may stand in quotes, as in a shell, and in a text T, RECIPIENT, STATUS and ID these stand
 for other bytes: \n LF, \r CR, \t tab, \s space, \\ a backslash, \xE9 the byte of that number, \{1200*a} so many
 times the one character. A flush has moment=1700000000, arrival=1699996400 and return=ann@example.com unless said;
-return= is the null return path.
+return= is the null return path, moment=now and arrival=now are this moment.
 
 docs/FORMATS.md has the layout of the frames. Nothing here tests a value: the daemon does.
 """
@@ -23,6 +25,7 @@ import re
 import shlex
 import struct
 import sys
+import time
 
 SERVICES = {"bounce": 1, "defer": 2, "trace": 3}
 ACTIONS = {"failed": 1, "delayed": 2, "delivered": 3, "relayed": 4, "expanded": 5}
@@ -88,8 +91,13 @@ def words_of(line: str) -> list:
     return list(lexer)
 
 
-def frame_of_line(line: str) -> bytes:
-    """The frame that one line of a description stands for."""
+def moment_of(word: str) -> int:
+    """The seconds since 1970 that a word stands for."""
+    return int(time.time()) if word == "now" else int(word)
+
+
+def frame_of_line(line: str, place: int) -> bytes:
+    """The frame that one line of a description stands for, at this place among the frames."""
     kind, *words = words_of(line)
     if kind == "hex":
         return bytes.fromhex("".join(words))
@@ -97,12 +105,12 @@ def frame_of_line(line: str) -> bytes:
     if named is None or len(words) < named:
         raise ValueError("not a request")
     fixed, options = words[:named], dict(it.partition("=")[::2] for it in words[named:])
-    number, service, queue_id = int(fixed[0]), SERVICES.get(fixed[1]) or int(fixed[1]), unescaped(fixed[2])
+    number, service, queue_id = place if fixed[0] == "." else int(fixed[0]), SERVICES.get(fixed[1]) or int(fixed[1]), unescaped(fixed[2])
     if kind == "append":
         recipient, action, status = unescaped(fixed[3]), ACTIONS.get(fixed[4]) or int(fixed[4]), unescaped(fixed[5])
         return append(number, service, queue_id, recipient, action, status, **{it: unescaped(value) for it, value in options.items()})
     if kind == "flush":
-        times = {it: int(options.pop(it)) for it in ("moment", "arrival") if it in options}
+        times = {it: moment_of(options.pop(it)) for it in ("moment", "arrival") if it in options}
         texts = {"return_path" if it == "return" else it: unescaped(value) for it, value in options.items()}
         return flush(number, service, queue_id, **times, **texts)
     if options:
@@ -110,30 +118,41 @@ def frame_of_line(line: str) -> bytes:
     return discard(number, service, queue_id)
 
 
-def frames_of(description: str) -> bytes:
-    """All frames of a description, one after another."""
-    frames = []
-    for at, line in enumerate(description.splitlines(), 1):
+def frames_in(lines):
+    """The frames of a description's lines, each as soon as its line is there."""
+    place = 0
+    for at, line in enumerate(lines, 1):
         if not line.strip() or line.lstrip().startswith("#"):
             continue
         try:
-            frames.append(frame_of_line(line))
+            made = frame_of_line(line, place)
         except (ValueError, TypeError, struct.error) as why:
-            raise ValueError(f"line {at}: {why}: {line}") from why
-    return b"".join(frames)
+            raise ValueError(f"line {at}: {why}: {line.rstrip()}") from why
+        yield made
+        place += 1
+
+
+def frames_of(description: str) -> bytes:
+    """All frames of a description, one after another."""
+    return b"".join(frames_in(description.splitlines()))
 
 
 def main() -> int:
     if len(sys.argv) != 2:
-        print("usage: frames.py NAME.requests > NAME.frames", file=sys.stderr)
+        print("usage: frames.py NAME.requests > NAME.frames, or frames.py - for standard input", file=sys.stderr)
         return 2
     try:
-        with open(sys.argv[1], encoding="utf-8") as it:
-            frames = frames_of(it.read())
+        # a description of a file is written whole or not at all, one on standard input line by line
+        with open(0 if sys.argv[1] == "-" else sys.argv[1], encoding="utf-8") as it:
+            for frames in frames_in(it) if sys.argv[1] == "-" else [frames_of(it.read())]:
+                sys.stdout.buffer.write(frames)
+                sys.stdout.buffer.flush()
+    except BrokenPipeError:
+        sys.stdout = None
+        return 1
     except (OSError, ValueError) as why:
         print(f"frames.py: {why}", file=sys.stderr)
         return 1
-    sys.stdout.buffer.write(frames)
     return 0
 
 

@@ -23,6 +23,11 @@ pub(crate) enum Command {
     },
     /// `serve SOCKET HOST AGENTS MAX-USE`.
     Serve(Serving),
+    /// `send SOCKET`.
+    Send {
+        /// The path of the socket.
+        socket: String,
+    },
 }
 
 /// What `serve` is given.
@@ -50,6 +55,7 @@ pub(crate) fn command_of(rt: &HostRuntime) -> Result<Command, Refusal> {
     match command.as_str() {
         "batch" => batch_arguments(rt.alloc(), words),
         "serve" => serve_arguments(rt.alloc(), words),
+        "send" => send_arguments(words),
         _ => Err(Refusal::Usage),
     }
 }
@@ -77,6 +83,14 @@ fn serve_arguments(alloc: Global, mut words: Args) -> Result<Command, Refusal> {
         max_use: number_of(&max_use, MOST_USE)?,
         site: site_of(alloc, &host)?,
     }))
+}
+
+/// The argument `SOCKET` of `send`.
+fn send_arguments(mut words: Args) -> Result<Command, Refusal> {
+    match (words.next(), words.next()) {
+        (Some(socket), None) => Ok(Command::Send { socket }),
+        _ => Err(Refusal::Usage),
+    }
 }
 
 /// The number from 1 to `most` that a word is in decimal, without leading zeros.

@@ -5,11 +5,13 @@ mod arguments;
 mod batch_command;
 mod refusal;
 mod room;
+mod send_command;
 mod serve_command;
 
 use arguments::{Command, command_of};
 use batch_command::run_batch;
 use refusal::Refusal;
+use send_command::run_send;
 use serve_command::run_serve;
 use std::process::ExitCode;
 
@@ -22,6 +24,7 @@ fn main(rt: HostRuntime) -> ExitCode {
         Ok(Command::Serve(serving)) => {
             run_serve(&rt, rt.alloc(), serving, rt.stdout(), rt.stderr())
         }
+        Ok(Command::Send { socket }) => run_send(&rt, &rt, &socket),
         Err(refusal) => Err(refusal),
     };
     match done {

@@ -1,0 +1,27 @@
+//! The command `send`: the frames of standard input to a daemon's socket, and its answers to
+//! standard output.
+use crate::refusal::Refusal;
+use crate::room::ROOM;
+use dsn_outcome::Plain;
+use noticed_lib::send;
+use std::io::BufReader;
+use std::os::unix::net::UnixStream;
+use std::sync::Wait;
+
+/// Sends what standard input has to the daemon at this socket, tells each answer in a line of
+/// standard output as it comes, and its fault on standard error. It tells the status. The runtime
+/// may wait in `main` alone, so it comes a second time as what may.
+pub(crate) fn run_send(rt: &HostRuntime, waiting: &impl Wait, socket: &str) -> Result<u8, Refusal> {
+    let reader = BufReader::with_capacity(rt.alloc(), ROOM, rt.stdin()).map_err(
+        |_| Refusal::NoMemory,
+    )?;
+    let connection = UnixStream::connect(rt, socket).map_err(|_| Refusal::NoSocket)?;
+    let mut input = Plain::new(reader);
+    let mut stream = Plain::new(connection);
+    let mut lines = Plain::new(rt.stdout());
+    let end = send(waiting, rt.alloc(), &mut input, &mut stream, &mut lines);
+    if let Some(code) = end.fault {
+        let _ = eprintln!(rt; "fault {code}");
+    }
+    Ok(end.status)
+}

@@ -1,3 +1,4 @@
 pub mod AskLemmas
 pub mod LawLemmas
+mod SendExamples
 pub mod SendLemmas

@@ -17,4 +17,10 @@ mod outboxes;
 #[cfg(test)]
 mod runs;
 #[cfg(test)]
+mod serving;
+#[cfg(test)]
 mod sessions;
+#[cfg(test)]
+mod sockets;
+#[cfg(test)]
+mod text_port;

@@ -6,6 +6,7 @@ DESTDIR ?=
 RT      ?= $(shell command -v rt || echo /opt/rattle/bin/rt)
 
 NOTICED := crates/noticed/out/noticed
+PROBE   := crates/crew_probe/out/crew_probe
 SOURCES := $(shell find crates -name out -prune -o -type f -print)
 EXAMPLE := examples/one-bounce
 
@@ -31,7 +32,19 @@ $(NOTICED): $(SOURCES) crates.txt HANDLES
 	fi
 	touch $@
 
-# The program's standard output and standard error, each under a heading of its own.
+# The same for the program that the scripts run to refuse a crew memory and threads, and to measure it.
+$(PROBE): $(SOURCES) crates.txt HANDLES
+	@mkdir -p out
+	echo "proving and building $@ (log: out/probe.log) .."
+	if ! (cd crates/crew_probe && "$(RT)" run -- 2 1) < /dev/null > out/probe.log 2>&1; then
+	    cat out/probe.log
+	    echo "$@ could not be proved or built"
+	    exit 1
+	fi
+	touch $@
+
+# A run of `batch`, with its standard output and standard error each under a heading of its own; then a daemon with two
+# clients at once.
 demo: $(NOTICED)
 	@mkdir -p out
 	status=0
@@ -47,6 +60,8 @@ demo: $(NOTICED)
 	cat out/demo.outbox
 	echo
 	echo "== Exit status: $$status =="
+	echo
+	sh examples/demo.sh $(NOTICED)
 	exit $$status
 
 # The gate, then the scripts of tests/ on the program that the gate left. The last line is the gate's own,
@@ -77,7 +92,7 @@ check:
 	    echo "== $$script"
 	    run=sh
 	    case $$script in *.py) run=python3 ;; esac
-	    if ! NOTICED="$(CURDIR)/$(NOTICED)" PYTHONDONTWRITEBYTECODE=1 $$run "$$script"; then
+	    if ! NOTICED="$(CURDIR)/$(NOTICED)" CREW_PROBE="$(CURDIR)/$(PROBE)" PYTHONDONTWRITEBYTECODE=1 $$run "$$script"; then
 	        failed=$$((failed + 1))
 	        scripts="$$scripts $$script"
 	    fi
@@ -94,15 +109,21 @@ check:
 edits:
 	@PYTHONDONTWRITEBYTECODE=1 python3 tests/support/edits.py
 
-# Measures the program on workloads made from a seed; not part of `make check`.
-bench: $(NOTICED)
-	@NOTICED="$(CURDIR)/$(NOTICED)" PYTHONDONTWRITEBYTECODE=1 python3 bench/bench.py
+# Measures the program on workloads made from a seed, crews in memory, and the daemon over sockets; not part of
+# `make check`.
+bench: $(NOTICED) $(PROBE)
+	@export NOTICED="$(CURDIR)/$(NOTICED)" CREW_PROBE="$(CURDIR)/$(PROBE)" PYTHONDONTWRITEBYTECODE=1
+	python3 bench/crew.py
+	python3 bench/daemon.py
+	python3 bench/bench.py
 
 install: $(NOTICED)
 	@install -D -m 755 $(NOTICED) "$(DESTDIR)$(PREFIX)/bin/noticed"
 	install -D -m 644 docs/noticed.8 "$(DESTDIR)$(PREFIX)/share/man/man8/noticed.8"
-	install -D -m 644 docs/FORMATS.md "$(DESTDIR)$(PREFIX)/share/doc/noticed/FORMATS.md"
-	echo "installed $(DESTDIR)$(PREFIX)/bin/noticed, its manual page and FORMATS.md"
+	for it in docs/FORMATS.md docs/DEPLOY.md examples/noticed.service examples/feed.py examples/frames.py; do
+	    install -D -m 644 "$$it" "$(DESTDIR)$(PREFIX)/share/doc/noticed/$${it##*/}"
+	done
+	echo "installed $(DESTDIR)$(PREFIX)/bin/noticed, its manual page and $(DESTDIR)$(PREFIX)/share/doc/noticed"
 
 # Removes what was built and what the prover kept: the next build proves everything again.
 clean:

@@ -9,14 +9,17 @@ The outbox is read from standard input as it grows. With HOST:PORT each notice i
 server (SMTP, RFC 5321), over one connection that is made anew where it was lost; any other words are a local
 submission program, run once for each notice with `-f <> -- RECIPIENT` after them and the message on its input.
 
-With --follow the outbox is a file that grows; once it was read to its end and another file stands under its name
-(that of the next daemon), that one is read. It ends by SIGTERM or SIGINT, between two notices.
+With --follow the outbox is a file that grows. Once it was moved away to OUTBOX.TIME, and another one stands under its
+name (that of the next daemon), it is read to its end, and then the next: each of those that were moved away meanwhile,
+in the order of their names, and the one that grows. It ends by SIGTERM or SIGINT, between two notices.
 
 A notice that is refused (its recipient, its text) is left out: one line on standard error has its key and the
 reply. The last line says how many were handed in and how many were left out. The status is 0 where each notice
 was handed in and each outbox was whole, 1 where one was left out or cut short, 2 for wrong arguments.
 """
 import contextlib
+import glob
+import itertools
 import os
 import re
 import signal
@@ -53,13 +56,14 @@ class Stopped(Exception):
 
 
 class Growing:
-    """An outbox in a file that grows, read line by line; it is at its end once another file has its name."""
+    """An outbox in a file, read line by line as it grows; it is at its end once another file has the path of the one
+    that grows."""
 
-    def __init__(self, path: str, is_stopped):
+    def __init__(self, path: str, name: str, is_stopped):
         self.path, self.is_stopped, self.begun, self.file = path, is_stopped, b"", None
         while self.file is None:
             with contextlib.suppress(FileNotFoundError):
-                self.file = open(path, "rb")
+                self.file = open(name, "rb")
             self.pause(0 if self.file else PAUSE)
 
     def readline(self) -> bytes:
@@ -73,18 +77,25 @@ class Growing:
                 line, self.begun = self.begun, b""
                 return line
 
+    def is_named(self, name: str) -> bool:
+        """Whether this is the file of that name."""
+        return os.path.samestat(os.stat(name), os.fstat(self.file.fileno()))
+
     def is_replaced(self) -> bool:
-        """Whether another file has the outbox's name, so that nothing more is written to this one."""
+        """Whether another file grows now, so that nothing more is written to this one."""
         try:
-            return not os.path.samestat(os.stat(self.path), os.fstat(self.file.fileno()))
+            return not self.is_named(self.path)
         except FileNotFoundError:
             return False
 
-    def wait_for_next(self):
-        """Waits until another file has the outbox's name."""
+    def next_name(self) -> str:
+        """Waits until another file grows, and gives the name of the outbox after this one."""
         while not self.is_replaced():
             self.pause(PAUSE)
-        self.file.close()
+        moved = sorted(glob.glob(glob.escape(self.path) + ".*"))
+        later = itertools.dropwhile(lambda it: not self.is_named(it), moved)
+        next(later, None)
+        return next(later, self.path)
 
     def pause(self, seconds: float):
         """Waits so long; after a signal it goes no further."""
@@ -199,15 +210,16 @@ class Feeder:
             print("the outbox was cut short", file=sys.stderr, flush=True)
 
     def follow(self, path: str):
-        """The same for an outbox in a file that grows, and then for the next one of this name, until a signal comes."""
+        """The same for an outbox in a file that grows, and then for the next ones, until a signal comes."""
         signals = []
         for it in (signal.SIGTERM, signal.SIGINT):
             signal.signal(it, lambda number, _: signals.append(number))
         with contextlib.suppress(Stopped):
+            name = path
             while True:
-                outbox = Growing(path, lambda: signals)
+                outbox = Growing(path, name, lambda: signals)
                 self.feed(outbox)
-                outbox.wait_for_next()
+                name = outbox.next_name()
 
     def end(self) -> int:
         """Ends the mailer, says the counts, and gives the exit status."""

@@ -174,11 +174,10 @@ def followed(checks: Checks, outbox: bytes):
             checks.true("the first notice", comes_to(lambda: len(server.taken), 1))
             growing.write(outbox[first_end + 10 :])
             checks.true("all of it", comes_to(lambda: len(server.taken), MESSAGES))
-            for cut in (outbox[: first_end + 10], outbox):
-                path.rename(path.with_suffix(".1"))
-                path.write_bytes(cut)
-                time.sleep(0.5)
-            checks.true("the next two, the first of them cut", comes_to(lambda: len(server.taken), 2 * MESSAGES + 1))
+            for at, text in enumerate((outbox[: first_end + 10], outbox)):
+                path.rename(path.with_suffix(f".{at}"))
+                path.write_bytes(text)
+            checks.true("the next two at once, the first of them cut", comes_to(lambda: len(server.taken), 2 * MESSAGES + 1))
             running.send_signal(signal.SIGTERM)
             said = running.communicate(timeout=LIMIT)[1].splitlines()
             checks.equal("its end", (running.returncode, said), (1, ["the outbox was cut short", f"{2 * MESSAGES + 1} handed in, 0 left out"]))

@@ -143,17 +143,27 @@ def compare(checks: Checks, about: str, ends: list, wanted: dict):
 
 
 def growths(checks: Checks, library: Path):
-    """Each growth of memory refused in turn, with a client that bounces a message."""
+    """Each growth of memory refused in turn, with a client that bounces a message, and one that leaves its log open."""
     is_open = b"open B A1B2C3 1\n"
-    compare(checks, "growths of a daemon", sweep(library, FRAMES), {
+    before_a_frame = {
         "before the run": UNBEGUN,
         "for the crew, or for the poster's thread": REFUSED,
         "for the agent's thread": Ran(empty_outbox(), b"fault 42\n", 1),
         "for the first frame": Ran(empty_outbox(), line(0, 0, 1, 1), 0),
+    }
+    # an append that is refused isn't a request; the flush after it is, of a log with nothing in it
+    compare(checks, "growths of a daemon", sweep(library, FRAMES), {
+        **before_a_frame,
         "for the append": Ran(empty_outbox(), line(0, 1), 0),
         "for the second frame": Ran(empty_outbox(), line(0, 1, 1, 1) + is_open, 0),
         "for the flush": Ran(empty_outbox(), line(0, 1) + is_open, 0),
         "none": Ran(OUTBOX, line(0, 2), 0),
+    })
+    compare(checks, "growths of one with an open log", sweep(library, FRAMES[:FIRST_FRAME]), {
+        **before_a_frame,
+        "for the append": Ran(empty_outbox(), line(0, 0), 0),
+        "for the list of open logs": Ran(empty_outbox(), line(0, 1) + b"fault 9\n", 1),
+        "none": Ran(empty_outbox(), line(0, 1) + is_open, 0),
     })
 
 

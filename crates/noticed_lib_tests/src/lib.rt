@@ -15,7 +15,11 @@ mod order;
 #[cfg(test)]
 mod outboxes;
 #[cfg(test)]
+mod peer;
+#[cfg(test)]
 mod runs;
+#[cfg(test)]
+mod sends;
 #[cfg(test)]
 mod serving;
 #[cfg(test)]

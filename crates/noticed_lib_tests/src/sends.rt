@@ -1,0 +1,195 @@
+//! Sends over a connection in memory: what the daemon was sent, the lines, and the end.
+use super::fakes::{PieceReader, PieceWriter};
+use super::input::ONE_MESSAGE;
+use super::peer::Peer;
+use dsn_outcome::Plain;
+use noticed_lib::{SendEnd, send};
+use std::alloc::Global;
+use std::process::Abort;
+use std::sync::Wait;
+
+/// The bytes of the answers `logged 0` and `sealed 1` to the frames of [`ONE_MESSAGE`].
+const LOGGED_SEALED: &[u8] = b"\
+\0\0\0\x0a\x01\x01\0\0\0\0\0\0\0\0\
+\0\0\0\x0a\x01\x07\0\0\0\x01\0\0\0\x01";
+
+/// A send: its devices, and what it is to come to. Where `fault` is 0 there is to be none.
+#[derive(Clone, Copy)]
+struct Case<'a> {
+    /// How many bytes of [`ONE_MESSAGE`] are the input.
+    input: usize,
+    /// After how many reads the input fails once.
+    good: usize,
+    answers: &'a [u8],
+    /// How many bytes the daemon takes, and the notes.
+    room: usize,
+    lines_room: usize,
+    /// How many bytes of the input the daemon was sent, in how many writes.
+    sent: usize,
+    writes: u32,
+    lines: &'a [u8],
+    fault: u32,
+}
+
+/// Devices that never fail, and an input of one message.
+const WHOLE: Case<'static> = Case {
+    input: 108,
+    good: usize::MAX,
+    answers: LOGGED_SEALED,
+    room: usize::MAX,
+    lines_room: usize::MAX,
+    sent: 108,
+    writes: 2,
+    lines: b"0 logged 0\n1 sealed 1\n",
+    fault: 0,
+};
+
+/// The first frame is sent, and nothing is told.
+const FIRST_SENT: Case<'static> = Case {
+    sent: 52,
+    writes: 1,
+    lines: b"",
+    ..WHOLE
+};
+
+/// The first frame is answered, and that is told.
+const FIRST_TOLD: Case<'static> = Case {
+    lines: b"0 logged 0\n",
+    ..FIRST_SENT
+};
+
+/// Asserts what a send comes to; the case is told where it came to something else.
+fn expect_send(rt: &(impl Wait + Abort), alloc: Global, want: &Case<'_>, case: usize) {
+    let (bytes, _) = ONE_MESSAGE.split_at(want.input.min(ONE_MESSAGE.len()));
+    let mut input = Plain::new(PieceReader {
+        rest: bytes,
+        most: usize::MAX,
+        good: want.good,
+    });
+    let mut peer = Peer::new(want.answers, Vec::new(alloc), want.room);
+    let mut notes = Plain::new(PieceWriter {
+        held: Vec::new(alloc),
+        most: usize::MAX,
+        room: want.lines_room,
+    });
+    let SendEnd { status, fault } = send(rt, alloc, &mut input, &mut peer, &mut notes);
+    let end = (fault.unwrap_or(0), status, peer.writes);
+    let status = u8::from(want.fault != 0);
+    assert_eq!(rt; end, (want.fault, status, want.writes), "case {case}");
+    let (sent, _) = ONE_MESSAGE.split_at(want.sent.min(ONE_MESSAGE.len()));
+    assert_eq!(rt; peer.held.as_slice(), sent, "case {case}");
+    assert_eq!(rt;
+        notes.into_inner().held.as_slice(),
+        want.lines,
+        "case {case}"
+    );
+}
+
+/// Asserts what sends come to whose first answer has these bytes: this fault, and no line.
+fn expect_refused(rt: &(impl Wait + Abort), alloc: Global, answers: &[(&[u8], u32)]) {
+    for (case, (bytes, fault)) in answers.iter().enumerate() {
+        let want = Case {
+            answers: bytes,
+            fault: *fault,
+            ..FIRST_SENT
+        };
+        expect_send(rt, alloc, &want, case);
+    }
+}
+
+#[test]
+fn answers_are_told(rt: HostRuntime) {
+    for (case, want) in [
+        WHOLE,
+        // Nothing is sent of an empty input.
+        Case {
+            input: 0,
+            sent: 0,
+            writes: 0,
+            lines: b"",
+            ..WHOLE
+        },
+        Case {
+            input: 52,
+            ..FIRST_TOLD
+        },
+    ]
+    .iter()
+    .enumerate()
+    {
+        expect_send(&rt, rt.alloc(), want, case);
+    }
+}
+
+#[test]
+fn client_faults(rt: HostRuntime) {
+    expect_refused(
+        &rt,
+        rt.alloc(),
+        &[
+            (b"".as_slice(), 48),
+            (b"\0\0\0\x0a\x01\x01\0\0\0\x05\0\0\0\0".as_slice(), 46),
+            (b"\0\0\0\x0a\x01\x01".as_slice(), 13),
+            (b"\0\0".as_slice(), 13),
+            (b"\0\0\0\0".as_slice(), 12),
+            (b"\0\x01\0\x01".as_slice(), 11),
+            (b"\0\0\0\x0a\x02\x01\0\0\0\0\0\0\0\0".as_slice(), 21),
+            (b"\0\0\0\x0a\x01\x0b\0\0\0\0\0\0\0\0".as_slice(), 22),
+            (b"\0\0\0\x09\x01\x01\0\0\0\0\0\0\0".as_slice(), 23),
+            (b"\0\0\0\x0b\x01\x01\0\0\0\0\0\0\0\0\0".as_slice(), 24),
+            (b"\0\0\0\x0a\x01\x02\0\0\0\0\0\0\0\x01".as_slice(), 34),
+        ],
+    );
+}
+
+#[test]
+fn devices_that_fail(rt: HostRuntime) {
+    let (first_answer, _) = LOGGED_SEALED.split_at(14);
+    for (case, want) in [
+        // The input is cut, and fails.
+        Case {
+            input: 60,
+            fault: 13,
+            ..FIRST_TOLD
+        },
+        Case {
+            good: 2,
+            fault: 14,
+            ..FIRST_TOLD
+        },
+        // The daemon takes ten bytes; and the first frame, and ten bytes.
+        Case {
+            room: 10,
+            sent: 10,
+            fault: 35,
+            ..FIRST_SENT
+        },
+        Case {
+            room: 62,
+            sent: 62,
+            writes: 2,
+            fault: 35,
+            ..FIRST_TOLD
+        },
+        // The daemon leaves after one answer.
+        Case {
+            answers: first_answer,
+            sent: 108,
+            writes: 2,
+            fault: 48,
+            ..FIRST_TOLD
+        },
+        // A line is lost in part.
+        Case {
+            lines_room: 4,
+            lines: b"0 lo",
+            fault: 33,
+            ..FIRST_SENT
+        },
+    ]
+    .iter()
+    .enumerate()
+    {
+        expect_send(&rt, rt.alloc(), want, case);
+    }
+}

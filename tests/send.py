@@ -1,8 +1,10 @@
 #!/usr/bin/env python3
 """Runs `noticed send` against small daemons of this script's own, which answer wrongly, cut off, or not at all; with
-broken inputs and outputs; and with no daemon."""
+broken inputs and outputs; with no daemon; and with each growth of its memory refused in turn."""
+import contextlib
 import os
 import socket
+import subprocess
 import sys
 import tempfile
 import threading
@@ -12,6 +14,7 @@ sys.path.insert(0, str(Path(__file__).parent / "support"))
 from daemon import FIRST_FRAME, FRAMES, NOTES, PATIENCE, answer, closed_pipe, heard  # noqa: E402
 from running import Checks, Ran, run  # noqa: E402
 
+MOST = 100  # growths of a run; more than this and the sweep is broken
 UNCONNECTED = Ran(b"", b"fault 61\n", 1)
 
 
@@ -31,7 +34,10 @@ class Answering:
         self.thread.start()
 
     def serve(self):
-        client, _ = self.listener.accept()
+        try:
+            client, _ = self.listener.accept()
+        except OSError:
+            return  # nobody came
         client.settimeout(PATIENCE)
         with client:
             for text in self.texts:
@@ -39,8 +45,9 @@ class Answering:
                 client.sendall(text)
             if self.reads_on:
                 client.shutdown(socket.SHUT_WR)
-                while more := client.recv(65536):
-                    self.read += more
+                with contextlib.suppress(ConnectionResetError):  # the client left before it read its answer
+                    while more := client.recv(65536):
+                        self.read += more
 
     def frame(self, client):
         length = heard(client, 4)
@@ -50,6 +57,7 @@ class Answering:
         return self
 
     def __exit__(self, *_):
+        self.listener.shutdown(socket.SHUT_RDWR)
         self.thread.join(PATIENCE)
         self.listener.close()
         self.room.cleanup()
@@ -145,9 +153,29 @@ def outputs(checks: Checks):
         os.close(broken)
 
 
+def growths(checks: Checks):
+    """Each growth of memory refused in turn: what was told, what was sent, and the fault."""
+    ends, first, whole = [], FRAMES[:FIRST_FRAME], (Ran(NOTES, b"", 0), FRAMES)
+    with tempfile.TemporaryDirectory() as room:
+        library = f"{room}/refuse.so"
+        source = str(Path(__file__).parent / "support" / "refuse.c")
+        subprocess.run(["gcc", "-O2", "-shared", "-fPIC", "-o", library, source, "-ldl"], check=True)
+        for number in range(1, MOST):
+            with Answering([answer(1), answer(7, 1, 1)], reads_on=True) as daemon:
+                environment = {**os.environ, "LD_PRELOAD": library, "REFUSE": str(number)}
+                ran = run(["send", daemon.path], FRAMES, env=environment)
+            ends.append((ran, daemon.read))
+            if ends[-1] == whole:
+                break
+    met = [end for at, end in enumerate(ends) if at == 0 or ends[at - 1] != end]
+    line = b"0 logged 0\n"
+    checks.equal("growths", met, [(fault(9), b""), (fault(9), first), (fault(9, line), first), (fault(9, line), FRAMES), whole])
+    print(f"  {len(ends) - 1} growths, each refused once")
+
+
 def main():
     checks = Checks("send: the client against daemons that answer wrongly, cut off or not at all; broken inputs and outputs")
-    for check in (answers, connections, inputs, outputs):
+    for check in (answers, connections, inputs, outputs, growths):
         check(checks)
     checks.done()
 

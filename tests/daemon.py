@@ -11,7 +11,7 @@ from daemon import FRAMES, NOTES, OUTBOX, Daemon, answer, append, asked, flush, 
 from running import Checks, Ran, empty_outbox  # noqa: E402
 
 
-def one_client(checks: Checks):
+def socket_end_to_end(checks: Checks):
     """An agent and a connection: the client is answered, and the daemon ends with the notice."""
     with Daemon(1, 1) as daemon:
         checks.equal("one client", daemon.send(), Ran(NOTES, b"", 0))
@@ -19,7 +19,7 @@ def one_client(checks: Checks):
         checks.true("the socket's file stays", Path(daemon.path).is_socket())
 
 
-def two_agents(checks: Checks):
+def two_agents_on_a_socket(checks: Checks):
     """Two agents of one connection each: a client that bounces a message, then one that asks nothing."""
     with Daemon(2, 1) as daemon:
         checks.equal("the first of two clients", daemon.send(), Ran(NOTES, b"", 0))
@@ -169,7 +169,7 @@ def stopped(checks: Checks):
 
 def main():
     checks = Checks("daemon: serve and send over real sockets, clients in turn, at once, slow, cut off and silent")
-    for check in (one_client, two_agents, one_after_another, sixteen, many_sends, odd_clients, cut_and_flushed, never_reads, stopped):
+    for check in (socket_end_to_end, two_agents_on_a_socket, one_after_another, sixteen, many_sends, odd_clients, cut_and_flushed, never_reads, stopped):
         check(checks)
     checks.done()
 

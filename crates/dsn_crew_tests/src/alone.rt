@@ -1,6 +1,7 @@
 //! An agent by one thread, whose answers wait before it asks: what its session calls, reads and
 //! writes, and what it is told where no answer comes.
-ghost use Rattle.std.specs.Prelude.{◌≡◌, ◌<◌, [], IfSome};
+ghost use Rattle.std.specs.Prelude.{◌<◌, IfSome};
+ghost use Rattle.dsn_crew.specs.Open.{IsLine};
 
 use super::bodies::discard;
 use super::memory::Memory;
@@ -25,12 +26,15 @@ fn alone(
     agent: u32,
 ) -> Option<(Agent, LaneOut<Request>, LaneIn<Answer>)>
     requires { agent < 16 }
-    ensures { IfSome result (λ crew. (crew.2.agent ≡ agent) × (crew.2.sent ≡ [])) }
+    ensures { IfSome result (λ crew. IsLine agent crew.2) }
 {
     let (mut asks, requests) = open_lane::<Request>(rt, alloc, agent, 1, 64).ok()?;
     let (mut line, answers) = open_lane::<Answer>(rt, alloc, agent, 1, 1).ok()?;
     let agent = Agent::new(agent, asks.pop()?, answers, 8);
-    Some((agent, requests, line.pop()?))
+    let Some(line) = line.pop() else {
+        return None;
+    };
+    Some((agent, requests, line))
 }
 
 /// A gate that writes down its calls, each in three digits: 1 before an ask and 2 after an answer,

@@ -39,15 +39,15 @@ class Answering:
         except OSError:
             return  # nobody came
         client.settimeout(PATIENCE)
-        with client:
+        # a client may leave before it has read its answer, or before it is sent
+        with client, contextlib.suppress(BrokenPipeError, ConnectionResetError):
             for text in self.texts:
                 self.frame(client)
                 client.sendall(text)
             if self.reads_on:
                 client.shutdown(socket.SHUT_WR)
-                with contextlib.suppress(ConnectionResetError):  # the client left before it read its answer
-                    while more := client.recv(65536):
-                        self.read += more
+                while more := client.recv(65536):
+                    self.read += more
 
     def frame(self, client):
         length = heard(client, 4)

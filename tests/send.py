@@ -34,10 +34,7 @@ class Answering:
         self.thread.start()
 
     def serve(self):
-        try:
-            client, _ = self.listener.accept()
-        except OSError:
-            return  # nobody came
+        client, _ = self.listener.accept()
         client.settimeout(PATIENCE)
         # a client may leave before it has read its answer, or before it is sent
         with client, contextlib.suppress(BrokenPipeError, ConnectionResetError):
@@ -57,7 +54,8 @@ class Answering:
         return self
 
     def __exit__(self, *_):
-        self.listener.shutdown(socket.SHUT_RDWR)
+        with socket.socket(socket.AF_UNIX) as last:  # where no client came
+            last.connect(self.path)
         self.thread.join(PATIENCE)
         self.listener.close()
         self.room.cleanup()

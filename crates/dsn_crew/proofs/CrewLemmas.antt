@@ -1,5 +1,5 @@
 -- Crews: what each agent's thread, the collector and the poster came to, put together.
-use Rattle.std.proofs.Common.{◌≡◌, ◌≢◌, ℕ, suc, ◌+◌, ◌<◌, ◌≤◌, inr, Bool, true, All, List, [], ◌∷◌, ◌++◌, length, map, refl, ap, sym, ◌∙◌, subst, append_assoc, arith}
+use Rattle.std.proofs.Common.{◌≡◌, ◌≢◌, ℕ, suc, ◌+◌, ◌<◌, ◌≤◌, inr, Bool, true, All, List, [], ◌∷◌, ◌++◌, length, map, refl, ap, sym, ◌∙◌, subst, append_assoc, length-append, arith}
 use Rattle.std.specs.Prelude.{IfErr, IfOk, IfSome, Option, Some, None, Result, Ok, Err, is_none, not}
 use Rattle.std.specs.declared.thread.PromisedHandle.{PromisedHandle}
 use Rattle.std.specs.List.{AllZip, flat_map, slice_index_or}
@@ -161,16 +161,19 @@ one_at_most : (letter : Option Letter) → length (letters_in letter) ≤ 1
 one_at_most None = omega arith
 one_at_most (Some letter) = omega arith
 
-module _ {W : Type 0} (drain : Drain W) (host : List ℕ) (limits : Limits) (start : W) (sent : List Letter) (posted : Posted W) (is : IsPosted drain host start sent posted) (desk : Desk) (limits_are : desk.book.limits ≡ limits) where
+module _ {W : Type 0} (drain : Drain W) (host : List ℕ) (limits : Limits) (start : W) (sent : List Letter) (posted : Posted W) (is : IsPosted drain host start 16 sent posted) (desk : Desk) (limits_are : desk.book.limits ≡ limits) (kept : IsDesk desk) (agents : ℕ) (lines : length desk.answers ≡ agents) where
   -- what is left of a run whose letters were these
-  abbrev broken_off : (cause : CrewCause) (held : List Letter) → length held ≤ 1 → sealed_letters (history desk) ≡ sent ++ held → IsBrokenOff drain host limits start (fault_of cause held desk posted)
+  abbrev broken_off : (cause : CrewCause) (held : List Letter) → length held ≤ 1 → sealed_letters (history desk) ≡ sent ++ held → IsBrokenOff drain host limits agents start (fault_of cause held desk posted)
   broken_off cause held one sealed = record {
+    only = subst (λ (k : ℕ). All (λ (request : Request). request.agent < k) desk.requests.taken) lines kept.mine;
+    numbered = kept.numbered;
     letters = is.letters;
     between = is.came.0;
     held = held;
     sealed =
         ap (λ (l : Limits). sealed_letters (history_of l desk.requests.taken)) (sym limits_are)
         ∙ (sealed ∙ (ap (λ (ls : List Letter). ls ++ held) (sym is.came.1) ∙ append_assoc is.letters is.came.0 held));
+    few = (let few = is.few in let split = sym (ap length is.came.1) ∙ length-append is.letters is.came.0 in omega arith);
     one = one;
     whole = posted.whole;
     unsent = posted.unsent;
@@ -178,12 +181,12 @@ module _ {W : Type 0} (drain : Drain W) (host : List ℕ) (limits : Limits) (sta
     outbox = is.outbox;
   }
 
-  pub failed_fault : (fault : CrewFault W) (held : Option Letter) → fault ≡ fault_of causes.Lost (letters_in held) desk posted → sealed_letters (history desk) ≡ sent ++ letters_in held → IsCrewFault drain host limits start fault fault.cause
+  pub failed_fault : (fault : CrewFault W) (held : Option Letter) → fault ≡ fault_of causes.Lost (letters_in held) desk posted → sealed_letters (history desk) ≡ sent ++ letters_in held → IsCrewFault drain host limits agents start fault fault.cause
   failed_fault fault held fault_is sealed =
-      subst (λ (it : CrewFault W). IsCrewFault drain host limits start it it.cause) (sym fault_is) (broken_off causes.Lost (letters_in held) (one_at_most held) sealed)
+      subst (λ (it : CrewFault W). IsCrewFault drain host limits agents start it it.cause) (sym fault_is) (broken_off causes.Lost (letters_in held) (one_at_most held) sealed)
 
   module _ (sealed : sealed_letters (history desk) ≡ sent) where
-    of_cause : (cause : CrewCause) → cause ≢ causes.PortCount → (cause ≡ causes.Refused → posted.all ≡ true) → IsCrewFault drain host limits start (fault_of cause [] desk posted) cause
+    of_cause : (cause : CrewCause) → cause ≢ causes.PortCount → (cause ≡ causes.Refused → posted.all ≡ true) → IsCrewFault drain host limits agents start (fault_of cause [] desk posted) cause
     of_cause causes.PortCount counted all = absurd (counted refl)
     of_cause causes.Lost counted all = broken_off causes.Lost [] (omega arith) (sealed ∙ sym (append-nil sent))
     of_cause causes.Refused counted all = inr (
@@ -191,9 +194,9 @@ module _ {W : Type 0} (drain : Drain W) (host : List ℕ) (limits : Limits) (sta
       is.all_came (all refl) ∙ (sym sealed ∙ ap (λ (l : Limits). sealed_letters (history_of l desk.requests.taken)) limits_are),
     )
 
-    pub whole_fault : (fault : CrewFault W) → HasFaulted desk posted fault → IsCrewFault drain host limits start fault fault.cause
+    pub whole_fault : (fault : CrewFault W) → HasFaulted desk posted fault → IsCrewFault drain host limits agents start fault fault.cause
     whole_fault fault has =
-        subst (λ (it : CrewFault W). IsCrewFault drain host limits start it fault.cause) (sym has.fault_is) (of_cause fault.cause has.counted has.all)
+        subst (λ (it : CrewFault W). IsCrewFault drain host limits agents start it fault.cause) (sym has.fault_is) (of_cause fault.cause has.counted has.all)
 
 -- ---- the whole
 
@@ -234,7 +237,7 @@ module _ {P S W : Type 0} (port : Port P S) (drain : Drain W) (host : List ℕ) 
       may_close (Whole new) gathered.Lost has is = tt
       may_close (Failed held new) all has is = tt
 
-      module _ (posted : Posted W) (post : IsPosted drain host start after.letters posted) where
+      module _ (posted : Posted W) (post : IsPosted drain host start 16 after.letters posted) where
         module _ (new : Desk) {result : Result (Unit {0}) DeskFault} (run : IsRun TakesLetter begun new sink after result) where
           limits_are : new.book.limits ≡ limits
           limits_are = run.limits ∙ (ap (λ (d : Desk). d.book.limits) begun_is ∙ opened.limits_are)
@@ -269,14 +272,14 @@ module _ {P S W : Type 0} (port : Port P S) (drain : Drain W) (host : List ℕ) 
         account_is (Whole new) gathered.Lost (Ok account) has is closed = absurd closed
         account_is (Failed held new) all (Ok account) has is closed = absurd closed
 
-        fault_at : (new : Desk) (fault : CrewFault W) → IsRun TakesLetter begun new sink after (Ok tt) → HasFaulted new posted fault → IsCrewFault drain host limits start fault fault.cause
-        fault_at new fault run has = whole_fault drain host limits start after.letters posted post new (limits_are new run) (letters_are new run ∙ append-nil after.letters) fault has
+        fault_at : (new : Desk) (fault : CrewFault W) → IsRun TakesLetter begun new sink after (Ok tt) → IsDesk new → HasFaulted new posted fault → IsCrewFault drain host limits (length ports) start fault fault.cause
+        fault_at new fault run kept has = whole_fault drain host limits start after.letters posted post new (limits_are new run) kept (length ports) (lines_length new run) (letters_are new run ∙ append-nil after.letters) fault has
 
-        pub fault_is : (collected : Collected) (all : Gathered) (result : Result (Account W) (CrewFault W)) → HasCollected begun sink after collected → Concludes collected all posted result → IfErr result (λ fault. IsCrewFault drain host limits start fault fault.cause)
+        pub fault_is : (collected : Collected) (all : Gathered) (result : Result (Account W) (CrewFault W)) → HasCollected begun sink after collected → Concludes collected all posted result → IfErr result (λ fault. IsCrewFault drain host limits (length ports) start fault fault.cause)
         fault_is collected all (Ok account) has ends_so = tt
-        fault_is (Whole new) (gathered.All lines crew) (Err fault) has faulted = fault_at new fault has.0 faulted
-        fault_is (Whole new) gathered.Missing (Err fault) has faulted = fault_at new fault has.0 faulted
-        fault_is (Whole new) gathered.Lost (Err fault) has faulted = fault_at new fault has.0 faulted
+        fault_is (Whole new) (gathered.All lines crew) (Err fault) has faulted = fault_at new fault has.0 has.2 faulted
+        fault_is (Whole new) gathered.Missing (Err fault) has faulted = fault_at new fault has.0 has.2 faulted
+        fault_is (Whole new) gathered.Lost (Err fault) has faulted = fault_at new fault has.0 has.2 faulted
         fault_is (Failed held new) all (Err fault) has faulted =
-            failed_fault drain host limits start after.letters posted post new.value (limits_are new.value has.1) fault held faulted
+            failed_fault drain host limits start after.letters posted post new.value (limits_are new.value has.1) has.3 (length ports) (lines_length new.value has.1) fault held faulted
             (letters_are new.value has.1 ∙ ap (λ (ls : List Letter). after.letters ++ ls) (sym has.2))

@@ -4,6 +4,7 @@ use Rattle.std.specs.List.{flat_map}
 use Rattle.dsn_book.specs.Book.{Book, Represents}
 use Rattle.dsn_device.specs.declared.drain.Drain.{Ghosts as Drain}
 use Rattle.dsn_frame.specs.Spoken.{reply_of}
+use Rattle.dsn_lane.specs.Lane.{IsNumbered}
 use Rattle.dsn_outcome.specs.Agents.{from_agent}
 use Rattle.dsn_outcome.specs.History.{Limits, answers_to, history_of, sealed_letters}
 use Rattle.dsn_outcome.specs.Letter.{Letter}
@@ -86,25 +87,29 @@ pub record IsUnbegun {W : Type 0} (drain : Drain W) (start : W) (fault : CrewFau
   pub unsent : fault.unsent ≡ []
   pub outbox : IsUntouched drain start fault.outbox
 
--- what is left of a run that was broken off. The letters that came to the poster are the first of those which the history
--- of the requests taken sealed; those that are not in the outbox are unsent, in order. After them comes at most one later
--- letter of that history, which the collector still held
-pub record IsBrokenOff {W : Type 0} (drain : Drain W) (host : List ℕ) (limits : Limits) (start : W) (fault : CrewFault W) : Type 0 where
+-- what is left of a run of so many agents that was broken off. The requests taken are of these agents, and numbered from 0
+-- agent by agent. The letters that came to the poster are the first of those which their history sealed; those that are not
+-- in the outbox are unsent, in order. Up to 16 later ones waited for the poster, and are dropped. After them comes at most one
+-- more, which the collector still held
+pub record IsBrokenOff {W : Type 0} (drain : Drain W) (host : List ℕ) (limits : Limits) (agents : ℕ) (start : W) (fault : CrewFault W) : Type 0 where
+  pub only : All (λ (request : Request). request.agent < agents) fault.taken
+  pub numbered : (agent : ℕ) → IsNumbered (λ (request : Request). request.number) (from_agent (λ (request : Request). request.agent) agent fault.taken)
   pub letters : List Letter
   pub between : List Letter
   pub held : List Letter
   pub sealed : sealed_letters (history_of limits fault.taken) ≡ letters ++ (between ++ held)
+  pub few : length between ≤ 16
   pub one : length held ≤ 1
   pub whole : Bool
   pub unsent : List Letter
   pub unsent_are : fault.unsent ≡ unsent ++ held
   pub outbox : IsOutbox drain host start fault.outbox whole unsent letters
 
--- what a run that ended with a fault comes to. 43: there are not 1 to 16 ports, and the outbox comes back as it was. 42: it
+-- what a run for so many agents that ended with a fault comes to. 43: there are not 1 to 16 ports, and the outbox comes back as it was. 42: it
 -- never began; or the thread of an agent could not be made, and all letters came to the poster. 41: a lane was lost
-abbrev pub IsCrewFault : {W : Type 0} → Drain W → List ℕ → Limits → W → CrewFault W → CrewCause → Type 0
-IsCrewFault drain host limits start fault PortCount = (fault.outbox ≡ start) × (fault.unsent ≡ []) × (fault.taken ≡ [])
-IsCrewFault drain host limits start fault Refused =
+abbrev pub IsCrewFault : {W : Type 0} → Drain W → List ℕ → Limits → ℕ → W → CrewFault W → CrewCause → Type 0
+IsCrewFault drain host limits agents start fault PortCount = (fault.outbox ≡ start) × (fault.unsent ≡ []) × (fault.taken ≡ [])
+IsCrewFault drain host limits agents start fault Refused =
     IsUnbegun drain start fault
-    ⊎ ((broken : IsBrokenOff drain host limits start fault) × (broken.letters ≡ sealed_letters (history_of limits fault.taken)))
-IsCrewFault drain host limits start fault Lost = IsBrokenOff drain host limits start fault
+    ⊎ ((broken : IsBrokenOff drain host limits agents start fault) × (broken.letters ≡ sealed_letters (history_of limits fault.taken)))
+IsCrewFault drain host limits agents start fault Lost = IsBrokenOff drain host limits agents start fault

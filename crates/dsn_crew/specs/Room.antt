@@ -9,6 +9,7 @@ pub record IsRoom {P S : Type 0} (limits : Limits) (agents : ℕ) (room : Room P
   pub opened : IsOpened limits agents room.agents.items room.desk
   pub source : room.source ≡ record { lane = room.sink.lane; letters = []; marked = false }
   pub sink : room.sink.letters ≡ []
+  pub waiting : room.sink.lane.capacity ≡ 16
   pub handles : (room.handles.items ≡ []) × (agents ≤ vec_capacity room.handles)
   pub ends : (room.ends.items ≡ []) × (agents ≤ vec_capacity room.ends)
   pub lines : (room.lines.items ≡ []) × (agents ≤ vec_capacity room.lines)

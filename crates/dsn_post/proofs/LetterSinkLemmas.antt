@@ -1,5 +1,5 @@
 -- Letter sinks: what they have sent are the parcels of their letters, one more at each, and what the close finds taken.
-use Rattle.std.proofs.Common.{◌≡◌, ℕ, ◌+◌, ◌<◌, ◌↔◌, Bool, true, false, All, List, [], ◌∷◌, ◌++◌, length, ap, sym, ◌∙◌, subst, append_assoc, length-append, arith}
+use Rattle.std.proofs.Common.{◌≡◌, ℕ, ◌+◌, ◌<◌, ◌≤◌, ◌↔◌, Bool, true, false, All, List, [], ◌∷◌, ◌++◌, length, ap, sym, ◌∙◌, subst, append_assoc, length-append, arith}
 use Rattle.std.specs.Prelude.{IfErr, OnOk, Result, Ok, Err, Some, None, is_ok}
 use Rattle.std.proofs.Math.Dec.{eqb}
 use Rattle.std.proofs.lemmas.Bool.{eq-eqb, eqb-true}
@@ -14,7 +14,7 @@ use Rattle.dsn_outcome.specs.Letter.{Letter}
 use Rattle.dsn_post.specs.LetterSink.{LetterSink, TakesLetter}
 use Rattle.dsn_post.specs.Sink.{Handed}
 use Rattle.dsn_post.specs.Parcel.{Parcel, letters_of, parcels_of}
-use Rattle.dsn_post.proofs.ParcelLemmas.{all_letters, all_of_one, first_letters, length-parcels, letter_more, letters_of-append, mark_last, parcel}
+use Rattle.dsn_post.proofs.ParcelLemmas.{all_letters, all_of_one, few_letters, first_letters, length-parcels, letter_more, letters_of-append, mark_last, parcel}
 
 -- a sink that took letters one after another has sent them, after those from before
 pub handed_letters : (old new : LetterSink) (letters : List Letter) → Handed TakesLetter old letters new → (new.letters ≡ old.letters ++ letters) × (new.lane ≡ old.lane)
@@ -93,6 +93,10 @@ module _ (ends : List (End Parcel)) (end : End Parcel) (taken : List Parcel) (ca
         let took = counted ∙ ap length taken_is in
         let last = split ∙ (ap (sum_by (λ (it : End Parcel). length it.sent)) one ∙ sum_by-cons (λ (it : End Parcel). length it.sent) end []) in
         let long = ap length sent_is in omega arith
+
+    -- all of them came but as many as wait
+    pub closed_few : length sent ≤ length came + waiting
+    closed_few = few_letters came sent came_marked sent_marked waiting closed total
 
     -- nothing waits exactly where all of them came, and the end mark after them if it was sent
     pub closed_all : (eqb waiting 0 ≡ true) ↔ ((came ≡ sent) × (came_marked ≡ sent_marked))

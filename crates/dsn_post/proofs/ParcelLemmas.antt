@@ -1,5 +1,5 @@
 -- Parcels: one letter more, the end mark, and the letters that parcels hold.
-use Rattle.std.proofs.Common.{◌≡◌, ℕ, suc, ◌+◌, Bool, true, false, List, [], ◌∷◌, ◌++◌, length, refl, ap, sym, ◌∙◌, append_assoc, length-append, arith}
+use Rattle.std.proofs.Common.{◌≡◌, ℕ, suc, ◌+◌, ◌≤◌, Bool, true, false, List, [], ◌∷◌, ◌++◌, length, refl, ap, sym, ◌∙◌, append_assoc, length-append, arith}
 use Rattle.std.specs.Prelude.{Option, Some, None}
 use Rattle.std.specs.Option.{option_to_list}
 use Rattle.std.proofs.lemmas.List.{append-nil, nil_from_length}
@@ -77,13 +77,35 @@ marked_alike letters false true same =
 same_letters : (taken sent : List Letter) (one other : Bool) → parcels_of taken one ≡ parcels_of sent other → taken ≡ sent
 same_letters taken sent one other same = sym (letters_back 0 taken one) ∙ (ap letters_of same ∙ letters_back 0 sent other)
 
--- the letters that were taken are the first of those that were sent
+-- the letters that were taken, and then those of the parcels that were not, are those that were sent
+letters_after : (taken sent : List Letter) (came marked : Bool) (is : IsPrefix (parcels_of taken came) (parcels_of sent marked)) → taken ++ letters_of is.0 ≡ sent
+letters_after taken sent came marked is =
+    ap (λ (ls : List Letter). ls ++ letters_of is.0) (sym (letters_back 0 taken came))
+    ∙ (sym (letters_of-append (parcels_of taken came) is.0) ∙ (ap letters_of is.1 ∙ letters_back 0 sent marked))
+
+-- so those that were taken are the first of those that were sent
 pub first_letters : (taken sent : List Letter) (came marked : Bool) → IsPrefix (parcels_of taken came) (parcels_of sent marked) → IsPrefix taken sent
-first_letters taken sent came marked is = (
-  letters_of is.0,
-  ap (λ (ls : List Letter). ls ++ letters_of is.0) (sym (letters_back 0 taken came))
-      ∙ (sym (letters_of-append (parcels_of taken came) is.0) ∙ (ap letters_of is.1 ∙ letters_back 0 sent marked)),
-)
+first_letters taken sent came marked is = (letters_of is.0, letters_after taken sent came marked is)
+
+letter_few : (letter : Option Letter) → length (option_to_list letter) ≤ 1
+letter_few None = omega arith
+letter_few (Some letter) = omega arith
+
+-- no more letters than parcels
+letters_few : (parcels : List Parcel) → length (letters_of parcels) ≤ length parcels
+letters_few [] = omega arith
+letters_few (parcel ∷ rest) =
+    let one = letter_few parcel.letter in
+    let few = letters_few rest in
+    let both = length-append (option_to_list parcel.letter) (letters_of rest) in omega arith
+
+-- and no more letters were sent beside them than parcels wait
+pub few_letters : (taken sent : List Letter) (came marked : Bool) (waiting : ℕ) → IsPrefix (parcels_of taken came) (parcels_of sent marked) → length (parcels_of taken came) + waiting ≡ length (parcels_of sent marked) → length sent ≤ length taken + waiting
+few_letters taken sent came marked waiting is total =
+    let split = length-append (parcels_of taken came) is.0 in
+    let whole = ap length is.1 in
+    let letters = sym (ap length (letters_after taken sent came marked is)) ∙ length-append taken (letters_of is.0) in
+    let few = letters_few is.0 in omega (arith, split, whole, letters, few, total)
 
 -- and where as many were taken as were sent, they are the same, and the end mark came if it was sent
 pub all_letters : (taken sent : List Letter) (came marked : Bool) → IsPrefix (parcels_of taken came) (parcels_of sent marked) → length (parcels_of taken came) ≡ length (parcels_of sent marked) → (taken ≡ sent) × (came ≡ marked)

@@ -1,5 +1,5 @@
 -- Posting: what the poster's thread comes to, and the outbox at its end.
-use Rattle.std.specs.Prelude.{◌≡◌, ℕ, ◌+◌, true, List, [], length}
+use Rattle.std.specs.Prelude.{◌≡◌, ℕ, ◌+◌, ◌≤◌, true, List, [], length}
 use Rattle.std.specs.Io.KnownBytes.{Appends}
 use mathlib.Core.List.{IsPrefix}
 use Rattle.dsn_device.specs.declared.drain.Drain.{Ghosts as Drain}
@@ -28,11 +28,13 @@ pub record IsUntouched {W : Type 0} (drain : Drain W) (start end : W) : Type 0 w
   pub failures : drain.failures end ≡ drain.failures start
   pub flushes : drain.flushes end ≡ drain.flushes start
 
--- an outbox at its end, of letters that were sent in this order: the first of them came to the poster, and all of them where
--- that is said; those are posted, or unsent, and the outbox is theirs
-pub record IsPosted {W : Type 0} (drain : Drain W) (host : List ℕ) (start : W) (sent : List Letter) (end : Posted W) : Type 0 where
+-- an outbox at its end, of letters that were sent in this order over a lane in which at most so many wait: the first of them
+-- came to the poster, all but as many as wait, and all of them where that is said; those are posted, or unsent, and the
+-- outbox is theirs
+pub record IsPosted {W : Type 0} (drain : Drain W) (host : List ℕ) (start : W) (waiting : ℕ) (sent : List Letter) (end : Posted W) : Type 0 where
   pub letters : List Letter
   pub came : IsPrefix letters sent
+  pub few : length sent ≤ length letters + waiting
   pub all_came : end.all ≡ true → letters ≡ sent
   pub count : end.posted + length end.unsent ≡ length letters
   pub outbox : IsOutbox drain host start end.outbox end.whole end.unsent letters

@@ -1,5 +1,5 @@
 //! The end of the lane of letters.
-ghost use Rattle.std.specs.Prelude.{◌≡◌, ◌≤◌, ◌↔◌, true, [], vec_capacity};
+ghost use Rattle.std.specs.Prelude.{◌≡◌, ◌≤◌, ◌+◌, ◌↔◌, true, [], length, vec_capacity};
 ghost use mathlib.Core.List.{IsPrefix};
 ghost use Rattle.dsn_post.specs.Parcel.{letters_of, parcels_of};
 
@@ -46,6 +46,7 @@ impl FinishedSink {
     pub(crate) fn close(self, rt: &impl Wait, source: LetterSource) -> bool
         requires lane { source.lane ≡ self.lane }
         ensures first { IsPrefix source.letters self.letters }
+        ensures few { length self.letters ≤ length source.letters + self.lane.capacity }
         ensures all { (result ≡ true) ↔ ((source.letters ≡ self.letters) × (source.marked ≡ self.marked)) }
     {
         let FinishedSink { end, mut room, .. } = self;

@@ -47,7 +47,7 @@ module _ {P S W N : Type 0} (port : Port P S) (drain : Drain W) (notes_device : 
   -- 16 ports
   pub record IsFaulted : Type 0 where
     pub fault : CrewFault W
-    pub crew : IsCrewFault drain host limits start fault fault.cause
+    pub crew : IsCrewFault drain host limits (length ports) start fault fault.cause
     pub counted : (fault.cause ≡ PortCount) ↔ ((length ports ≡ 0) ⊎ (16 < length ports))
     pub told : TellsFault notes_device fault.cause fault.outbox fault.unsent notes later end
 

@@ -1,6 +1,8 @@
 -- What the threads, the collector and the poster came to is put together.
-use Rattle.std.proofs.Common.{rules, ap, sym, ◌∙◌, subst, arith}
+use Rattle.std.proofs.Common.{rules, ℕ, ap, sym, ◌∙◌, subst, arith}
+use Rattle.dsn_lane.specs.Ends.{Identity}
 use Rattle.dsn_post.specs.LetterSink.{LetterSink}
+use Rattle.dsn_post.specs.Parcel.{Parcel}
 use Rattle.dsn_post.specs.Posting.{IsPosted, Posts}
 use Rattle.dsn_crew.proofs.CrewLemmas.{account_is, collected_lane, ends_length, fault_is, handles_length, may_close, may_miss, missing_few}
 use Rattle.dsn_crew.proofs.run.run_in.Goals as goal
@@ -58,12 +60,20 @@ pub returns-clause-account : goal.returns-clause-account
 returns-clause-account g c =
     let room = c.in-Ok.ensures in
     let same = c.in-Ok-start_posting.ensures.sink in
-    let post = subst (λ (posts : Posts g.row.W.Denot). IsPosted g.W.Drain posts.site posts.outbox c.by-collected.new.sink.letters c.end_posting-posted.result) c.in-Ok-start_posting.ensures.promise c.end_posting-posted.ensures in
+    let lane = collected_lane g.P.Port g.W.Drain c.args.site c.args.limits c.args.ports.items c.args.outbox _ _ _ room.opened (search rules) _ c.start_all-handles.ensures _ c.join_all.ensures _ _ c.miss.ensures.missed _ _ (ap (λ (sink : LetterSink). sink.letters) same ∙ room.sink) _ c.by-collected.ensures in
+    let waiting = ap (λ (it : Identity Parcel). it.capacity) (lane ∙ ap (λ (sink : LetterSink). sink.lane) same) ∙ room.waiting in
+    let posted =
+    subst (λ (posts : Posts g.row.W.Denot). IsPosted g.W.Drain posts.site posts.outbox c.by-collected.new.sink.lane.capacity c.by-collected.new.sink.letters c.end_posting-posted.result) c.in-Ok-start_posting.ensures.promise c.end_posting-posted.ensures in
+    let post = subst (λ (most : ℕ). IsPosted g.W.Drain c.args.site c.args.outbox most c.by-collected.new.sink.letters c.end_posting-posted.result) waiting posted in
     account_is g.P.Port g.W.Drain c.args.site c.args.limits c.args.ports.items c.args.outbox _ _ _ room.opened (search rules) _ c.start_all-handles.ensures _ c.join_all.ensures _ _ c.miss.ensures.missed _ _ (ap (λ (sink : LetterSink). sink.letters) same ∙ room.sink) _ post _ _ _ c.by-collected.ensures c.of-gathered.ensures c.conclude.ensures
 
 pub returns-clause-fault : goal.returns-clause-fault
 returns-clause-fault g c =
     let room = c.in-Ok.ensures in
     let same = c.in-Ok-start_posting.ensures.sink in
-    let post = subst (λ (posts : Posts g.row.W.Denot). IsPosted g.W.Drain posts.site posts.outbox c.by-collected.new.sink.letters c.end_posting-posted.result) c.in-Ok-start_posting.ensures.promise c.end_posting-posted.ensures in
+    let lane = collected_lane g.P.Port g.W.Drain c.args.site c.args.limits c.args.ports.items c.args.outbox _ _ _ room.opened (search rules) _ c.start_all-handles.ensures _ c.join_all.ensures _ _ c.miss.ensures.missed _ _ (ap (λ (sink : LetterSink). sink.letters) same ∙ room.sink) _ c.by-collected.ensures in
+    let waiting = ap (λ (it : Identity Parcel). it.capacity) (lane ∙ ap (λ (sink : LetterSink). sink.lane) same) ∙ room.waiting in
+    let posted =
+    subst (λ (posts : Posts g.row.W.Denot). IsPosted g.W.Drain posts.site posts.outbox c.by-collected.new.sink.lane.capacity c.by-collected.new.sink.letters c.end_posting-posted.result) c.in-Ok-start_posting.ensures.promise c.end_posting-posted.ensures in
+    let post = subst (λ (most : ℕ). IsPosted g.W.Drain c.args.site c.args.outbox most c.by-collected.new.sink.letters c.end_posting-posted.result) waiting posted in
     fault_is g.P.Port g.W.Drain c.args.site c.args.limits c.args.ports.items c.args.outbox _ _ _ room.opened (search rules) _ c.start_all-handles.ensures _ c.join_all.ensures _ _ c.miss.ensures.missed _ _ (ap (λ (sink : LetterSink). sink.letters) same ∙ room.sink) _ post _ _ _ c.by-collected.ensures c.conclude.ensures

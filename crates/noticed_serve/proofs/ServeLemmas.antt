@@ -45,7 +45,7 @@ module _ {P S W N : Type 0} (port : Port P S) (untold : (one : P) → port.conns
   })
   serve-untold (inr faulted) = inr (record {
     fault = faulted.fault;
-    crew = faulted.crew;
+    crew = rw (length-replicate (length ports)) faulted.crew;
     counted = rw (length-replicate (length ports)) faulted.counted;
     told = faulted.told;
   })

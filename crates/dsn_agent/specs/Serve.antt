@@ -134,7 +134,7 @@ pub record IsServed {S : Type 0} (source : Source S) (drain : Drain S) (old new 
   pub answered : IfOk result (λ served. served.frames ≡ length answers)
   pub counts : Counts source drain (is_stream_failed result) before after
 
--- ---- one frame of a session
+-- ---- of private parts: one frame of a session
 
 -- what a frame is answered whose body was asked: none where the collector is gone
 abbrev pub asked_turn : Result Answer AskFault → Option Turn

@@ -1,4 +1,4 @@
--- How the collector's part of a run ended.
+-- Of private parts: how the collector's part of a run ended.
 use Rattle.std.specs.Prelude.{◌≡◌, true, Ok, Err}
 use Rattle.dsn_book.specs.Step.{letters_in}
 use Rattle.dsn_post.specs.LetterSink.{LetterSink, TakesLetter}

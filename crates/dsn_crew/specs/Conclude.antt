@@ -1,4 +1,4 @@
--- How a run is concluded, from how it was collected, what came of its agents, and what was posted.
+-- Of private parts: how a run is concluded, from how it was collected, what came of its agents, and what was posted.
 use Rattle.std.specs.Prelude.{◌≡◌, ◌≢◌, true, List, [], ◌++◌, All as Each, Result, Ok, Err}
 use Rattle.dsn_book.specs.Book.{Represents}
 use Rattle.dsn_book.specs.Step.{letters_in}

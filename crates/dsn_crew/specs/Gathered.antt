@@ -1,4 +1,4 @@
--- What came of the agents' threads, taken together.
+-- Of private parts: what came of the agents' threads, taken together.
 use Rattle.std.specs.Prelude.{◌≡◌, List, [], ◌∷◌, Option, Some}
 use Rattle.dsn_agent.specs.Agent.{Ends}
 use Rattle.dsn_agent.specs.declared.agent_line.AgentLine.{AgentLine}

@@ -1,4 +1,4 @@
--- Starts of the agents' threads, and what comes of them once they are joined. What a whole run says of its agents is
+-- Of private parts: starts of the agents' threads, and what comes of them once they are joined. What a whole run says of its agents is
 -- `AreServed`: it follows from `AreStarted`, of all starts, and `IsJoined`, of each thread that is waited for. `missing` is
 -- how many agents had no thread.
 use Rattle.std.specs.Prelude.{◌≡◌, ℕ, List, [], ◌∷◌, length, filter, Option, Some, None, is_none, IfSome}

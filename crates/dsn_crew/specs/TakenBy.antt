@@ -1,4 +1,4 @@
--- What a collector had taken whose run was broken off.
+-- Of private parts: what a collector had taken whose run was broken off.
 use Rattle.std.specs.Prelude.{List, [], Option, Some, None}
 use Rattle.std.specs.declared.snapshot.Snapshot.{Snapshot}
 use Rattle.dsn_outcome.specs.Request.{Request}

@@ -1,6 +1,7 @@
 //! What is left of a crew whose run ended with a fault.
 ghost use Rattle.std.specs.Prelude.{◌≡◌, [], ◌∷◌, ◌++◌};
 ghost use Rattle.dsn_book.specs.Step.{letters_in};
+ghost use Rattle.dsn_crew.specs.Crew.{crew_cause_code};
 
 use crate::crew_cause::CrewCause;
 use crate::desk::Desk;
@@ -32,6 +33,13 @@ impl<W> Model for CrewFault<W> {
 }
 
 impl<W> CrewFault<W> {
+    /// The number of the fault: 41, 42 or 43.
+    pub fn code(&self) -> u32
+        ensures { result ≡ crew_cause_code self.now.cause }
+    {
+        self.cause.code()
+    }
+
     /// The fault of a run that never began.
     pub(crate) fn unbegun(cause: CrewCause, outbox: W) -> CrewFault<W>
         ensures { result ≡ record { cause = cause; outbox = outbox; unsent = []; taken = [] } }

@@ -9,8 +9,8 @@ use Rattle.dsn_outcome.specs.declared.service.Service.TheVariants.{Bounce}
 
 -- the letter of these terms; without a sealed log it reports nothing
 abbrev pub letter_from : Draft → Option Sealed → Letter
-letter_from terms None = record { key = record { service = Bounce; id = [] }; draft = terms; outcomes = [] }
-letter_from terms (Some sealed) = record { key = sealed.key; draft = terms; outcomes = sealed.outcomes }
+letter_from terms None = record { key = record { service = Bounce; id = [] }; draft = terms; outcomes = []; serial = 0 }
+letter_from terms (Some sealed) = record { key = sealed.key; draft = terms; outcomes = sealed.outcomes; serial = sealed.serial }
 
 -- the letter in a cell
 abbrev pub letter_in : Cell → Letter

@@ -1,33 +1,46 @@
--- The close rule: what holds of a key that is closed after a history (this project's profile).
-use Rattle.std.specs.Prelude.{◌≡◌, List, [], ◌∷◌, ◌++◌, Some}
-use Rattle.dsn_outcome.specs.History.{Limits, Exchange, IsClosed, log_of, held_keys, reply_to, exchange_of, sealed_letters}
-use Rattle.dsn_outcome.specs.Request.{Request, key_of}
+-- The close rule: what holds of a key that is closed after a history, until it is forgotten (this project's profile).
+use Rattle.std.specs.Prelude.{◌≡◌, ◌≢◌, false, List, [], ◌∷◌, ◌++◌, Some}
+use Rattle.std.specs.List.{list_any, AllByRecursion}
+use Rattle.dsn_outcome.specs.History.{Limits, Exchange, IsClosed, forgets, is_forget, log_of, held_keys, reply_to, exchange_of, history_after, sealed_letters}
+use Rattle.dsn_outcome.specs.Request.{Request, Body, Forget, key_of}
 use Rattle.dsn_outcome.specs.declared.answer.Reply.TheVariants.{Closed}
 use Rattle.dsn_outcome.specs.declared.key.Key.{Key}
 
--- it is closed whatever follows
+-- it is closed whatever follows, as long as nothing lets it go
 abbrev pub StaysClosed : Key → List Exchange → Type 0
-StaysClosed key history = (more : List Exchange) → IsClosed key (history ++ more)
+StaysClosed key history = (more : List Exchange) → list_any (forgets key) more ≡ false → IsClosed key (history ++ more)
 
--- the next request, if it is about the key, is answered Closed
+-- a body about the key, other than a Forget
+pub record Uses (key : Key) (body : Body) : Type 0 where
+  pub about : key_of body ≡ Some key
+  pub keeps : is_forget body ≡ false
+
+-- the next request, if it uses the key, is answered Closed
 abbrev pub AnswersClosed : Limits → Key → List Exchange → Type 0
-AnswersClosed limits key history = (request : Request) → key_of request.body ≡ Some key → reply_to limits history request ≡ Closed
+AnswersClosed limits key history = (request : Request) → Uses key request.body → reply_to limits history request ≡ Closed
 
--- the next request, whatever it is about, adds nothing to the key's log
+-- the next request, whatever it is about, adds nothing to the key's log, unless it forgets the key
 abbrev pub TakesNoOutcome : Limits → Key → List Exchange → Type 0
 TakesNoOutcome limits key history =
-    (request : Request) → log_of key (history ++ exchange_of limits history request ∷ []) ≡ log_of key history
+    (request : Request) → request.body ≢ Forget key →
+    log_of key (history ++ exchange_of limits history request ∷ []) ≡ log_of key history
 
--- the next request, if it is about the key, leaves every log as it was
+-- between two forgettings: no requests that don't forget the key add anything to its log
+abbrev pub TakesNoOutcomeUntilForgotten : Limits → Key → List Exchange → Type 0
+TakesNoOutcomeUntilForgotten limits key history =
+    (requests : List Request) → AllByRecursion (λ request. request.body ≢ Forget key) requests →
+    log_of key (history_after limits history requests) ≡ log_of key history
+
+-- the next request, if it uses the key, leaves every log as it was
 abbrev pub LeavesEveryLog : Limits → Key → List Exchange → Type 0
 LeavesEveryLog limits key history =
-    (request : Request) → key_of request.body ≡ Some key →
+    (request : Request) → Uses key request.body →
     (other : Key) → log_of other (history ++ exchange_of limits history request ∷ []) ≡ log_of other history
 
--- the next request, if it is about the key, leaves the held keys as they were
+-- the next request, if it uses the key, leaves the held keys as they were
 abbrev pub LeavesHeldKeys : Limits → Key → List Exchange → Type 0
 LeavesHeldKeys limits key history =
-    (request : Request) → key_of request.body ≡ Some key →
+    (request : Request) → Uses key request.body →
     held_keys (history ++ exchange_of limits history request ∷ []) ≡ held_keys history
 
 -- the next request, if it is about the key, leaves the sealed letters as they were

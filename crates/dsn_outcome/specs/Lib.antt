@@ -4,6 +4,7 @@ pub mod Body
 pub mod Cell
 pub mod CloseRule
 pub mod Draft
+pub mod Forgetting
 pub mod History
 pub mod Key
 pub mod Letter

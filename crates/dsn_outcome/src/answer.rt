@@ -6,7 +6,7 @@ use crate::carried::Carried;
 pub enum Reply {
     /// The outcome stands in its log, after so many others.
     Logged(u32),
-    /// The log was flushed or discarded before; nothing changed.
+    /// The log was flushed or discarded before, and not forgotten since; nothing changed.
     Closed,
     /// No log is left for a new key; nothing changed.
     TableFull,
@@ -22,6 +22,10 @@ pub enum Reply {
     Discarded(u32),
     /// The agent said goodbye.
     Gone,
+    /// The log was closed; its key is held no more.
+    Forgotten,
+    /// The log is open, or there is none: there is no closed one to forget; nothing changed.
+    NotClosed,
 }
 
 /// A reply with the agent and the number of the request that it answers.

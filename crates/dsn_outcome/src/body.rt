@@ -13,6 +13,8 @@ pub enum Body {
     Flush(Key, Draft),
     /// Drop this log.
     Discard(Key),
+    /// Let this key go, if its log is closed.
+    Forget(Key),
     /// The agent leaves.
     Bye,
 }
@@ -31,7 +33,7 @@ impl Body {
                 service: node.outcome().service(),
                 id: *id,
             }),
-            Body::Flush(key, _) | Body::Discard(key) => Some(*key),
+            Body::Flush(key, _) | Body::Discard(key) | Body::Forget(key) => Some(*key),
             Body::Bye => None,
         }
     }

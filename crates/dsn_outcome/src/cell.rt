@@ -31,6 +31,7 @@ impl Model for Terms {
 pub(crate) struct Sealed {
     pub(crate) key: Key,
     pub(crate) outcomes: Links,
+    pub(crate) serial: u64,
 }
 
 /// A draft; once it is sealed, a letter; and with a link, a letter in a queue.

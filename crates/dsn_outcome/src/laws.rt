@@ -1,23 +1,37 @@
 //! Laws of keys and of the history of requests, as the contracts of functions that do nothing.
-ghost use Rattle.std.specs.Prelude.{◌≡◌, ℕ, List, length, map};
+ghost use Rattle.std.specs.Prelude.{◌≡◌, ℕ, false, List, length, map};
 ghost use Rattle.dsn_outcome.specs.Agents.{from_agent};
-ghost use Rattle.dsn_outcome.specs.CloseRule.{StaysClosed, AnswersClosed, TakesNoOutcome, LeavesEveryLog, LeavesHeldKeys, LeavesSealedLetters};
-ghost use Rattle.dsn_outcome.specs.History.{Limits, Exchange, IsClosed, answers_to, history_of};
+ghost use Rattle.dsn_outcome.specs.CloseRule.{StaysClosed, AnswersClosed, TakesNoOutcome, TakesNoOutcomeUntilForgotten, LeavesEveryLog, LeavesHeldKeys, LeavesSealedLetters};
+ghost use Rattle.dsn_outcome.specs.Forgetting.{AreNumbered, ForgetsIt, KeepsIt};
+ghost use Rattle.dsn_outcome.specs.History.{Limits, Exchange, IsClosed, is_closed, answers_to, history_of};
 ghost use Rattle.dsn_outcome.specs.Key.{key_cmp};
 ghost use Rattle.dsn_outcome.specs.Request.{Request};
 ghost use Rattle.dsn_outcome.specs.contracts.key.KeyOrd.TheImpl as key_order;
 ghost use Rattle.dsn_outcome.specs.declared.key.Key.{Key as HistoryKey};
 
-/// The close rule: a closed key stays closed, and its log takes no outcome, whatever is asked.
-/// Each request about it is answered Closed, and leaves every log, the held keys and the sealed
-/// letters as they were.
+/// The close rule: until it is forgotten a closed key stays closed, and its log takes no outcome,
+/// whatever is asked. Each other request about it is answered Closed, and leaves every log, the
+/// held keys and the sealed letters as they were.
 pub fn closed_logs_stay_closed()
     ensures stays { (key : HistoryKey) (history : List Exchange) → IsClosed key history → StaysClosed key history }
     ensures answered { (limits : Limits) (key : HistoryKey) (history : List Exchange) → IsClosed key history → AnswersClosed limits key history }
     ensures no_outcome { (limits : Limits) (key : HistoryKey) (history : List Exchange) → IsClosed key history → TakesNoOutcome limits key history }
+    ensures between { (limits : Limits) (key : HistoryKey) (history : List Exchange) → IsClosed key history → TakesNoOutcomeUntilForgotten limits key history }
     ensures logs { (limits : Limits) (key : HistoryKey) (history : List Exchange) → IsClosed key history → LeavesEveryLog limits key history }
     ensures held { (limits : Limits) (key : HistoryKey) (history : List Exchange) → IsClosed key history → LeavesHeldKeys limits key history }
     ensures letters { (limits : Limits) (key : HistoryKey) (history : List Exchange) → IsClosed key history → LeavesSealedLetters limits key history }
+{}
+
+/// A Forget of a closed key makes it as one that was never used, and leaves all else as it was.
+/// One of any other key changes nothing.
+pub fn closed_keys_alone_are_forgotten()
+    ensures closed { (limits : Limits) (key : HistoryKey) (history : List Exchange) → IsClosed key history → ForgetsIt limits key history }
+    ensures other { (limits : Limits) (key : HistoryKey) (history : List Exchange) → is_closed key history ≡ false → KeepsIt limits key history }
+{}
+
+/// A history's letters are numbered from 0, over all keys and forgettings.
+pub fn letters_are_numbered()
+    ensures { (history : List Exchange) → AreNumbered history }
 {}
 
 /// A history goes through the requests that it was made of, and answers an agent as often as the

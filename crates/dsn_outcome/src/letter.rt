@@ -35,19 +35,22 @@ impl Letter {
     ghost use Rattle.dsn_outcome.specs.Letter.{IsLetter};
     ghost use Rattle.dsn_outcome.specs.Outcomes.{outcomes_left};
 
-    /// Seals a log: the draft's cell becomes the letter's, and takes no memory.
-    pub fn seal(key: Key, draft: Draft, chain: Chain) -> Letter
+    /// Seals a log: the draft's cell becomes the letter's, and takes no memory. The serial says how
+    /// many letters were sealed before.
+    pub fn seal(key: Key, draft: Draft, chain: Chain, serial: u64) -> Letter
         requires reports { chain ≢ [] }
         requires of_service { All (λ outcome. outcome.service ≡ key.service) chain }
         requires returns { IsSome draft.return_path }
         ensures key { result.key ≡ key }
         ensures draft { result.draft ≡ draft }
         ensures outcomes { result.outcomes ≡ chain }
+        ensures serial { result.serial ≡ serial }
     {
         let Draft { mut cell } = draft;
         cell.sealed = Some(Sealed {
             key,
             outcomes: chain.oldest_first(),
+            serial,
         });
         Letter { cell }
     }
@@ -59,6 +62,16 @@ impl Letter {
     {
         match &self.cell.sealed {
             Some(sealed) => sealed.key,
+            None => unreachable!(),
+        }
+    }
+
+    /// How many letters were sealed before it, of all keys; it stands in the notice's Message-ID.
+    pub fn serial(&self) -> u64
+        ensures { result ≡ self.now.serial }
+    {
+        match &self.cell.sealed {
+            Some(sealed) => sealed.serial,
             None => unreachable!(),
         }
     }

@@ -45,7 +45,10 @@ pub use draft::Draft;
 pub use dsn_device::{Broken, Drain, Opaque, Plain, Source, Stream, fill, send};
 pub use envelope_id::{EnvelopeId, LONGEST_ENVELOPE_ID};
 pub use key::Key;
-pub use laws::{closed_logs_stay_closed, histories_answer_each_request, keys_are_ordered};
+pub use laws::{
+    closed_keys_alone_are_forgotten, closed_logs_stay_closed, histories_answer_each_request,
+    keys_are_ordered, letters_are_numbered,
+};
 pub use letter::Letter;
 pub use letters::Letters;
 pub use links::Outcomes;

@@ -31,8 +31,9 @@ discard = Discard (record { service = Bounce; id = codes "K1" })
 pub discard_is_encoded : Encodes discard_body 0 discard
 unfolding discard_body discard body_bytes own_bytes head_bytes text_bytes number_bytes FitsOwn first_own_fault StandsFor
 discard_is_encoded = record {
-  wire = DiscardFields (record { number = 0; service = 1; id = codes "K1" });
+  wire = DiscardFields (record { version = 1; number = 0; service = 1; id = codes "K1" });
   laid_out = refl;
+  known = refl;
   fits = (record { number = lit< tt; id = lit< tt }, tt);
   number_is = refl;
   accepted = refl;

@@ -2,7 +2,7 @@
 use Rattle.std.proofs.Common.{◌≡◌, ℕ, List, [], ◌∷◌, refl}
 use Rattle.std.specs.Prelude.{Option, Some, None}
 use Rattle.std.specs.Option.{option_map}
-use Rattle.dsn_outcome.specs.declared.answer.Reply.TheVariants.{Logged, Closed, Sealed}
+use Rattle.dsn_outcome.specs.declared.answer.Reply.TheVariants.{Logged, Closed, Sealed, Forgotten, NotClosed}
 use Rattle.dsn_frame.specs.AnswerFault.{answer_fault_code}
 use Rattle.dsn_frame.specs.Spoken.{answer_body, answer_bytes, first_answer_fault}
 use Rattle.dsn_frame.specs.declared.spoken.Spoken.TheVariants.{Reply, Refused}
@@ -24,6 +24,15 @@ sealed = refl
 refused_extra : answer_bytes 0 (Refused 24) ≡ 0 ∷ 0 ∷ 0 ∷ 10 ∷ 1 ∷ 10 ∷ 0 ∷ 0 ∷ 0 ∷ 0 ∷ 0 ∷ 0 ∷ 0 ∷ 24 ∷ []
 unfolding answer_bytes answer_body
 refused_extra = refl
+
+-- the answers to a Forget
+forgotten : answer_bytes 2 (Reply Forgotten) ≡ 0 ∷ 0 ∷ 0 ∷ 10 ∷ 1 ∷ 11 ∷ 0 ∷ 0 ∷ 0 ∷ 2 ∷ 0 ∷ 0 ∷ 0 ∷ 0 ∷ []
+unfolding answer_bytes answer_body
+forgotten = refl
+
+not_closed : answer_bytes 0 (Reply NotClosed) ≡ 0 ∷ 0 ∷ 0 ∷ 10 ∷ 1 ∷ 12 ∷ 0 ∷ 0 ∷ 0 ∷ 0 ∷ 0 ∷ 0 ∷ 0 ∷ 0 ∷ []
+unfolding answer_bytes answer_body
+not_closed = refl
 
 -- the last frame of a session of a million
 last_frame : answer_body 999999 (Reply Closed) ≡ 1 ∷ 2 ∷ 0x00 ∷ 0x0f ∷ 0x42 ∷ 0x3f ∷ 0 ∷ 0 ∷ 0 ∷ 0 ∷ []
@@ -68,6 +77,14 @@ kind_zero : refused (1 ∷ 0 ∷ []) ≡ Some 22
 unfolding first_answer_fault
 kind_zero = refl
 
-kind_eleven : refused (1 ∷ 11 ∷ 0 ∷ 0 ∷ 0 ∷ 0 ∷ 0 ∷ 0 ∷ 0 ∷ 0 ∷ []) ≡ Some 22
+kind_thirteen : refused (1 ∷ 13 ∷ 0 ∷ 0 ∷ 0 ∷ 0 ∷ 0 ∷ 0 ∷ 0 ∷ 0 ∷ []) ≡ Some 22
 unfolding first_answer_fault
-kind_eleven = refl
+kind_thirteen = refl
+
+forgotten_with_value : refused (1 ∷ 11 ∷ 0 ∷ 0 ∷ 0 ∷ 0 ∷ 0 ∷ 0 ∷ 0 ∷ 1 ∷ []) ≡ Some 34
+unfolding first_answer_fault
+forgotten_with_value = refl
+
+not_closed_with_value : refused (1 ∷ 12 ∷ 0 ∷ 0 ∷ 0 ∷ 0 ∷ 0 ∷ 0 ∷ 0 ∷ 1 ∷ []) ≡ Some 34
+unfolding first_answer_fault
+not_closed_with_value = refl

@@ -5,16 +5,16 @@ use Rattle.std.proofs.lemmas.Bool.{eqb-true}
 use Rattle.std.proofs.lemmas.List.{append-nil}
 use Rattle.std.specs.Prelude.{slice_get}
 use Rattle.dsn_outcome.specs.Outcome.{Fields}
-use Rattle.dsn_frame.specs.Wire.{Head, FlushFields, WireBody, AppendFields, FlushFieldsOf, DiscardFields, number_bytes, text_bytes, head_bytes, append_bytes, flush_bytes, body_bytes, FitsText, FitsHead, FitsAppend, FitsFlush, FitsOwn, Fits, kind_of, own_bytes, head_of, ◌>>=◌, byte_at, number_at, text_at, head_at, append_at, flush_at, own_at, body_at}
+use Rattle.dsn_frame.specs.Wire.{Head, FlushFields, WireBody, AppendFields, FlushFieldsOf, DiscardFields, ForgetFields, number_bytes, text_bytes, head_bytes, append_bytes, flush_bytes, body_bytes, FitsText, FitsHead, FitsAppend, FitsFlush, FitsOwn, Fits, kind_of, own_bytes, head_of, ◌>>=◌, byte_at, number_at, text_at, head_at, append_at, flush_at, own_at, body_at}
 use Rattle.dsn_frame.proofs.FieldLaws.{IsBytes, bind_some, some_is, Takes, Takes-then, wide32, wide64, number_takes, number_again, text_takes, text_again}
 
 -- ---- what was written is read again
 
-pub head_again : (head : Head) (rest : List ℕ) → FitsHead head → head_at (head_bytes head ++ rest) ≡ Some (head, rest)
+pub head_again : (head : Head) (rest : List ℕ) → FitsHead head → head_at head.version (head_bytes head ++ rest) ≡ Some (head, rest)
 unfolding head_at head_bytes
 head_again head rest fits =
     let regrouped : (number_bytes w32 head.number ++ (head.service ∷ text_bytes head.id)) ++ rest ≡ number_bytes w32 head.number ++ (head.service ∷ (text_bytes head.id ++ rest)) = append_assoc (number_bytes w32 head.number) (head.service ∷ text_bytes head.id) rest in
-    ap head_at regrouped ∙ rw (number_again w32 (2 ^ 32) wide32 head.number (head.service ∷ (text_bytes head.id ++ rest)) fits.number, text_again head.id rest fits.id) refl
+    ap (head_at head.version) regrouped ∙ rw (number_again w32 (2 ^ 32) wide32 head.number (head.service ∷ (text_bytes head.id ++ rest)) fits.number, text_again head.id rest fits.id) refl
 
 pub append_again : (fields : Fields) (rest : List ℕ) → FitsAppend fields → append_at (append_bytes fields ++ rest) ≡ Some (fields, rest)
 unfolding append_at append_bytes
@@ -43,6 +43,7 @@ unfolding own_at own_bytes FitsOwn
 own_again (AppendFields head fields) rest fits = rw (append_again fields rest fits) refl
 own_again (FlushFieldsOf head fields) rest fits = rw (flush_again fields rest fits) refl
 own_again (DiscardFields head) rest fits = refl
+own_again (ForgetFields head) rest fits = refl
 
 pub body_again : (wire : WireBody) → Fits wire → body_at (body_bytes wire) ≡ Some (wire, [])
 unfolding body_at body_bytes
@@ -60,19 +61,19 @@ byte_takes [] x fits e = absurd cc
 byte_takes (byte ∷ rest) x fits e =
     subst (λ (y : ℕ × List ℕ). Takes (byte ∷ rest) (y.0 ∷ []) y.1) (some_is (byte, rest) x e) (record { parts = refl; rest_fits = IsBytes-rest byte rest fits })
 
-pub head_takes : (bytes : List ℕ) (x : Head × List ℕ) → IsBytes bytes → head_at bytes ≡ Some x → Takes bytes (head_bytes x.0) x.1 × FitsHead x.0
+pub head_takes : (version : ℕ) (bytes : List ℕ) (x : Head × List ℕ) → IsBytes bytes → head_at version bytes ≡ Some x → Takes bytes (head_bytes x.0) x.1 × (FitsHead x.0 × (version ≡ x.0.version))
 unfolding head_at head_bytes
-head_takes bytes x fits e =
-    let a = bind_some (number_at w32 bytes) (λ number. byte_at number.1 >>= λ service. text_at service.1 >>= λ id. Some (record { number = number.0; service = service.0; id = id.0 }, id.1)) x e in
-    let b = bind_some (byte_at a.0.1) (λ service. text_at service.1 >>= λ id. Some (record { number = a.0.0; service = service.0; id = id.0 }, id.1)) x a.2 in
-    let c = bind_some (text_at b.0.1) (λ id. Some (record { number = a.0.0; service = b.0.0; id = id.0 }, id.1)) x b.2 in
+head_takes version bytes x fits e =
+    let a = bind_some (number_at w32 bytes) (λ number. byte_at number.1 >>= λ service. text_at service.1 >>= λ id. Some (record { version = version; number = number.0; service = service.0; id = id.0 }, id.1)) x e in
+    let b = bind_some (byte_at a.0.1) (λ service. text_at service.1 >>= λ id. Some (record { version = version; number = a.0.0; service = service.0; id = id.0 }, id.1)) x a.2 in
+    let c = bind_some (text_at b.0.1) (λ id. Some (record { version = version; number = a.0.0; service = b.0.0; id = id.0 }, id.1)) x b.2 in
     let t0 = number_takes w32 (2 ^ 32) wide32 bytes a.0.0 a.0.1 fits a.1 in
     let t1 = byte_takes a.0.1 b.0 t0.0.rest_fits b.1 in
     let t2 = text_takes b.0.1 c.0.0 c.0.1 t1.rest_fits c.1 in
     let e12 = Takes-then a.0.1 (b.0.0 ∷ []) b.0.1 (text_bytes c.0.0) c.0.1 t1 t2.0 in
     let e02 = Takes-then bytes (number_bytes w32 a.0.0) a.0.1 (b.0.0 ∷ text_bytes c.0.0) c.0.1 t0.0 e12 in
-    let made : Head × List ℕ = (record { number = a.0.0; service = b.0.0; id = c.0.0 }, c.0.1) in
-    subst (λ (y : Head × List ℕ). Takes bytes (head_bytes y.0) y.1 × FitsHead y.0) (some_is made x c.2) (e02, record { number = t0.1; id = t2.1 })
+    let made : Head × List ℕ = (record { version = version; number = a.0.0; service = b.0.0; id = c.0.0 }, c.0.1) in
+    subst (λ (y : Head × List ℕ). Takes bytes (head_bytes y.0) y.1 × (FitsHead y.0 × (version ≡ y.0.version))) (some_is made x c.2) (e02, (record { number = t0.1; id = t2.1 }, refl))
 
 -- what follows a field that was read, in terms of the field and the bytes after it
 text_then : {B C : Type 0} (bytes : List ℕ) (next : List ℕ × List ℕ → Option B) (x : B) → IsBytes bytes → (text_at bytes >>= next) ≡ Some x
@@ -162,13 +163,20 @@ own_flush kind head bytes x is fits e =
     subst (λ (y : WireBody × List ℕ). TakesOwn kind head bytes y.0 y.1) (some_is made x read.2)
     (record { taken = taken.0; fits = taken.1; kind_is = is; head_is = refl })
 
-own_discard : (kind : ℕ) (head : Head) (bytes : List ℕ) (x : WireBody × List ℕ) → IsBytes bytes
-    → cond (eqb kind 3) (Some (DiscardFields head, bytes)) None ≡ Some x → TakesOwn kind head bytes x.0 x.1
+own_discard : (kind : ℕ) (head : Head) (bytes : List ℕ) (x : WireBody × List ℕ) → kind ≡ 3 → IsBytes bytes → Some (DiscardFields head, bytes) ≡ Some x → TakesOwn kind head bytes x.0 x.1
 unfolding own_bytes FitsOwn
-own_discard kind head bytes x fits e =
-    elim (chosen (eqb kind 3) (Some (DiscardFields head, bytes)) None (Some x) e) [
+own_discard kind head bytes x is fits e =
+    let made : WireBody × List ℕ = (DiscardFields head, bytes) in
+    subst (λ (y : WireBody × List ℕ). TakesOwn kind head bytes y.0 y.1) (some_is made x e)
+    (record { taken = record { parts = refl; rest_fits = fits }; fits = tt; kind_is = is; head_is = refl })
+
+own_forget : (kind : ℕ) (head : Head) (bytes : List ℕ) (x : WireBody × List ℕ) → IsBytes bytes
+    → cond (eqb kind 4) (Some (ForgetFields head, bytes)) None ≡ Some x → TakesOwn kind head bytes x.0 x.1
+unfolding own_bytes FitsOwn
+own_forget kind head bytes x fits e =
+    elim (chosen (eqb kind 4) (Some (ForgetFields head, bytes)) None (Some x) e) [
       | inl hit ↦
-          let made : WireBody × List ℕ = (DiscardFields head, bytes) in
+          let made : WireBody × List ℕ = (ForgetFields head, bytes) in
           subst (λ (y : WireBody × List ℕ). TakesOwn kind head bytes y.0 y.1) (some_is made x hit.1)
           (record { taken = record { parts = refl; rest_fits = fits }; fits = tt; kind_is = eqb-true _ _ hit.0; head_is = refl })
       | inr miss ↦ absurd (let impossible = miss.1 in cc)
@@ -181,20 +189,22 @@ own_takes kind head bytes x fits e =
       | inl hit ↦ own_append kind head bytes x (eqb-true _ _ hit.0) fits hit.1
       | inr miss ↦ elim (chosen (eqb kind 2) _ _ (Some x) miss.1) [
         | inl hit ↦ own_flush kind head bytes x (eqb-true _ _ hit.0) fits hit.1
-        | inr other ↦ own_discard kind head bytes x fits other.1
+        | inr other ↦ elim (chosen (eqb kind 3) _ _ (Some x) other.1) [
+          | inl hit ↦ own_discard kind head bytes x (eqb-true _ _ hit.0) fits hit.1
+          | inr last ↦ own_forget kind head bytes x fits last.1
+        ]
       ]
     ]
 
--- a body of version 1 that is read was written so
-pub body_takes : (bytes : List ℕ) (x : WireBody × List ℕ) → IsBytes bytes → slice_get bytes 0 ≡ Some 1 → body_at bytes ≡ Some x → Takes bytes (body_bytes x.0) x.1 × Fits x.0
+-- a body that is read was written so
+pub body_takes : (bytes : List ℕ) (x : WireBody × List ℕ) → IsBytes bytes → body_at bytes ≡ Some x → Takes bytes (body_bytes x.0) x.1 × Fits x.0
 unfolding body_at body_bytes
-body_takes [] x fits first e = absurd cc
-body_takes (version ∷ []) x fits first e = absurd cc
-body_takes (version ∷ kind ∷ bytes) x fits first e =
-    let read = bind_some (head_at bytes) (λ head. own_at kind head.0 head.1) x e in
-    let head = head_takes bytes read.0 (λ i. fits (suc (suc i))) read.1 in
+body_takes [] x fits e = absurd cc
+body_takes (version ∷ []) x fits e = absurd cc
+body_takes (version ∷ kind ∷ bytes) x fits e =
+    let read = bind_some (head_at version bytes) (λ head. own_at kind head.0 head.1) x e in
+    let head = head_takes version bytes read.0 (λ i. fits (suc (suc i))) read.1 in
     let own = own_takes kind read.0.0 read.0.1 x head.0.rest_fits read.2 in
     let parts : bytes ≡ (head_bytes read.0.0 ++ own_bytes x.0) ++ x.1 = (Takes-then bytes (head_bytes read.0.0) read.0.1 (own_bytes x.0) x.1 head.0 own.taken).parts in
-    let version_is : version ≡ 1 = some_is version 1 first in
-    let whole : version ∷ kind ∷ bytes ≡ (1 ∷ kind_of x.0 ∷ (head_bytes (head_of x.0) ++ own_bytes x.0)) ++ x.1 = rw (← own.head_is, ← own.kind_is, version_is, ← parts) refl in
-    (record { parts = whole; rest_fits = own.taken.rest_fits }, (rw (← own.head_is) head.1, own.fits))
+    let whole : version ∷ kind ∷ bytes ≡ ((head_of x.0).version ∷ kind_of x.0 ∷ (head_bytes (head_of x.0) ++ own_bytes x.0)) ++ x.1 = rw (← own.head_is, ← own.kind_is, ← head.1.1, ← parts) refl in
+    (record { parts = whole; rest_fits = own.taken.rest_fits }, (rw (← own.head_is) head.1.0, own.fits))

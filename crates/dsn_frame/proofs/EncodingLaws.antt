@@ -8,7 +8,7 @@ use Rattle.std.proofs.lemmas.List.{length-append}
 use Rattle.dsn_outcome.specs.Action.{action_byte, action_of_byte}
 use Rattle.dsn_outcome.specs.Draft.{Draft, IsLegalDraft}
 use Rattle.dsn_outcome.specs.Outcome.{Outcome, Fields, IsLegalOutcome, IsOutcomeOf, first_failed, first_outcome_fault, is_none_or, unless_empty}
-use Rattle.dsn_outcome.specs.Request.{Body, Append, Flush, Discard}
+use Rattle.dsn_outcome.specs.Request.{Body, Append, Flush, Discard, Forget}
 use Rattle.dsn_outcome.specs.Service.{service_byte, service_of_byte}
 use Rattle.dsn_outcome.specs.Status.{is_status_code}
 use Rattle.dsn_outcome.specs.Text.{is_text, is_printable, is_queue_id, is_address, is_mta_name, is_envelope_id, is_remark, clean_text, is_letter_or_digit, is_address_byte, is_visible}
@@ -20,7 +20,7 @@ use Rattle.dsn_outcome.specs.declared.service.Service.TheVariants.{Bounce, Defer
 use Rattle.dsn_outcome.proofs.StatusLemmas.{IsStatusCode-test, length-IsStatusCode}
 use Rattle.dsn_frame.specs.FrameBody.{IsFrameBody}
 use Rattle.dsn_frame.specs.Request.{text_or_empty, head_for, fields_for, flush_fields_for, draft_of, flush_checks, first_own_fault, StandsFor, Encodes, IsWritten}
-use Rattle.dsn_frame.specs.Wire.{Head, FlushFields, WireBody, AppendFields, FlushFieldsOf, DiscardFields, head_of, own_bytes, body_bytes, number_bytes, text_bytes, head_bytes, append_bytes, flush_bytes, FitsOwn}
+use Rattle.dsn_frame.specs.Wire.{Head, FlushFields, WireBody, AppendFields, FlushFieldsOf, DiscardFields, ForgetFields, head_of, own_bytes, body_bytes, number_bytes, text_bytes, head_bytes, append_bytes, flush_bytes, FitsOwn}
 
 -- ---- texts
 
@@ -162,12 +162,13 @@ body_length wire = omega (arith, length-append (head_bytes (head_of wire)) (own_
 
 -- ---- bodies
 
-pub append_written : (number : ℕ) (id : List ℕ) (outcome : Outcome) → number < 2 ^ 32 → is_queue_id id ≡ true → IsLegalOutcome outcome → IsWritten number (Append id outcome) (AppendFields (head_for number outcome.service id) (fields_for outcome))
+pub append_written : (number : ℕ) (id : List ℕ) (outcome : Outcome) → number < 2 ^ 32 → is_queue_id id ≡ true → IsLegalOutcome outcome → IsWritten number (Append id outcome) (AppendFields (head_for 1 number outcome.service id) (fields_for outcome))
 unfolding own_bytes FitsOwn first_own_fault StandsFor
 append_written number id outcome few legal_id legal =
     let short = outcome-short outcome legal in
     let id_short = text-short is_letter_or_digit 1 32 id legal_id in record {
       number_is = refl;
+      known = refl;
       fits = (
         record { number = few; id = omega (arith, id_short) },
         record {
@@ -200,13 +201,14 @@ flush-back draft legal =
     let id = back draft.envelope_id (said is_envelope_id refl draft.envelope_id legal.envelope_id_legal) in
     rw (path, id) refl
 
-pub flush_written : (number : ℕ) (key : Key) (draft : Draft) → number < 2 ^ 32 → is_queue_id key.id ≡ true → IsLegalDraft draft → IsWritten number (Flush key draft) (FlushFieldsOf (head_for number key.service key.id) (flush_fields_for draft))
+pub flush_written : (number : ℕ) (key : Key) (draft : Draft) → number < 2 ^ 32 → is_queue_id key.id ≡ true → IsLegalDraft draft → IsWritten number (Flush key draft) (FlushFieldsOf (head_for 1 number key.service key.id) (flush_fields_for draft))
 unfolding own_bytes FitsOwn first_own_fault StandsFor
 flush_written number key draft few legal_id legal =
     let id_short = text-short is_letter_or_digit 1 32 key.id legal_id in
     let path_short = optional-short is_address 256 (text-short is_address_byte 1 256) draft.return_path legal.return_path_legal in
     let envelope_id_short = optional-short is_envelope_id 100 (text-short is_printable 1 100) draft.envelope_id legal.envelope_id_legal in record {
       number_is = refl;
+      known = refl;
       fits = (
         record { number = few; id = omega (arith, id_short) },
         record {
@@ -223,11 +225,25 @@ flush_written number key draft few legal_id legal =
       stands_for = (record { service_is = service-back key.service; id_is = refl }, flush-back draft legal);
     }
 
-pub discard_written : (number : ℕ) (key : Key) → number < 2 ^ 32 → is_queue_id key.id ≡ true → IsWritten number (Discard key) (DiscardFields (head_for number key.service key.id))
+pub discard_written : (number : ℕ) (key : Key) → number < 2 ^ 32 → is_queue_id key.id ≡ true → IsWritten number (Discard key) (DiscardFields (head_for 1 number key.service key.id))
 unfolding own_bytes FitsOwn first_own_fault StandsFor
 discard_written number key few legal_id =
     let id_short = text-short is_letter_or_digit 1 32 key.id legal_id in record {
       number_is = refl;
+      known = refl;
+      fits = (record { number = few; id = omega (arith, id_short) }, tt);
+      own_short = omega arith;
+      id_short = id_short;
+      accepted = rw (service-back key.service, legal_id) refl;
+      stands_for = record { service_is = service-back key.service; id_is = refl };
+    }
+
+pub forget_written : (number : ℕ) (key : Key) → number < 2 ^ 32 → is_queue_id key.id ≡ true → IsWritten number (Forget key) (ForgetFields (head_for 2 number key.service key.id))
+unfolding own_bytes FitsOwn first_own_fault StandsFor
+forget_written number key few legal_id =
+    let id_short = text-short is_letter_or_digit 1 32 key.id legal_id in record {
+      number_is = refl;
+      known = refl;
       fits = (record { number = few; id = omega (arith, id_short) }, tt);
       own_short = omega arith;
       id_short = id_short;
@@ -242,6 +258,7 @@ pub written_encodes : (number : ℕ) (body : Body) (wire : WireBody) → IsWritt
 written_encodes number body wire written = record {
   wire = wire;
   laid_out = refl;
+  known = written.known;
   fits = written.fits;
   number_is = sym written.number_is;
   accepted = written.accepted;

@@ -3,13 +3,13 @@ use Rattle.std.proofs.Common.{◌≡◌, ℕ, List, [], ◌∷◌, ◌++◌, ref
 use Rattle.std.specs.Prelude.{Option, Some, None, codes}
 use Rattle.std.specs.Option.{option_map}
 use Rattle.dsn_outcome.specs.Outcome.{first_outcome_fault}
-use Rattle.dsn_outcome.specs.Request.{Body, Append, Flush}
+use Rattle.dsn_outcome.specs.Request.{Body, Append, Flush, Forget}
 use Rattle.dsn_outcome.specs.declared.action.Action.TheVariants.{Failed}
 use Rattle.dsn_outcome.specs.declared.service.Service.TheVariants.{Bounce}
 use Rattle.dsn_frame.specs.BodyFault.{body_fault_code}
 use Rattle.dsn_frame.specs.Frame.{frame, AreFramesOf}
-use Rattle.dsn_frame.specs.Request.{first_body_fault, first_own_fault, StandsFor, Encodes, fields_written, request_body}
-use Rattle.dsn_frame.specs.Wire.{AppendFields, FlushFieldsOf, number_at, number_bytes, text_at, text_bytes, head_at, head_bytes, append_at, append_bytes, flush_at, flush_bytes, own_at, body_at, body_bytes, own_bytes, FitsOwn}
+use Rattle.dsn_frame.specs.Request.{first_body_fault, has_kind, first_own_fault, StandsFor, Encodes, fields_written, request_body}
+use Rattle.dsn_frame.specs.Wire.{AppendFields, FlushFieldsOf, ForgetFields, number_at, number_bytes, text_at, text_bytes, head_at, head_bytes, append_at, append_bytes, flush_at, flush_bytes, own_at, body_at, body_bytes, own_bytes, FitsOwn}
 use Rattle.dsn_frame.specs.declared.frame_fault.FrameFault.TheVariants.{TooLong, Empty, CutShort}
 
 -- the number of the refusal, if the body is refused
@@ -18,35 +18,65 @@ refused bytes = option_map body_fault_code (first_body_fault bytes)
 
 -- short bodies
 no_bytes : refused [] ≡ Some 23
-unfolding first_body_fault first_own_fault body_at head_at text_at number_at own_at
+unfolding first_body_fault has_kind first_own_fault body_at head_at text_at number_at own_at
 no_bytes = refl
 
 wrong_version : refused (0 ∷ []) ≡ Some 21
-unfolding first_body_fault first_own_fault body_at head_at text_at number_at own_at
+unfolding first_body_fault has_kind first_own_fault body_at head_at text_at number_at own_at
 wrong_version = refl
 
 wrong_kind : refused (1 ∷ 4 ∷ []) ≡ Some 22
-unfolding first_body_fault first_own_fault body_at head_at text_at number_at own_at
+unfolding first_body_fault has_kind first_own_fault body_at head_at text_at number_at own_at
 wrong_kind = refl
 
+-- a Forget is of version 2, whose first kind is none yet; no version is above it
+forget_of_version_one : refused (1 ∷ 4 ∷ 0 ∷ 0 ∷ 0 ∷ 0 ∷ 1 ∷ 0 ∷ 2 ∷ 75 ∷ 49 ∷ []) ≡ Some 22
+unfolding first_body_fault has_kind first_own_fault body_at head_at text_at number_at own_at
+forget_of_version_one = refl
+
+append_of_version_two : refused (2 ∷ 1 ∷ []) ≡ Some 22
+unfolding first_body_fault has_kind first_own_fault body_at head_at text_at number_at own_at
+append_of_version_two = refl
+
+kind_five : refused (2 ∷ 5 ∷ []) ≡ Some 22
+unfolding first_body_fault has_kind first_own_fault body_at head_at text_at number_at own_at
+kind_five = refl
+
+version_three : refused (3 ∷ 4 ∷ 0 ∷ 0 ∷ 0 ∷ 0 ∷ 1 ∷ 0 ∷ 2 ∷ 75 ∷ 49 ∷ []) ≡ Some 21
+unfolding first_body_fault has_kind first_own_fault body_at head_at text_at number_at own_at
+version_three = refl
+
+whole_forget : refused (2 ∷ 4 ∷ 0 ∷ 0 ∷ 0 ∷ 0 ∷ 1 ∷ 0 ∷ 2 ∷ 75 ∷ 49 ∷ []) ≡ None
+unfolding first_body_fault has_kind first_own_fault body_at head_at text_at number_at own_at
+whole_forget = refl
+
+byte_after_forget : refused (2 ∷ 4 ∷ 0 ∷ 0 ∷ 0 ∷ 0 ∷ 1 ∷ 0 ∷ 2 ∷ 75 ∷ 49 ∷ 0 ∷ []) ≡ Some 24
+unfolding first_body_fault has_kind first_own_fault body_at head_at text_at number_at own_at
+byte_after_forget = refl
+
+-- a discard of version 2
+discard_of_version_two : refused (2 ∷ 3 ∷ 0 ∷ 0 ∷ 0 ∷ 0 ∷ 1 ∷ 0 ∷ 2 ∷ 75 ∷ 49 ∷ []) ≡ None
+unfolding first_body_fault has_kind first_own_fault body_at head_at text_at number_at own_at
+discard_of_version_two = refl
+
 kind_alone : refused (1 ∷ 3 ∷ []) ≡ Some 23
-unfolding first_body_fault first_own_fault body_at head_at text_at number_at own_at
+unfolding first_body_fault has_kind first_own_fault body_at head_at text_at number_at own_at
 kind_alone = refl
 
 whole_discard : refused (1 ∷ 3 ∷ 0 ∷ 0 ∷ 0 ∷ 0 ∷ 1 ∷ 0 ∷ 2 ∷ 75 ∷ 49 ∷ []) ≡ None
-unfolding first_body_fault first_own_fault body_at head_at text_at number_at own_at
+unfolding first_body_fault has_kind first_own_fault body_at head_at text_at number_at own_at
 whole_discard = refl
 
 byte_after_discard : refused (1 ∷ 3 ∷ 0 ∷ 0 ∷ 0 ∷ 0 ∷ 1 ∷ 0 ∷ 2 ∷ 75 ∷ 49 ∷ 0 ∷ []) ≡ Some 24
-unfolding first_body_fault first_own_fault body_at head_at text_at number_at own_at
+unfolding first_body_fault has_kind first_own_fault body_at head_at text_at number_at own_at
 byte_after_discard = refl
 
 dash_in_id : refused (1 ∷ 3 ∷ 0 ∷ 0 ∷ 0 ∷ 0 ∷ 1 ∷ 0 ∷ 2 ∷ 75 ∷ 45 ∷ []) ≡ Some 26
-unfolding first_body_fault first_own_fault body_at head_at text_at number_at own_at
+unfolding first_body_fault has_kind first_own_fault body_at head_at text_at number_at own_at
 dash_in_id = refl
 
 service_before_id : refused (1 ∷ 3 ∷ 0 ∷ 0 ∷ 0 ∷ 0 ∷ 4 ∷ 0 ∷ 2 ∷ 75 ∷ 45 ∷ []) ≡ Some 25
-unfolding first_body_fault first_own_fault body_at head_at text_at number_at own_at
+unfolding first_body_fault has_kind first_own_fault body_at head_at text_at number_at own_at
 service_before_id = refl
 
 -- one append and one flush: the bodies of a delivery agent that gives up on one recipient and asks for the notice
@@ -61,15 +91,15 @@ flush_body =
     ++ (0 ∷ 0 ∷ 0 ∷ 0 ∷ 0x65 ∷ 0x53 ∷ 0xe2 ∷ 0xf0 ∷ []) ++ (0 ∷ 15 ∷ []) ++ codes "ann@example.com" ++ (0 ∷ 0 ∷ 0 ∷ 0 ∷ [])
 
 append_is_accepted : refused append_body ≡ None
-unfolding first_body_fault first_own_fault body_at head_at text_at number_at own_at append_at first_outcome_fault
+unfolding first_body_fault has_kind first_own_fault body_at head_at text_at number_at own_at append_at first_outcome_fault
 append_is_accepted = refl
 
 flush_is_accepted : refused flush_body ≡ None
-unfolding first_body_fault first_own_fault body_at head_at text_at number_at own_at flush_at
+unfolding first_body_fault has_kind first_own_fault body_at head_at text_at number_at own_at flush_at
 flush_is_accepted = refl
 
 byte_after_append : refused (append_body ++ (0 ∷ [])) ≡ Some 24
-unfolding first_body_fault first_own_fault body_at head_at text_at number_at own_at append_at
+unfolding first_body_fault has_kind first_own_fault body_at head_at text_at number_at own_at append_at
 byte_after_append = refl
 
 -- what they ask
@@ -99,8 +129,9 @@ flush_asked =
 pub append_is_encoded : Encodes append_body 0 append_asked
 unfolding body_bytes own_bytes head_bytes append_bytes flush_bytes text_bytes number_bytes FitsOwn first_own_fault StandsFor first_outcome_fault
 append_is_encoded = record {
-  wire = AppendFields (record { number = 0; service = 1; id = codes "A1B2C3" }) (record { recipient = codes "bob@example.org"; original = []; action = 1; status = codes "5.1.1"; mta = []; diagnostic = []; reason = [] });
+  wire = AppendFields (record { version = 1; number = 0; service = 1; id = codes "A1B2C3" }) (record { recipient = codes "bob@example.org"; original = []; action = 1; status = codes "5.1.1"; mta = []; diagnostic = []; reason = [] });
   laid_out = refl;
+  known = refl;
   fits = (record { number = lit< tt; id = lit< tt }, record { original = lit< tt; recipient = lit< tt; status = lit< tt; mta = lit< tt; diagnostic = lit< tt; reason = lit< tt });
   number_is = refl;
   accepted = refl;
@@ -114,8 +145,9 @@ append_is_encoded = record {
 pub flush_is_encoded : Encodes flush_body 1 flush_asked
 unfolding body_bytes own_bytes head_bytes append_bytes flush_bytes text_bytes number_bytes FitsOwn first_own_fault StandsFor
 flush_is_encoded = record {
-  wire = FlushFieldsOf (record { number = 1; service = 1; id = codes "A1B2C3" }) (record { moment = 1700000000; arrival = 1699996400; return_path = codes "ann@example.com"; envelope_id = []; header = [] });
+  wire = FlushFieldsOf (record { version = 1; number = 1; service = 1; id = codes "A1B2C3" }) (record { moment = 1700000000; arrival = 1699996400; return_path = codes "ann@example.com"; envelope_id = []; header = [] });
   laid_out = refl;
+  known = refl;
   fits = (record { number = lit< tt; id = lit< tt }, record { moment = lit< tt; arrival = lit< tt; return_path = lit< tt; envelope_id = lit< tt; header = lit< tt });
   number_is = refl;
   accepted = refl;
@@ -130,6 +162,11 @@ append_is_written = refl
 flush_is_written : request_body 1 flush_asked ≡ flush_body
 unfolding request_body fields_written body_bytes own_bytes head_bytes flush_bytes text_bytes number_bytes
 flush_is_written = refl
+
+-- a Forget, as it is written
+forget_is_written : request_body 0 (Forget (record { service = Bounce; id = codes "K1" })) ≡ 2 ∷ 4 ∷ 0 ∷ 0 ∷ 0 ∷ 0 ∷ 1 ∷ 0 ∷ 2 ∷ 75 ∷ 49 ∷ []
+unfolding request_body fields_written body_bytes own_bytes head_bytes text_bytes number_bytes
+forget_is_written = refl
 
 -- the input of this agent is these two frames; where its last byte is missing, one frame, and a fault
 unfoldable pub agent_input : List ℕ
@@ -157,23 +194,23 @@ append_with_status size status =
     ++ (0 ∷ 0 ∷ 0 ∷ 0 ∷ 0 ∷ 0 ∷ [])
 
 status_with_leading_zero : refused (append_with_status 6 (codes "5.01.1")) ≡ Some 4
-unfolding first_body_fault first_own_fault body_at head_at text_at number_at own_at append_at first_outcome_fault
+unfolding first_body_fault has_kind first_own_fault body_at head_at text_at number_at own_at append_at first_outcome_fault
 status_with_leading_zero = refl
 
 status_of_unknown_class : refused (append_with_status 5 (codes "3.0.0")) ≡ Some 4
-unfolding first_body_fault first_own_fault body_at head_at text_at number_at own_at append_at first_outcome_fault
+unfolding first_body_fault has_kind first_own_fault body_at head_at text_at number_at own_at append_at first_outcome_fault
 status_of_unknown_class = refl
 
 status_with_four_digits : refused (append_with_status 8 (codes "5.1000.1")) ≡ Some 4
-unfolding first_body_fault first_own_fault body_at head_at text_at number_at own_at append_at first_outcome_fault
+unfolding first_body_fault has_kind first_own_fault body_at head_at text_at number_at own_at append_at first_outcome_fault
 status_with_four_digits = refl
 
 status_of_success : refused (append_with_status 5 (codes "2.0.0")) ≡ Some 5
-unfolding first_body_fault first_own_fault body_at head_at text_at number_at own_at append_at first_outcome_fault
+unfolding first_body_fault has_kind first_own_fault body_at head_at text_at number_at own_at append_at first_outcome_fault
 status_of_success = refl
 
 status_of_delay : refused (append_with_status 5 (codes "4.4.7")) ≡ None
-unfolding first_body_fault first_own_fault body_at head_at text_at number_at own_at append_at first_outcome_fault
+unfolding first_body_fault has_kind first_own_fault body_at head_at text_at number_at own_at append_at first_outcome_fault
 status_of_delay = refl
 
 -- a length that no frame has

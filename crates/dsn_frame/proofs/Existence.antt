@@ -10,14 +10,14 @@ use Rattle.std.specs.Int.{w32, to_be_bytes}
 use Rattle.std.specs.List.{flat_map}
 use Rattle.dsn_outcome.specs.Action.{action_of_byte}
 use Rattle.dsn_outcome.specs.Outcome.{Outcome, Fields, first_outcome_fault, first_failed, takes, unless_empty}
-use Rattle.dsn_outcome.specs.Request.{Body, Append, Flush, Discard}
+use Rattle.dsn_outcome.specs.Request.{Body, Append, Flush, Discard, Forget}
 use Rattle.dsn_outcome.specs.Service.{service_of_byte}
 use Rattle.dsn_outcome.specs.Text.{clean_text}
 use Rattle.dsn_outcome.specs.declared.action.Action.{Action}
 use Rattle.dsn_outcome.specs.declared.service.Service.{Service}
 use Rattle.dsn_frame.specs.BodyFault.{outcome_refusal}
 use Rattle.dsn_frame.specs.Request.{layout_checks, head_checks, first_own_fault, first_field_fault, first_body_fault, or_else, IsWhole, draft_of, StandsFor, Encodes}
-use Rattle.dsn_frame.specs.Wire.{Head, WireBody, AppendFields, FlushFieldsOf, DiscardFields, head_of, body_at}
+use Rattle.dsn_frame.specs.Wire.{Head, WireBody, AppendFields, FlushFieldsOf, DiscardFields, ForgetFields, head_of, body_at}
 use Rattle.dsn_frame.specs.declared.body_fault.BodyFault.{BodyFault}
 use Rattle.dsn_frame.specs.Frame.{frame, declared_length, FramesEnd, AreFramesOf}
 use Rattle.dsn_frame.specs.FrameBody.{IsFrameLength, IsFrameBody}
@@ -93,6 +93,9 @@ body_of_fields (FlushFieldsOf head fields) e =
 body_of_fields (DiscardFields head) e =
     let service = service_there head (neither _ _ e).0 in
     (Discard (record { service = service.0; id = head.id }), record { service_is = service.1; id_is = refl })
+body_of_fields (ForgetFields head) e =
+    let service = service_there head (neither _ _ e).0 in
+    (Forget (record { service = service.0; id = head.id }), record { service_is = service.1; id_is = refl })
 
 -- ---- a request for bytes that are not refused
 

@@ -2,37 +2,38 @@
 -- has read encodes what it made of it.
 use Rattle.std.proofs.Common.{◌≡◌, ℕ, List, [], ◌∷◌, Bool, true, false, cond, eqb, Option, Some, None, refl, sym, ap, subst, ◌∙◌}
 use Rattle.std.specs.Prelude.{slice_get}
-use Rattle.std.proofs.lemmas.Bool.{eqb-true}
+use Rattle.std.proofs.lemmas.Bool.{and_parts}
 use Rattle.std.proofs.lemmas.List.{append-nil}
 use Rattle.dsn_outcome.specs.Draft.{Draft}
 use Rattle.dsn_outcome.specs.Outcome.{Outcome, Fields, first_failed}
-use Rattle.dsn_outcome.specs.Request.{Body, Append, Flush, Discard, Bye}
+use Rattle.dsn_outcome.specs.Request.{Body, Append, Flush, Discard, Forget, Bye}
 use Rattle.dsn_outcome.specs.declared.action.Action.{Action}
 use Rattle.dsn_outcome.specs.declared.key.Key.{Key}
 use Rattle.dsn_outcome.specs.declared.service.Service.{Service}
-use Rattle.dsn_frame.specs.Request.{layout_checks, first_field_fault, first_body_fault, IsWhole, IsKeyOf, IsAppendOf, StandsFor, Encodes}
-use Rattle.dsn_frame.specs.Wire.{Head, WireBody, AppendFields, FlushFieldsOf, DiscardFields, head_of, kind_of, body_bytes, Fits, body_at}
+use Rattle.dsn_frame.specs.Request.{has_kind, layout_checks, first_field_fault, first_body_fault, IsWhole, IsKeyOf, IsAppendOf, StandsFor, Encodes}
+use Rattle.dsn_frame.specs.Wire.{Head, WireBody, AppendFields, FlushFieldsOf, DiscardFields, ForgetFields, is_version, is_kind, is_known, head_of, kind_of, body_bytes, Fits, body_at}
 use Rattle.dsn_frame.specs.declared.body_fault.BodyFault.TheVariants as faults
 use Rattle.dsn_frame.proofs.BodyLaws.{body_again, body_takes}
 use Rattle.dsn_frame.proofs.FieldLaws.{IsBytes, some_is}
 
 -- ---- bytes that encode a request are whole
 
-layout_passes : (wire : WireBody) (bytes : List ℕ) → slice_get bytes 0 ≡ Some 1 → slice_get bytes 1 ≡ Some (kind_of wire) → body_at bytes ≡ Some (wire, []) → first_failed (layout_checks bytes) ≡ None
-layout_passes (AppendFields head fields) bytes version kind read = rw (version, kind, read) refl
-layout_passes (FlushFieldsOf head fields) bytes version kind read = rw (version, kind, read) refl
-layout_passes (DiscardFields head) bytes version kind read = rw (version, kind, read) refl
+layout_passes : (wire : WireBody) (bytes : List ℕ) → is_known wire ≡ true → slice_get bytes 0 ≡ Some (head_of wire).version → slice_get bytes 1 ≡ Some (kind_of wire) → body_at bytes ≡ Some (wire, []) → first_failed (layout_checks bytes) ≡ None
+unfolding has_kind
+layout_passes wire bytes known version kind read =
+    let parts = and_parts (is_version (head_of wire).version) (is_kind (head_of wire).version (kind_of wire)) known in
+    rw (version, kind, read, parts.0, parts.1) refl
 
-pub body_is_whole : (wire : WireBody) → Fits wire → IsWhole (body_bytes wire) wire
+pub body_is_whole : (wire : WireBody) → is_known wire ≡ true → Fits wire → IsWhole (body_bytes wire) wire
 unfolding body_bytes
-body_is_whole wire fits = record {
-  accepted = layout_passes wire (body_bytes wire) refl refl (body_again wire fits);
+body_is_whole wire known fits = record {
+  accepted = layout_passes wire (body_bytes wire) known refl refl (body_again wire fits);
   read = body_again wire fits;
 }
 
 pub encoded_is_whole : (bytes : List ℕ) (number : ℕ) (body : Body) (encoded : Encodes bytes number body) → IsWhole bytes encoded.wire
 encoded_is_whole bytes number body encoded =
-    subst (λ (b : List ℕ). IsWhole b encoded.wire) (sym encoded.laid_out) (body_is_whole encoded.wire encoded.fits)
+    subst (λ (b : List ℕ). IsWhole b encoded.wire) (sym encoded.laid_out) (body_is_whole encoded.wire encoded.known encoded.fits)
 
 -- whole bytes are refused where their fields are
 pub whole_fault : (bytes : List ℕ) (wire : WireBody) → IsWhole bytes wire → first_body_fault bytes ≡ first_field_fault wire
@@ -93,25 +94,40 @@ same_body (AppendFields head fields) (Append i a) (Append j b) p q =
     ap (λ (id : List ℕ). Append id a) (p.id_is ∙ sym q.id_is) ∙ ap (λ (o : Outcome). Append j o) (same_outcome_of head fields i j a b p q)
 same_body (AppendFields head fields) (Append i a) (Flush k e) p q = absurd q
 same_body (AppendFields head fields) (Append i a) (Discard k) p q = absurd q
+same_body (AppendFields head fields) (Append i a) (Forget k) p q = absurd q
 same_body (AppendFields head fields) (Append i a) Bye p q = absurd q
 same_body (AppendFields head fields) (Flush k e) b p q = absurd p
 same_body (AppendFields head fields) (Discard k) b p q = absurd p
+same_body (AppendFields head fields) (Forget k) b p q = absurd p
 same_body (AppendFields head fields) Bye b p q = absurd p
 same_body (FlushFieldsOf head fields) (Flush k d) (Flush l e) p q =
     ap (λ (key : Key). Flush key d) (same_key_of head k l p.0 q.0) ∙ ap (λ (draft : Draft). Flush l draft) (p.1 ∙ sym q.1)
 same_body (FlushFieldsOf head fields) (Flush k d) (Append i a) p q = absurd q
 same_body (FlushFieldsOf head fields) (Flush k d) (Discard l) p q = absurd q
+same_body (FlushFieldsOf head fields) (Flush k d) (Forget l) p q = absurd q
 same_body (FlushFieldsOf head fields) (Flush k d) Bye p q = absurd q
 same_body (FlushFieldsOf head fields) (Append i a) b p q = absurd p
 same_body (FlushFieldsOf head fields) (Discard k) b p q = absurd p
+same_body (FlushFieldsOf head fields) (Forget k) b p q = absurd p
 same_body (FlushFieldsOf head fields) Bye b p q = absurd p
 same_body (DiscardFields head) (Discard k) (Discard l) p q = ap Discard (same_key_of head k l p q)
 same_body (DiscardFields head) (Discard k) (Append i a) p q = absurd q
 same_body (DiscardFields head) (Discard k) (Flush l e) p q = absurd q
+same_body (DiscardFields head) (Discard k) (Forget l) p q = absurd q
 same_body (DiscardFields head) (Discard k) Bye p q = absurd q
 same_body (DiscardFields head) (Append i a) b p q = absurd p
 same_body (DiscardFields head) (Flush k d) b p q = absurd p
+same_body (DiscardFields head) (Forget k) b p q = absurd p
 same_body (DiscardFields head) Bye b p q = absurd p
+same_body (ForgetFields head) (Forget k) (Forget l) p q = ap Forget (same_key_of head k l p q)
+same_body (ForgetFields head) (Forget k) (Append i a) p q = absurd q
+same_body (ForgetFields head) (Forget k) (Flush l e) p q = absurd q
+same_body (ForgetFields head) (Forget k) (Discard l) p q = absurd q
+same_body (ForgetFields head) (Forget k) Bye p q = absurd q
+same_body (ForgetFields head) (Append i a) b p q = absurd p
+same_body (ForgetFields head) (Flush k d) b p q = absurd p
+same_body (ForgetFields head) (Discard k) b p q = absurd p
+same_body (ForgetFields head) Bye b p q = absurd p
 
 same_wire : (bytes : List ℕ) (a b : WireBody) → body_at bytes ≡ Some (a, []) → body_at bytes ≡ Some (b, []) → a ≡ b
 same_wire bytes a b p q =
@@ -128,22 +144,27 @@ encodes_one bytes number other body elsewise p q =
 
 -- ---- what a decoder has read
 
-passed : {F : Type 0} (b : Bool) (fault : F) (later : Option F) → cond b later (Some fault) ≡ None → b ≡ true
-passed true fault later e = refl
+passed : {F : Type 0} (b : Bool) (fault : F) (later : Option F) → cond b later (Some fault) ≡ None → (b ≡ true) × (later ≡ None)
+passed true fault later e = (refl, e)
 passed false fault later e = absurd cc
 
-first_is_one : (bytes : List ℕ) (wire : WireBody) → IsWhole bytes wire → slice_get bytes 0 ≡ Some 1
-unfolding body_at
-first_is_one [] wire whole = absurd (let read = whole.read in cc)
-first_is_one (version ∷ bytes) wire whole = ap (λ (v : ℕ). Some v) (eqb-true version 1 (passed (eqb version 1) faults.Version _ whole.accepted))
+-- the layout's checks are of its version and its kind
+whole_is_known : (wire : WireBody) → first_failed (layout_checks (body_bytes wire)) ≡ None → is_known wire ≡ true
+unfolding body_bytes has_kind
+whole_is_known wire accepted =
+    let version = passed (is_version (head_of wire).version) faults.Version _ accepted in
+    let kind = passed (is_kind (head_of wire).version (kind_of wire)) faults.Kind _ version.1 in
+    rw (version.0, kind.0) refl
 
 -- what was read encodes what was made of it
 pub whole_encodes : (bytes : List ℕ) (wire : WireBody) (body : Body) → IsBytes bytes → IsWhole bytes wire → first_field_fault wire ≡ None → StandsFor wire body → Encodes bytes (head_of wire).number body
 whole_encodes bytes wire body fits whole accepted stands =
-    let taken = body_takes bytes (wire, []) fits (first_is_one bytes wire whole) whole.read in
+    let taken = body_takes bytes (wire, []) fits whole.read in
+    let laid_out : bytes ≡ body_bytes wire = taken.0.parts ∙ append-nil (body_bytes wire) in
     record {
       wire = wire;
-      laid_out = taken.0.parts ∙ append-nil (body_bytes wire);
+      laid_out = laid_out;
+      known = whole_is_known wire (subst (λ (b : List ℕ). first_failed (layout_checks b) ≡ None) laid_out whole.accepted);
       fits = taken.1;
       number_is = refl;
       accepted = accepted;
@@ -157,6 +178,7 @@ unfolding StandsFor
 no_goodbye_for (AppendFields head fields) stands = stands
 no_goodbye_for (FlushFieldsOf head fields) stands = stands
 no_goodbye_for (DiscardFields head) stands = stands
+no_goodbye_for (ForgetFields head) stands = stands
 
 -- what bytes encode is no goodbye
 pub encoded_no_goodbye : (bytes : List ℕ) (number : ℕ) (body : Body) → Encodes bytes number body → body ≡ Bye → ⊥

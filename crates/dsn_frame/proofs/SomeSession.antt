@@ -19,7 +19,7 @@ use Rattle.dsn_frame.specs.FrameBody.{IsFrameBody}
 use Rattle.dsn_frame.specs.Request.{Encodes, layout_checks, head_checks, flush_checks, or_else, first_own_fault, first_field_fault, first_body_fault}
 use Rattle.dsn_frame.specs.Session.{Medium, faulty, out_of_turn, used_up, asked, written, IsSession, IsOpenSession}
 use Rattle.dsn_frame.specs.SessionLaws.{is_from_outside, IsDecided, RepliesAre, SessionWith, HasSomeSession}
-use Rattle.dsn_frame.specs.Wire.{WireBody, AppendFields, FlushFieldsOf, DiscardFields, head_of, body_at}
+use Rattle.dsn_frame.specs.Wire.{WireBody, AppendFields, FlushFieldsOf, DiscardFields, ForgetFields, head_of, body_at}
 use Rattle.dsn_frame.specs.declared.body_fault.BodyFault.{BodyFault}
 use Rattle.dsn_frame.specs.declared.frame_fault.FrameFault.{FrameFault}
 use Rattle.dsn_frame.specs.declared.frame_fault.FrameFault.TheVariants.{NoMemory, TooLong, Empty, CutShort, Read}
@@ -66,6 +66,7 @@ unfolding first_own_fault
 own_from_bytes (AppendFields head fields) = append_from_bytes fields (service_of_byte head.service)
 own_from_bytes (FlushFieldsOf head fields) = checks_from_bytes (flush_checks fields) (refl, (refl, (refl, (refl, tt))))
 own_from_bytes (DiscardFields head) = refl
+own_from_bytes (ForgetFields head) = refl
 
 either : (first later : Option BodyFault) → ComesFromBytes first → ComesFromBytes later → ComesFromBytes (or_else first later)
 either None later here after = after

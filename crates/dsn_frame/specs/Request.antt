@@ -1,11 +1,11 @@
 -- Requests in bytes: which body some bytes stand for, and why they are refused where they stand for none (this
--- project's profile, version 1).
+-- project's profile, versions 1 and 2).
 use Rattle.std.specs.Prelude.{◌≡◌, ℕ, Bool, true, false, ◌&&◌, ◌==◌, nat_le, List, [], ◌∷◌, length, ◌≤◌, Option, Some, None, is_some, slice_get, option_and_then}
 use Rattle.std.specs.Option.{option_map, option_map_or}
 use Rattle.dsn_outcome.specs.Action.{action_byte}
 use Rattle.dsn_outcome.specs.Draft.{Draft}
 use Rattle.dsn_outcome.specs.Outcome.{Outcome, Fields, IsOutcomeOf, first_outcome_fault, first_failed, is_none_or, unless_empty}
-use Rattle.dsn_outcome.specs.Request.{Body, Append, Flush, Discard, Bye}
+use Rattle.dsn_outcome.specs.Request.{Body, Append, Flush, Discard, Forget, Bye}
 use Rattle.dsn_outcome.specs.Service.{service_byte, service_of_byte}
 use Rattle.dsn_outcome.specs.Stamp.{last_moment}
 use Rattle.dsn_outcome.specs.Text.{is_queue_id, is_address, is_envelope_id}
@@ -13,20 +13,22 @@ use Rattle.dsn_outcome.specs.declared.key.Key.{Key}
 use Rattle.dsn_outcome.specs.declared.service.Service.{Service}
 use Rattle.dsn_frame.specs.BodyFault.{outcome_refusal}
 use Rattle.dsn_frame.specs.Frame.{frame}
-use Rattle.dsn_frame.specs.Wire.{Head, FlushFields, WireBody, AppendFields, FlushFieldsOf, DiscardFields, head_of, own_bytes, body_bytes, Fits, body_at}
+use Rattle.dsn_frame.specs.Wire.{Head, FlushFields, WireBody, AppendFields, FlushFieldsOf, DiscardFields, ForgetFields, is_version, is_kind, is_known, head_of, own_bytes, body_bytes, Fits, body_at}
 use Rattle.dsn_frame.specs.declared.body_fault.BodyFault.{BodyFault}
 use Rattle.dsn_frame.specs.declared.body_fault.BodyFault.TheVariants as faults
 
 -- ---- refusals
 
-abbrev pub is_kind : ℕ → Bool
-is_kind kind = nat_le 1 kind && nat_le kind 3
+-- the second byte, if there is one, is a kind of the version that the first byte is
+unfoldable pub has_kind : List ℕ → Bool
+has_kind bytes =
+    option_map_or (λ version. option_map_or (is_kind version) (slice_get bytes 1) true) (slice_get bytes 0) true
 
 -- a first and a second byte that there are must be right; then the fields must end where the body does
 abbrev pub layout_checks : List ℕ → List (Bool × BodyFault)
 layout_checks bytes =
-    (option_map_or (λ version. version == 1) (slice_get bytes 0) true, faults.Version)
-    ∷ (option_map_or is_kind (slice_get bytes 1) true, faults.Kind)
+    (option_map_or is_version (slice_get bytes 0) true, faults.Version)
+    ∷ (has_kind bytes, faults.Kind)
     ∷ (is_some (body_at bytes), faults.Short)
     ∷ (option_map_or (λ read. length read.1 == 0) (body_at bytes) false, faults.Extra)
     ∷ []
@@ -56,6 +58,7 @@ first_own_fault (AppendFields head fields) =
     option_and_then (λ service. option_map outcome_refusal (first_outcome_fault service fields)) (service_of_byte head.service)
 first_own_fault (FlushFieldsOf head fields) = first_failed (flush_checks fields)
 first_own_fault (DiscardFields head) = None
+first_own_fault (ForgetFields head) = None
 
 -- the first fault of a body's fields: those of its key come first
 abbrev pub first_field_fault : WireBody → Option BodyFault
@@ -97,12 +100,15 @@ unfoldable pub StandsFor : WireBody → Body → Type 0
 StandsFor (AppendFields head fields) (Append id outcome) = IsAppendOf head fields id outcome
 StandsFor (FlushFieldsOf head fields) (Flush key draft) = IsKeyOf head key × (draft ≡ draft_of fields)
 StandsFor (DiscardFields head) (Discard key) = IsKeyOf head key
+StandsFor (ForgetFields head) (Forget key) = IsKeyOf head key
 StandsFor wire body = ⊥
 
--- bytes that are laid out as a request with this number and body; a goodbye has no bytes
+-- bytes that are laid out as a request with this number and body, in a version that has its kind; a goodbye has no
+-- bytes
 pub record Encodes (bytes : List ℕ) (number : ℕ) (body : Body) : Type 0 where
   pub wire : WireBody
   pub laid_out : bytes ≡ body_bytes wire
+  pub known : is_known wire ≡ true
   pub fits : Fits wire
   pub number_is : number ≡ (head_of wire).number
   pub accepted : first_field_fault wire ≡ None
@@ -115,8 +121,8 @@ abbrev pub text_or_empty : Option (List ℕ) → List ℕ
 text_or_empty None = []
 text_or_empty (Some text) = text
 
-abbrev pub head_for : ℕ → Service → List ℕ → Head
-head_for number service id = record { number = number; service = service_byte service; id = id }
+abbrev pub head_for : ℕ → ℕ → Service → List ℕ → Head
+head_for version number service id = record { version = version; number = number; service = service_byte service; id = id }
 
 -- an outcome's texts are written as it keeps them, so its diagnostic and its reason clean
 abbrev pub fields_for : Outcome → Fields
@@ -139,17 +145,19 @@ flush_fields_for draft = record {
   header = draft.header;
 }
 
--- the fields that are written of a body with this number; a goodbye has none
+-- the fields that are written of a body with this number, in the lowest version that has its kind; a goodbye has none
 unfoldable pub fields_written : ℕ → Body → Option WireBody
-fields_written number (Append id outcome) = Some (AppendFields (head_for number outcome.service id) (fields_for outcome))
-fields_written number (Flush key draft) = Some (FlushFieldsOf (head_for number key.service key.id) (flush_fields_for draft))
-fields_written number (Discard key) = Some (DiscardFields (head_for number key.service key.id))
+fields_written number (Append id outcome) = Some (AppendFields (head_for 1 number outcome.service id) (fields_for outcome))
+fields_written number (Flush key draft) = Some (FlushFieldsOf (head_for 1 number key.service key.id) (flush_fields_for draft))
+fields_written number (Discard key) = Some (DiscardFields (head_for 1 number key.service key.id))
+fields_written number (Forget key) = Some (ForgetFields (head_for 2 number key.service key.id))
 fields_written number Bye = None
 
 -- fields that are written of a body: no check fails, they stand for the body, and a frame holds them: a queue id has at
 -- most 32 bytes, and what follows it far less than the 65,536 of a frame (a returned header alone has at most 32,768)
 pub record IsWritten (number : ℕ) (body : Body) (wire : WireBody) : Type 0 where
   pub number_is : (head_of wire).number ≡ number
+  pub known : is_known wire ≡ true
   pub fits : Fits wire
   pub id_short : length (head_of wire).id ≤ 32
   pub own_short : length (own_bytes wire) ≤ 60000

@@ -1,12 +1,13 @@
 -- The fields of a request's body as they stand in it, from left to right, before any is judged (this project's
--- profile, version 1).
-use Rattle.std.specs.Prelude.{ℕ, ◌<◌, ◌^◌, List, [], ◌∷◌, ◌++◌, length, take, drop, Option, Some, None, nat_lt, ◌==◌, if◌then◌else◌}
+-- profile, versions 1 and 2).
+use Rattle.std.specs.Prelude.{ℕ, ◌<◌, ◌^◌, List, [], ◌∷◌, ◌++◌, length, take, drop, Option, Some, None, Bool, ◌&&◌, nat_lt, nat_le, ◌==◌, if◌then◌else◌}
 use Rattle.std.specs.Int.{Width, w16, w32, w64, byte_len, to_be_bytes, from_be_bytes}
 use Rattle.dsn_outcome.specs.Outcome.{Fields}
 
--- what every body begins with, after its version and its kind: its number on the connection, the byte of its
+-- what every body begins with: its version, and after its kind its number on the connection, the byte of its
 -- service, and the queue id of its message
 pub record Head : Type 0 where
+  pub version : ℕ
   pub number : ℕ
   pub service : ℕ
   pub id : List ℕ
@@ -20,16 +21,18 @@ pub record FlushFields : Type 0 where
   pub envelope_id : List ℕ
   pub header : List ℕ
 
--- a body's fields: of an append those of an outcome, of a flush its own, of a discard no more
+-- a body's fields: of an append those of an outcome, of a flush its own, of a discard and of a Forget no more
 pub data WireBody : Type 0 where
   AppendFields : Head → Fields → WireBody
   FlushFieldsOf : Head → FlushFields → WireBody
   DiscardFields : Head → WireBody
+  ForgetFields : Head → WireBody
 
 abbrev pub head_of : WireBody → Head
 head_of (AppendFields head fields) = head
 head_of (FlushFieldsOf head fields) = head
 head_of (DiscardFields head) = head
+head_of (ForgetFields head) = head
 
 -- ---- how fields are written
 
@@ -59,16 +62,30 @@ abbrev pub kind_of : WireBody → ℕ
 kind_of (AppendFields head fields) = 1
 kind_of (FlushFieldsOf head fields) = 2
 kind_of (DiscardFields head) = 3
+kind_of (ForgetFields head) = 4
+
+-- the versions of a body
+abbrev pub is_version : ℕ → Bool
+is_version version = nat_le 1 version && nat_le version 2
+
+-- the kinds of a version: a Forget is of version 2 alone, whose flushes and discards are those of version 1
+abbrev pub is_kind : ℕ → ℕ → Bool
+is_kind version kind = if version == 1 then nat_le 1 kind && nat_le kind 3 else nat_le 2 kind && nat_le kind 4
+
+-- a body's version is one, and its kind one of it
+abbrev pub is_known : WireBody → Bool
+is_known wire = is_version (head_of wire).version && is_kind (head_of wire).version (kind_of wire)
 
 -- the fields that a kind of body goes on with
 unfoldable pub own_bytes : WireBody → List ℕ
 own_bytes (AppendFields head fields) = append_bytes fields
 own_bytes (FlushFieldsOf head fields) = flush_bytes fields
 own_bytes (DiscardFields head) = []
+own_bytes (ForgetFields head) = []
 
--- a body: its version 1, its kind, and its fields
+-- a body: its version, its kind, and its fields
 unfoldable pub body_bytes : WireBody → List ℕ
-body_bytes wire = 1 ∷ kind_of wire ∷ (head_bytes (head_of wire) ++ own_bytes wire)
+body_bytes wire = (head_of wire).version ∷ kind_of wire ∷ (head_bytes (head_of wire) ++ own_bytes wire)
 
 -- ---- which fields can be written
 
@@ -99,6 +116,7 @@ unfoldable pub FitsOwn : WireBody → Type 0
 FitsOwn (AppendFields head fields) = FitsAppend fields
 FitsOwn (FlushFieldsOf head fields) = FitsFlush fields
 FitsOwn (DiscardFields head) = Unit {0}
+FitsOwn (ForgetFields head) = Unit {0}
 
 abbrev pub Fits : WireBody → Type 0
 Fits wire = FitsHead (head_of wire) × FitsOwn wire
@@ -126,12 +144,12 @@ text_at bytes = do
   size ← number_at w16 bytes
   if nat_lt (length size.1) size.0 then None else Some (take size.0 size.1, drop size.0 size.1)
 
-unfoldable pub head_at : List ℕ → Option (Head × List ℕ)
-head_at bytes = do
+unfoldable pub head_at : ℕ → List ℕ → Option (Head × List ℕ)
+head_at version bytes = do
   number ← number_at w32 bytes
   service ← byte_at number.1
   id ← text_at service.1
-  Some (record { number = number.0; service = service.0; id = id.0 }, id.1)
+  Some (record { version = version; number = number.0; service = service.0; id = id.0 }, id.1)
 
 unfoldable pub append_at : List ℕ → Option (Fields × List ℕ)
 append_at bytes = do
@@ -158,11 +176,12 @@ unfoldable pub own_at : ℕ → Head → List ℕ → Option (WireBody × List �
 own_at kind head bytes =
     if kind == 1 then (append_at bytes >>= λ fields. Some (AppendFields head fields.0, fields.1))
     else (if kind == 2 then (flush_at bytes >>= λ fields. Some (FlushFieldsOf head fields.0, fields.1))
-    else (if kind == 3 then Some (DiscardFields head, bytes) else None))
+    else (if kind == 3 then Some (DiscardFields head, bytes)
+    else (if kind == 4 then Some (ForgetFields head, bytes) else None)))
 
 unfoldable pub body_at : List ℕ → Option (WireBody × List ℕ)
 body_at bytes = do
   version ← byte_at bytes
   kind ← byte_at version.1
-  head ← head_at kind.1
+  head ← head_at version.0 kind.1
   own_at kind.0 head.0 head.1

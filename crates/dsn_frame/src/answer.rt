@@ -15,6 +15,9 @@ const BODY: usize = 10;
 /// The byte of a refusal.
 const REFUSED: u8 = 10;
 
+/// The last byte of a reply.
+const LAST: u8 = 12;
+
 /// The frame of an answer to the frame at this place: a length of 10, and the ten bytes of its body.
 #[tactic(auto, unfolding(crate::specs::Spoken::answer_bytes, crate::specs::Spoken::answer_body))]
 pub fn encode_answer(number: u32, answer: &Spoken) -> [u8; 14]
@@ -41,10 +44,7 @@ pub fn decode_answer(bytes: &[u8]) -> Result<(u32, Spoken), AnswerFault>
     if bytes.first().is_some_and(|version| *version != VERSION) {
         return Err(AnswerFault::Version);
     }
-    if bytes
-        .get(1)
-        .is_some_and(|kind| *kind < 1 || REFUSED < *kind)
-    {
+    if bytes.get(1).is_some_and(|kind| *kind < 1 || LAST < *kind) {
         return Err(AnswerFault::Kind);
     }
     if bytes.len() < BODY {
@@ -85,6 +85,8 @@ fn reply_fields(reply: Reply) -> (u8, u32)
         Reply::Sealed(count) => (7, count),
         Reply::Discarded(count) => (8, count),
         Reply::Gone => (9, 0),
+        Reply::Forgotten => (11, 0),
+        Reply::NotClosed => (12, 0),
     }
 }
 
@@ -92,7 +94,7 @@ fn reply_fields(reply: Reply) -> (u8, u32)
 /// one.
 fn answer_from(kind: u8, value: u32) -> Option<Spoken>
     requires low { 1 ≤ kind }
-    requires high { kind ≤ REFUSED }
+    requires high { kind ≤ LAST }
     ensures kind { IfSome result (λ said. spoken_kind said ≡ kind) }
     ensures value { IfSome result (λ said. spoken_value said ≡ value) }
     ensures without { result ≡ None → is_without_value kind ≡ true }
@@ -109,7 +111,9 @@ fn answer_from(kind: u8, value: u32) -> Option<Spoken>
         3 => Reply::TableFull,
         4 => Reply::LogFull,
         5 => Reply::Nothing,
-        _ => Reply::Gone,
+        9 => Reply::Gone,
+        11 => Reply::Forgotten,
+        _ => Reply::NotClosed,
     };
     Some(Spoken::Reply(reply))
 }

@@ -5,14 +5,14 @@ ghost use Rattle.dsn_outcome.specs.Outcome.{first_failed};
 ghost use Rattle.dsn_outcome.specs.Request.{Bye};
 ghost use Rattle.dsn_frame.specs.BodyParts.{head_in, flush_fields_in, wire_body_in};
 ghost use Rattle.dsn_frame.specs.Wire.{body_at, head_of};
-ghost use Rattle.dsn_frame.specs.Request.{Encodes, IsKeyOf, IsWhole, StandsFor, draft_of, first_body_fault, first_own_fault, flush_checks, head_checks, layout_checks};
+ghost use Rattle.dsn_frame.specs.Request.{Encodes, IsKeyOf, IsWhole, StandsFor, draft_of, first_body_fault, first_own_fault, flush_checks, has_kind, head_checks, layout_checks};
 
 use crate::body_fault::BodyFault;
 use crate::optional::{
     is_optional_address, is_optional_envelope_id, optional_address, optional_envelope_id,
 };
 use crate::parts::{BodyParts, FlushParts, HeadParts};
-use crate::{VERSION, reading};
+use crate::{SECOND_VERSION, VERSION, reading};
 use dsn_outcome::{Body, Draft, Key, Outcome, QueueId, RawHeader, Service, Stamp};
 use std::alloc::Global;
 
@@ -39,10 +39,13 @@ fn whole_body(bytes: &[u8]) -> Result<BodyParts<'_>, BodyFault>
     ensures read { IfOk result (λ parts. body_at bytes.now ≡ Some (wire_body_in parts, [])) }
     ensures refused { IfErr result (λ fault. first_failed (layout_checks bytes.now) ≡ Some fault) }
 {
-    if bytes.first().is_some_and(|version| *version != VERSION) {
+    if bytes
+        .first()
+        .is_some_and(|version| *version < VERSION || SECOND_VERSION < *version)
+    {
         return Err(BodyFault::Version);
     }
-    if bytes.get(1).is_some_and(|kind| *kind < 1 || 3 < *kind) {
+    if !has_kind(bytes) {
         return Err(BodyFault::Kind);
     }
     let (parts, rest) = reading::body_of(bytes).ok_or(BodyFault::Short)?;
@@ -50,6 +53,18 @@ fn whole_body(bytes: &[u8]) -> Result<BodyParts<'_>, BodyFault>
         return Err(BodyFault::Extra);
     }
     Ok(parts)
+}
+
+/// Whether the second byte, if there is one, is a kind of the version that the first byte is.
+#[tactic(auto, unfolding(crate::specs::Request::has_kind))]
+fn has_kind(bytes: &[u8]) -> bool
+    ensures { result ≡ has_kind bytes.now }
+{
+    match bytes {
+        [VERSION, kind, ..] => 1 <= *kind && *kind <= 3,
+        [_, kind, ..] => 2 <= *kind && *kind <= 4,
+        _ => true,
+    }
 }
 
 /// The key that a body is about.
@@ -78,6 +93,7 @@ fn body_about(alloc: Global, key: Key, parts: BodyParts<'_>) -> Result<Body, Bod
         }
         BodyParts::Flush(_, fields) => Ok(Body::Flush(key, draft_from(alloc, fields)?)),
         BodyParts::Discard(_) => Ok(Body::Discard(key)),
+        BodyParts::Forget(_) => Ok(Body::Forget(key)),
     }
 }
 

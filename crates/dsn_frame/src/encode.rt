@@ -13,6 +13,7 @@ ghost use Rattle.dsn_frame.specs.Request.{Encodes, IsWritten, fields_for, fields
 
 use crate::parts::{BodyParts, FlushParts, HeadParts};
 use crate::writing::{body_len, push_frame};
+use crate::{SECOND_VERSION, VERSION};
 use dsn_outcome::{
     Address, Body, Clean, Draft, EnvelopeId, MtaName, NoMemory, Outcome, Parts, QueueId, Service,
 };
@@ -47,24 +48,30 @@ fn parts_of(number: u32, body: &Body) -> BodyParts<'_>
     match body {
         Body::Append(id, node) => {
             let outcome = node.outcome();
-            let head = head_parts(number, outcome.service(), id);
+            let head = head_parts(VERSION, number, outcome.service(), id);
             BodyParts::Append(head, append_parts(outcome))
         }
         Body::Flush(key, draft) => {
-            let head = head_parts(number, key.service, &key.id);
+            let head = head_parts(VERSION, number, key.service, &key.id);
             BodyParts::Flush(head, flush_parts(draft))
         }
-        Body::Discard(key) => BodyParts::Discard(head_parts(number, key.service, &key.id)),
+        Body::Discard(key) => {
+            BodyParts::Discard(head_parts(VERSION, number, key.service, &key.id))
+        }
+        Body::Forget(key) => {
+            BodyParts::Forget(head_parts(SECOND_VERSION, number, key.service, &key.id))
+        }
         Body::Bye => unreachable!(),
     }
 }
 
 /// What the body of a request about this message begins with.
-fn head_parts(number: u32, service: Service, id: &QueueId) -> HeadParts<'_>
-    ensures same { head_in result ≡ head_for number service id.now }
+fn head_parts(version: u8, number: u32, service: Service, id: &QueueId) -> HeadParts<'_>
+    ensures same { head_in result ≡ head_for version number service id.now }
     ensures legal { IsQueueId id.now }
 {
     HeadParts {
+        version,
         number,
         service: service.byte(),
         id: id.bytes(),

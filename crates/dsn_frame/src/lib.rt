@@ -32,5 +32,8 @@ pub use refusal::Refusal;
 pub use requests::next_request;
 pub use spoken::Spoken;
 
-/// The version of the format: the first byte of each body.
+/// The first version of the format: the first byte of each answer's body, and of most requests'.
 const VERSION: u8 = 1;
+
+/// The second version: the first byte of a Forget's body.
+const SECOND_VERSION: u8 = 2;

@@ -1,9 +1,11 @@
 //! The fields of a body as they stand in it, before any is judged.
 use dsn_outcome::Parts;
 
-/// What every body begins with, after its version and its kind.
+/// What every body begins with; its kind stands after its version.
 #[derive(Clone, Copy)]
 pub(crate) struct HeadParts<'a> {
+    /// The version.
+    pub(crate) version: u8,
     /// The number on the connection, from 0.
     pub(crate) number: u32,
     /// The byte of the service.
@@ -36,6 +38,8 @@ pub(crate) enum BodyParts<'a> {
     Flush(HeadParts<'a>, FlushParts<'a>),
     /// A log to be dropped.
     Discard(HeadParts<'a>),
+    /// A key to be let go.
+    Forget(HeadParts<'a>),
 }
 
 impl<'a> BodyParts<'a> {
@@ -48,8 +52,10 @@ impl<'a> BodyParts<'a> {
         ensures { head_in result ≡ head_of (wire_body_in self.entry) }
     {
         match self {
-            BodyParts::Append(head, _) | BodyParts::Flush(head, _) | BodyParts::Discard(head) =>
-                head,
+            BodyParts::Append(head, _)
+            | BodyParts::Flush(head, _)
+            | BodyParts::Discard(head)
+            | BodyParts::Forget(head) => head,
         }
     }
 
@@ -61,6 +67,7 @@ impl<'a> BodyParts<'a> {
             BodyParts::Append(..) => 1,
             BodyParts::Flush(..) => 2,
             BodyParts::Discard(_) => 3,
+            BodyParts::Forget(_) => 4,
         }
     }
 }

@@ -69,13 +69,14 @@ fn text_of(bytes: &[u8]) -> Option<(&[u8], &[u8])>
 }
 
 #[tactic(auto, unfolding(crate::specs::Wire::head_at))]
-fn head_of(bytes: &[u8]) -> Option<(HeadParts<'_>, &[u8])>
-    ensures { option_map (λ read. (head_in read.0, read.1.now)) result ≡ head_at bytes.now }
+fn head_of(version: u8, bytes: &[u8]) -> Option<(HeadParts<'_>, &[u8])>
+    ensures { option_map (λ read. (head_in read.0, read.1.now)) result ≡ head_at version bytes.now }
 {
     let (number, rest) = u32_of(bytes)?;
     let (service, rest) = byte_of(rest)?;
     let (id, rest) = text_of(rest)?;
     let head = HeadParts {
+        version,
         number,
         service,
         id,
@@ -139,6 +140,7 @@ fn own_of<'a>(kind: u8, head: HeadParts<'a>, bytes: &'a [u8]) -> Option<(BodyPar
             Some((BodyParts::Flush(head, parts), rest))
         }
         3 => Some((BodyParts::Discard(head), bytes)),
+        4 => Some((BodyParts::Forget(head), bytes)),
         _ => None,
     }
 }
@@ -148,8 +150,8 @@ fn own_of<'a>(kind: u8, head: HeadParts<'a>, bytes: &'a [u8]) -> Option<(BodyPar
 pub(crate) fn body_of(bytes: &[u8]) -> Option<(BodyParts<'_>, &[u8])>
     ensures { option_map (λ read. (wire_body_in read.0, read.1.now)) result ≡ body_at bytes.now }
 {
-    let (_, rest) = byte_of(bytes)?;
+    let (version, rest) = byte_of(bytes)?;
     let (kind, rest) = byte_of(rest)?;
-    let (head, rest) = head_of(rest)?;
+    let (head, rest) = head_of(version, rest)?;
     own_of(kind, head, rest)
 }

@@ -6,7 +6,6 @@ ghost use Rattle.dsn_frame.specs.BodyParts.{head_in, flush_fields_in, wire_body_
 ghost use Rattle.dsn_frame.specs.Frame.{frame};
 ghost use Rattle.dsn_frame.specs.Wire.{Fits as FitsWire, FitsAppend, FitsFlush, FitsHead, FitsOwn, FitsText, number_bytes, text_bytes, head_bytes, append_bytes, flush_bytes, own_bytes, body_bytes};
 
-use crate::VERSION;
 use crate::parts::{BodyParts, FlushParts, HeadParts};
 use dsn_outcome::Parts;
 
@@ -101,7 +100,7 @@ fn push_own(out: &mut Vec<u8>, parts: BodyParts<'_>)
     match parts {
         BodyParts::Append(_, fields) => push_append(out, fields),
         BodyParts::Flush(_, fields) => push_flush(out, fields),
-        BodyParts::Discard(_) => {}
+        BodyParts::Discard(_) | BodyParts::Forget(_) => {}
     }
 }
 
@@ -125,7 +124,7 @@ fn push_body(out: &mut Vec<u8>, parts: BodyParts<'_>)
     ensures added { out.new.items ≡ out.old.items ++ body_bytes (wire_body_in parts.entry) }
     ensures capacity { vec_capacity out.old ≤ vec_capacity out.new }
 {
-    push_bytes(out, &[VERSION, parts.kind()]);
+    push_bytes(out, &[parts.head().version, parts.kind()]);
     push_head(out, parts.head());
     push_own(out, parts);
 }
@@ -158,6 +157,6 @@ fn own_len(parts: BodyParts<'_>) -> usize
             + fields.return_path.len()
             + fields.envelope_id.len()
             + fields.header.len(),
-        BodyParts::Discard(_) => 0,
+        BodyParts::Discard(_) | BodyParts::Forget(_) => 0,
     }
 }

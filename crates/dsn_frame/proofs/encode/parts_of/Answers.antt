@@ -1,6 +1,6 @@
 use Rattle.std.proofs.Common.{◌≡◌, ap, ◌∙◌}
 use Rattle.dsn_outcome.specs.LinkedOutcome.{LinkedOutcome}
-use Rattle.dsn_frame.proofs.EncodingLaws.{append_written, flush_written, discard_written}
+use Rattle.dsn_frame.proofs.EncodingLaws.{append_written, flush_written, discard_written, forget_written}
 use Rattle.dsn_frame.proofs.encode.parts_of.Goals as goal
 
 pub returns-in-Append-clause-written : goal.returns-in-Append-clause-written
@@ -17,3 +17,7 @@ returns-in-Flush-clause-written c =
 pub returns-in-Discard-clause-written : goal.returns-in-Discard-clause-written
 returns-in-Discard-clause-written c =
     rw (c.in-Discard.is, c.head_parts.ensures.same) (discard_written c.args.number c.in-Discard.key c.ranges.number.fits c.head_parts.ensures.legal)
+
+pub returns-in-Forget-clause-written : goal.returns-in-Forget-clause-written
+returns-in-Forget-clause-written c =
+    rw (c.in-Forget.is, c.head_parts-in-Forget.ensures.same) (forget_written c.args.number c.in-Forget.key c.ranges.number.fits c.head_parts-in-Forget.ensures.legal)

@@ -6,6 +6,7 @@ use Rattle.std.proofs.lemmas.List.Elements.{All-tail}
 use Rattle.dsn_outcome.specs.Cell.{letter_in, letters_from, letters_along, letters_linked}
 use Rattle.dsn_outcome.specs.Letter.{IsLetter}
 use Rattle.dsn_outcome.specs.declared.cell.Cell.{Cell, Cell', None', Some', out-Cell}
+use Rattle.dsn_outcome.specs.declared.cell.Cell.TheViews.{roll-Cell}
 
 -- the letters from a cell on are its own and those along its link
 pub letters_from-cell : (cell : Cell) → letters_from cell ≡ letter_in cell ∷ letters_linked (out-Cell cell).next
@@ -18,6 +19,19 @@ pub All-next : (first next : Option (Box Cell Global)) (cell : Box Cell Global) 
 All-next first next cell is link all =
     let linked : letters_linked first ≡ letter_in cell.value ∷ letters_linked (out-Cell cell.value).next = ap letters_linked (sym is) ∙ letters_from-cell cell.value in
     rw link (All-tail IsLetter (letter_in cell.value) (letters_linked (out-Cell cell.value).next) (rw linked at all))
+
+-- the first cell's letter is legal where all are
+pub All-first : (first : Option (Box Cell Global)) (cell : Box Cell Global) → Some cell ≡ first → All IsLetter (letters_linked first) → IsLetter (letter_in cell.value)
+All-first first cell is all =
+    let linked : letters_linked first ≡ letter_in cell.value ∷ letters_linked (out-Cell cell.value).next = ap letters_linked (sym is) ∙ letters_from-cell cell.value in
+    (rw linked at all) 0 (letter_in cell.value) (omega arith)
+
+-- another link leaves a cell's letter as it is
+pub letter_in-relinked : (cell same : Cell) (next : Option (Box Cell Global)) → cell ≡ same
+    → letter_in same ≡ letter_in (roll-Cell (record { terms = (out-Cell cell).terms; sealed = (out-Cell cell).sealed; next = next }))
+unfolding out-Cell roll-Cell denote.Hole.Carrier.out denote.Hole.Carrier.roll
+letter_in-relinked (Cell' terms sealed link) same None is = ap letter_in (sym is)
+letter_in-relinked (Cell' terms sealed link) same (Some next) is = ap letter_in (sym is)
 
 suc-not-zero : (n : ℕ) → false ≡ (suc n == 0)
 suc-not-zero n = grind arith

@@ -4,7 +4,7 @@ use Rattle.std.specs.Prelude.{Option, Some, None, IsTrue, if◌then◌else◌}
 use Rattle.std.specs.Option.{option_map_or}
 use Rattle.std.proofs.lemmas.Bool.{leb-true}
 use Rattle.dsn_outcome.specs.Action.{action_of_byte}
-use Rattle.dsn_outcome.specs.Outcome.{Fields, Outcome, first_failed, first_outcome_fault, outcome_checks, unless_empty, is_none_or, takes, fits_class, IsLegalOutcome, IsOutcomeOf}
+use Rattle.dsn_outcome.specs.Outcome.{Fields, Outcome, first_failed, first_outcome_fault, outcome_checks, unless_empty, is_none_or, takes, fits_class, fits_retry, AreDated, IsLegalOutcome, IsOutcomeOf}
 use Rattle.dsn_outcome.specs.Status.{is_status_code, status_class}
 use Rattle.dsn_outcome.specs.Text.{is_address, is_mta_name, is_remark, clean_text}
 use Rattle.dsn_outcome.proofs.TextLemmas.{is_remark-clean_text}
@@ -36,6 +36,7 @@ pub record Passes (service : Service) (fields : Fields) : Type 0 where
   pub mta : IsTrue (is_none_or is_mta_name (unless_empty fields.mta))
   pub diagnostic : length fields.diagnostic ≤ 800
   pub reason : length fields.reason ≤ 800
+  pub retry : IsTrue (option_map_or (λ action. fits_retry action fields.retry_until) (action_of_byte fields.action) false)
 
 pub passes-none : (service : Service) (fields : Fields) → first_outcome_fault service fields ≡ None → Passes service fields
 unfolding first_outcome_fault
@@ -48,6 +49,7 @@ passes-none service fields none =
     let mta = class.1 in
     let diagnostic = mta.1 in
     let reason = diagnostic.1 in
+    let retry = reason.1 in
     record {
       recipient = recipient.0;
       original = original.0;
@@ -57,6 +59,7 @@ passes-none service fields none =
       mta = mta.0;
       diagnostic = leb-true _ _ diagnostic.0;
       reason = leb-true _ _ reason.0;
+      retry = retry.0;
     }
 
 -- a cleaned text that is short enough, if there is one
@@ -64,9 +67,9 @@ is_remark-unless_empty : (text : List ℕ) → length text ≤ 800 → IsTrue (i
 is_remark-unless_empty [] short = refl
 is_remark-unless_empty (byte ∷ rest) short = is_remark-clean_text (byte ∷ rest) (omega arith) short
 
--- the outcome of fields without a fault is legal
-pub legal-IsOutcomeOf : (service : Service) (fields : Fields) (outcome : Outcome) → Passes service fields → IsOutcomeOf service fields outcome → IsLegalOutcome outcome
-legal-IsOutcomeOf service fields outcome passes of = record {
+-- the outcome of fields without a fault, whose moments have dates, is legal
+pub legal-IsOutcomeOf : (service : Service) (fields : Fields) (outcome : Outcome) → Passes service fields → AreDated fields → IsOutcomeOf service fields outcome → IsLegalOutcome outcome
+legal-IsOutcomeOf service fields outcome passes dated of = record {
   recipient_legal = rw of.recipient_is passes.recipient;
   original_legal = rw of.original_is passes.original;
   action_taken = rw of.service_is (rw of.action_is at passes.action);
@@ -75,4 +78,7 @@ legal-IsOutcomeOf service fields outcome passes of = record {
   mta_legal = rw of.mta_is passes.mta;
   diagnostic_clean = rw of.diagnostic_is (is_remark-unless_empty fields.diagnostic passes.diagnostic);
   reason_clean = rw of.reason_is (is_remark-unless_empty fields.reason passes.reason);
+  last_attempt_dated = rw of.last_attempt_is dated.last_attempt;
+  retry_until_dated = rw of.retry_until_is dated.retry_until;
+  retry_fits = rw of.retry_until_is (rw of.action_is at passes.retry);
 }

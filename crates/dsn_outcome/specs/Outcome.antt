@@ -1,17 +1,18 @@
 -- Outcomes: what became of one recipient, and which of them are legal (RFC 3464 section 2.3).
-use Rattle.std.specs.Prelude.{◌≡◌, ℕ, Bool, true, false, ◌||◌, ◌==◌, List, [], ◌∷◌, length, Option, Some, None, IsTrue, if◌then◌else◌, nat_le}
+use Rattle.std.specs.Prelude.{◌≡◌, ℕ, Bool, true, false, ◌||◌, ◌==◌, List, [], ◌∷◌, length, Option, Some, None, is_none, IsTrue, if◌then◌else◌, nat_le}
 use Rattle.std.specs.Option.{option_map_or}
 use Rattle.dsn_outcome.specs.Action.{action_of_byte}
+use Rattle.dsn_outcome.specs.Stamp.{is_moment}
 use Rattle.dsn_outcome.specs.Text.{is_address, is_mta_name, is_remark, clean_text}
 use Rattle.dsn_outcome.specs.Status.{is_status_code, status_class}
 use Rattle.dsn_outcome.specs.declared.action.Action.{Action}
 use Rattle.dsn_outcome.specs.declared.action.Action.TheVariants.{Failed, Delayed, Delivered, Relayed, Expanded}
 use Rattle.dsn_outcome.specs.declared.outcome_fault.OutcomeFault.{OutcomeFault}
-use Rattle.dsn_outcome.specs.declared.outcome_fault.OutcomeFault.TheVariants.{BadRecipient, BadOriginal, BadAction, BadStatus, StatusClass, BadMta, LongDiagnostic, LongReason}
+use Rattle.dsn_outcome.specs.declared.outcome_fault.OutcomeFault.TheVariants.{BadRecipient, BadOriginal, BadAction, BadStatus, StatusClass, BadMta, LongDiagnostic, LongReason, RetryUntil}
 use Rattle.dsn_outcome.specs.declared.service.Service.{Service}
 use Rattle.dsn_outcome.specs.declared.service.Service.TheVariants.{Bounce, Defer, Trace}
 
--- what became of one recipient; the texts are clean
+-- what became of one recipient; the texts are clean, the two moments in whole seconds since 1970
 pub record Outcome : Type 0 where
   pub service : Service
   pub recipient : List ℕ
@@ -21,6 +22,8 @@ pub record Outcome : Type 0 where
   pub mta : Option (List ℕ)
   pub diagnostic : Option (List ℕ)
   pub reason : Option (List ℕ)
+  pub last_attempt : Option ℕ
+  pub retry_until : Option ℕ
 
 -- the fields of an outcome as an agent hands them in; an empty text means that there is none
 pub record Fields : Type 0 where
@@ -31,6 +34,8 @@ pub record Fields : Type 0 where
   pub mta : List ℕ
   pub diagnostic : List ℕ
   pub reason : List ℕ
+  pub last_attempt : Option ℕ
+  pub retry_until : Option ℕ
 
 -- which actions a service's log takes (this project's profile)
 abbrev pub takes : Service → Action → Bool
@@ -55,6 +60,15 @@ fits_class Delivered class = class == 50
 fits_class Relayed class = class == 50
 fits_class Expanded class = class == 50
 
+-- whether an action stands with what is said of until when delivery is tried: only a delayed recipient's is tried again
+-- (RFC 3464 section 2.3.9)
+abbrev pub fits_retry : Action → Option ℕ → Bool
+fits_retry Failed retry_until = is_none retry_until
+fits_retry Delayed retry_until = true
+fits_retry Delivered retry_until = is_none retry_until
+fits_retry Relayed retry_until = is_none retry_until
+fits_retry Expanded retry_until = is_none retry_until
+
 -- no text where it is empty
 abbrev pub unless_empty : List ℕ → Option (List ℕ)
 unless_empty [] = None
@@ -76,6 +90,7 @@ outcome_checks service fields =
     ∷ (option_map_or is_mta_name (unless_empty fields.mta) true, BadMta)
     ∷ (nat_le (length fields.diagnostic) 800, LongDiagnostic)
     ∷ (nat_le (length fields.reason) 800, LongReason)
+    ∷ (option_map_or (λ action. fits_retry action fields.retry_until) (action_of_byte fields.action) false, RetryUntil)
     ∷ []
 
 -- the first fault of an outcome's fields, if they have one
@@ -92,14 +107,21 @@ pub record IsOutcomeOf (service : Service) (fields : Fields) (outcome : Outcome)
   pub mta_is : outcome.mta ≡ unless_empty fields.mta
   pub diagnostic_is : outcome.diagnostic ≡ unless_empty (clean_text fields.diagnostic)
   pub reason_is : outcome.reason ≡ unless_empty (clean_text fields.reason)
+  pub last_attempt_is : outcome.last_attempt ≡ fields.last_attempt
+  pub retry_until_is : outcome.retry_until ≡ fields.retry_until
 
--- a text that is missing, or meets the test
-abbrev pub is_none_or : (List ℕ → Bool) → Option (List ℕ) → Bool
-is_none_or test text = option_map_or test text true
+-- a value that is missing, or meets the test
+abbrev pub is_none_or : {A : Type 0} → (A → Bool) → Option A → Bool
+is_none_or test value = option_map_or test value true
 
--- a legal outcome (RFC 3464 sections 2.3.1 to 2.3.6): the service takes the action, the status is a code
+-- each of the two moments of an outcome's fields has a date, where there is one
+pub record AreDated (fields : Fields) : Type 0 where
+  pub last_attempt : IsTrue (is_none_or is_moment fields.last_attempt)
+  pub retry_until : IsTrue (is_none_or is_moment fields.retry_until)
+
+-- a legal outcome (RFC 3464 sections 2.3.1 to 2.3.9): the service takes the action, the status is a code
 -- whose class fits the action, and each text is within its bounds; a diagnostic or a reason that is there says
--- something
+-- something; the two moments have dates, and only a delayed recipient's delivery is tried again
 pub record IsLegalOutcome (outcome : Outcome) : Type 0 where
   pub recipient_legal : IsTrue (is_address outcome.recipient)
   pub original_legal : IsTrue (is_none_or is_address outcome.original)
@@ -109,3 +131,6 @@ pub record IsLegalOutcome (outcome : Outcome) : Type 0 where
   pub mta_legal : IsTrue (is_none_or is_mta_name outcome.mta)
   pub diagnostic_clean : IsTrue (is_none_or is_remark outcome.diagnostic)
   pub reason_clean : IsTrue (is_none_or is_remark outcome.reason)
+  pub last_attempt_dated : IsTrue (is_none_or is_moment outcome.last_attempt)
+  pub retry_until_dated : IsTrue (is_none_or is_moment outcome.retry_until)
+  pub retry_fits : IsTrue (fits_retry outcome.action outcome.retry_until)

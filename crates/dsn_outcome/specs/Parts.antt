@@ -2,7 +2,7 @@
 use Rattle.dsn_outcome.specs.Outcome.{Fields}
 use Rattle.dsn_outcome.specs.declared.parts.Parts.{Parts}
 
--- the texts that the references point to
+-- the texts that the references point to, and the two moments
 abbrev pub fields_of : Parts → Fields
 fields_of parts = record {
   recipient = parts.recipient.now;
@@ -12,4 +12,6 @@ fields_of parts = record {
   mta = parts.mta.now;
   diagnostic = parts.diagnostic.now;
   reason = parts.reason.now;
+  last_attempt = parts.last_attempt;
+  retry_until = parts.retry_until;
 }

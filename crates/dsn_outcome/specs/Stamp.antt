@@ -1,10 +1,14 @@
 -- Dates: the civil date of a day number, and the text of a moment (RFC 5322 section 3.3).
-use Rattle.std.specs.Prelude.{ℕ, zero, suc, ◌+◌, ◌-◌, ◌/◌, ◌%◌, Bool, not, ◌&&◌, ◌||◌, ◌==◌, nat_lt, if◌then◌else◌, List, [], ◌∷◌, ◌++◌, slice_index_or, codes, pos, ◌≡◌}
+use Rattle.std.specs.Prelude.{ℕ, zero, suc, ◌+◌, ◌-◌, ◌/◌, ◌%◌, Bool, not, ◌&&◌, ◌||◌, ◌==◌, nat_le, nat_lt, if◌then◌else◌, List, [], ◌∷◌, ◌++◌, slice_index_or, codes, pos, ◌≡◌}
 use Rattle.jiff_core.specs.declared.civil.date.Date.{Date}
 
 -- the last second of the year 9999: a later year has more than four digits
 abbrev pub last_moment : ℕ
 last_moment = 253_402_300_799
+
+-- a moment has a date of four digits of years
+abbrev pub is_moment : ℕ → Bool
+is_moment moment = nat_le moment last_moment
 
 -- a day of the calendar; months and days count from 1
 pub record CivilDate : Type 0 where

@@ -1,7 +1,9 @@
 //! What a delivery agent did with a recipient (RFC 3464 section 2.3.3).
 ghost use Rattle.std.specs.Prelude.{◌≡◌};
 ghost use Rattle.dsn_outcome.specs.Action.{action_byte, action_word, action_of_byte};
-ghost use Rattle.dsn_outcome.specs.Outcome.{fits_class};
+ghost use Rattle.dsn_outcome.specs.Outcome.{fits_class, fits_retry};
+
+use crate::stamp::Stamp;
 
 /// The action of RFC 3464 section 2.3.3.
 #[derive(Clone, Copy, Debug, PartialEq, Eq, PartialOrd, Ord, Hash)]
@@ -68,6 +70,19 @@ impl Action {
             Action::Failed => class == b'4' || class == b'5',
             Action::Delayed => class == b'4',
             Action::Delivered | Action::Relayed | Action::Expanded => class == b'2',
+        }
+    }
+
+    /// Whether the action stands with what is said of until when delivery is tried again: only
+    /// a delayed recipient's is (RFC 3464 section 2.3.9).
+    pub fn fits_retry(self, retry_until: Option<Stamp>) -> bool
+        ensures { result ≡ fits_retry self retry_until }
+    {
+        match self {
+            Action::Delayed => true,
+            Action::Failed | Action::Delivered | Action::Relayed | Action::Expanded => {
+                retry_until.is_none()
+            }
         }
     }
 }

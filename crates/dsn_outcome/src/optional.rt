@@ -1,12 +1,14 @@
-//! Texts that may be missing: an empty one means that there is none.
+//! Texts and moments that may be missing: an empty text means that there is none.
 ghost use Rattle.std.specs.Prelude.{◌≡◌, ◌≤◌, ◌↔◌, length, IsTrue, IfOk, IfErr};
 ghost use Rattle.dsn_outcome.specs.Outcome.{unless_empty, is_none_or};
+ghost use Rattle.dsn_outcome.specs.Stamp.{is_moment};
 ghost use Rattle.dsn_outcome.specs.Text.{is_address, is_mta_name, clean_text};
 
 use crate::address::Address;
 use crate::clean::Clean;
 use crate::mta_name::MtaName;
 use crate::outcome_fault::OutcomeFault;
+use crate::stamp::Stamp;
 use std::alloc::Global;
 
 /// Whether a text is empty or can be an address.
@@ -67,4 +69,12 @@ pub(crate) fn optional_clean(alloc: Global, text: &[u8]) -> Result<Option<Clean>
         Ok(clean) => Ok(Some(clean)),
         Err(_) => Err(OutcomeFault::NoMemory),
     }
+}
+
+/// A moment as it is, which has a date where it is there.
+pub(crate) fn optional_stamp(stamp: Option<Stamp>) -> Option<Stamp>
+    ensures same { result ≡ stamp }
+    ensures dated { IsTrue (is_none_or is_moment stamp) }
+{
+    Stamp::new(stamp?.seconds())
 }

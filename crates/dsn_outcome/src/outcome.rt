@@ -9,16 +9,18 @@ use crate::mta_name::MtaName;
 use crate::node::Node;
 use crate::optional::{
     is_optional_address, is_optional_mta_name, optional_address, optional_clean, optional_mta_name,
+    optional_stamp,
 };
 use crate::outcome_fault::OutcomeFault;
 use crate::parts::Parts;
 use crate::service::Service;
+use crate::stamp::Stamp;
 use crate::status::Status;
 use std::alloc::Global;
 use std::marker::Model;
 
-/// A legal outcome: the service's log takes its action, its status stands with the action, and
-/// its texts are within their bounds.
+/// A legal outcome: the service's log takes its action, its status stands with the action, its
+/// texts are within their bounds, and only a delayed recipient's delivery is tried again.
 #[derive(Drop)]
 pub struct Outcome {
     service: Service,
@@ -29,6 +31,8 @@ pub struct Outcome {
     mta: Option<MtaName>,
     diagnostic: Option<Clean>,
     reason: Option<Clean>,
+    last_attempt: Option<Stamp>,
+    retry_until: Option<Stamp>,
 }
 
 impl Model for Outcome {
@@ -36,9 +40,9 @@ impl Model for Outcome {
 
     ghost Value = { Outcome };
 
-    ghost view = { λ o. record { service = o.service; recipient = o.recipient; original = o.original; action = o.action; status = o.status; mta = o.mta; diagnostic = o.diagnostic; reason = o.reason } };
+    ghost view = { λ o. record { service = o.service; recipient = o.recipient; original = o.original; action = o.action; status = o.status; mta = o.mta; diagnostic = o.diagnostic; reason = o.reason; last_attempt = o.last_attempt; retry_until = o.retry_until } };
 
-    ghost invariant = { λ o. IsLegalOutcome (record { service = o.service; recipient = o.recipient; original = o.original; action = o.action; status = o.status; mta = o.mta; diagnostic = o.diagnostic; reason = o.reason }) };
+    ghost invariant = { λ o. IsLegalOutcome (record { service = o.service; recipient = o.recipient; original = o.original; action = o.action; status = o.status; mta = o.mta; diagnostic = o.diagnostic; reason = o.reason; last_attempt = o.last_attempt; retry_until = o.retry_until }) };
 }
 
 impl Outcome {
@@ -55,16 +59,43 @@ impl Outcome {
         ensures legal { IfOk result (λ node. IsLegalOutcome node.value.outcome) }
         ensures refused { IfErr result (λ fault. fault ≡ unwrap_or (first_outcome_fault service (fields_of parts.entry)) OutcomeFault.NoMemory) }
     {
-        let (action, status) = check(service, &parts)?;
-        let outcome = Outcome {
-            service,
-            recipient: Address::new(alloc, parts.recipient).map_err(|_| OutcomeFault::NoMemory)?,
-            original: optional_address(alloc, parts.original)?,
+        // Named one by one: a whole `Parts` can't be lent and then be read once more.
+        let Parts {
+            recipient,
+            original,
             action,
             status,
-            mta: optional_mta_name(alloc, parts.mta)?,
-            diagnostic: optional_clean(alloc, parts.diagnostic)?,
-            reason: optional_clean(alloc, parts.reason)?,
+            mta,
+            diagnostic,
+            reason,
+            last_attempt,
+            retry_until,
+        } = parts;
+        let (action, status) = check(
+            service,
+            Parts {
+                recipient,
+                original,
+                action,
+                status,
+                mta,
+                diagnostic,
+                reason,
+                last_attempt,
+                retry_until,
+            },
+        )?;
+        let outcome = Outcome {
+            service,
+            recipient: Address::new(alloc, recipient).map_err(|_| OutcomeFault::NoMemory)?,
+            original: optional_address(alloc, original)?,
+            action,
+            status,
+            mta: optional_mta_name(alloc, mta)?,
+            diagnostic: optional_clean(alloc, diagnostic)?,
+            reason: optional_clean(alloc, reason)?,
+            last_attempt: optional_stamp(last_attempt),
+            retry_until: optional_stamp(retry_until),
         };
         linked(alloc, outcome)
     }
@@ -125,9 +156,23 @@ impl Outcome {
     {
         self.reason.as_ref()
     }
+
+    /// When delivery was last tried (RFC 3464 section 2.3.7), if that is known.
+    pub fn last_attempt(&self) -> Option<Stamp>
+        ensures { result ≡ self.now.last_attempt }
+    {
+        self.last_attempt
+    }
+
+    /// Until when delivery is tried again (RFC 3464 section 2.3.9), if that is known.
+    pub fn retry_until(&self) -> Option<Stamp>
+        ensures { result ≡ self.now.retry_until }
+    {
+        self.retry_until
+    }
 }
 
-ghost use Rattle.dsn_outcome.specs.Outcome.{IsLegalOutcome, first_outcome_fault};
+ghost use Rattle.dsn_outcome.specs.Outcome.{IsLegalOutcome, IsOutcomeOf, first_outcome_fault};
 ghost use Rattle.dsn_outcome.specs.Parts.{fields_of};
 
 /// An outcome in a node of its own, linked to nothing.
@@ -149,11 +194,11 @@ fn linked(alloc: Global, outcome: Outcome) -> Result<Box<Node>, OutcomeFault>
 
 /// The action and the status of fields that have no fault, or their first fault. It takes no
 /// memory.
-fn check(service: Service, parts: &Parts<'_>) -> Result<(Action, Status), OutcomeFault>
-    ensures none { IfOk result (λ found. first_outcome_fault service (fields_of parts.now) ≡ None) }
-    ensures action { IfOk result (λ found. action_of_byte parts.now.action ≡ Some found.0) }
-    ensures status { IfOk result (λ found. found.1 ≡ parts.now.status.now) }
-    ensures first { IfErr result (λ fault. first_outcome_fault service (fields_of parts.now) ≡ Some fault) }
+fn check(service: Service, parts: Parts<'_>) -> Result<(Action, Status), OutcomeFault>
+    ensures none { IfOk result (λ found. first_outcome_fault service (fields_of parts.entry) ≡ None) }
+    ensures action { IfOk result (λ found. action_of_byte parts.entry.action ≡ Some found.0) }
+    ensures status { IfOk result (λ found. found.1 ≡ parts.entry.status.now) }
+    ensures first { IfErr result (λ fault. first_outcome_fault service (fields_of parts.entry) ≡ Some fault) }
 {
     if !Address::is_valid(parts.recipient) {
         return Err(OutcomeFault::BadRecipient);
@@ -181,6 +226,9 @@ fn check(service: Service, parts: &Parts<'_>) -> Result<(Action, Status), Outcom
     }
     if !Clean::is_valid(parts.reason) {
         return Err(OutcomeFault::LongReason);
+    }
+    if !action.fits_retry(parts.retry_until) {
+        return Err(OutcomeFault::RetryUntil);
     }
     Ok((action, status))
 }

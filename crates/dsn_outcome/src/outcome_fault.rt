@@ -31,13 +31,16 @@ pub enum OutcomeFault {
     /// The reason has more than 800 bytes.
     #[error("the reason has more than 800 bytes")]
     LongReason,
+    /// It is said until when delivery is tried again, of a recipient that isn't delayed.
+    #[error("only a delayed recipient is tried again")]
+    RetryUntil,
     /// Memory for the outcome was refused.
     #[error("out of memory")]
     NoMemory,
 }
 
 impl OutcomeFault {
-    /// The number of the refusal, 1 to 9, as an answer carries it.
+    /// The number of the refusal, 1 to 10, as an answer carries it.
     pub fn code(&self) -> u32
         ensures { result ≡ outcome_fault_code self.now }
     {
@@ -50,6 +53,7 @@ impl OutcomeFault {
             OutcomeFault::BadMta => 6,
             OutcomeFault::LongDiagnostic => 7,
             OutcomeFault::LongReason => 8,
+            OutcomeFault::RetryUntil => 10,
             OutcomeFault::NoMemory => 9,
         }
     }

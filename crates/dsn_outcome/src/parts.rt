@@ -1,4 +1,5 @@
 //! The fields of an outcome as a delivery agent hands them in.
+use crate::stamp::Stamp;
 
 /// What a delivery agent says of one recipient. An empty original, remote system, diagnostic or
 /// reason means that there is none.
@@ -18,4 +19,9 @@ pub struct Parts<'a> {
     pub diagnostic: &'a [u8],
     /// The agent's own words for people, at most 800 bytes.
     pub reason: &'a [u8],
+    /// When delivery was last tried (RFC 3464 section 2.3.7), if the agent says so.
+    pub last_attempt: Option<Stamp>,
+    /// Until when delivery is tried again (RFC 3464 section 2.3.9); with a delayed recipient
+    /// alone.
+    pub retry_until: Option<Stamp>,
 }

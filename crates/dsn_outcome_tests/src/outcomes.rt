@@ -1,6 +1,8 @@
 //! Outcomes from their fields, and refusals in their order.
 use super::texts::text_of;
-use dsn_outcome::{Action, Address, Clean, MtaName, Outcome, OutcomeFault, Parts, Service};
+use dsn_outcome::{
+    Action, Address, Clean, LAST_MOMENT, MtaName, Outcome, OutcomeFault, Parts, Service, Stamp,
+};
 use std::process::Abort;
 use std::test::Fail;
 
@@ -13,10 +15,12 @@ pub(super) const PARTS: Parts<'static> = Parts {
     mta: b"mx.example.org",
     diagnostic: b"smtp; 550 no\tsuch user",
     reason: b"user unknown",
+    last_attempt: None,
+    retry_until: None,
 };
 
 /// The faults of fields, in the order in which they are named.
-const FAULTS: [OutcomeFault; 8] = [
+const FAULTS: [OutcomeFault; 9] = [
     OutcomeFault::BadRecipient,
     OutcomeFault::BadOriginal,
     OutcomeFault::BadAction,
@@ -25,6 +29,7 @@ const FAULTS: [OutcomeFault; 8] = [
     OutcomeFault::BadMta,
     OutcomeFault::LongDiagnostic,
     OutcomeFault::LongReason,
+    OutcomeFault::RetryUntil,
 ];
 
 /// The text of an optional address; an empty one where there is none.
@@ -97,6 +102,56 @@ fn an_outcome_of_the_longest_texts_is_kept(rt: HostRuntime) -> Result<(), Fail> 
     Ok(())
 }
 
+#[test]
+fn the_two_moments_are_kept(rt: HostRuntime) -> Result<(), Fail> {
+    for seconds in [0, 1_700_000_000, LAST_MOMENT] {
+        let delayed = Parts {
+            action: 2,
+            status: b"4.4.1",
+            last_attempt: Stamp::new(LAST_MOMENT - seconds),
+            retry_until: Stamp::new(seconds),
+            ..PARTS
+        };
+        let node = Outcome::new(rt.alloc(), Service::Defer, delayed)?;
+        let outcome = node.outcome();
+        assert_eq!(rt; outcome.action(), Action::Delayed);
+        assert_eq!(rt; outcome.last_attempt(), Stamp::new(LAST_MOMENT - seconds));
+        assert_eq!(rt; outcome.retry_until(), Stamp::new(seconds));
+    }
+    Ok(())
+}
+
+#[test]
+fn only_a_delayed_recipient_is_tried_again(rt: HostRuntime) -> Result<(), Fail> {
+    for (action, status, fits) in [
+        (1, b"5.1.1", false),
+        (2, b"4.4.1", true),
+        (3, b"2.0.0", false),
+        (4, b"2.0.0", false),
+        (5, b"2.0.0", false),
+    ] {
+        let attempted = Parts {
+            action,
+            status,
+            last_attempt: Stamp::new(1_700_000_000),
+            ..PARTS
+        };
+        let node = Outcome::new(rt.alloc(), Service::Trace, attempted)?;
+        assert_eq!(rt; node.outcome().last_attempt(), Stamp::new(1_700_000_000));
+        assert_eq!(rt; node.outcome().retry_until(), None);
+        let retried = Parts {
+            action,
+            status,
+            retry_until: Stamp::new(1_700_432_000),
+            ..PARTS
+        };
+        let fault = Outcome::new(rt.alloc(), Service::Trace, retried).err();
+        let want = (!fits).then_some(OutcomeFault::RetryUntil);
+        assert_eq!(rt; fault, want, "action {action}");
+    }
+    Ok(())
+}
+
 /// The fields with this fault put into them.
 fn spoiled<'a>(parts: Parts<'a>, fault: OutcomeFault, long: &'a [u8]) -> Parts<'a> {
     let mut spoiled = parts;
@@ -109,6 +164,7 @@ fn spoiled<'a>(parts: Parts<'a>, fault: OutcomeFault, long: &'a [u8]) -> Parts<'
         OutcomeFault::BadMta => spoiled.mta = b"mx example",
         OutcomeFault::LongDiagnostic => spoiled.diagnostic = long,
         OutcomeFault::LongReason => spoiled.reason = long,
+        OutcomeFault::RetryUntil => spoiled.retry_until = Stamp::new(1_700_000_000),
         OutcomeFault::NoMemory => {}
     }
     spoiled

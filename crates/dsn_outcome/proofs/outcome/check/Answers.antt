@@ -43,7 +43,7 @@ returns-in_default-read-clause-first c =
     let original = test-is _ _ c.is_optional_address.ensures ∙ c.if-not-is_optional_address.false in
     let action = sym c.from_byte.ensures ∙ c.in-Some.is in
     let taken = sym c.takes.ensures ∙ c.if-not-takes.false in
-    let status = test-agrees _ _ _ c.read.ensures.some (is_status_code-IsStatusCode c.args.parts.now.status.now) ∙ ap is_some c.in_default-read.is in
+    let status = test-agrees _ _ _ c.read.ensures.some (is_status_code-IsStatusCode c.args.parts.status.now) ∙ ap is_some c.in_default-read.is in
     rw (recipient, original, action, taken, status) refl
 
 pub returns-then-not-fits_class-clause-first : goal.returns-then-not-fits_class-clause-first
@@ -53,8 +53,8 @@ returns-then-not-fits_class-clause-first c =
     let original = test-is _ _ c.is_optional_address.ensures ∙ c.if-not-is_optional_address.false in
     let action = sym c.from_byte.ensures ∙ c.in-Some.is in
     let taken = sym c.takes.ensures ∙ c.if-not-takes.false in
-    let status = test-agrees _ _ _ c.read.ensures.some (is_status_code-IsStatusCode c.args.parts.now.status.now) ∙ ap is_some c.in-Some-read.is in
-    let class : fits_class c.in-Some.action (status_class c.args.parts.now.status.now) ≡ false = cc (c.in-Some-read.ensures.kept, c.class.ensures.class, c.fits_class.ensures) in
+    let status = test-agrees _ _ _ c.read.ensures.some (is_status_code-IsStatusCode c.args.parts.status.now) ∙ ap is_some c.in-Some-read.is in
+    let class : fits_class c.in-Some.action (status_class c.args.parts.status.now) ≡ false = cc (c.in-Some-read.ensures.kept, c.class.ensures.class, c.fits_class.ensures) in
     rw (recipient, original, action, taken, status, class) refl
 
 pub returns-then-not-is_optional_mta_name-clause-first : goal.returns-then-not-is_optional_mta_name-clause-first
@@ -64,8 +64,8 @@ returns-then-not-is_optional_mta_name-clause-first c =
     let original = test-is _ _ c.is_optional_address.ensures ∙ c.if-not-is_optional_address.false in
     let action = sym c.from_byte.ensures ∙ c.in-Some.is in
     let taken = sym c.takes.ensures ∙ c.if-not-takes.false in
-    let status = test-agrees _ _ _ c.read.ensures.some (is_status_code-IsStatusCode c.args.parts.now.status.now) ∙ ap is_some c.in-Some-read.is in
-    let class : fits_class c.in-Some.action (status_class c.args.parts.now.status.now) ≡ true = cc (c.in-Some-read.ensures.kept, c.class.ensures.class, c.fits_class.ensures) in
+    let status = test-agrees _ _ _ c.read.ensures.some (is_status_code-IsStatusCode c.args.parts.status.now) ∙ ap is_some c.in-Some-read.is in
+    let class : fits_class c.in-Some.action (status_class c.args.parts.status.now) ≡ true = cc (c.in-Some-read.ensures.kept, c.class.ensures.class, c.fits_class.ensures) in
     let mta = test-is _ _ c.is_optional_mta_name.ensures ∙ c.if-not-is_optional_mta_name.true in
     rw (recipient, original, action, taken, status, class, mta) refl
 
@@ -76,8 +76,8 @@ returns-then-not-is_valid-2-clause-first c =
     let original = test-is _ _ c.is_optional_address.ensures ∙ c.if-not-is_optional_address.false in
     let action = sym c.from_byte.ensures ∙ c.in-Some.is in
     let taken = sym c.takes.ensures ∙ c.if-not-takes.false in
-    let status = test-agrees _ _ _ c.read.ensures.some (is_status_code-IsStatusCode c.args.parts.now.status.now) ∙ ap is_some c.in-Some-read.is in
-    let class : fits_class c.in-Some.action (status_class c.args.parts.now.status.now) ≡ true = cc (c.in-Some-read.ensures.kept, c.class.ensures.class, c.fits_class.ensures) in
+    let status = test-agrees _ _ _ c.read.ensures.some (is_status_code-IsStatusCode c.args.parts.status.now) ∙ ap is_some c.in-Some-read.is in
+    let class : fits_class c.in-Some.action (status_class c.args.parts.status.now) ≡ true = cc (c.in-Some-read.ensures.kept, c.class.ensures.class, c.fits_class.ensures) in
     let mta = test-is _ _ c.is_optional_mta_name.ensures ∙ c.if-not-is_optional_mta_name.false in
     let diagnostic = bound-is _ _ _ c.is_valid-2.ensures ∙ c.if-not-is_valid-2.true in
     rw (recipient, original, action, taken, status, class, mta, diagnostic) refl
@@ -89,12 +89,27 @@ returns-then-not-is_valid-3-clause-first c =
     let original = test-is _ _ c.is_optional_address.ensures ∙ c.if-not-is_optional_address.false in
     let action = sym c.from_byte.ensures ∙ c.in-Some.is in
     let taken = sym c.takes.ensures ∙ c.if-not-takes.false in
-    let status = test-agrees _ _ _ c.read.ensures.some (is_status_code-IsStatusCode c.args.parts.now.status.now) ∙ ap is_some c.in-Some-read.is in
-    let class : fits_class c.in-Some.action (status_class c.args.parts.now.status.now) ≡ true = cc (c.in-Some-read.ensures.kept, c.class.ensures.class, c.fits_class.ensures) in
+    let status = test-agrees _ _ _ c.read.ensures.some (is_status_code-IsStatusCode c.args.parts.status.now) ∙ ap is_some c.in-Some-read.is in
+    let class : fits_class c.in-Some.action (status_class c.args.parts.status.now) ≡ true = cc (c.in-Some-read.ensures.kept, c.class.ensures.class, c.fits_class.ensures) in
     let mta = test-is _ _ c.is_optional_mta_name.ensures ∙ c.if-not-is_optional_mta_name.false in
     let diagnostic = bound-is _ _ _ c.is_valid-2.ensures ∙ c.if-not-is_valid-2.false in
     let reason = bound-is _ _ _ c.is_valid-3.ensures ∙ c.if-not-is_valid-3.true in
     rw (recipient, original, action, taken, status, class, mta, diagnostic, reason) refl
+
+pub returns-then-not-fits_retry-clause-first : goal.returns-then-not-fits_retry-clause-first
+unfolding first_outcome_fault
+returns-then-not-fits_retry-clause-first c =
+    let recipient = test-is _ _ c.is_valid.ensures ∙ c.if-not-is_valid.false in
+    let original = test-is _ _ c.is_optional_address.ensures ∙ c.if-not-is_optional_address.false in
+    let action = sym c.from_byte.ensures ∙ c.in-Some.is in
+    let taken = sym c.takes.ensures ∙ c.if-not-takes.false in
+    let status = test-agrees _ _ _ c.read.ensures.some (is_status_code-IsStatusCode c.args.parts.status.now) ∙ ap is_some c.in-Some-read.is in
+    let class : fits_class c.in-Some.action (status_class c.args.parts.status.now) ≡ true = cc (c.in-Some-read.ensures.kept, c.class.ensures.class, c.fits_class.ensures) in
+    let mta = test-is _ _ c.is_optional_mta_name.ensures ∙ c.if-not-is_optional_mta_name.false in
+    let diagnostic = bound-is _ _ _ c.is_valid-2.ensures ∙ c.if-not-is_valid-2.false in
+    let reason = bound-is _ _ _ c.is_valid-3.ensures ∙ c.if-not-is_valid-3.false in
+    let retry = sym c.fits_retry.ensures ∙ c.if-not-fits_retry.true in
+    rw (recipient, original, action, taken, status, class, mta, diagnostic, reason, retry) refl
 
 pub returns-clause-none : goal.returns-clause-none
 unfolding first_outcome_fault
@@ -103,9 +118,10 @@ returns-clause-none c =
     let original = test-is _ _ c.is_optional_address.ensures ∙ c.if-not-is_optional_address.false in
     let action = sym c.from_byte.ensures ∙ c.in-Some.is in
     let taken = sym c.takes.ensures ∙ c.if-not-takes.false in
-    let status = test-agrees _ _ _ c.read.ensures.some (is_status_code-IsStatusCode c.args.parts.now.status.now) ∙ ap is_some c.in-Some-read.is in
-    let class : fits_class c.in-Some.action (status_class c.args.parts.now.status.now) ≡ true = cc (c.in-Some-read.ensures.kept, c.class.ensures.class, c.fits_class.ensures) in
+    let status = test-agrees _ _ _ c.read.ensures.some (is_status_code-IsStatusCode c.args.parts.status.now) ∙ ap is_some c.in-Some-read.is in
+    let class : fits_class c.in-Some.action (status_class c.args.parts.status.now) ≡ true = cc (c.in-Some-read.ensures.kept, c.class.ensures.class, c.fits_class.ensures) in
     let mta = test-is _ _ c.is_optional_mta_name.ensures ∙ c.if-not-is_optional_mta_name.false in
     let diagnostic = bound-is _ _ _ c.is_valid-2.ensures ∙ c.if-not-is_valid-2.false in
     let reason = bound-is _ _ _ c.is_valid-3.ensures ∙ c.if-not-is_valid-3.false in
-    rw (recipient, original, action, taken, status, class, mta, diagnostic, reason) refl
+    let retry = sym c.fits_retry.ensures ∙ c.if-not-fits_retry.false in
+    rw (recipient, original, action, taken, status, class, mta, diagnostic, reason, retry) refl

@@ -17,7 +17,7 @@ optional_clean-requires-2 c = (passes-none c.args.service (fields_of c.args.part
 
 pub invariant_of-outcome : goal.invariant_of-outcome
 invariant_of-outcome c =
-    legal-IsOutcomeOf c.args.service (fields_of c.args.parts) _ (passes-none c.args.service (fields_of c.args.parts) c.in_ok-action.ensures.none) (record {
+    legal-IsOutcomeOf c.args.service (fields_of c.args.parts) _ (passes-none c.args.service (fields_of c.args.parts) c.in_ok-action.ensures.none) (record { last_attempt = c.optional_stamp.ensures.dated; retry_until = c.optional_stamp-2.ensures.dated }) (record {
       service_is = refl;
       recipient_is = search rules;
       original_is = c.in_ok-optional_address.ensures.kept;
@@ -26,11 +26,13 @@ invariant_of-outcome c =
       mta_is = c.in_ok-optional_mta_name.ensures.kept;
       diagnostic_is = c.in_ok-optional_clean.ensures.kept;
       reason_is = c.in_ok-optional_clean-2.ensures.kept;
+      last_attempt_is = c.optional_stamp.ensures.same;
+      retry_until_is = c.optional_stamp-2.ensures.same;
     })
 
 pub linked-requires : goal.linked-requires
 linked-requires c =
-    legal-IsOutcomeOf c.args.service (fields_of c.args.parts) _ (passes-none c.args.service (fields_of c.args.parts) c.in_ok-action.ensures.none) (record {
+    legal-IsOutcomeOf c.args.service (fields_of c.args.parts) _ (passes-none c.args.service (fields_of c.args.parts) c.in_ok-action.ensures.none) (record { last_attempt = c.optional_stamp.ensures.dated; retry_until = c.optional_stamp-2.ensures.dated }) (record {
       service_is = refl;
       recipient_is = search rules;
       original_is = c.in_ok-optional_address.ensures.kept;
@@ -39,4 +41,6 @@ linked-requires c =
       mta_is = c.in_ok-optional_mta_name.ensures.kept;
       diagnostic_is = c.in_ok-optional_clean.ensures.kept;
       reason_is = c.in_ok-optional_clean-2.ensures.kept;
+      last_attempt_is = c.optional_stamp.ensures.same;
+      retry_until_is = c.optional_stamp-2.ensures.same;
     })

@@ -1,5 +1,6 @@
 -- A notice divides into its parts.
 use Rattle.std.proofs.Common.{◌≡◌, ℕ, ◌≤◌, map, true, false, List, [], ◌∷◌, ◌++◌, Option, Some, None, length, take, codes, refl, sym, ap, ◌∙◌, arith, append_assoc, append-nil, length-append, nat_eq}
+use Rattle.std.specs.Prelude.{option_map}
 use Rattle.std.specs.List.{list_any, flat_map}
 use Rattle.std.specs.Cmp.Lexicographic.{unequal}
 use Rattle.std.proofs.lemmas.Bool.{or_from, or_parts}
@@ -9,6 +10,7 @@ use Rattle.std.proofs.lemmas.Slice.Eq.{starts_is}
 use Rattle.dsn_outcome.specs.Action.{action_word}
 use Rattle.dsn_outcome.specs.Letter.{Letter}
 use Rattle.dsn_outcome.specs.Outcome.{Outcome}
+use Rattle.dsn_outcome.specs.Stamp.{date_text}
 use Rattle.dsn_outcome.specs.declared.service.Service.{Service}
 use Rattle.dsn_outcome.specs.declared.service.Service.TheVariants.{Bounce, Defer, Trace}
 use Rattle.dsn_report.proofs.BoundaryLaw.{boundary_number-is}
@@ -73,11 +75,17 @@ none-recipient boundary outcome =
     (codes "Final-Recipient: rfc822; " ++ outcome.recipient) ∷ (codes "Action: " ++ action_word outcome.action) ∷ (codes "Status: " ++ outcome.status) ∷ [] in
     let mta = line_if_any (codes "Remote-MTA: dns; ") outcome.mta in
     let diagnostic = line_if_any (codes "Diagnostic-Code: smtp; ") outcome.diagnostic in
-    none-append boundary (original ++ always ++ mta) diagnostic
+    let last_attempt = line_if_any (codes "Last-Attempt-Date: ") (option_map date_text outcome.last_attempt) in
+    let retry_until = line_if_any (codes "Will-Retry-Until: ") (option_map date_text outcome.retry_until) in
+    none-append boundary (original ++ always ++ mta ++ diagnostic ++ last_attempt) retry_until
+    (none-append boundary (original ++ always ++ mta ++ diagnostic) last_attempt
+    (none-append boundary (original ++ always ++ mta) diagnostic
     (none-append boundary (original ++ always) mta
     (none-append boundary original always (none-if-any boundary 79 (codes "riginal-Recipient: rfc822; ") outcome.original refl) refl)
     (none-if-any boundary 82 (codes "emote-MTA: dns; ") outcome.mta refl))
-    (none-if-any boundary 68 (codes "iagnostic-Code: smtp; ") outcome.diagnostic refl)
+    (none-if-any boundary 68 (codes "iagnostic-Code: smtp; ") outcome.diagnostic refl))
+    (none-if-any boundary 76 (codes "ast-Attempt-Date: ") (option_map date_text outcome.last_attempt) refl))
+    (none-if-any boundary 87 (codes "ill-Retry-Until: ") (option_map date_text outcome.retry_until) refl)
 
 none-status : (boundary host : List ℕ) (letter : Letter) → NoneDelimits boundary (delivery_status host letter)
 unfolding delivery_status

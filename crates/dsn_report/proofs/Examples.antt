@@ -6,8 +6,8 @@ use Rattle.dsn_outcome.specs.Draft.{Draft}
 use Rattle.dsn_outcome.specs.Letter.{Letter}
 use Rattle.dsn_outcome.specs.Outcome.{Outcome}
 use Rattle.dsn_outcome.specs.Stamp.{date_text, civil_after}
-use Rattle.dsn_outcome.specs.declared.action.Action.TheVariants.{Failed}
-use Rattle.dsn_outcome.specs.declared.service.Service.TheVariants.{Bounce}
+use Rattle.dsn_outcome.specs.declared.action.Action.TheVariants.{Failed, Delayed}
+use Rattle.dsn_outcome.specs.declared.service.Service.TheVariants.{Bounce, Defer}
 use Rattle.dsn_report.specs.Boundary.{returned_lines, header_lines, boundary_text, boundary_number, is_ruled_out, first_failing}
 use Rattle.dsn_report.specs.DeliveryStatus.{line_if_any, per_message_fields, per_recipient_fields, delivery_status}
 use Rattle.dsn_report.specs.Lines.{text_of_lines, dot_stuffed}
@@ -34,6 +34,8 @@ bob_fails = record {
   mta = None;
   diagnostic = None;
   reason = None;
+  last_attempt = None;
+  retry_until = None;
 }
 
 abbrev to_ann : Option (List ℕ) → List ℕ → Draft
@@ -60,6 +62,22 @@ flushed_at = refl
 arrived_at : date_text 1699996400 ≡ codes "Tue, 14 Nov 2023 21:13:20 +0000"
 unfolding date_text civil_after
 arrived_at = refl
+
+retried_until : date_text 1700432000 ≡ codes "Sun, 19 Nov 2023 22:13:20 +0000"
+unfolding date_text civil_after
+retried_until = refl
+
+-- a delayed recipient: when delivery was last tried, and until when it is tried again
+delayed_recipient :
+    per_recipient_fields (record bob_fails { service = Defer; action = Delayed; status = codes "4.4.1"; last_attempt = Some 1700000000; retry_until = Some 1700432000 }) ≡
+    codes "Final-Recipient: rfc822; bob@example.org"
+    ∷ codes "Action: delayed"
+    ∷ codes "Status: 4.4.1"
+    ∷ codes "Last-Attempt-Date: Tue, 14 Nov 2023 22:13:20 +0000"
+    ∷ codes "Will-Retry-Until: Sun, 19 Nov 2023 22:13:20 +0000"
+    ∷ []
+unfolding per_recipient_fields line_if_any
+delayed_recipient = rw (flushed_at, retried_until) refl
 
 -- one append and one flush: the whole outbox
 one_append_one_flush : outbox_of host (letter_with (to_ann None []) bob_fails ∷ []) ≡

@@ -1,16 +1,16 @@
 -- A notice's second part is a delivery status.
-use Rattle.std.proofs.Common.{◌≡◌, ◌≢◌, ℕ, Bool, true, false, List, [], ◌∷◌, ◌++◌, Option, Some, None, map, codes, refl, sym, ap, subst, ◌∙◌}
-use Rattle.std.specs.Prelude.{IsTrue, IsSomeAnd, option_map, is_some}
+use Rattle.std.proofs.Common.{◌≡◌, ◌≢◌, ℕ, Bool, true, false, List, [], ◌∷◌, ◌++◌, Option, Some, None, map, codes, refl, sym, ap, subst, ◌∙◌, append_assoc, append-nil}
+use Rattle.std.specs.Prelude.{IsTrue, IsSome, IsSomeAnd, option_map, is_some, if◌then◌else◌}
 use Rattle.std.proofs.lemmas.List.Elements.{All-map}
 use Rattle.std.proofs.lemmas.List.Folds.{list_all-append, list_any-append}
-use Rattle.std.proofs.lemmas.Bool.{false≢true}
+use Rattle.std.proofs.lemmas.Bool.{false≢true, leb-true}
 use Rattle.std.proofs.Math.Bool.{or-true}
 use Rattle.std.specs.List.{AllZip, list_all, list_any, flat_map}
 use Rattle.dsn_outcome.specs.Action.{action_word}
 use Rattle.dsn_outcome.specs.declared.action.Action.{Action}
 use Rattle.dsn_outcome.specs.declared.action.Action.TheVariants.{Failed, Delayed, Delivered, Relayed, Expanded}
 use Rattle.dsn_outcome.specs.Letter.{Letter}
-use Rattle.dsn_outcome.specs.Outcome.{Outcome, IsLegalOutcome, is_none_or}
+use Rattle.dsn_outcome.specs.Outcome.{Outcome, IsLegalOutcome, fits_retry, is_none_or}
 use Rattle.dsn_outcome.specs.Status.{is_status_code}
 use Rattle.dsn_outcome.specs.Text.{is_printable, is_address, is_mta_name, is_remark, is_envelope_id}
 use Rattle.dsn_report.proofs.DateText.{shown-append, shown-date}
@@ -18,9 +18,9 @@ use Rattle.dsn_report.proofs.DivisionLemmas.{division_law}
 use Rattle.dsn_report.proofs.LinesLemmas.{delivery_status-legal}
 use Rattle.dsn_report.proofs.PieceLemmas.{has_line_bytes-legal, pieces-lines}
 use Rattle.dsn_report.proofs.PlainLemmas.{address-plain, mta-plain, remark-plain, envelope_id-plain, status-plain, host-plain}
-use Rattle.dsn_outcome.specs.Stamp.{date_text}
+use Rattle.dsn_outcome.specs.Stamp.{date_text, is_moment, last_moment}
 use Rattle.dsn_report.specs.DeliveryStatus.{line_if_any, per_message_fields, per_recipient_fields, recipient_group, delivery_status}
-use Rattle.dsn_report.specs.Grammar.{Field, field_line, value_of, is_choice_of, IsMessageGroup, IsRecipientGroup, TellsOutcome, TellsMessage, EmptyLogLaw, ReportsOutcomes, delivery_status_in, per_message_names, per_recipient_names, has_plain_values, is_action_word}
+use Rattle.dsn_report.specs.Grammar.{Field, field_line, same_text, value_of, is_choice_of, IsMessageGroup, IsRecipientGroup, TellsOutcome, TellsMessage, EmptyLogLaw, ReportsOutcomes, delivery_status_in, per_message_names, per_recipient_names, has_plain_values, is_action_word}
 use Rattle.dsn_report.specs.Boundary.{boundary_of}
 use Rattle.dsn_report.specs.Multipart.{body_of, multipart_of, notice_parts, part_lines}
 use Rattle.dsn_report.specs.Notice.{notice_of}
@@ -39,17 +39,29 @@ message_fields host letter =
     field_if_any (codes "Original-Envelope-Id") [] letter.draft.envelope_id
     ++ (field (codes "Reporting-MTA") (codes "dns; " ++ host) ∷ field (codes "Arrival-Date") (date_text letter.draft.arrival) ∷ [])
 
-abbrev fields_with : Option (List ℕ) → List ℕ → Action → List ℕ → Option (List ℕ) → Option (List ℕ) → List Field
-fields_with original recipient action status mta diagnostic =
-    field_if_any (codes "Original-Recipient") (codes "rfc822; ") original
-    ++ (field (codes "Final-Recipient") (codes "rfc822; " ++ recipient)
-    ∷ field (codes "Action") (action_word action)
-    ∷ field (codes "Status") status
-    ∷ (field_if_any (codes "Remote-MTA") (codes "dns; ") mta
-    ++ field_if_any (codes "Diagnostic-Code") (codes "smtp; ") diagnostic))
+-- the fields of a recipient from Will-Retry-Until on, from Last-Attempt-Date on, and so from each that may be missing
+abbrev retry_fields : Outcome → List Field
+retry_fields outcome = field_if_any (codes "Will-Retry-Until") [] (option_map date_text outcome.retry_until) ++ []
+
+abbrev attempt_fields : Outcome → List Field
+attempt_fields outcome =
+    field_if_any (codes "Last-Attempt-Date") [] (option_map date_text outcome.last_attempt) ++ retry_fields outcome
+
+abbrev diagnostic_fields : Outcome → List Field
+diagnostic_fields outcome = field_if_any (codes "Diagnostic-Code") (codes "smtp; ") outcome.diagnostic ++ attempt_fields outcome
+
+abbrev mta_fields : Outcome → List Field
+mta_fields outcome = field_if_any (codes "Remote-MTA") (codes "dns; ") outcome.mta ++ diagnostic_fields outcome
+
+abbrev final_fields : Outcome → List Field
+final_fields outcome =
+    field (codes "Final-Recipient") (codes "rfc822; " ++ outcome.recipient)
+    ∷ field (codes "Action") (action_word outcome.action)
+    ∷ field (codes "Status") outcome.status
+    ∷ mta_fields outcome
 
 abbrev recipient_fields : Outcome → List Field
-recipient_fields outcome = fields_with outcome.original outcome.recipient outcome.action outcome.status outcome.mta outcome.diagnostic
+recipient_fields outcome = field_if_any (codes "Original-Recipient") (codes "rfc822; ") outcome.original ++ final_fields outcome
 
 -- in order, whatever is missing
 message-in-order : (id : Option (List ℕ)) (host date : List ℕ)
@@ -57,16 +69,75 @@ message-in-order : (id : Option (List ℕ)) (host date : List ℕ)
 message-in-order None host date = refl
 message-in-order (Some id) host date = refl
 
-recipient-in-order : (original : Option (List ℕ)) (recipient : List ℕ) (action : Action) (status : List ℕ) (mta diagnostic : Option (List ℕ))
-    → is_choice_of per_recipient_names (fields_with original recipient action status mta diagnostic) ≡ true
-recipient-in-order None recipient action status None None = refl
-recipient-in-order None recipient action status None (Some diagnostic) = refl
-recipient-in-order None recipient action status (Some mta) None = refl
-recipient-in-order None recipient action status (Some mta) (Some diagnostic) = refl
-recipient-in-order (Some original) recipient action status None None = refl
-recipient-in-order (Some original) recipient action status None (Some diagnostic) = refl
-recipient-in-order (Some original) recipient action status (Some mta) None = refl
-recipient-in-order (Some original) recipient action status (Some mta) (Some diagnostic) = refl
+-- ---- fields that may be missing
+
+-- one of another name
+value-skips : (name other kind : List ℕ) (value : Option (List ℕ)) (rest : List Field) → same_text name other ≡ false
+    → value_of name (field_if_any other kind value ++ rest) ≡ value_of name rest
+value-skips name other kind None rest differ = refl
+value-skips name other kind (Some text) rest differ = rw differ refl
+
+-- the one of this name, which no later field has
+value-finds : (name kind : List ℕ) (value : Option (List ℕ)) (rest : List Field) → same_text name name ≡ true → value_of name rest ≡ None
+    → value_of name (field_if_any name kind value ++ rest) ≡ option_map (λ text. kind ++ text) value
+value-finds name kind None rest same none = none
+value-finds name kind (Some text) rest same none = rw same refl
+
+-- a value with nothing before it
+no-kind : (value : Option (List ℕ)) → option_map (λ text. [] ++ text) value ≡ value
+no-kind None = refl
+no-kind (Some text) = refl
+
+pick-later : (same first later : Bool) (value : List ℕ) (found : Option (List ℕ)) → (if same then Some value else found) ≡ None → later ≡ true
+    → (if same then first else later) ≡ true
+pick-later true first later value found none e = cc
+pick-later false first later value found none e = e
+
+-- a name that no field has may stand before the names that the fields choose from
+choice-skips : (name : List ℕ) (names : List (List ℕ)) (fields : List Field) → value_of name fields ≡ None → is_choice_of names fields ≡ true
+    → is_choice_of (name ∷ names) fields ≡ true
+choice-skips name names [] none e = refl
+choice-skips name names (field ∷ fields) none e =
+    pick-later (same_text name field.name) (is_choice_of names fields) (is_choice_of names (field ∷ fields)) field.value (value_of name fields) none e
+
+choice-if-any : (name kind : List ℕ) (value : Option (List ℕ)) (names : List (List ℕ)) (rest : List Field) → same_text name name ≡ true
+    → value_of name rest ≡ None → is_choice_of names rest ≡ true → is_choice_of (name ∷ names) (field_if_any name kind value ++ rest) ≡ true
+choice-if-any name kind None names rest same none e = choice-skips name names rest none e
+choice-if-any name kind (Some text) names rest same none e = rw same e
+
+module _ (outcome : Outcome) where
+  none-of-retry : (name : List ℕ) → same_text name (codes "Will-Retry-Until") ≡ false → value_of name (retry_fields outcome) ≡ None
+  none-of-retry name r = value-skips name (codes "Will-Retry-Until") [] (option_map date_text outcome.retry_until) [] r
+
+  from-attempt : (name : List ℕ) → same_text name (codes "Last-Attempt-Date") ≡ false → value_of name (attempt_fields outcome) ≡ value_of name (retry_fields outcome)
+  from-attempt name a = value-skips name (codes "Last-Attempt-Date") [] (option_map date_text outcome.last_attempt) (retry_fields outcome) a
+
+  from-diagnostic : (name : List ℕ) → same_text name (codes "Diagnostic-Code") ≡ false → value_of name (diagnostic_fields outcome) ≡ value_of name (attempt_fields outcome)
+  from-diagnostic name d = value-skips name (codes "Diagnostic-Code") (codes "smtp; ") outcome.diagnostic (attempt_fields outcome) d
+
+  from-mta : (name : List ℕ) → same_text name (codes "Remote-MTA") ≡ false → value_of name (mta_fields outcome) ≡ value_of name (diagnostic_fields outcome)
+  from-mta name m = value-skips name (codes "Remote-MTA") (codes "dns; ") outcome.mta (diagnostic_fields outcome) m
+
+  from-original : (name : List ℕ) → same_text name (codes "Original-Recipient") ≡ false → value_of name (recipient_fields outcome) ≡ value_of name (final_fields outcome)
+  from-original name o = value-skips name (codes "Original-Recipient") (codes "rfc822; ") outcome.original (final_fields outcome) o
+
+  recipient-in-order : is_choice_of per_recipient_names (recipient_fields outcome) ≡ true
+  recipient-in-order =
+      let last_names = codes "Will-Retry-Until" ∷ [] in
+      let log_names = codes "Final-Log-ID" ∷ last_names in
+      let attempt_names = codes "Last-Attempt-Date" ∷ log_names in
+      let diagnostic_names = codes "Diagnostic-Code" ∷ attempt_names in
+      let final_names = codes "Final-Recipient" ∷ codes "Action" ∷ codes "Status" ∷ codes "Remote-MTA" ∷ diagnostic_names in
+      let retry = choice-if-any (codes "Will-Retry-Until") [] (option_map date_text outcome.retry_until) [] [] refl refl refl in
+      let log = choice-skips (codes "Final-Log-ID") last_names (retry_fields outcome) (none-of-retry (codes "Final-Log-ID") refl) retry in
+      let attempt = choice-if-any (codes "Last-Attempt-Date") [] (option_map date_text outcome.last_attempt) log_names (retry_fields outcome) refl
+      (none-of-retry (codes "Last-Attempt-Date") refl) log in
+      let diagnostic = choice-if-any (codes "Diagnostic-Code") (codes "smtp; ") outcome.diagnostic attempt_names (attempt_fields outcome) refl
+      (from-attempt (codes "Diagnostic-Code") refl ∙ none-of-retry (codes "Diagnostic-Code") refl) attempt in
+      let mta = choice-if-any (codes "Remote-MTA") (codes "dns; ") outcome.mta diagnostic_names (diagnostic_fields outcome) refl
+      (from-diagnostic (codes "Remote-MTA") refl ∙ from-attempt (codes "Remote-MTA") refl ∙ none-of-retry (codes "Remote-MTA") refl) diagnostic in
+      choice-if-any (codes "Original-Recipient") (codes "rfc822; ") outcome.original final_names (final_fields outcome) refl
+      (from-mta (codes "Original-Recipient") refl ∙ from-diagnostic (codes "Original-Recipient") refl ∙ from-attempt (codes "Original-Recipient") refl ∙ none-of-retry (codes "Original-Recipient") refl) mta
 
 -- ---- the layout
 
@@ -77,26 +148,29 @@ unfolding line_if_any
 message-laid-out None host date = refl
 message-laid-out (Some id) host date = refl
 
-recipient-laid-out : (original : Option (List ℕ)) (recipient : List ℕ) (action : Action) (status : List ℕ) (mta diagnostic : Option (List ℕ))
-    → line_if_any (codes "Original-Recipient: rfc822; ") original
-    ++ ((codes "Final-Recipient: rfc822; " ++ recipient) ∷ (codes "Action: " ++ action_word action) ∷ (codes "Status: " ++ status) ∷ [])
-    ++ line_if_any (codes "Remote-MTA: dns; ") mta
-    ++ line_if_any (codes "Diagnostic-Code: smtp; ") diagnostic
-    ≡ map field_line (fields_with original recipient action status mta diagnostic)
+-- the line of a field that may be missing, before the lines of later fields
+laid-if-any : (label name kind : List ℕ) (value : Option (List ℕ)) (lines : List (List ℕ)) (rest : List Field) → label ≡ name ++ codes ": " ++ kind
+    → lines ≡ map field_line rest → line_if_any label value ++ lines ≡ map field_line (field_if_any name kind value ++ rest)
 unfolding line_if_any
-recipient-laid-out None recipient action status None None = refl
-recipient-laid-out None recipient action status None (Some diagnostic) = refl
-recipient-laid-out None recipient action status (Some mta) None = refl
-recipient-laid-out None recipient action status (Some mta) (Some diagnostic) = refl
-recipient-laid-out (Some original) recipient action status None None = refl
-recipient-laid-out (Some original) recipient action status None (Some diagnostic) = refl
-recipient-laid-out (Some original) recipient action status (Some mta) None = refl
-recipient-laid-out (Some original) recipient action status (Some mta) (Some diagnostic) = refl
+laid-if-any label name kind None lines rest is laid = laid
+laid-if-any label name kind (Some text) lines rest is laid = rw (is, laid) (simp append_assoc refl)
+
+regroup : (a b c d e f : List (List ℕ)) → a ++ b ++ c ++ d ++ e ++ f ≡ a ++ (b ++ (c ++ (d ++ (e ++ (f ++ [])))))
+regroup a b c d e f = simp (append_assoc, append-nil) refl
 
 group-laid-out : (outcome : Outcome) → recipient_group outcome ≡ [] ∷ map field_line (recipient_fields outcome)
 unfolding per_recipient_fields
 group-laid-out outcome =
-    ap (λ lines. [] ∷ lines) (recipient-laid-out outcome.original outcome.recipient outcome.action outcome.status outcome.mta outcome.diagnostic)
+    let retry = laid-if-any (codes "Will-Retry-Until: ") (codes "Will-Retry-Until") [] (option_map date_text outcome.retry_until) [] [] refl refl in
+    let attempt = laid-if-any (codes "Last-Attempt-Date: ") (codes "Last-Attempt-Date") [] (option_map date_text outcome.last_attempt) _ (retry_fields outcome) refl retry in
+    let diagnostic = laid-if-any (codes "Diagnostic-Code: smtp; ") (codes "Diagnostic-Code") (codes "smtp; ") outcome.diagnostic _ (attempt_fields outcome) refl attempt in
+    let mta = laid-if-any (codes "Remote-MTA: dns; ") (codes "Remote-MTA") (codes "dns; ") outcome.mta _ (diagnostic_fields outcome) refl diagnostic in
+    let always = (codes "Final-Recipient: rfc822; " ++ outcome.recipient) ∷ (codes "Action: " ++ action_word outcome.action) ∷ (codes "Status: " ++ outcome.status) ∷ [] in
+    let original = laid-if-any (codes "Original-Recipient: rfc822; ") (codes "Original-Recipient") (codes "rfc822; ") outcome.original _ (final_fields outcome) refl
+    (ap (λ lines. always ++ lines) mta) in
+    ap (λ lines. [] ∷ lines)
+    (regroup (line_if_any (codes "Original-Recipient: rfc822; ") outcome.original) always (line_if_any (codes "Remote-MTA: dns; ") outcome.mta) (line_if_any (codes "Diagnostic-Code: smtp; ") outcome.diagnostic)
+    (line_if_any (codes "Last-Attempt-Date: ") (option_map date_text outcome.last_attempt)) (line_if_any (codes "Will-Retry-Until: ") (option_map date_text outcome.retry_until)) ∙ original)
 
 groups-laid-out : (outcomes : List Outcome) → flat_map recipient_group outcomes ≡ flat_map (λ group. [] ∷ map field_line group) (map recipient_fields outcomes)
 groups-laid-out [] = refl
@@ -113,59 +187,52 @@ status-laid-out host letter =
 
 -- ---- the values
 
-tells-with : (outcome : Outcome) (original mta diagnostic : Option (List ℕ)) → outcome.original ≡ original → outcome.mta ≡ mta → outcome.diagnostic ≡ diagnostic
-    → TellsOutcome outcome (fields_with original outcome.recipient outcome.action outcome.status mta diagnostic)
-tells-with outcome original mta diagnostic o m d = record {
-  original = tells-original original mta diagnostic ∙ ap (option_map (λ text. codes "rfc822; " ++ text)) (sym o);
-  recipient = tells-recipient original;
-  action = tells-action original;
-  status = tells-status original;
-  mta = tells-mta original mta diagnostic ∙ ap (option_map (λ text. codes "dns; " ++ text)) (sym m);
-  diagnostic = tells-diagnostic original mta diagnostic ∙ ap (option_map (λ text. codes "smtp; " ++ text)) (sym d);
+pub group-tells : (outcome : Outcome) → TellsOutcome outcome (recipient_fields outcome)
+group-tells outcome = record {
+  original = value-finds (codes "Original-Recipient") (codes "rfc822; ") outcome.original (final_fields outcome) refl (none (codes "Original-Recipient") refl refl refl refl);
+  recipient = from-original outcome (codes "Final-Recipient") refl;
+  action = from-original outcome (codes "Action") refl;
+  status = from-original outcome (codes "Status") refl;
+  mta =
+      from-original outcome (codes "Remote-MTA") refl
+      ∙ value-finds (codes "Remote-MTA") (codes "dns; ") outcome.mta (diagnostic_fields outcome) refl
+      (from-diagnostic outcome (codes "Remote-MTA") refl ∙ from-attempt outcome (codes "Remote-MTA") refl ∙ none-of-retry outcome (codes "Remote-MTA") refl);
+  diagnostic =
+      from-original outcome (codes "Diagnostic-Code") refl
+      ∙ from-mta outcome (codes "Diagnostic-Code") refl
+      ∙ value-finds (codes "Diagnostic-Code") (codes "smtp; ") outcome.diagnostic (attempt_fields outcome) refl
+      (from-attempt outcome (codes "Diagnostic-Code") refl ∙ none-of-retry outcome (codes "Diagnostic-Code") refl);
+  last_attempt =
+      from-original outcome (codes "Last-Attempt-Date") refl
+      ∙ from-mta outcome (codes "Last-Attempt-Date") refl
+      ∙ from-diagnostic outcome (codes "Last-Attempt-Date") refl
+      ∙ value-finds (codes "Last-Attempt-Date") [] (option_map date_text outcome.last_attempt) (retry_fields outcome) refl (none-of-retry outcome (codes "Last-Attempt-Date") refl)
+      ∙ no-kind (option_map date_text outcome.last_attempt);
+  retry_until =
+      from-original outcome (codes "Will-Retry-Until") refl
+      ∙ from-mta outcome (codes "Will-Retry-Until") refl
+      ∙ from-diagnostic outcome (codes "Will-Retry-Until") refl
+      ∙ from-attempt outcome (codes "Will-Retry-Until") refl
+      ∙ value-finds (codes "Will-Retry-Until") [] (option_map date_text outcome.retry_until) [] refl refl
+      ∙ no-kind (option_map date_text outcome.retry_until);
 }
   where
-    fields : Option (List ℕ) → Option (List ℕ) → Option (List ℕ) → List Field
-    fields original mta diagnostic = fields_with original outcome.recipient outcome.action outcome.status mta diagnostic
+    none : (name : List ℕ) → same_text name (codes "Remote-MTA") ≡ false → same_text name (codes "Diagnostic-Code") ≡ false → same_text name (codes "Last-Attempt-Date") ≡ false → same_text name (codes "Will-Retry-Until") ≡ false
+        → value_of name (mta_fields outcome) ≡ None
+    none name m d a r = from-mta outcome name m ∙ from-diagnostic outcome name d ∙ from-attempt outcome name a ∙ none-of-retry outcome name r
 
-    tells-original : (original mta diagnostic : Option (List ℕ)) → value_of (codes "Original-Recipient") (fields original mta diagnostic) ≡ option_map (λ text. codes "rfc822; " ++ text) original
-    tells-original None None None = refl
-    tells-original None None (Some d) = refl
-    tells-original None (Some m) None = refl
-    tells-original None (Some m) (Some d) = refl
-    tells-original (Some o) mta diagnostic = refl
-
-    tells-recipient : (original : Option (List ℕ)) → value_of (codes "Final-Recipient") (fields original mta diagnostic) ≡ Some (codes "rfc822; " ++ outcome.recipient)
-    tells-recipient None = refl
-    tells-recipient (Some o) = refl
-
-    tells-action : (original : Option (List ℕ)) → value_of (codes "Action") (fields original mta diagnostic) ≡ Some (action_word outcome.action)
-    tells-action None = refl
-    tells-action (Some o) = refl
-
-    tells-status : (original : Option (List ℕ)) → value_of (codes "Status") (fields original mta diagnostic) ≡ Some outcome.status
-    tells-status None = refl
-    tells-status (Some o) = refl
-
-    tells-mta : (original mta diagnostic : Option (List ℕ)) → value_of (codes "Remote-MTA") (fields original mta diagnostic) ≡ option_map (λ text. codes "dns; " ++ text) mta
-    tells-mta None None None = refl
-    tells-mta None None (Some d) = refl
-    tells-mta None (Some m) diagnostic = refl
-    tells-mta (Some o) None None = refl
-    tells-mta (Some o) None (Some d) = refl
-    tells-mta (Some o) (Some m) diagnostic = refl
-
-    tells-diagnostic : (original mta diagnostic : Option (List ℕ)) → value_of (codes "Diagnostic-Code") (fields original mta diagnostic) ≡ option_map (λ text. codes "smtp; " ++ text) diagnostic
-    tells-diagnostic None None None = refl
-    tells-diagnostic None None (Some d) = refl
-    tells-diagnostic None (Some m) None = refl
-    tells-diagnostic None (Some m) (Some d) = refl
-    tells-diagnostic (Some o) None None = refl
-    tells-diagnostic (Some o) None (Some d) = refl
-    tells-diagnostic (Some o) (Some m) None = refl
-    tells-diagnostic (Some o) (Some m) (Some d) = refl
-
-pub group-tells : (outcome : Outcome) → TellsOutcome outcome (recipient_fields outcome)
-group-tells outcome = tells-with outcome outcome.original outcome.mta outcome.diagnostic refl refl refl
+-- a recipient of whom it is said until when delivery is tried is delayed
+retry-delayed : (action : Action) (retry_until : Option ℕ) → fits_retry action retry_until ≡ true → IsSome (option_map date_text retry_until)
+    → Some (action_word action) ≡ Some (codes "delayed")
+retry-delayed Delayed retry_until fits some = refl
+retry-delayed Failed (Some moment) fits some = cc
+retry-delayed Delivered (Some moment) fits some = cc
+retry-delayed Relayed (Some moment) fits some = cc
+retry-delayed Expanded (Some moment) fits some = cc
+retry-delayed Failed None fits some = cc
+retry-delayed Delivered None fits some = cc
+retry-delayed Relayed None fits some = cc
+retry-delayed Expanded None fits some = cc
 
 -- ---- what the texts keep
 
@@ -173,6 +240,10 @@ plain-if-any : (name kind : List ℕ) (value : Option (List ℕ)) → list_all i
     → has_plain_values (field_if_any name kind value) ≡ true
 plain-if-any name kind None k v = refl
 plain-if-any name kind (Some value) k v = rw (shown-append kind value k v) refl
+
+plain-date-if-any : (name : List ℕ) (moment : Option ℕ) → is_none_or is_moment moment ≡ true → has_plain_values (field_if_any name [] (option_map date_text moment)) ≡ true
+plain-date-if-any name None e = refl
+plain-date-if-any name (Some moment) e = rw (shown-date moment (leb-true moment last_moment e)) refl
 
 optional-printable : (test : List ℕ → Bool) → ((text : List ℕ) → test text ≡ true → list_all is_printable text ≡ true) → (value : Option (List ℕ))
     → is_none_or test value ≡ true → is_none_or (list_all is_printable) value ≡ true
@@ -204,7 +275,11 @@ recipient-plain outcome legal =
     (optional-printable is_mta_name (λ text e. (mta-plain text e).printable) outcome.mta legal.mta_legal) in
     let diagnostic = plain-if-any (codes "Diagnostic-Code") (codes "smtp; ") outcome.diagnostic refl
     (optional-printable is_remark (λ text e. (remark-plain text e).printable) outcome.diagnostic legal.diagnostic_clean) in
-    let later = plain-append (field_if_any (codes "Remote-MTA") (codes "dns; ") outcome.mta) (field_if_any (codes "Diagnostic-Code") (codes "smtp; ") outcome.diagnostic) mta diagnostic in
+    let retry = plain-append (field_if_any (codes "Will-Retry-Until") [] (option_map date_text outcome.retry_until)) [] (plain-date-if-any (codes "Will-Retry-Until") outcome.retry_until legal.retry_until_dated) refl in
+    let attempt = plain-append (field_if_any (codes "Last-Attempt-Date") [] (option_map date_text outcome.last_attempt)) (retry_fields outcome) (plain-date-if-any (codes "Last-Attempt-Date") outcome.last_attempt legal.last_attempt_dated) retry in
+    let later =
+    plain-append (field_if_any (codes "Remote-MTA") (codes "dns; ") outcome.mta) (diagnostic_fields outcome) mta
+    (plain-append (field_if_any (codes "Diagnostic-Code") (codes "smtp; ") outcome.diagnostic) (attempt_fields outcome) diagnostic attempt) in
     plain-append (field_if_any (codes "Original-Recipient") (codes "rfc822; ") outcome.original) _ original
     (rw ((address-plain outcome.recipient legal.recipient_legal).printable, word-printable outcome.action, (status-plain outcome.status legal.status_legal).printable, later) refl)
 
@@ -212,11 +287,12 @@ legal-group : (outcome : Outcome) → IsLegalOutcome outcome → IsRecipientGrou
 legal-group outcome legal =
     let tells = group-tells outcome in
     record {
-      in_order = recipient-in-order outcome.original outcome.recipient outcome.action outcome.status outcome.mta outcome.diagnostic;
+      in_order = recipient-in-order outcome;
       plain = recipient-plain outcome legal;
       recipient = ap is_some tells.recipient;
       action = subst (λ value. IsSomeAnd value (λ word. IsTrue (is_action_word word))) (sym tells.action) (word-known outcome.action);
       status = subst (λ value. IsSomeAnd value (λ code. IsTrue (is_status_code code))) (sym tells.status) legal.status_legal;
+      retry_until = λ some. tells.action ∙ retry-delayed outcome.action outcome.retry_until legal.retry_fits (subst IsSome tells.retry_until some);
     }
 
 tells-message : (host : List ℕ) (letter : Letter) → TellsMessage host letter (message_fields host letter)

@@ -1,6 +1,6 @@
 -- Each line of a notice is legal.
 use Rattle.std.proofs.Common.{◌≡◌, ℕ, zero, suc, ◌+◌, ◌-◌, ◌/◌, ◌%◌, ◌^◌, ◌<◌, ◌≤◌, Bool, true, false, ◌||◌, List, [], ◌∷◌, ◌++◌, Option, Some, None, length, take, map, get_or, codes, refl, ◌∙◌, arith, if◌then◌else◌, length-append}
-use Rattle.std.specs.Prelude.{nat_le, ◌==◌, All, decimal, unwrap_or}
+use Rattle.std.specs.Prelude.{nat_le, ◌==◌, All, decimal, unwrap_or, option_map}
 use Rattle.std.specs.List.{list_all, flat_map}
 use Rattle.std.proofs.lemmas.Bool.{le-leb, leb-true}
 use Rattle.std.proofs.lemmas.List.{length-take}
@@ -17,7 +17,7 @@ use Rattle.dsn_outcome.specs.declared.service.Service.TheVariants.{Bounce, Defer
 use Rattle.dsn_outcome.specs.Letter.{Letter}
 use Rattle.dsn_outcome.specs.Outcome.{Outcome, IsLegalOutcome, is_none_or}
 use Rattle.dsn_outcome.specs.Service.{service_letter}
-use Rattle.dsn_outcome.specs.Stamp.{date_text, civil_after, weekday_after, day_names, month_names, last_moment}
+use Rattle.dsn_outcome.specs.Stamp.{date_text, civil_after, weekday_after, day_names, month_names, last_moment, is_moment}
 use Rattle.dsn_outcome.specs.Text.{is_printable, is_address, is_queue_id, is_mta_name, is_remark, is_envelope_id}
 use Rattle.dsn_report.proofs.DateText.{printable-between, shown-date}
 use Rattle.dsn_report.specs.WellFormed.{IsWellFormed}
@@ -184,6 +184,12 @@ unfolding line_if_any
 legal-if-any name n most test None fits each few e = legal-none
 legal-if-any name n most test (Some text) fits each few e = legal-cons (fit-append fits (each text e)) few legal-none
 
+legal-date-if-any : (name : List ℕ) (moment : Option ℕ) → IsFit 40 name → is_none_or is_moment moment ≡ true → AreLegal (line_if_any name (option_map date_text moment))
+unfolding line_if_any
+legal-date-if-any name None fits e = legal-none
+legal-date-if-any name (Some moment) fits e =
+    legal-cons (fit-append fits (fit-date moment (leb-true moment last_moment e))) (omega arith) legal-none
+
 module _ (host : List ℕ) (letter : Letter) (formed : IsWellFormed host letter) where
   fit-host : IsFit 255 host
   fit-host = fit-plain (host-plain host formed.host_legal)
@@ -234,12 +240,16 @@ module _ (host : List ℕ) (letter : Letter) (formed : IsWellFormed host letter)
       legal-append
       (legal-append
       (legal-append
+      (legal-append
+      (legal-append
       (legal-if-any (codes "Original-Recipient: rfc822; ") 40 256 is_address outcome.original (fit-known 40 (codes "Original-Recipient: rfc822; ") refl refl) (λ text e. fit-plain (address-plain text e)) (omega arith) legal.original_legal)
       (legal-cons (fit-append (fit-known 40 (codes "Final-Recipient: rfc822; ") refl refl) (fit-plain (address-plain outcome.recipient legal.recipient_legal))) (omega arith)
       (legal-cons (fit-append (fit-known 40 (codes "Action: ") refl refl) (fit-word outcome.action)) (omega arith)
       (legal-cons (fit-append (fit-known 40 (codes "Status: ") refl refl) (fit-plain (status-plain outcome.status legal.status_legal))) (omega arith) legal-none))))
       (legal-if-any (codes "Remote-MTA: dns; ") 40 255 is_mta_name outcome.mta (fit-known 40 (codes "Remote-MTA: dns; ") refl refl) (λ text e. fit-plain (mta-plain text e)) (omega arith) legal.mta_legal))
       (legal-if-any (codes "Diagnostic-Code: smtp; ") 40 800 is_remark outcome.diagnostic (fit-known 40 (codes "Diagnostic-Code: smtp; ") refl refl) (λ text e. fit-plain (remark-plain text e)) (omega arith) legal.diagnostic_clean))
+      (legal-date-if-any (codes "Last-Attempt-Date: ") outcome.last_attempt (fit-known 40 (codes "Last-Attempt-Date: ") refl refl) legal.last_attempt_dated))
+      (legal-date-if-any (codes "Will-Retry-Until: ") outcome.retry_until (fit-known 40 (codes "Will-Retry-Until: ") refl refl) legal.retry_until_dated))
 
   status-legal : AreLegal (delivery_status host letter)
   unfolding delivery_status per_message_fields

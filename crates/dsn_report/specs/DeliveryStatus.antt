@@ -1,5 +1,5 @@
 -- The machine-readable part of a notice (RFC 3464 section 2).
-use Rattle.std.specs.Prelude.{ℕ, List, [], ◌∷◌, ◌++◌, Option, Some, None, codes}
+use Rattle.std.specs.Prelude.{ℕ, List, [], ◌∷◌, ◌++◌, Option, Some, None, codes, option_map}
 use Rattle.std.specs.List.{flat_map}
 use Rattle.dsn_outcome.specs.Action.{action_word}
 use Rattle.dsn_outcome.specs.Letter.{Letter}
@@ -29,6 +29,8 @@ per_recipient_fields outcome =
     ∷ []
     ++ line_if_any (codes "Remote-MTA: dns; ") outcome.mta
     ++ line_if_any (codes "Diagnostic-Code: smtp; ") outcome.diagnostic
+    ++ line_if_any (codes "Last-Attempt-Date: ") (option_map date_text outcome.last_attempt)
+    ++ line_if_any (codes "Will-Retry-Until: ") (option_map date_text outcome.retry_until)
 
 -- the group of one recipient: an empty line, then its fields (RFC 3464 section 2.1)
 abbrev pub recipient_group : Outcome → List (List ℕ)

@@ -64,12 +64,14 @@ pub record IsMessageGroup (fields : List Field) : Type 0 where
   pub plain : IsTrue (has_plain_values fields)
   pub reporter : IsSome (value_of (codes "Reporting-MTA") fields)
 
+-- the fields of a recipient; only a delayed one's delivery is tried again (RFC 3464 section 2.3.9)
 pub record IsRecipientGroup (fields : List Field) : Type 0 where
   pub in_order : IsTrue (is_choice_of per_recipient_names fields)
   pub plain : IsTrue (has_plain_values fields)
   pub recipient : IsSome (value_of (codes "Final-Recipient") fields)
   pub action : IsSomeAnd (value_of (codes "Action") fields) (λ word. IsTrue (is_action_word word))
   pub status : IsSomeAnd (value_of (codes "Status") fields) (λ code. IsTrue (is_status_code code))
+  pub retry_until : IsSome (value_of (codes "Will-Retry-Until") fields) → value_of (codes "Action") fields ≡ Some (codes "delayed")
 
 -- the lines are the message's fields, and then for each recipient an empty line and its fields; there is a recipient
 pub record IsDeliveryStatus (lines : List (List ℕ)) (message : List Field) (recipients : List (List Field)) : Type 0 where
@@ -86,6 +88,8 @@ pub record TellsOutcome (outcome : Outcome) (fields : List Field) : Type 0 where
   pub status : value_of (codes "Status") fields ≡ Some outcome.status
   pub mta : value_of (codes "Remote-MTA") fields ≡ option_map (λ text. codes "dns; " ++ text) outcome.mta
   pub diagnostic : value_of (codes "Diagnostic-Code") fields ≡ option_map (λ text. codes "smtp; " ++ text) outcome.diagnostic
+  pub last_attempt : value_of (codes "Last-Attempt-Date") fields ≡ option_map date_text outcome.last_attempt
+  pub retry_until : value_of (codes "Will-Retry-Until") fields ≡ option_map date_text outcome.retry_until
 
 -- the group tells whose message it is, who reports, and when the message came
 pub record TellsMessage (host : List ℕ) (letter : Letter) (fields : List Field) : Type 0 where

@@ -1,8 +1,9 @@
 //! The text of a notice, line by line.
 ghost use Rattle.std.specs.Prelude.{◌≡◌, codes};
 ghost use Rattle.std.specs.List.{flat_map};
-ghost use Rattle.std.specs.Option.{option_copied};
+ghost use Rattle.std.specs.Option.{option_copied, option_map};
 ghost use Rattle.dsn_outcome.specs.Action.{action_word};
+ghost use Rattle.dsn_outcome.specs.Stamp.{date_text};
 ghost use Rattle.dsn_report.specs.Boundary.{returned_lines};
 ghost use Rattle.dsn_report.specs.DeliveryStatus.{delivery_status, line_if_any, per_message_fields, per_recipient_fields, recipient_group};
 ghost use Rattle.dsn_report.specs.LineWriter.{Wrote};
@@ -15,7 +16,7 @@ use crate::name::{boundary_text, letter_name};
 use crate::site::Site;
 use crate::wording::{opening, subject};
 use dsn_device::Drain;
-use dsn_outcome::{Address, Clean, EnvelopeId, Letter, MtaName, Outcome};
+use dsn_outcome::{Address, Clean, EnvelopeId, Letter, MtaName, Outcome, Stamp};
 
 /// Writes a notice's header.
 fn write_header<W: Drain>(lines: &mut LineWriter<W>, site: &Site, letter: &Letter, boundary: &[u8])
@@ -178,6 +179,17 @@ fn write_recipient_fields<W: Drain>(lines: &mut LineWriter<W>, outcome: &Outcome
         b"Diagnostic-Code: smtp; ",
         outcome.diagnostic().map(Clean::bytes),
     );
+    write_date_if_any(lines, b"Last-Attempt-Date: ", outcome.last_attempt());
+    write_date_if_any(lines, b"Will-Retry-Until: ", outcome.retry_until());
+}
+
+/// Writes the line of a date, if there is one.
+fn write_date_if_any<W: Drain>(lines: &mut LineWriter<W>, name: &[u8], moment: Option<Stamp>)
+    ensures { Wrote W.Drain lines.old lines.new (line_if_any name.now (option_map date_text moment)) }
+{
+    if let Some(moment) = moment {
+        lines.line(&[name, &moment.date()]);
+    }
 }
 
 /// Writes the part with the returned lines, if there are any.

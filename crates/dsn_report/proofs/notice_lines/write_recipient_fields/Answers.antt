@@ -14,6 +14,9 @@ returns g c =
     let status : c.bytes-2.result.now ≡ c.args.outcome.now.status = search rules in
     let mta : option_copied c.map-2.result ≡ c.args.outcome.now.mta = search rules in
     let diagnostic : option_copied c.map-3.result ≡ c.args.outcome.now.diagnostic = search rules in
-    Wrote-as (simp (append_assoc, append-nil, original, recipient, action, status, mta, diagnostic) refl)
+    let last_attempt : c.last_attempt.result ≡ c.args.outcome.now.last_attempt = search rules in
+    let retry_until : c.retry_until.result ≡ c.args.outcome.now.retry_until = search rules in
+    Wrote-as (simp (append_assoc, append-nil, original, recipient, action, status, mta, diagnostic, last_attempt, retry_until) refl)
     (Wrote-then c.write_if_any.ensures (Wrote-then c.line.ensures (Wrote-then c.line-2.ensures
-    (Wrote-then c.line-3.ensures (Wrote-then c.write_if_any-2.ensures c.write_if_any-3.ensures)))))
+    (Wrote-then c.line-3.ensures (Wrote-then c.write_if_any-2.ensures (Wrote-then c.write_if_any-3.ensures
+    (Wrote-then c.write_date_if_any.ensures c.write_date_if_any-2.ensures)))))))

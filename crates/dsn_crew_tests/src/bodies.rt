@@ -18,6 +18,8 @@ pub(super) fn append(alloc: Global, message: &[u8]) -> Option<Body>
         mta: b"",
         diagnostic: b"",
         reason: b"",
+        last_attempt: None,
+        retry_until: None,
     };
     let node = Outcome::new(alloc, Service::Bounce, parts).ok()?;
     Some(Body::Append(QueueId::new(message)?, node))

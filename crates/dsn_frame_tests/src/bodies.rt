@@ -15,6 +15,8 @@ const APPEND: Parts<'static> = Parts {
     mta: b"",
     diagnostic: b"",
     reason: b"",
+    last_attempt: None,
+    retry_until: None,
 };
 
 /// The fields of a flush on the wire, whether they are legal or not.

@@ -15,6 +15,8 @@ const ALL: Parts<'static> = Parts {
     mta: b"mail.example.org",
     diagnostic: b"550 5.1.1 no such user",
     reason: b"host said:?no such user",
+    last_attempt: None,
+    retry_until: None,
 };
 
 /// The texts of a flush.

@@ -46,6 +46,8 @@ fn request_to_another_thread(rt: HostRuntime) -> Result<(), Fail> {
         mta: b"",
         diagnostic: b"smtp; 550 no such user",
         reason: b"",
+        last_attempt: None,
+        retry_until: None,
     };
     let node = Outcome::new(rt.alloc(), Service::Bounce, parts)?;
     let id = QueueId::new(b"A1B2C3").expect(&rt, "a queue id");

@@ -68,6 +68,8 @@ fn letter(alloc: Global, id: &[u8]) -> Result<Letter, Fail> {
         mta: b"",
         diagnostic: b"",
         reason: b"",
+        last_attempt: None,
+        retry_until: None,
     };
     let mut chain = Chain::new();
     chain.push(Outcome::new(alloc, Service::Bounce, parts)?);

@@ -18,6 +18,8 @@ pub(crate) const BOB: Parts<'static> = Parts {
     mta: b"",
     diagnostic: b"",
     reason: b"",
+    last_attempt: None,
+    retry_until: None,
 };
 
 /// What a letter is sealed with, its outcome apart.

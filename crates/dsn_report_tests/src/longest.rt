@@ -100,6 +100,8 @@ fn thousand_outcomes_of_the_longest_texts(rt: HostRuntime) -> Result<(), Fail> {
         mta: &name,
         diagnostic: &clean,
         reason: &clean,
+        last_attempt: None,
+        retry_until: None,
     };
     let site = site(alloc)?;
     let least = notice(alloc, &site, &letter(alloc, BOB, A1B2C3)?)?;

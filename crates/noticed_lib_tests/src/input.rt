@@ -29,6 +29,8 @@ pub(super) const FAILED: Parts<'static> = Parts {
     mta: b"",
     diagnostic: b"",
     reason: b"",
+    last_attempt: None,
+    retry_until: None,
 };
 
 /// The failed recipient of [`ONE_MESSAGE`].

@@ -204,6 +204,8 @@ fn append_numbered(alloc: Global, log: &mut Log, number: u16) -> Result<(), Fail
         mta: &texts.mta,
         diagnostic: &texts.diagnostic,
         reason: &texts.reason,
+        last_attempt: None,
+        retry_until: None,
     };
     log.input
         .push(alloc, &Ask::Append(BOUNCE, b"A1B2C3", parts))?;

@@ -4,8 +4,7 @@ use Rattle.std.specs.Int.{w32, w64}
 use Rattle.std.proofs.lemmas.Bool.{eqb-true}
 use Rattle.std.proofs.lemmas.List.{append-nil}
 use Rattle.std.specs.Prelude.{slice_get}
-use Rattle.dsn_outcome.specs.Outcome.{Fields}
-use Rattle.dsn_frame.specs.Wire.{Head, FlushFields, WireBody, AppendFields, FlushFieldsOf, DiscardFields, ForgetFields, number_bytes, text_bytes, head_bytes, append_bytes, flush_bytes, body_bytes, FitsText, FitsHead, FitsAppend, FitsFlush, FitsOwn, Fits, kind_of, own_bytes, head_of, ◌>>=◌, byte_at, number_at, text_at, head_at, append_at, flush_at, own_at, body_at}
+use Rattle.dsn_frame.specs.Wire.{Head, RecipientFields, RetryFields, FlushFields, WireBody, AppendFields, DatedAppendFields, FlushFieldsOf, DiscardFields, ForgetFields, number_bytes, text_bytes, head_bytes, append_bytes, retry_bytes, flush_bytes, body_bytes, FitsText, FitsHead, FitsAppend, FitsRetry, FitsFlush, FitsOwn, Fits, kind_of, own_bytes, head_of, ◌>>=◌, byte_at, number_at, text_at, head_at, append_at, retry_at, append_body_at, flush_at, own_at, body_at}
 use Rattle.dsn_frame.proofs.FieldLaws.{IsBytes, bind_some, some_is, Takes, Takes-then, wide32, wide64, number_takes, number_again, text_takes, text_again}
 
 -- ---- what was written is read again
@@ -16,7 +15,7 @@ head_again head rest fits =
     let regrouped : (number_bytes w32 head.number ++ (head.service ∷ text_bytes head.id)) ++ rest ≡ number_bytes w32 head.number ++ (head.service ∷ (text_bytes head.id ++ rest)) = append_assoc (number_bytes w32 head.number) (head.service ∷ text_bytes head.id) rest in
     ap (head_at head.version) regrouped ∙ rw (number_again w32 (2 ^ 32) wide32 head.number (head.service ∷ (text_bytes head.id ++ rest)) fits.number, text_again head.id rest fits.id) refl
 
-pub append_again : (fields : Fields) (rest : List ℕ) → FitsAppend fields → append_at (append_bytes fields ++ rest) ≡ Some (fields, rest)
+pub append_again : (fields : RecipientFields) (rest : List ℕ) → FitsAppend fields → append_at (append_bytes fields ++ rest) ≡ Some (fields, rest)
 unfolding append_at append_bytes
 append_again fields rest fits =
     let r6 = text_bytes fields.reason ++ rest in
@@ -27,6 +26,13 @@ append_again fields rest fits =
     let r1 = text_bytes fields.recipient ++ r2 in
     let regrouped : append_bytes fields ++ rest ≡ text_bytes fields.original ++ r1 = simp append_assoc in
     ap append_at regrouped ∙ rw (text_again fields.original r1 fits.original, text_again fields.recipient r2 fits.recipient, text_again fields.status r4 fits.status, text_again fields.mta r5 fits.mta, text_again fields.diagnostic r6 fits.diagnostic, text_again fields.reason rest fits.reason) refl
+
+pub retry_again : (dates : RetryFields) (rest : List ℕ) → FitsRetry dates → retry_at (retry_bytes dates ++ rest) ≡ Some (dates, rest)
+unfolding retry_at retry_bytes
+retry_again dates rest fits =
+    let r1 = number_bytes w64 dates.retry_until ++ rest in
+    let regrouped : retry_bytes dates ++ rest ≡ number_bytes w64 dates.last_attempt ++ r1 = append_assoc (number_bytes w64 dates.last_attempt) (number_bytes w64 dates.retry_until) rest in
+    ap retry_at regrouped ∙ rw (number_again w64 (2 ^ 64) wide64 dates.last_attempt r1 fits.last_attempt, number_again w64 (2 ^ 64) wide64 dates.retry_until rest fits.retry_until) refl
 
 pub flush_again : (fields : FlushFields) (rest : List ℕ) → FitsFlush fields → flush_at (flush_bytes fields ++ rest) ≡ Some (fields, rest)
 unfolding flush_at flush_bytes
@@ -39,8 +45,11 @@ flush_again fields rest fits =
     ap flush_at regrouped ∙ rw (number_again w64 (2 ^ 64) wide64 fields.moment r1 fits.moment, number_again w64 (2 ^ 64) wide64 fields.arrival r2 fits.arrival, text_again fields.return_path r3 fits.return_path, text_again fields.envelope_id r4 fits.envelope_id, text_again fields.header rest fits.header) refl
 
 pub own_again : (wire : WireBody) (rest : List ℕ) → FitsOwn wire → own_at (kind_of wire) (head_of wire) (own_bytes wire ++ rest) ≡ Some (wire, rest)
-unfolding own_at own_bytes FitsOwn
-own_again (AppendFields head fields) rest fits = rw (append_again fields rest fits) refl
+unfolding own_at append_body_at own_bytes FitsOwn
+own_again (AppendFields head fields) rest fits = rw (fits.0, append_again fields rest fits.1) refl
+own_again (DatedAppendFields head fields dates) rest fits =
+    let regrouped : (append_bytes fields ++ retry_bytes dates) ++ rest ≡ append_bytes fields ++ (retry_bytes dates ++ rest) = append_assoc (append_bytes fields) (retry_bytes dates) rest in
+    ap (own_at 1 head) regrouped ∙ rw (fits.0, append_again fields (retry_bytes dates ++ rest) fits.1.0, retry_again dates rest fits.1.1) refl
 own_again (FlushFieldsOf head fields) rest fits = rw (flush_again fields rest fits) refl
 own_again (DiscardFields head) rest fits = refl
 own_again (ForgetFields head) rest fits = refl
@@ -96,7 +105,7 @@ byte_then bytes next x fits e goes =
     let read = bind_some (byte_at bytes) next x e in
     goes read.0.0 read.0.1 (byte_takes bytes read.0 fits read.1) read.2
 
-pub append_takes : (bytes : List ℕ) (x : Fields × List ℕ) → IsBytes bytes → append_at bytes ≡ Some x → Takes bytes (append_bytes x.0) x.1 × FitsAppend x.0
+pub append_takes : (bytes : List ℕ) (x : RecipientFields × List ℕ) → IsBytes bytes → append_at bytes ≡ Some x → Takes bytes (append_bytes x.0) x.1 × FitsAppend x.0
 unfolding append_at append_bytes
 append_takes bytes x fits e =
     text_then bytes (λ original. text_at original.1 >>= λ recipient. byte_at recipient.1 >>= λ action. text_at action.1 >>= λ status. text_at status.1 >>= λ mta. text_at mta.1 >>= λ diagnostic. text_at diagnostic.1 >>= λ reason. Some (record { recipient = recipient.0; original = original.0; action = action.0; status = status.0; mta = mta.0; diagnostic = diagnostic.0; reason = reason.0 }, reason.1)) x fits e (λ original rest_original taken_original fits_original e_original.
@@ -113,8 +122,17 @@ append_takes bytes x fits e =
     let from_action : Takes rest_recipient (action ∷ (text_bytes status ++ (text_bytes mta ++ (text_bytes diagnostic ++ (text_bytes reason))))) rest_reason = Takes-then rest_recipient (action ∷ []) rest_action (text_bytes status ++ (text_bytes mta ++ (text_bytes diagnostic ++ (text_bytes reason)))) rest_reason taken_action from_status in
     let from_recipient : Takes rest_original (text_bytes recipient ++ (action ∷ (text_bytes status ++ (text_bytes mta ++ (text_bytes diagnostic ++ (text_bytes reason)))))) rest_reason = Takes-then rest_original (text_bytes recipient) rest_recipient (action ∷ (text_bytes status ++ (text_bytes mta ++ (text_bytes diagnostic ++ (text_bytes reason))))) rest_reason taken_recipient from_action in
     let from_original : Takes bytes (text_bytes original ++ (text_bytes recipient ++ (action ∷ (text_bytes status ++ (text_bytes mta ++ (text_bytes diagnostic ++ (text_bytes reason))))))) rest_reason = Takes-then bytes (text_bytes original) rest_original (text_bytes recipient ++ (action ∷ (text_bytes status ++ (text_bytes mta ++ (text_bytes diagnostic ++ (text_bytes reason)))))) rest_reason taken_original from_recipient in
-    let made : Fields × List ℕ = (record { recipient = recipient; original = original; action = action; status = status; mta = mta; diagnostic = diagnostic; reason = reason }, rest_reason) in
-    subst (λ (y : Fields × List ℕ). Takes bytes (append_bytes y.0) y.1 × FitsAppend y.0) (some_is made x e_reason) (from_original, record { original = fits_original; recipient = fits_recipient; status = fits_status; mta = fits_mta; diagnostic = fits_diagnostic; reason = fits_reason }))))))))
+    let made : RecipientFields × List ℕ = (record { recipient = recipient; original = original; action = action; status = status; mta = mta; diagnostic = diagnostic; reason = reason }, rest_reason) in
+    subst (λ (y : RecipientFields × List ℕ). Takes bytes (append_bytes y.0) y.1 × FitsAppend y.0) (some_is made x e_reason) (from_original, record { original = fits_original; recipient = fits_recipient; status = fits_status; mta = fits_mta; diagnostic = fits_diagnostic; reason = fits_reason }))))))))
+
+pub retry_takes : (bytes : List ℕ) (x : RetryFields × List ℕ) → IsBytes bytes → retry_at bytes ≡ Some x → Takes bytes (retry_bytes x.0) x.1 × FitsRetry x.0
+unfolding retry_at retry_bytes
+retry_takes bytes x fits e =
+    number_then bytes (λ last_attempt. number_at w64 last_attempt.1 >>= λ retry_until. Some (record { last_attempt = last_attempt.0; retry_until = retry_until.0 }, retry_until.1)) x fits e (λ last_attempt rest_last_attempt taken_last_attempt fits_last_attempt e_last_attempt.
+    number_then rest_last_attempt (λ retry_until. Some (record { last_attempt = last_attempt; retry_until = retry_until.0 }, retry_until.1)) x taken_last_attempt.rest_fits e_last_attempt (λ retry_until rest_retry_until taken_retry_until fits_retry_until e_retry_until.
+    let both : Takes bytes (number_bytes w64 last_attempt ++ number_bytes w64 retry_until) rest_retry_until = Takes-then bytes (number_bytes w64 last_attempt) rest_last_attempt (number_bytes w64 retry_until) rest_retry_until taken_last_attempt taken_retry_until in
+    let made : RetryFields × List ℕ = (record { last_attempt = last_attempt; retry_until = retry_until }, rest_retry_until) in
+    subst (λ (y : RetryFields × List ℕ). Takes bytes (retry_bytes y.0) y.1 × FitsRetry y.0) (some_is made x e_retry_until) (both, record { last_attempt = fits_last_attempt; retry_until = fits_retry_until })))
 
 pub flush_takes : (bytes : List ℕ) (x : FlushFields × List ℕ) → IsBytes bytes → flush_at bytes ≡ Some x → Takes bytes (flush_bytes x.0) x.1 × FitsFlush x.0
 unfolding flush_at flush_bytes
@@ -143,15 +161,36 @@ chosen : {A : Type 0} (b : Bool) (x y z : A) → cond b x y ≡ z → ((b ≡ tr
 chosen true x y z e = inl (refl, e)
 chosen false x y z e = inr (refl, e)
 
-own_append : (kind : ℕ) (head : Head) (bytes : List ℕ) (x : WireBody × List ℕ) → kind ≡ 1 → IsBytes bytes
+own_undated : (kind : ℕ) (head : Head) (bytes : List ℕ) (x : WireBody × List ℕ) → kind ≡ 1 → eqb head.version 1 ≡ true → IsBytes bytes
     → (append_at bytes >>= λ fields. Some (AppendFields head fields.0, fields.1)) ≡ Some x → TakesOwn kind head bytes x.0 x.1
 unfolding own_bytes FitsOwn
-own_append kind head bytes x is fits e =
+own_undated kind head bytes x is version fits e =
     let read = bind_some (append_at bytes) (λ fields. Some (AppendFields head fields.0, fields.1)) x e in
     let taken = append_takes bytes read.0 fits read.1 in
     let made : WireBody × List ℕ = (AppendFields head read.0.0, read.0.1) in
     subst (λ (y : WireBody × List ℕ). TakesOwn kind head bytes y.0 y.1) (some_is made x read.2)
-    (record { taken = taken.0; fits = taken.1; kind_is = is; head_is = refl })
+    (record { taken = taken.0; fits = (version, taken.1); kind_is = is; head_is = refl })
+
+own_dated : (kind : ℕ) (head : Head) (bytes : List ℕ) (x : WireBody × List ℕ) → kind ≡ 1 → eqb head.version 1 ≡ false → IsBytes bytes
+    → (append_at bytes >>= λ fields. retry_at fields.1 >>= λ dates. Some (DatedAppendFields head fields.0 dates.0, dates.1)) ≡ Some x → TakesOwn kind head bytes x.0 x.1
+unfolding own_bytes FitsOwn
+own_dated kind head bytes x is version fits e =
+    let read = bind_some (append_at bytes) (λ fields. retry_at fields.1 >>= λ dates. Some (DatedAppendFields head fields.0 dates.0, dates.1)) x e in
+    let taken = append_takes bytes read.0 fits read.1 in
+    let later = bind_some (retry_at read.0.1) (λ dates. Some (DatedAppendFields head read.0.0 dates.0, dates.1)) x read.2 in
+    let dates = retry_takes read.0.1 later.0 taken.0.rest_fits later.1 in
+    let both : Takes bytes (append_bytes read.0.0 ++ retry_bytes later.0.0) later.0.1 = Takes-then bytes (append_bytes read.0.0) read.0.1 (retry_bytes later.0.0) later.0.1 taken.0 dates.0 in
+    let made : WireBody × List ℕ = (DatedAppendFields head read.0.0 later.0.0, later.0.1) in
+    subst (λ (y : WireBody × List ℕ). TakesOwn kind head bytes y.0 y.1) (some_is made x later.2)
+    (record { taken = both; fits = (version, (taken.1, dates.1)); kind_is = is; head_is = refl })
+
+own_append : (kind : ℕ) (head : Head) (bytes : List ℕ) (x : WireBody × List ℕ) → kind ≡ 1 → IsBytes bytes → append_body_at head bytes ≡ Some x → TakesOwn kind head bytes x.0 x.1
+unfolding append_body_at
+own_append kind head bytes x is fits e =
+    elim (chosen (eqb head.version 1) _ _ (Some x) e) [
+      | inl first ↦ own_undated kind head bytes x is first.0 fits first.1
+      | inr second ↦ own_dated kind head bytes x is second.0 fits second.1
+    ]
 
 own_flush : (kind : ℕ) (head : Head) (bytes : List ℕ) (x : WireBody × List ℕ) → kind ≡ 2 → IsBytes bytes
     → (flush_at bytes >>= λ fields. Some (FlushFieldsOf head fields.0, fields.1)) ≡ Some x → TakesOwn kind head bytes x.0 x.1

@@ -1,15 +1,15 @@
 -- Worked examples of frames and bodies, computed by the definitions.
 use Rattle.std.proofs.Common.{◌≡◌, ℕ, List, [], ◌∷◌, ◌++◌, refl, lit<, lit≤, arith}
-use Rattle.std.specs.Prelude.{Option, Some, None, codes}
+use Rattle.std.specs.Prelude.{Option, Some, None, codes, replicate}
 use Rattle.std.specs.Option.{option_map}
 use Rattle.dsn_outcome.specs.Outcome.{first_outcome_fault}
 use Rattle.dsn_outcome.specs.Request.{Body, Append, Flush, Forget}
-use Rattle.dsn_outcome.specs.declared.action.Action.TheVariants.{Failed}
-use Rattle.dsn_outcome.specs.declared.service.Service.TheVariants.{Bounce}
+use Rattle.dsn_outcome.specs.declared.action.Action.TheVariants.{Failed, Delayed}
+use Rattle.dsn_outcome.specs.declared.service.Service.TheVariants.{Bounce, Defer}
 use Rattle.dsn_frame.specs.BodyFault.{body_fault_code}
 use Rattle.dsn_frame.specs.Frame.{frame, AreFramesOf}
-use Rattle.dsn_frame.specs.Request.{first_body_fault, has_kind, first_own_fault, StandsFor, Encodes, fields_written, request_body}
-use Rattle.dsn_frame.specs.Wire.{AppendFields, FlushFieldsOf, ForgetFields, number_at, number_bytes, text_at, text_bytes, head_at, head_bytes, append_at, append_bytes, flush_at, flush_bytes, own_at, body_at, body_bytes, own_bytes, FitsOwn}
+use Rattle.dsn_frame.specs.Request.{first_body_fault, has_kind, first_own_fault, append_written_as, StandsFor, Encodes, fields_written, request_body}
+use Rattle.dsn_frame.specs.Wire.{AppendFields, FlushFieldsOf, ForgetFields, number_at, number_bytes, text_at, text_bytes, head_at, head_bytes, append_at, append_body_at, append_bytes, retry_at, retry_bytes, flush_at, flush_bytes, own_at, body_at, body_bytes, own_bytes, FitsOwn}
 use Rattle.dsn_frame.specs.declared.frame_fault.FrameFault.TheVariants.{TooLong, Empty, CutShort}
 
 -- the number of the refusal, if the body is refused
@@ -29,12 +29,12 @@ wrong_kind : refused (1 ∷ 4 ∷ []) ≡ Some 22
 unfolding first_body_fault has_kind first_own_fault body_at head_at text_at number_at own_at
 wrong_kind = refl
 
--- a Forget is of version 2, whose first kind is none yet; no version is above it
+-- a Forget is of version 2; no version is above it
 forget_of_version_one : refused (1 ∷ 4 ∷ 0 ∷ 0 ∷ 0 ∷ 0 ∷ 1 ∷ 0 ∷ 2 ∷ 75 ∷ 49 ∷ []) ≡ Some 22
 unfolding first_body_fault has_kind first_own_fault body_at head_at text_at number_at own_at
 forget_of_version_one = refl
 
-append_of_version_two : refused (2 ∷ 1 ∷ []) ≡ Some 22
+append_of_version_two : refused (2 ∷ 1 ∷ []) ≡ Some 23
 unfolding first_body_fault has_kind first_own_fault body_at head_at text_at number_at own_at
 append_of_version_two = refl
 
@@ -91,7 +91,7 @@ flush_body =
     ++ (0 ∷ 0 ∷ 0 ∷ 0 ∷ 0x65 ∷ 0x53 ∷ 0xe2 ∷ 0xf0 ∷ []) ++ (0 ∷ 15 ∷ []) ++ codes "ann@example.com" ++ (0 ∷ 0 ∷ 0 ∷ 0 ∷ [])
 
 append_is_accepted : refused append_body ≡ None
-unfolding first_body_fault has_kind first_own_fault body_at head_at text_at number_at own_at append_at first_outcome_fault
+unfolding first_body_fault has_kind first_own_fault body_at head_at text_at number_at own_at append_at append_body_at first_outcome_fault
 append_is_accepted = refl
 
 flush_is_accepted : refused flush_body ≡ None
@@ -99,7 +99,7 @@ unfolding first_body_fault has_kind first_own_fault body_at head_at text_at numb
 flush_is_accepted = refl
 
 byte_after_append : refused (append_body ++ (0 ∷ [])) ≡ Some 24
-unfolding first_body_fault has_kind first_own_fault body_at head_at text_at number_at own_at append_at
+unfolding first_body_fault has_kind first_own_fault body_at head_at text_at number_at own_at append_at append_body_at
 byte_after_append = refl
 
 -- what they ask
@@ -114,6 +114,8 @@ append_asked =
       mta = None;
       diagnostic = None;
       reason = None;
+      last_attempt = None;
+      retry_until = None;
     })
 
 abbrev pub flush_asked : Body
@@ -132,13 +134,13 @@ append_is_encoded = record {
   wire = AppendFields (record { version = 1; number = 0; service = 1; id = codes "A1B2C3" }) (record { recipient = codes "bob@example.org"; original = []; action = 1; status = codes "5.1.1"; mta = []; diagnostic = []; reason = [] });
   laid_out = refl;
   known = refl;
-  fits = (record { number = lit< tt; id = lit< tt }, record { original = lit< tt; recipient = lit< tt; status = lit< tt; mta = lit< tt; diagnostic = lit< tt; reason = lit< tt });
+  fits = (record { number = lit< tt; id = lit< tt }, (refl, record { original = lit< tt; recipient = lit< tt; status = lit< tt; mta = lit< tt; diagnostic = lit< tt; reason = lit< tt }));
   number_is = refl;
   accepted = refl;
   stands_for = record {
     service_is = refl;
     id_is = refl;
-    outcome_is = record { service_is = refl; recipient_is = refl; original_is = refl; action_is = refl; status_is = refl; mta_is = refl; diagnostic_is = refl; reason_is = refl };
+    outcome_is = record { service_is = refl; recipient_is = refl; original_is = refl; action_is = refl; status_is = refl; mta_is = refl; diagnostic_is = refl; reason_is = refl; last_attempt_is = refl; retry_until_is = refl };
   };
 }
 
@@ -156,7 +158,7 @@ flush_is_encoded = record {
 
 -- and what they ask is written as these bodies
 append_is_written : request_body 0 append_asked ≡ append_body
-unfolding request_body fields_written body_bytes own_bytes head_bytes append_bytes text_bytes number_bytes
+unfolding request_body fields_written append_written_as body_bytes own_bytes head_bytes append_bytes text_bytes number_bytes
 append_is_written = refl
 
 flush_is_written : request_body 1 flush_asked ≡ flush_body
@@ -167,6 +169,52 @@ flush_is_written = refl
 forget_is_written : request_body 0 (Forget (record { service = Bounce; id = codes "K1" })) ≡ 2 ∷ 4 ∷ 0 ∷ 0 ∷ 0 ∷ 0 ∷ 1 ∷ 0 ∷ 2 ∷ 75 ∷ 49 ∷ []
 unfolding request_body fields_written body_bytes own_bytes head_bytes text_bytes number_bytes
 forget_is_written = refl
+
+-- a delayed recipient, with its two moments: the body of a version 2 append, and what it asks
+abbrev with_moments : List ℕ → List ℕ → List ℕ
+with_moments last_attempt retry_until =
+    (2 ∷ 1 ∷ 0 ∷ 0 ∷ 0 ∷ 0 ∷ 2 ∷ 0 ∷ 2 ∷ []) ++ codes "X1" ++ (0 ∷ 0 ∷ 0 ∷ 15 ∷ []) ++ codes "bob@example.org"
+    ++ (2 ∷ 0 ∷ 5 ∷ []) ++ codes "4.4.1" ++ (0 ∷ 0 ∷ 0 ∷ 0 ∷ 0 ∷ 0 ∷ []) ++ last_attempt ++ retry_until
+
+abbrev delayed_body : List ℕ
+delayed_body = with_moments (0 ∷ 0 ∷ 0 ∷ 0 ∷ 0x65 ∷ 0x53 ∷ 0xf1 ∷ 0 ∷ []) (0 ∷ 0 ∷ 0 ∷ 0 ∷ 0x65 ∷ 0x5a ∷ 0x88 ∷ 0x80 ∷ [])
+
+delayed_is_accepted : refused delayed_body ≡ None
+unfolding first_body_fault first_own_fault body_at head_at text_at number_at own_at append_at append_body_at retry_at has_kind first_outcome_fault
+delayed_is_accepted = refl
+
+delayed_is_written :
+    request_body 0 (Append (codes "X1") (record {
+      service = Defer;
+      recipient = codes "bob@example.org";
+      original = None;
+      action = Delayed;
+      status = codes "4.4.1";
+      mta = None;
+      diagnostic = None;
+      reason = None;
+      last_attempt = Some 1700000000;
+      retry_until = Some 1700432000;
+    })) ≡ delayed_body
+unfolding request_body fields_written append_written_as body_bytes own_bytes head_bytes append_bytes retry_bytes text_bytes number_bytes
+delayed_is_written = refl
+
+-- all ones are no moment; a first second of the year 10000 is none
+moments_missing : refused (with_moments (replicate 8 255) (replicate 8 255)) ≡ None
+unfolding first_body_fault first_own_fault body_at head_at text_at number_at own_at append_at append_body_at retry_at has_kind first_outcome_fault
+moments_missing = refl
+
+attempt_in_year_ten_thousand : refused (with_moments (0 ∷ 0 ∷ 0 ∷ 0x3a ∷ 0xff ∷ 0xf4 ∷ 0x41 ∷ 0x80 ∷ []) (replicate 8 255)) ≡ Some 27
+unfolding first_body_fault first_own_fault body_at head_at text_at number_at own_at append_at append_body_at retry_at has_kind first_outcome_fault
+attempt_in_year_ten_thousand = refl
+
+byte_after_moments : refused (with_moments (replicate 8 255) (replicate 9 255)) ≡ Some 24
+unfolding first_body_fault first_own_fault body_at head_at text_at number_at own_at append_at append_body_at retry_at has_kind
+byte_after_moments = refl
+
+moments_cut : refused (with_moments (replicate 8 255) (replicate 7 255)) ≡ Some 23
+unfolding first_body_fault first_own_fault body_at head_at text_at number_at own_at append_at append_body_at retry_at has_kind
+moments_cut = refl
 
 -- the input of this agent is these two frames; where its last byte is missing, one frame, and a fault
 unfoldable pub agent_input : List ℕ
@@ -194,23 +242,23 @@ append_with_status size status =
     ++ (0 ∷ 0 ∷ 0 ∷ 0 ∷ 0 ∷ 0 ∷ [])
 
 status_with_leading_zero : refused (append_with_status 6 (codes "5.01.1")) ≡ Some 4
-unfolding first_body_fault has_kind first_own_fault body_at head_at text_at number_at own_at append_at first_outcome_fault
+unfolding first_body_fault has_kind first_own_fault body_at head_at text_at number_at own_at append_at append_body_at first_outcome_fault
 status_with_leading_zero = refl
 
 status_of_unknown_class : refused (append_with_status 5 (codes "3.0.0")) ≡ Some 4
-unfolding first_body_fault has_kind first_own_fault body_at head_at text_at number_at own_at append_at first_outcome_fault
+unfolding first_body_fault has_kind first_own_fault body_at head_at text_at number_at own_at append_at append_body_at first_outcome_fault
 status_of_unknown_class = refl
 
 status_with_four_digits : refused (append_with_status 8 (codes "5.1000.1")) ≡ Some 4
-unfolding first_body_fault has_kind first_own_fault body_at head_at text_at number_at own_at append_at first_outcome_fault
+unfolding first_body_fault has_kind first_own_fault body_at head_at text_at number_at own_at append_at append_body_at first_outcome_fault
 status_with_four_digits = refl
 
 status_of_success : refused (append_with_status 5 (codes "2.0.0")) ≡ Some 5
-unfolding first_body_fault has_kind first_own_fault body_at head_at text_at number_at own_at append_at first_outcome_fault
+unfolding first_body_fault has_kind first_own_fault body_at head_at text_at number_at own_at append_at append_body_at first_outcome_fault
 status_of_success = refl
 
 status_of_delay : refused (append_with_status 5 (codes "4.4.7")) ≡ None
-unfolding first_body_fault has_kind first_own_fault body_at head_at text_at number_at own_at append_at first_outcome_fault
+unfolding first_body_fault has_kind first_own_fault body_at head_at text_at number_at own_at append_at append_body_at first_outcome_fault
 status_of_delay = refl
 
 -- a length that no frame has

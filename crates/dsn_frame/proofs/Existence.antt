@@ -16,8 +16,8 @@ use Rattle.dsn_outcome.specs.Text.{clean_text}
 use Rattle.dsn_outcome.specs.declared.action.Action.{Action}
 use Rattle.dsn_outcome.specs.declared.service.Service.{Service}
 use Rattle.dsn_frame.specs.BodyFault.{outcome_refusal}
-use Rattle.dsn_frame.specs.Request.{layout_checks, head_checks, first_own_fault, first_field_fault, first_body_fault, or_else, IsWhole, draft_of, StandsFor, Encodes}
-use Rattle.dsn_frame.specs.Wire.{Head, WireBody, AppendFields, FlushFieldsOf, DiscardFields, ForgetFields, head_of, body_at}
+use Rattle.dsn_frame.specs.Request.{layout_checks, head_checks, first_append_fault, undated_fields, dated_fields, IsAppendOf, first_own_fault, first_field_fault, first_body_fault, or_else, IsWhole, draft_of, StandsFor, Encodes}
+use Rattle.dsn_frame.specs.Wire.{Head, WireBody, AppendFields, DatedAppendFields, FlushFieldsOf, DiscardFields, ForgetFields, head_of, body_at}
 use Rattle.dsn_frame.specs.declared.body_fault.BodyFault.{BodyFault}
 use Rattle.dsn_frame.specs.Frame.{frame, declared_length, FramesEnd, AreFramesOf}
 use Rattle.dsn_frame.specs.FrameBody.{IsFrameLength, IsFrameBody}
@@ -56,6 +56,8 @@ outcome_with service fields action = record {
   mta = unless_empty fields.mta;
   diagnostic = unless_empty (clean_text fields.diagnostic);
   reason = unless_empty (clean_text fields.reason);
+  last_attempt = fields.last_attempt;
+  retry_until = fields.retry_until;
 }
 
 action_there : (service : Service) (o : Option Action) → option_map_or (takes service) o false ≡ true → (action : Action) × (o ≡ Some action)
@@ -73,20 +75,30 @@ action_of service fields e =
 service_there : (head : Head) → first_failed (head_checks head) ≡ None → (service : Service) × (service_of_byte head.service ≡ Some service)
 service_there head e = there_is (service_of_byte head.service) (passed _ _ _ e).0
 
-pub body_of_fields : (wire : WireBody) → first_field_fault wire ≡ None → (body : Body) × StandsFor wire body
-unfolding first_own_fault StandsFor outcome_with
-body_of_fields (AppendFields head fields) e =
-    let parts = neither _ _ e in
-    let service = service_there head parts.0 in
-    let own : option_map outcome_refusal (first_outcome_fault service.0 fields) ≡ None = rw service.1 at parts.1 in
+append_of_fields : (head : Head) (fields : Fields) → first_failed (head_checks head) ≡ None → first_append_fault head fields ≡ None → (outcome : Outcome) × IsAppendOf head fields head.id outcome
+unfolding outcome_with
+append_of_fields head fields passes e =
+    let service = service_there head passes in
+    let own : option_map outcome_refusal (first_outcome_fault service.0 fields) ≡ None = rw service.1 at e in
     let action = action_of service.0 fields (unmapped outcome_refusal (first_outcome_fault service.0 fields) own) in (
-      Append head.id (outcome_with service.0 fields action.0),
+      outcome_with service.0 fields action.0,
       record {
         service_is = service.1;
         id_is = refl;
-        outcome_is = record { service_is = refl; recipient_is = refl; original_is = refl; action_is = action.1; status_is = refl; mta_is = refl; diagnostic_is = refl; reason_is = refl };
+        outcome_is = record { service_is = refl; recipient_is = refl; original_is = refl; action_is = action.1; status_is = refl; mta_is = refl; diagnostic_is = refl; reason_is = refl; last_attempt_is = refl; retry_until_is = refl };
       },
     )
+
+pub body_of_fields : (wire : WireBody) → first_field_fault wire ≡ None → (body : Body) × StandsFor wire body
+unfolding first_own_fault StandsFor
+body_of_fields (AppendFields head fields) e =
+    let parts = neither _ _ e in
+    let found = append_of_fields head (undated_fields fields) parts.0 parts.1 in
+    (Append head.id found.0, found.1)
+body_of_fields (DatedAppendFields head fields dates) e =
+    let parts = neither _ _ e in
+    let found = append_of_fields head (dated_fields fields dates) parts.0 (neither _ _ parts.1).1 in
+    (Append head.id found.0, found.1)
 body_of_fields (FlushFieldsOf head fields) e =
     let service = service_there head (neither _ _ e).0 in
     (Flush (record { service = service.0; id = head.id }) (draft_of fields), (record { service_is = service.1; id_is = refl }, refl))

@@ -10,8 +10,8 @@ use Rattle.dsn_outcome.specs.Request.{Body, Append, Flush, Discard, Forget, Bye}
 use Rattle.dsn_outcome.specs.declared.action.Action.{Action}
 use Rattle.dsn_outcome.specs.declared.key.Key.{Key}
 use Rattle.dsn_outcome.specs.declared.service.Service.{Service}
-use Rattle.dsn_frame.specs.Request.{has_kind, layout_checks, first_field_fault, first_body_fault, IsWhole, IsKeyOf, IsAppendOf, StandsFor, Encodes}
-use Rattle.dsn_frame.specs.Wire.{Head, WireBody, AppendFields, FlushFieldsOf, DiscardFields, ForgetFields, is_version, is_kind, is_known, head_of, kind_of, body_bytes, Fits, body_at}
+use Rattle.dsn_frame.specs.Request.{has_kind, layout_checks, first_field_fault, first_body_fault, undated_fields, dated_fields, IsWhole, IsKeyOf, IsAppendOf, StandsFor, Encodes}
+use Rattle.dsn_frame.specs.Wire.{Head, WireBody, AppendFields, DatedAppendFields, FlushFieldsOf, DiscardFields, ForgetFields, is_version, is_kind, is_known, head_of, kind_of, body_bytes, Fits, body_at}
 use Rattle.dsn_frame.specs.declared.body_fault.BodyFault.TheVariants as faults
 use Rattle.dsn_frame.proofs.BodyLaws.{body_again, body_takes}
 use Rattle.dsn_frame.proofs.FieldLaws.{IsBytes, some_is}
@@ -47,8 +47,8 @@ encoded_is_accepted bytes number body encoded =
 
 -- ---- they encode one request
 
-make_outcome : Service → List ℕ → Option (List ℕ) → Action → List ℕ → Option (List ℕ) → Option (List ℕ) → Option (List ℕ) → Outcome
-make_outcome service recipient original action status mta diagnostic reason = record {
+make_outcome : Service → List ℕ → Option (List ℕ) → Action → List ℕ → Option (List ℕ) → Option (List ℕ) → Option (List ℕ) → Option ℕ → Option ℕ → Outcome
+make_outcome service recipient original action status mta diagnostic reason last_attempt retry_until = record {
   service = service;
   recipient = recipient;
   original = original;
@@ -57,15 +57,18 @@ make_outcome service recipient original action status mta diagnostic reason = re
   mta = mta;
   diagnostic = diagnostic;
   reason = reason;
+  last_attempt = last_attempt;
+  retry_until = retry_until;
 }
 
-made_of : (o : Outcome) → make_outcome o.service o.recipient o.original o.action o.status o.mta o.diagnostic o.reason ≡ o
+made_of : (o : Outcome) → make_outcome o.service o.recipient o.original o.action o.status o.mta o.diagnostic o.reason o.last_attempt o.retry_until ≡ o
 unfolding make_outcome
 made_of o = refl
 
 same_outcome : (a b : Outcome) → a.service ≡ b.service → a.recipient ≡ b.recipient → a.original ≡ b.original → a.action ≡ b.action
-    → a.status ≡ b.status → a.mta ≡ b.mta → a.diagnostic ≡ b.diagnostic → a.reason ≡ b.reason → a ≡ b
-same_outcome a b service recipient original action status mta diagnostic reason = let x = made_of a in let y = made_of b in cc
+    → a.status ≡ b.status → a.mta ≡ b.mta → a.diagnostic ≡ b.diagnostic → a.reason ≡ b.reason → a.last_attempt ≡ b.last_attempt
+    → a.retry_until ≡ b.retry_until → a ≡ b
+same_outcome a b service recipient original action status mta diagnostic reason last_attempt retry_until = let x = made_of a in let y = made_of b in cc
 
 same_key : (a b : Key) → a.service ≡ b.service → a.id ≡ b.id → a ≡ b
 same_key a b service id =
@@ -86,12 +89,17 @@ same_outcome_of head fields i j a b p q =
     (p.outcome_is.mta_is ∙ sym q.outcome_is.mta_is)
     (p.outcome_is.diagnostic_is ∙ sym q.outcome_is.diagnostic_is)
     (p.outcome_is.reason_is ∙ sym q.outcome_is.reason_is)
+    (p.outcome_is.last_attempt_is ∙ sym q.outcome_is.last_attempt_is)
+    (p.outcome_is.retry_until_is ∙ sym q.outcome_is.retry_until_is)
+
+same_append : (head : Head) (fields : Fields) (i j : List ℕ) (a b : Outcome) → IsAppendOf head fields i a → IsAppendOf head fields j b → Append i a ≡ Append j b
+same_append head fields i j a b p q =
+    ap (λ (id : List ℕ). Append id a) (p.id_is ∙ sym q.id_is) ∙ ap (λ (o : Outcome). Append j o) (same_outcome_of head fields i j a b p q)
 
 -- fields stand for one body
 pub same_body : (wire : WireBody) (a b : Body) → StandsFor wire a → StandsFor wire b → a ≡ b
 unfolding StandsFor
-same_body (AppendFields head fields) (Append i a) (Append j b) p q =
-    ap (λ (id : List ℕ). Append id a) (p.id_is ∙ sym q.id_is) ∙ ap (λ (o : Outcome). Append j o) (same_outcome_of head fields i j a b p q)
+same_body (AppendFields head fields) (Append i a) (Append j b) p q = same_append head (undated_fields fields) i j a b p q
 same_body (AppendFields head fields) (Append i a) (Flush k e) p q = absurd q
 same_body (AppendFields head fields) (Append i a) (Discard k) p q = absurd q
 same_body (AppendFields head fields) (Append i a) (Forget k) p q = absurd q
@@ -100,6 +108,15 @@ same_body (AppendFields head fields) (Flush k e) b p q = absurd p
 same_body (AppendFields head fields) (Discard k) b p q = absurd p
 same_body (AppendFields head fields) (Forget k) b p q = absurd p
 same_body (AppendFields head fields) Bye b p q = absurd p
+same_body (DatedAppendFields head fields dates) (Append i a) (Append j b) p q = same_append head (dated_fields fields dates) i j a b p q
+same_body (DatedAppendFields head fields dates) (Append i a) (Flush k e) p q = absurd q
+same_body (DatedAppendFields head fields dates) (Append i a) (Discard k) p q = absurd q
+same_body (DatedAppendFields head fields dates) (Append i a) (Forget k) p q = absurd q
+same_body (DatedAppendFields head fields dates) (Append i a) Bye p q = absurd q
+same_body (DatedAppendFields head fields dates) (Flush k e) b p q = absurd p
+same_body (DatedAppendFields head fields dates) (Discard k) b p q = absurd p
+same_body (DatedAppendFields head fields dates) (Forget k) b p q = absurd p
+same_body (DatedAppendFields head fields dates) Bye b p q = absurd p
 same_body (FlushFieldsOf head fields) (Flush k d) (Flush l e) p q =
     ap (λ (key : Key). Flush key d) (same_key_of head k l p.0 q.0) ∙ ap (λ (draft : Draft). Flush l draft) (p.1 ∙ sym q.1)
 same_body (FlushFieldsOf head fields) (Flush k d) (Append i a) p q = absurd q
@@ -176,6 +193,7 @@ whole_encodes bytes wire body fits whole accepted stands =
 no_goodbye_for : (wire : WireBody) → StandsFor wire Bye → ⊥
 unfolding StandsFor
 no_goodbye_for (AppendFields head fields) stands = stands
+no_goodbye_for (DatedAppendFields head fields dates) stands = stands
 no_goodbye_for (FlushFieldsOf head fields) stands = stands
 no_goodbye_for (DiscardFields head) stands = stands
 no_goodbye_for (ForgetFields head) stands = stands

@@ -16,10 +16,10 @@ use Rattle.dsn_outcome.specs.declared.service.Service.{Service}
 use Rattle.dsn_frame.specs.BodyFault.{body_fault_code, outcome_refusal}
 use Rattle.dsn_frame.specs.Frame.{frame, FramesEnd, ReadsNext}
 use Rattle.dsn_frame.specs.FrameBody.{IsFrameBody}
-use Rattle.dsn_frame.specs.Request.{Encodes, layout_checks, head_checks, flush_checks, or_else, first_own_fault, first_field_fault, first_body_fault}
+use Rattle.dsn_frame.specs.Request.{Encodes, layout_checks, head_checks, flush_checks, retry_checks, undated_fields, dated_fields, or_else, first_append_fault, first_own_fault, first_field_fault, first_body_fault}
 use Rattle.dsn_frame.specs.Session.{Medium, faulty, out_of_turn, used_up, asked, written, IsSession, IsOpenSession}
 use Rattle.dsn_frame.specs.SessionLaws.{is_from_outside, IsDecided, RepliesAre, SessionWith, HasSomeSession}
-use Rattle.dsn_frame.specs.Wire.{WireBody, AppendFields, FlushFieldsOf, DiscardFields, ForgetFields, head_of, body_at}
+use Rattle.dsn_frame.specs.Wire.{WireBody, AppendFields, DatedAppendFields, FlushFieldsOf, DiscardFields, ForgetFields, head_of, body_at}
 use Rattle.dsn_frame.specs.declared.body_fault.BodyFault.{BodyFault}
 use Rattle.dsn_frame.specs.declared.frame_fault.FrameFault.{FrameFault}
 use Rattle.dsn_frame.specs.declared.frame_fault.FrameFault.TheVariants.{NoMemory, TooLong, Empty, CutShort, Read}
@@ -55,22 +55,25 @@ outcome_checks_from_bytes (check ∷ rest) all = outcome_checked check.0 check.1
 outcome_from_bytes : (service : Service) (fields : Fields) → ComesFromBytes (option_map outcome_refusal (first_outcome_fault service fields))
 unfolding first_outcome_fault
 outcome_from_bytes service fields =
-    outcome_checks_from_bytes (outcome_checks service fields) (refl, (refl, (refl, (refl, (refl, (refl, (refl, (refl, tt))))))))
+    outcome_checks_from_bytes (outcome_checks service fields) (refl, (refl, (refl, (refl, (refl, (refl, (refl, (refl, (refl, tt)))))))))
 
 append_from_bytes : (fields : Fields) (service : Option Service) → ComesFromBytes (option_and_then (λ service. option_map outcome_refusal (first_outcome_fault service fields)) service)
 append_from_bytes fields None = refl
 append_from_bytes fields (Some service) = outcome_from_bytes service fields
 
-own_from_bytes : (wire : WireBody) → ComesFromBytes (first_own_fault wire)
-unfolding first_own_fault
-own_from_bytes (AppendFields head fields) = append_from_bytes fields (service_of_byte head.service)
-own_from_bytes (FlushFieldsOf head fields) = checks_from_bytes (flush_checks fields) (refl, (refl, (refl, (refl, tt))))
-own_from_bytes (DiscardFields head) = refl
-own_from_bytes (ForgetFields head) = refl
-
 either : (first later : Option BodyFault) → ComesFromBytes first → ComesFromBytes later → ComesFromBytes (or_else first later)
 either None later here after = after
 either (Some fault) later here after = here
+
+own_from_bytes : (wire : WireBody) → ComesFromBytes (first_own_fault wire)
+unfolding first_own_fault
+own_from_bytes (AppendFields head fields) = append_from_bytes (undated_fields fields) (service_of_byte head.service)
+own_from_bytes (DatedAppendFields head fields dates) =
+    either (first_failed (retry_checks dates)) (first_append_fault head (dated_fields fields dates)) (checks_from_bytes (retry_checks dates) (refl, tt))
+    (append_from_bytes (dated_fields fields dates) (service_of_byte head.service))
+own_from_bytes (FlushFieldsOf head fields) = checks_from_bytes (flush_checks fields) (refl, (refl, (refl, (refl, tt))))
+own_from_bytes (DiscardFields head) = refl
+own_from_bytes (ForgetFields head) = refl
 
 fields_from_bytes : (wire : WireBody) → ComesFromBytes (first_field_fault wire)
 fields_from_bytes wire = either (first_failed (head_checks (head_of wire))) (first_own_fault wire) (checks_from_bytes (head_checks (head_of wire)) (refl, (refl, tt))) (own_from_bytes wire)

@@ -4,7 +4,7 @@ use Rattle.dsn_outcome.specs.OutcomeFault.{outcome_fault_code}
 use Rattle.dsn_outcome.specs.declared.outcome_fault.OutcomeFault.{OutcomeFault}
 use Rattle.dsn_outcome.specs.declared.outcome_fault.OutcomeFault.TheVariants as outcome
 use Rattle.dsn_frame.specs.declared.body_fault.BodyFault.{BodyFault}
-use Rattle.dsn_frame.specs.declared.body_fault.BodyFault.TheVariants.{Version, Kind, Short, Extra, Service, QueueId, Outcome, Moment, Header, ReturnPath, EnvelopeId, NoMemory}
+use Rattle.dsn_frame.specs.declared.body_fault.BodyFault.TheVariants.{Version, Kind, Short, Extra, Service, QueueId, Moment, Outcome, Header, ReturnPath, EnvelopeId, NoMemory}
 
 abbrev pub body_fault_code : BodyFault → ℕ
 body_fault_code Version = 21
@@ -13,8 +13,8 @@ body_fault_code Short = 23
 body_fault_code Extra = 24
 body_fault_code Service = 25
 body_fault_code QueueId = 26
-body_fault_code (Outcome fault) = outcome_fault_code fault
 body_fault_code Moment = 27
+body_fault_code (Outcome fault) = outcome_fault_code fault
 body_fault_code Header = 28
 body_fault_code ReturnPath = 29
 body_fault_code EnvelopeId = 30

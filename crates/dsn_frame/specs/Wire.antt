@@ -1,8 +1,7 @@
 -- The fields of a request's body as they stand in it, from left to right, before any is judged (this project's
 -- profile, versions 1 and 2).
-use Rattle.std.specs.Prelude.{ℕ, ◌<◌, ◌^◌, List, [], ◌∷◌, ◌++◌, length, take, drop, Option, Some, None, Bool, ◌&&◌, nat_lt, nat_le, ◌==◌, if◌then◌else◌}
+use Rattle.std.specs.Prelude.{◌≡◌, ℕ, ◌<◌, ◌^◌, List, [], ◌∷◌, ◌++◌, length, take, drop, Option, Some, None, Bool, true, false, ◌&&◌, nat_lt, nat_le, ◌==◌, if◌then◌else◌}
 use Rattle.std.specs.Int.{Width, w16, w32, w64, byte_len, to_be_bytes, from_be_bytes}
-use Rattle.dsn_outcome.specs.Outcome.{Fields}
 
 -- what every body begins with: its version, and after its kind its number on the connection, the byte of its
 -- service, and the queue id of its message
@@ -11,6 +10,22 @@ pub record Head : Type 0 where
   pub number : ℕ
   pub service : ℕ
   pub id : List ℕ
+
+-- what an append says of its recipient in each version; an empty text means that there is none
+pub record RecipientFields : Type 0 where
+  pub recipient : List ℕ
+  pub original : List ℕ
+  pub action : ℕ
+  pub status : List ℕ
+  pub mta : List ℕ
+  pub diagnostic : List ℕ
+  pub reason : List ℕ
+
+-- what an append of version 2 goes on with: when delivery was last tried, and until when it is tried again, in seconds
+-- since 1970; all ones mean that it isn't said
+pub record RetryFields : Type 0 where
+  pub last_attempt : ℕ
+  pub retry_until : ℕ
 
 -- what a flush goes on with: moment and arrival in seconds since 1970, the return path, the envelope id and the
 -- returned header; an empty text means that there is none
@@ -21,15 +36,17 @@ pub record FlushFields : Type 0 where
   pub envelope_id : List ℕ
   pub header : List ℕ
 
--- a body's fields: of an append those of an outcome, of a flush its own, of a discard and of a Forget no more
+-- a body's fields: of an append those of its recipient, after version 1 with its two moments, of a flush its own, of a discard and of a Forget no more
 pub data WireBody : Type 0 where
-  AppendFields : Head → Fields → WireBody
+  AppendFields : Head → RecipientFields → WireBody
+  DatedAppendFields : Head → RecipientFields → RetryFields → WireBody
   FlushFieldsOf : Head → FlushFields → WireBody
   DiscardFields : Head → WireBody
   ForgetFields : Head → WireBody
 
 abbrev pub head_of : WireBody → Head
 head_of (AppendFields head fields) = head
+head_of (DatedAppendFields head fields dates) = head
 head_of (FlushFieldsOf head fields) = head
 head_of (DiscardFields head) = head
 head_of (ForgetFields head) = head
@@ -47,10 +64,13 @@ text_bytes text = number_bytes w16 (length text) ++ text
 unfoldable pub head_bytes : Head → List ℕ
 head_bytes head = number_bytes w32 head.number ++ (head.service ∷ text_bytes head.id)
 
-unfoldable pub append_bytes : Fields → List ℕ
+unfoldable pub append_bytes : RecipientFields → List ℕ
 append_bytes fields =
     text_bytes fields.original ++ (text_bytes fields.recipient ++ (fields.action ∷ (text_bytes fields.status
     ++ (text_bytes fields.mta ++ (text_bytes fields.diagnostic ++ text_bytes fields.reason)))))
+
+unfoldable pub retry_bytes : RetryFields → List ℕ
+retry_bytes dates = number_bytes w64 dates.last_attempt ++ number_bytes w64 dates.retry_until
 
 unfoldable pub flush_bytes : FlushFields → List ℕ
 flush_bytes fields =
@@ -60,6 +80,7 @@ flush_bytes fields =
 -- the byte of a body's kind
 abbrev pub kind_of : WireBody → ℕ
 kind_of (AppendFields head fields) = 1
+kind_of (DatedAppendFields head fields dates) = 1
 kind_of (FlushFieldsOf head fields) = 2
 kind_of (DiscardFields head) = 3
 kind_of (ForgetFields head) = 4
@@ -70,7 +91,7 @@ is_version version = nat_le 1 version && nat_le version 2
 
 -- the kinds of a version: a Forget is of version 2 alone, whose flushes and discards are those of version 1
 abbrev pub is_kind : ℕ → ℕ → Bool
-is_kind version kind = if version == 1 then nat_le 1 kind && nat_le kind 3 else nat_le 2 kind && nat_le kind 4
+is_kind version kind = if version == 1 then nat_le 1 kind && nat_le kind 3 else nat_le 1 kind && nat_le kind 4
 
 -- a body's version is one, and its kind one of it
 abbrev pub is_known : WireBody → Bool
@@ -79,6 +100,7 @@ is_known wire = is_version (head_of wire).version && is_kind (head_of wire).vers
 -- the fields that a kind of body goes on with
 unfoldable pub own_bytes : WireBody → List ℕ
 own_bytes (AppendFields head fields) = append_bytes fields
+own_bytes (DatedAppendFields head fields dates) = append_bytes fields ++ retry_bytes dates
 own_bytes (FlushFieldsOf head fields) = flush_bytes fields
 own_bytes (DiscardFields head) = []
 own_bytes (ForgetFields head) = []
@@ -97,13 +119,17 @@ pub record FitsHead (head : Head) : Type 0 where
   pub number : head.number < 2 ^ 32
   pub id : FitsText head.id
 
-pub record FitsAppend (fields : Fields) : Type 0 where
+pub record FitsAppend (fields : RecipientFields) : Type 0 where
   pub original : FitsText fields.original
   pub recipient : FitsText fields.recipient
   pub status : FitsText fields.status
   pub mta : FitsText fields.mta
   pub diagnostic : FitsText fields.diagnostic
   pub reason : FitsText fields.reason
+
+pub record FitsRetry (dates : RetryFields) : Type 0 where
+  pub last_attempt : dates.last_attempt < 2 ^ 64
+  pub retry_until : dates.retry_until < 2 ^ 64
 
 pub record FitsFlush (fields : FlushFields) : Type 0 where
   pub moment : fields.moment < 2 ^ 64
@@ -113,7 +139,8 @@ pub record FitsFlush (fields : FlushFields) : Type 0 where
   pub header : FitsText fields.header
 
 unfoldable pub FitsOwn : WireBody → Type 0
-FitsOwn (AppendFields head fields) = FitsAppend fields
+FitsOwn (AppendFields head fields) = ((head.version == 1) ≡ true) × FitsAppend fields
+FitsOwn (DatedAppendFields head fields dates) = ((head.version == 1) ≡ false) × (FitsAppend fields × FitsRetry dates)
 FitsOwn (FlushFieldsOf head fields) = FitsFlush fields
 FitsOwn (DiscardFields head) = Unit {0}
 FitsOwn (ForgetFields head) = Unit {0}
@@ -151,7 +178,7 @@ head_at version bytes = do
   id ← text_at service.1
   Some (record { version = version; number = number.0; service = service.0; id = id.0 }, id.1)
 
-unfoldable pub append_at : List ℕ → Option (Fields × List ℕ)
+unfoldable pub append_at : List ℕ → Option (RecipientFields × List ℕ)
 append_at bytes = do
   original ← text_at bytes
   recipient ← text_at original.1
@@ -161,6 +188,18 @@ append_at bytes = do
   diagnostic ← text_at mta.1
   reason ← text_at diagnostic.1
   Some (record { recipient = recipient.0; original = original.0; action = action.0; status = status.0; mta = mta.0; diagnostic = diagnostic.0; reason = reason.0 }, reason.1)
+
+unfoldable pub retry_at : List ℕ → Option (RetryFields × List ℕ)
+retry_at bytes = do
+  last_attempt ← number_at w64 bytes
+  retry_until ← number_at w64 last_attempt.1
+  Some (record { last_attempt = last_attempt.0; retry_until = retry_until.0 }, retry_until.1)
+
+-- an append that begins with this head: after version 1 its two moments follow
+unfoldable pub append_body_at : Head → List ℕ → Option (WireBody × List ℕ)
+append_body_at head bytes =
+    if head.version == 1 then (append_at bytes >>= λ fields. Some (AppendFields head fields.0, fields.1))
+    else (append_at bytes >>= λ fields. retry_at fields.1 >>= λ dates. Some (DatedAppendFields head fields.0 dates.0, dates.1))
 
 unfoldable pub flush_at : List ℕ → Option (FlushFields × List ℕ)
 flush_at bytes = do
@@ -174,7 +213,7 @@ flush_at bytes = do
 -- the body of this kind that begins with this head
 unfoldable pub own_at : ℕ → Head → List ℕ → Option (WireBody × List ℕ)
 own_at kind head bytes =
-    if kind == 1 then (append_at bytes >>= λ fields. Some (AppendFields head fields.0, fields.1))
+    if kind == 1 then append_body_at head bytes
     else (if kind == 2 then (flush_at bytes >>= λ fields. Some (FlushFieldsOf head fields.0, fields.1))
     else (if kind == 3 then Some (DiscardFields head, bytes)
     else (if kind == 4 then Some (ForgetFields head, bytes) else None)))

@@ -26,12 +26,12 @@ pub enum BodyFault {
     /// The queue id is none.
     #[error("the queue id is none")]
     QueueId,
+    /// A moment of a flush or of an append is after the year 9999.
+    #[error("a moment is after the year 9999")]
+    Moment,
     /// The outcome of an append is refused.
     #[error("the outcome is refused")]
     Outcome(OutcomeFault),
-    /// The moment or the arrival of a flush is after the year 9999.
-    #[error("a moment is after the year 9999")]
-    Moment,
     /// The returned header of a flush has more than 32,768 bytes.
     #[error("the returned header has more than 32,768 bytes")]
     Header,
@@ -47,7 +47,7 @@ pub enum BodyFault {
 }
 
 impl BodyFault {
-    /// The number of the refusal, 1 to 9 or 21 to 30, as an answer carries it.
+    /// The number of the refusal, 1 to 10 or 21 to 30, as an answer carries it.
     pub fn code(&self) -> u32
         ensures { result ≡ body_fault_code self.now }
     {
@@ -58,8 +58,8 @@ impl BodyFault {
             BodyFault::Extra => 24,
             BodyFault::Service => 25,
             BodyFault::QueueId => 26,
-            BodyFault::Outcome(fault) => fault.code(),
             BodyFault::Moment => 27,
+            BodyFault::Outcome(fault) => fault.code(),
             BodyFault::Header => 28,
             BodyFault::ReturnPath => 29,
             BodyFault::EnvelopeId => 30,

@@ -1,19 +1,22 @@
 //! Bodies to requests.
-ghost use Rattle.std.specs.Prelude.{◌≡◌, ◌≢◌, [], IfOk, IfErr, OnOk, Some, None, unwrap_or};
+ghost use Rattle.std.specs.Prelude.{◌≡◌, ◌≢◌, [], true, false, IfOk, IfErr, OnOk, Some, None, unwrap_or};
+ghost use Rattle.std.specs.Option.{option_map};
 ghost use Rattle.dsn_outcome.specs.Body.{body_of};
-ghost use Rattle.dsn_outcome.specs.Outcome.{first_failed};
+ghost use Rattle.dsn_outcome.specs.Outcome.{IsOutcomeOf, first_failed, first_outcome_fault, is_none_or};
 ghost use Rattle.dsn_outcome.specs.Request.{Bye};
-ghost use Rattle.dsn_frame.specs.BodyParts.{head_in, flush_fields_in, wire_body_in};
+ghost use Rattle.dsn_outcome.specs.Stamp.{is_moment};
+ghost use Rattle.dsn_frame.specs.BodyFault.{outcome_refusal};
+ghost use Rattle.dsn_frame.specs.BodyParts.{head_in, recipient_fields_in, retry_fields_in, flush_fields_in, wire_body_in};
 ghost use Rattle.dsn_frame.specs.Wire.{body_at, head_of};
-ghost use Rattle.dsn_frame.specs.Request.{Encodes, IsKeyOf, IsWhole, StandsFor, draft_of, first_body_fault, first_own_fault, flush_checks, has_kind, head_checks, layout_checks};
+ghost use Rattle.dsn_frame.specs.Request.{Encodes, IsKeyOf, IsWhole, StandsFor, draft_of, first_body_fault, first_own_fault, flush_checks, moment_if_any, outcome_fields, retry_checks, has_kind, head_checks, layout_checks};
 
 use crate::body_fault::BodyFault;
 use crate::optional::{
     is_optional_address, is_optional_envelope_id, optional_address, optional_envelope_id,
 };
-use crate::parts::{BodyParts, FlushParts, HeadParts};
+use crate::parts::{BodyParts, FlushParts, HeadParts, NO_MOMENT, RecipientParts, RetryParts};
 use crate::{SECOND_VERSION, VERSION, reading};
-use dsn_outcome::{Body, Draft, Key, Outcome, QueueId, RawHeader, Service, Stamp};
+use dsn_outcome::{Body, Draft, Key, Node, Outcome, Parts, QueueId, RawHeader, Service, Stamp};
 use std::alloc::Global;
 
 /// The request that a body stands for, with its number on the connection. It is never a goodbye.
@@ -62,7 +65,7 @@ fn has_kind(bytes: &[u8]) -> bool
 {
     match bytes {
         [VERSION, kind, ..] => 1 <= *kind && *kind <= 3,
-        [_, kind, ..] => 2 <= *kind && *kind <= 4,
+        [_, kind, ..] => 1 <= *kind && *kind <= 4,
         _ => true,
     }
 }
@@ -88,12 +91,71 @@ fn body_about(alloc: Global, key: Key, parts: BodyParts<'_>) -> Result<Body, Bod
 {
     match parts {
         BodyParts::Append(_, fields) => {
-            let node = Outcome::new(alloc, key.service, fields)?;
+            let node = outcome_from(alloc, key.service, fields, None, None)?;
+            Ok(Body::Append(key.id, node))
+        }
+        BodyParts::DatedAppend(_, fields, dates) => {
+            let (last_attempt, retry_until) = checked_dates(dates)?;
+            let node = outcome_from(alloc, key.service, fields, last_attempt, retry_until)?;
             Ok(Body::Append(key.id, node))
         }
         BodyParts::Flush(_, fields) => Ok(Body::Flush(key, draft_from(alloc, fields)?)),
         BodyParts::Discard(_) => Ok(Body::Discard(key)),
         BodyParts::Forget(_) => Ok(Body::Forget(key)),
+    }
+}
+
+/// The outcome of a service that an append's fields and these moments stand for.
+fn outcome_from(
+    alloc: Global,
+    service: Service,
+    fields: RecipientParts<'_>,
+    last_attempt: Option<Stamp>,
+    retry_until: Option<Stamp>,
+) -> Result<Box<Node>, BodyFault>
+    ensures kept { IfOk result (λ node. IsOutcomeOf service (outcome_fields (recipient_fields_in fields.entry) last_attempt retry_until) node.value.outcome) }
+    ensures accepted { OnOk result (first_outcome_fault service (outcome_fields (recipient_fields_in fields.entry) last_attempt retry_until) ≡ None) }
+    ensures refused { IfErr result (λ fault. fault ≡ unwrap_or (option_map outcome_refusal (first_outcome_fault service (outcome_fields (recipient_fields_in fields.entry) last_attempt retry_until))) BodyFault.NoMemory) }
+{
+    let parts = Parts {
+        recipient: fields.recipient,
+        original: fields.original,
+        action: fields.action,
+        status: fields.status,
+        mta: fields.mta,
+        diagnostic: fields.diagnostic,
+        reason: fields.reason,
+        last_attempt,
+        retry_until,
+    };
+    Ok(Outcome::new(alloc, service, parts)?)
+}
+
+/// The two moments of an append, if each is a moment or none.
+fn checked_dates(dates: RetryParts) -> Result<(Option<Stamp>, Option<Stamp>), BodyFault>
+    ensures last_attempt { IfOk result (λ moments. moments.0 ≡ moment_if_any dates.last_attempt) }
+    ensures retry_until { IfOk result (λ moments. moments.1 ≡ moment_if_any dates.retry_until) }
+    ensures accepted { OnOk result (first_failed (retry_checks (retry_fields_in dates)) ≡ None) }
+    ensures refused { IfErr result (λ fault. first_failed (retry_checks (retry_fields_in dates)) ≡ Some fault) }
+{
+    let last_attempt = checked_date(dates.last_attempt)?;
+    let retry_until = checked_date(dates.retry_until)?;
+    Ok((last_attempt, retry_until))
+}
+
+/// The moment that a number stands for, if it is one or stands for none.
+fn checked_date(seconds: u64) -> Result<Option<Stamp>, BodyFault>
+    ensures moment { IfOk result (λ moment. moment ≡ moment_if_any seconds) }
+    ensures accepted { OnOk result (is_none_or is_moment (moment_if_any seconds) ≡ true) }
+    ensures refused { IfErr result (λ fault. fault ≡ BodyFault.Moment) }
+    ensures after { IfErr result (λ fault. is_none_or is_moment (moment_if_any seconds) ≡ false) }
+{
+    if seconds == NO_MOMENT {
+        return Ok(None);
+    }
+    match Stamp::new(seconds) {
+        Some(moment) => Ok(Some(moment)),
+        None => Err(BodyFault::Moment),
     }
 }
 

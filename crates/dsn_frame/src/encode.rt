@@ -3,19 +3,18 @@ ghost use Rattle.std.specs.Prelude.{◌≡◌, ◌≢◌, Some, IfOk, IsTrue};
 ghost use Rattle.std.specs.Option.{option_copied};
 ghost use Rattle.dsn_outcome.specs.Body.{body_of};
 ghost use Rattle.dsn_outcome.specs.Draft.{IsLegalDraft};
-ghost use Rattle.dsn_outcome.specs.Outcome.{is_none_or};
-ghost use Rattle.dsn_outcome.specs.Parts.{fields_of};
+ghost use Rattle.dsn_outcome.specs.Outcome.{IsLegalOutcome, is_none_or};
 ghost use Rattle.dsn_outcome.specs.Request.{Bye as Goodbye};
 ghost use Rattle.dsn_outcome.specs.Text.{IsQueueId, is_address, is_envelope_id};
-ghost use Rattle.dsn_frame.specs.BodyParts.{head_in, flush_fields_in, wire_body_in};
+ghost use Rattle.dsn_frame.specs.BodyParts.{head_in, recipient_fields_in, retry_fields_in, flush_fields_in, wire_body_in};
 ghost use Rattle.dsn_frame.specs.FrameBody.{IsFrameBody};
-ghost use Rattle.dsn_frame.specs.Request.{Encodes, IsWritten, fields_for, fields_written, flush_fields_for, head_for, request_body, request_bytes, text_or_empty};
+ghost use Rattle.dsn_frame.specs.Request.{Encodes, IsWritten, append_written_as, fields_for, moment_or_none, retry_fields_for, fields_written, flush_fields_for, head_for, request_body, request_bytes, text_or_empty};
 
-use crate::parts::{BodyParts, FlushParts, HeadParts};
+use crate::parts::{BodyParts, FlushParts, HeadParts, NO_MOMENT, RecipientParts, RetryParts};
 use crate::writing::{body_len, push_frame};
 use crate::{SECOND_VERSION, VERSION};
 use dsn_outcome::{
-    Address, Body, Clean, Draft, EnvelopeId, MtaName, NoMemory, Outcome, Parts, QueueId, Service,
+    Address, Body, Clean, Draft, EnvelopeId, MtaName, NoMemory, Outcome, QueueId, Service, Stamp,
 };
 use std::alloc::Global;
 
@@ -46,11 +45,7 @@ fn parts_of(number: u32, body: &Body) -> BodyParts<'_>
     ensures written { IsWritten number (body_of body.now) (wire_body_in result) }
 {
     match body {
-        Body::Append(id, node) => {
-            let outcome = node.outcome();
-            let head = head_parts(VERSION, number, outcome.service(), id);
-            BodyParts::Append(head, append_parts(outcome))
-        }
+        Body::Append(id, node) => { append_parts(number, id, node.outcome()) }
         Body::Flush(key, draft) => {
             let head = head_parts(VERSION, number, key.service, &key.id);
             BodyParts::Flush(head, flush_parts(draft))
@@ -78,11 +73,51 @@ fn head_parts(version: u8, number: u32, service: Service, id: &QueueId) -> HeadP
     }
 }
 
-/// The fields of an outcome.
-fn append_parts(outcome: &Outcome) -> Parts<'_>
-    ensures { fields_of result ≡ fields_for outcome.now }
+/// The fields of an append.
+#[tactic(auto, unfolding(crate::specs::Request::append_written_as))]
+fn append_parts<'a>(number: u32, id: &'a QueueId, outcome: &'a Outcome) -> BodyParts<'a>
+    ensures same { wire_body_in result ≡ append_written_as number id.now outcome.now }
+    ensures id_legal { IsQueueId id.now }
+    ensures legal { IsLegalOutcome outcome.now }
 {
-    Parts {
+    let service = outcome.service();
+    let fields = recipient_parts(outcome);
+    let dates = retry_parts(outcome);
+    if outcome.last_attempt().is_none() && outcome.retry_until().is_none() {
+        return BodyParts::Append(head_parts(VERSION, number, service, id), fields);
+    }
+    BodyParts::DatedAppend(
+        head_parts(SECOND_VERSION, number, service, id),
+        fields,
+        dates,
+    )
+}
+
+/// The two moments of an outcome.
+fn retry_parts(outcome: &Outcome) -> RetryParts
+    ensures { retry_fields_in result ≡ retry_fields_for outcome.now }
+{
+    RetryParts {
+        last_attempt: seconds_or_none(outcome.last_attempt()),
+        retry_until: seconds_or_none(outcome.retry_until()),
+    }
+}
+
+/// The seconds of a moment, or the number that stands for none.
+fn seconds_or_none(moment: Option<Stamp>) -> u64
+    ensures { result ≡ moment_or_none moment }
+{
+    match moment {
+        Some(moment) => moment.seconds(),
+        None => NO_MOMENT,
+    }
+}
+
+/// The fields of an outcome but for its moments.
+fn recipient_parts(outcome: &Outcome) -> RecipientParts<'_>
+    ensures { recipient_fields_in result ≡ fields_for outcome.now }
+{
+    RecipientParts {
         recipient: outcome.recipient().bytes(),
         original: address_text(outcome.original()),
         action: outcome.action().byte(),

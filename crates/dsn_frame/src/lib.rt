@@ -35,5 +35,5 @@ pub use spoken::Spoken;
 /// The first version of the format: the first byte of each answer's body, and of most requests'.
 const VERSION: u8 = 1;
 
-/// The second version: the first byte of a Forget's body.
+/// The second version: the first byte of a Forget's body, and of an append's with moments.
 const SECOND_VERSION: u8 = 2;

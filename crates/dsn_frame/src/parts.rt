@@ -1,5 +1,4 @@
 //! The fields of a body as they stand in it, before any is judged.
-use dsn_outcome::Parts;
 
 /// What every body begins with; its kind stands after its version.
 #[derive(Clone, Copy)]
@@ -13,6 +12,38 @@ pub(crate) struct HeadParts<'a> {
     /// The queue id of the message.
     pub(crate) id: &'a [u8],
 }
+
+/// What an append says of its recipient. An empty text means that there is none.
+#[derive(Clone, Copy)]
+pub(crate) struct RecipientParts<'a> {
+    /// The final recipient.
+    pub(crate) recipient: &'a [u8],
+    /// The recipient as the sender gave it.
+    pub(crate) original: &'a [u8],
+    /// The byte of the action.
+    pub(crate) action: u8,
+    /// The status code.
+    pub(crate) status: &'a [u8],
+    /// The remote system's name.
+    pub(crate) mta: &'a [u8],
+    /// What the remote system said.
+    pub(crate) diagnostic: &'a [u8],
+    /// The agent's own words for people.
+    pub(crate) reason: &'a [u8],
+}
+
+/// What an append of the second version goes on with, in seconds since 1970; [`NO_MOMENT`] means
+/// that it isn't said.
+#[derive(Clone, Copy)]
+pub(crate) struct RetryParts {
+    /// When delivery was last tried.
+    pub(crate) last_attempt: u64,
+    /// Until when delivery is tried again.
+    pub(crate) retry_until: u64,
+}
+
+/// The number that stands for no moment.
+pub(crate) const NO_MOMENT: u64 = u64::MAX;
 
 /// What a flush goes on with. An empty text means that there is none.
 #[derive(Clone, Copy)]
@@ -33,7 +64,9 @@ pub(crate) struct FlushParts<'a> {
 #[derive(Clone, Copy)]
 pub(crate) enum BodyParts<'a> {
     /// An outcome to be logged.
-    Append(HeadParts<'a>, Parts<'a>),
+    Append(HeadParts<'a>, RecipientParts<'a>),
+    /// An outcome to be logged, with its two moments.
+    DatedAppend(HeadParts<'a>, RecipientParts<'a>, RetryParts),
     /// A notice to be made.
     Flush(HeadParts<'a>, FlushParts<'a>),
     /// A log to be dropped.
@@ -53,6 +86,7 @@ impl<'a> BodyParts<'a> {
     {
         match self {
             BodyParts::Append(head, _)
+            | BodyParts::DatedAppend(head, ..)
             | BodyParts::Flush(head, _)
             | BodyParts::Discard(head)
             | BodyParts::Forget(head) => head,
@@ -64,7 +98,7 @@ impl<'a> BodyParts<'a> {
         ensures { result ≡ kind_of (wire_body_in self.entry) }
     {
         match self {
-            BodyParts::Append(..) => 1,
+            BodyParts::Append(..) | BodyParts::DatedAppend(..) => 1,
             BodyParts::Flush(..) => 2,
             BodyParts::Discard(_) => 3,
             BodyParts::Forget(_) => 4,

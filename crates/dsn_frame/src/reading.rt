@@ -3,12 +3,11 @@
 ghost use Rattle.std.specs.Prelude.{◌≡◌};
 ghost use Rattle.std.specs.Int.{w16, w32, w64};
 ghost use Rattle.std.specs.Option.{option_map};
-ghost use Rattle.dsn_outcome.specs.Parts.{fields_of};
-ghost use Rattle.dsn_frame.specs.BodyParts.{head_in, flush_fields_in, wire_body_in};
-ghost use Rattle.dsn_frame.specs.Wire.{byte_at, number_at, text_at, head_at, append_at, flush_at, own_at, body_at};
+ghost use Rattle.dsn_frame.specs.BodyParts.{head_in, recipient_fields_in, retry_fields_in, flush_fields_in, wire_body_in};
+ghost use Rattle.dsn_frame.specs.Wire.{byte_at, number_at, text_at, head_at, append_at, retry_at, append_body_at, flush_at, own_at, body_at};
 
-use crate::parts::{BodyParts, FlushParts, HeadParts};
-use dsn_outcome::Parts;
+use crate::VERSION;
+use crate::parts::{BodyParts, FlushParts, HeadParts, RecipientParts, RetryParts};
 
 fn byte_of(bytes: &[u8]) -> Option<(u8, &[u8])>
     ensures { option_map (λ read. (read.0, read.1.now)) result ≡ byte_at bytes.now }
@@ -85,8 +84,8 @@ fn head_of(version: u8, bytes: &[u8]) -> Option<(HeadParts<'_>, &[u8])>
 }
 
 #[tactic(auto, unfolding(crate::specs::Wire::append_at))]
-fn append_of(bytes: &[u8]) -> Option<(Parts<'_>, &[u8])>
-    ensures { option_map (λ read. (fields_of read.0, read.1.now)) result ≡ append_at bytes.now }
+fn append_of(bytes: &[u8]) -> Option<(RecipientParts<'_>, &[u8])>
+    ensures { option_map (λ read. (recipient_fields_in read.0, read.1.now)) result ≡ append_at bytes.now }
 {
     let (original, rest) = text_of(bytes)?;
     let (recipient, rest) = text_of(rest)?;
@@ -95,7 +94,7 @@ fn append_of(bytes: &[u8]) -> Option<(Parts<'_>, &[u8])>
     let (mta, rest) = text_of(rest)?;
     let (diagnostic, rest) = text_of(rest)?;
     let (reason, rest) = text_of(rest)?;
-    let parts = Parts {
+    let parts = RecipientParts {
         recipient,
         original,
         action,
@@ -105,6 +104,31 @@ fn append_of(bytes: &[u8]) -> Option<(Parts<'_>, &[u8])>
         reason,
     };
     Some((parts, rest))
+}
+
+#[tactic(auto, unfolding(crate::specs::Wire::retry_at))]
+fn retry_of(bytes: &[u8]) -> Option<(RetryParts, &[u8])>
+    ensures { option_map (λ read. (retry_fields_in read.0, read.1.now)) result ≡ retry_at bytes.now }
+{
+    let (last_attempt, rest) = u64_of(bytes)?;
+    let (retry_until, rest) = u64_of(rest)?;
+    let parts = RetryParts {
+        last_attempt,
+        retry_until,
+    };
+    Some((parts, rest))
+}
+
+#[tactic(auto, unfolding(crate::specs::Wire::append_body_at))]
+fn append_body_of<'a>(head: HeadParts<'a>, bytes: &'a [u8]) -> Option<(BodyParts<'a>, &'a [u8])>
+    ensures { option_map (λ read. (wire_body_in read.0, read.1.now)) result ≡ append_body_at (head_in head.entry) bytes.now }
+{
+    let (parts, rest) = append_of(bytes)?;
+    if head.version == VERSION {
+        return Some((BodyParts::Append(head, parts), rest));
+    }
+    let (dates, rest) = retry_of(rest)?;
+    Some((BodyParts::DatedAppend(head, parts, dates), rest))
 }
 
 #[tactic(auto, unfolding(crate::specs::Wire::flush_at))]
@@ -131,10 +155,7 @@ fn own_of<'a>(kind: u8, head: HeadParts<'a>, bytes: &'a [u8]) -> Option<(BodyPar
     ensures { option_map (λ read. (wire_body_in read.0, read.1.now)) result ≡ own_at kind (head_in head.entry) bytes.now }
 {
     match kind {
-        1 => {
-            let (parts, rest) = append_of(bytes)?;
-            Some((BodyParts::Append(head, parts), rest))
-        }
+        1 => append_body_of(head, bytes),
         2 => {
             let (parts, rest) = flush_of(bytes)?;
             Some((BodyParts::Flush(head, parts), rest))

@@ -1,13 +1,11 @@
 //! Fields, written one after another at the end of a text that has room for them.
 ghost use Rattle.std.specs.Prelude.{◌≡◌, ◌+◌, ◌<◌, ◌≤◌, ◌^◌, ◌++◌, length, vec_capacity};
 ghost use Rattle.std.specs.Int.{w64};
-ghost use Rattle.dsn_outcome.specs.Parts.{fields_of};
-ghost use Rattle.dsn_frame.specs.BodyParts.{head_in, flush_fields_in, wire_body_in};
+ghost use Rattle.dsn_frame.specs.BodyParts.{head_in, recipient_fields_in, retry_fields_in, flush_fields_in, wire_body_in};
 ghost use Rattle.dsn_frame.specs.Frame.{frame};
-ghost use Rattle.dsn_frame.specs.Wire.{Fits as FitsWire, FitsAppend, FitsFlush, FitsHead, FitsOwn, FitsText, number_bytes, text_bytes, head_bytes, append_bytes, flush_bytes, own_bytes, body_bytes};
+ghost use Rattle.dsn_frame.specs.Wire.{Fits as FitsWire, FitsAppend, FitsFlush, FitsHead, FitsOwn, FitsText, number_bytes, text_bytes, head_bytes, append_bytes, retry_bytes, flush_bytes, own_bytes, body_bytes};
 
-use crate::parts::{BodyParts, FlushParts, HeadParts};
-use dsn_outcome::Parts;
+use crate::parts::{BodyParts, FlushParts, HeadParts, RecipientParts, RetryParts};
 
 /// Adds bytes, and takes no memory.
 fn push_bytes(out: &mut Vec<u8>, bytes: &[u8])
@@ -48,10 +46,10 @@ fn push_head(out: &mut Vec<u8>, head: HeadParts<'_>)
 
 /// Adds what an append goes on with.
 #[tactic(auto, using(crate::proofs::EncodingLaws::append_length, crate::proofs::EncodingLaws::text_length), unfolding(crate::specs::Wire::append_bytes))]
-fn push_append(out: &mut Vec<u8>, parts: Parts<'_>)
-    requires fits { FitsAppend (fields_of parts) }
-    requires room { length out.old.items + length (append_bytes (fields_of parts)) ≤ vec_capacity out.old }
-    ensures added { out.new.items ≡ out.old.items ++ append_bytes (fields_of parts.entry) }
+fn push_append(out: &mut Vec<u8>, parts: RecipientParts<'_>)
+    requires fits { FitsAppend (recipient_fields_in parts) }
+    requires room { length out.old.items + length (append_bytes (recipient_fields_in parts)) ≤ vec_capacity out.old }
+    ensures added { out.new.items ≡ out.old.items ++ append_bytes (recipient_fields_in parts.entry) }
     ensures capacity { vec_capacity out.old ≤ vec_capacity out.new }
 {
     push_text(out, parts.original);
@@ -72,6 +70,29 @@ fn push_moment(out: &mut Vec<u8>, moment: u64)
     ensures capacity { vec_capacity out.old ≤ vec_capacity out.new }
 {
     push_bytes(out, &moment.to_be_bytes());
+}
+
+/// Adds what an append of the second version goes on with.
+#[tactic(auto, using(crate::proofs::EncodingLaws::retry_length), unfolding(crate::specs::Wire::retry_bytes))]
+fn push_retry(out: &mut Vec<u8>, parts: RetryParts)
+    requires room { length out.old.items + 16 ≤ vec_capacity out.old }
+    ensures added { out.new.items ≡ out.old.items ++ retry_bytes (retry_fields_in parts) }
+    ensures capacity { vec_capacity out.old ≤ vec_capacity out.new }
+{
+    push_moment(out, parts.last_attempt);
+    push_moment(out, parts.retry_until);
+}
+
+/// Adds all that an append of the second version goes on with.
+#[tactic(auto, using(crate::proofs::EncodingLaws::dated_length))]
+fn push_dated_append(out: &mut Vec<u8>, fields: RecipientParts<'_>, dates: RetryParts)
+    requires fits { FitsAppend (recipient_fields_in fields) }
+    requires room { length out.old.items + length (append_bytes (recipient_fields_in fields) ++ retry_bytes (retry_fields_in dates)) ≤ vec_capacity out.old }
+    ensures added { out.new.items ≡ out.old.items ++ (append_bytes (recipient_fields_in fields.entry) ++ retry_bytes (retry_fields_in dates)) }
+    ensures capacity { vec_capacity out.old ≤ vec_capacity out.new }
+{
+    push_append(out, fields);
+    push_retry(out, dates);
 }
 
 /// Adds what a flush goes on with.
@@ -99,6 +120,7 @@ fn push_own(out: &mut Vec<u8>, parts: BodyParts<'_>)
 {
     match parts {
         BodyParts::Append(_, fields) => push_append(out, fields),
+        BodyParts::DatedAppend(_, fields, dates) => push_dated_append(out, fields, dates),
         BodyParts::Flush(_, fields) => push_flush(out, fields),
         BodyParts::Discard(_) | BodyParts::Forget(_) => {}
     }
@@ -138,21 +160,31 @@ pub(crate) fn body_len(parts: BodyParts<'_>) -> usize
     9 + parts.head().id.len() + own_len(parts)
 }
 
+/// How many bytes an append goes on with in the first version.
+#[tactic(auto, using(crate::proofs::EncodingLaws::append_length))]
+fn append_len(fields: RecipientParts<'_>) -> usize
+    requires fits { FitsAppend (recipient_fields_in fields) }
+    ensures same { result ≡ length (append_bytes (recipient_fields_in fields.entry)) }
+    ensures small { result < 2 ^ 19 }
+{
+    13 + fields.original.len()
+        + fields.recipient.len()
+        + fields.status.len()
+        + fields.mta.len()
+        + fields.diagnostic.len()
+        + fields.reason.len()
+}
+
 /// How many bytes a body goes on with.
-#[tactic(auto, using(crate::proofs::EncodingLaws::append_length, crate::proofs::EncodingLaws::flush_length), unfolding(crate::specs::Wire::own_bytes, crate::specs::Wire::FitsOwn))]
+#[tactic(auto, using(crate::proofs::EncodingLaws::flush_length, crate::proofs::EncodingLaws::dated_length), unfolding(crate::specs::Wire::own_bytes, crate::specs::Wire::FitsOwn))]
 fn own_len(parts: BodyParts<'_>) -> usize
     requires fits { FitsOwn (wire_body_in parts) }
     ensures same { result ≡ length (own_bytes (wire_body_in parts.entry)) }
     ensures small { result < 2 ^ 20 }
 {
     match parts {
-        BodyParts::Append(_, fields) => 13
-            + fields.original.len()
-            + fields.recipient.len()
-            + fields.status.len()
-            + fields.mta.len()
-            + fields.diagnostic.len()
-            + fields.reason.len(),
+        BodyParts::Append(_, fields) => append_len(fields),
+        BodyParts::DatedAppend(_, fields, _) => append_len(fields) + 16,
         BodyParts::Flush(_, fields) => 22
             + fields.return_path.len()
             + fields.envelope_id.len()

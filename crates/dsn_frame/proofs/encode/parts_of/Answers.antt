@@ -5,14 +5,14 @@ use Rattle.dsn_frame.proofs.encode.parts_of.Goals as goal
 
 pub returns-in-Append-clause-written : goal.returns-in-Append-clause-written
 returns-in-Append-clause-written c =
-    let same : c.outcome-outcome.result.now ≡ c.in-Append.node.value.outcome = c.outcome-outcome.ensures ∙ ap (λ (node : LinkedOutcome). node.outcome) c.deref.ensures in
-    rw (c.in-Append.is, c.head_parts-head.ensures.same, c.append_parts.ensures, c.service.ensures.same, same)
-    (append_written c.args.number c.in-Append.id c.in-Append.node.value.outcome c.ranges.number.fits c.head_parts-head.ensures.legal (rw same at c.service.ensures.legal))
+    let same : c.outcome.result.now ≡ c.in-Append.node.value.outcome = c.outcome.ensures ∙ ap (λ (node : LinkedOutcome). node.outcome) c.deref.ensures in
+    rw (c.in-Append.is, c.append_parts.ensures.same, same)
+    (append_written c.args.number c.in-Append.id c.in-Append.node.value.outcome c.ranges.number.fits c.append_parts.ensures.id_legal (rw same at c.append_parts.ensures.legal))
 
 pub returns-in-Flush-clause-written : goal.returns-in-Flush-clause-written
 returns-in-Flush-clause-written c =
-    rw (c.in-Flush.is, c.head_parts-head-in-Flush.ensures.same, c.flush_parts.ensures.same)
-    (flush_written c.args.number c.in-Flush.key c.in-Flush.draft c.ranges.number.fits c.head_parts-head-in-Flush.ensures.legal c.flush_parts.ensures.legal)
+    rw (c.in-Flush.is, c.head_parts-head.ensures.same, c.flush_parts.ensures.same)
+    (flush_written c.args.number c.in-Flush.key c.in-Flush.draft c.ranges.number.fits c.head_parts-head.ensures.legal c.flush_parts.ensures.legal)
 
 pub returns-in-Discard-clause-written : goal.returns-in-Discard-clause-written
 returns-in-Discard-clause-written c =

@@ -1,5 +1,6 @@
 //! Bodies from outside: short ones, whole ones, and ones that are a byte away from a bound.
 mod bounds;
+mod moments;
 mod near;
 
 use dsn_frame::decode_request;
@@ -92,7 +93,9 @@ fn short_bodies(rt: HostRuntime) -> Result<(), Fail> {
         (b"\x01\x04".as_slice(), 22),
         (b"\x01\x09".as_slice(), 22),
         (b"\x01\x03".as_slice(), 23),
-        (b"\x02\x09".as_slice(), 21),
+        (b"\x03\x01".as_slice(), 21),
+        (b"\x02\x01".as_slice(), 23),
+        (b"\x02\x05".as_slice(), 22),
         (b"\x01\x03\0\0\0\0\x01\0\x02K1".as_slice(), 0),
         (b"\x01\x03\0\0\0\0\x01\0\x02K".as_slice(), 23),
         (b"\x01\x03\0\0\0\0\x01\0\x02K1\0".as_slice(), 24),

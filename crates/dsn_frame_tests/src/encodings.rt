@@ -69,6 +69,8 @@ fn same_outcome(a: &Outcome, b: &Outcome) -> bool {
         && a.mta().map(MtaName::bytes) == b.mta().map(MtaName::bytes)
         && a.diagnostic().map(Clean::bytes) == b.diagnostic().map(Clean::bytes)
         && a.reason().map(Clean::bytes) == b.reason().map(Clean::bytes)
+        && a.last_attempt() == b.last_attempt()
+        && a.retry_until() == b.retry_until()
 }
 
 fn same_draft(a: &Draft, b: &Draft) -> bool {
@@ -203,9 +205,11 @@ fn appends_read_back(rt: HostRuntime) -> Result<(), Fail> {
         mta: &long[..255],
         diagnostic: &long,
         reason: &long,
+        last_attempt: Stamp::new(1_700_000_000),
+        retry_until: None,
     };
     let body = append(&rt, Service::Trace, &long[..32], longest)?;
-    assert_eq!(rt; goes_and_comes_back(&rt, 999_999, &body)?, 2_430);
+    assert_eq!(rt; goes_and_comes_back(&rt, 999_999, &body)?, 2_446);
     Ok(())
 }
 

@@ -50,7 +50,7 @@ fn letter_of_three(alloc: Global) -> Result<Letter, Fail> {
     chain.push(bounced(alloc, b"two@example.org")?);
     chain.push(bounced(alloc, b"six@example.org")?);
     let draft = draft(alloc, 1_700_000_000)?;
-    Ok(Letter::seal(key(b"A1B2C3")?, draft, chain))
+    Ok(Letter::seal(key(b"A1B2C3")?, draft, chain, 7))
 }
 
 /// Asserts the texts of a letter, and its envelope id.
@@ -104,7 +104,7 @@ fn letter(alloc: Global, seconds: u64) -> Result<Letter, Fail> {
     let draft = draft(alloc, seconds)?;
     let mut chain = Chain::new();
     chain.push(bounced(alloc, b"bob@example.org")?);
-    Ok(Letter::seal(key(b"K1")?, draft, chain))
+    Ok(Letter::seal(key(b"K1")?, draft, chain, 0))
 }
 
 /// The moment of the first letter, which is taken.

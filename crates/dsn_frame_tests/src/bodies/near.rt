@@ -34,7 +34,7 @@ fn expect<R: Abort + AllocGlobal>(
 fn appends_with_another_head(rt: HostRuntime) -> Result<(), Fail> {
     let changes = [
         (0, 0, 21),
-        (0, 2, 21),
+        (0, 2, 23),
         (0, 255, 21),
         (1, 0, 22),
         (1, 4, 22),

@@ -5,4 +5,6 @@ pub mod HalvingLemmas
 pub mod IndexLemmas
 pub mod ListLemmas
 pub mod OpenLineLemmas
+pub mod PermutationLemmas
+pub mod RemoveLemmas
 pub mod StepLemmas

@@ -1,5 +1,5 @@
 -- Desks: what one more request, with its answer sent, leaves.
-use Rattle.std.proofs.Common.{◌≡◌, ◌≢◌, ℕ, zero, suc, ◌+◌, ◌<◌, ◌≤◌, ◌==◌, Bool, true, false, cond, All, List, [], ◌∷◌, ◌++◌, length, map, filter, set, refl, ap, sym, ◌∙◌, subst, eq-eqb, ne_eqb, length-append, arith}
+use Rattle.std.proofs.Common.{◌≡◌, ◌≢◌, ℕ, zero, suc, ◌+◌, ◌-◌, ◌^◌, ◌<◌, ◌≤◌, ◌==◌, Bool, true, false, cond, All, List, [], ◌∷◌, ◌++◌, length, map, filter, set, refl, ap, sym, ◌∙◌, subst, eq-eqb, ne_eqb, length-append, arith}
 use Rattle.std.specs.Prelude.{◌↔◌, IsTrue}
 use Rattle.std.specs.List.{slice_index_or}
 use Rattle.std.proofs.lemmas.List.{append-nil, get_or-set_same, get_or-set_other, set-get_or, length-set}
@@ -13,9 +13,9 @@ use Rattle.dsn_lane.specs.Ends.{End, Out, Identity}
 use Rattle.dsn_lane.specs.Lane.{IsNumbered}
 use Rattle.dsn_outcome.specs.Agents.{from_agent}
 use Rattle.dsn_outcome.specs.History.{answer_of, answers_to, exchange_of, history_of}
-use Rattle.dsn_outcome.specs.Request.{Request, Body, Append, Flush, Discard, Bye}
+use Rattle.dsn_outcome.specs.Request.{Request, Body, Append, Flush, Discard, Forget, Bye}
 use Rattle.dsn_outcome.specs.declared.answer.Answer.{Answer}
-use Rattle.dsn_outcome.proofs.HistoryLaws.{answers_length, answers_mine, answers_more, answers_other, history_more}
+use Rattle.dsn_outcome.proofs.HistoryLaws.{answers_length, answers_mine, answers_more, answers_other, history_more, letters_few}
 use Rattle.dsn_crew.specs.Desk.{Desk, IsDesk, AreAnswered, AreTold, answered_more, goodbyes, history, is_goodbye, next_exchange, places_of, taken_request}
 use Rattle.dsn_agent.specs.Place.{Place, place_at}
 
@@ -62,6 +62,7 @@ bye_is true body is = ap is_goodbye (sym (is.0 refl))
 bye_is false (Append id outcome) is = refl
 bye_is false (Flush key draft) is = refl
 bye_is false (Discard key) is = refl
+bye_is false (Forget key) is = refl
 bye_is false Bye is = absurd (false≢true (is.1 refl))
 
 counted_one : (request : Request) (flag : Bool) → is_goodbye request.body ≡ flag → goodbyes (request ∷ []) ≡ cond flag 1 0
@@ -228,3 +229,7 @@ module _ (desk : Desk) (request : Request) (answer : Answer) (asked : IsAsked de
           sent = sent_new sent d told;
           answered = λ well. answered_new d (subst (λ (it : Bool). AreTold it desk.answers answer ends) (going_on well) told);
         }
+
+-- fewer letters were sealed than a number of 64 bits counts
+pub letters_fit : (book : Book) (requests : List Request) (taken : ℕ) → Represents book (history_of book.limits requests) → taken ≡ length requests → taken < 2 ^ 32 → book.sealed < 2 ^ 64 - 1
+letters_fit book requests taken stands counted few = omega (arith, letters_few book.limits requests, stands.sealed, counted, few)

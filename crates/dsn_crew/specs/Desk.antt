@@ -9,7 +9,7 @@ use Rattle.dsn_lane.specs.Lane.{IsNumbered}
 use Rattle.dsn_outcome.specs.Agents.{from_agent}
 use Rattle.dsn_outcome.specs.History.{Exchange, answer_of, answers_to, exchange_of, history_of, letter_of, sealed_letters}
 use Rattle.dsn_outcome.specs.Letter.{Letter}
-use Rattle.dsn_outcome.specs.Request.{Request, Body, Append, Flush, Discard, Bye}
+use Rattle.dsn_outcome.specs.Request.{Request, Body, Append, Flush, Discard, Forget, Bye}
 use Rattle.dsn_outcome.specs.declared.answer.Answer.{Answer}
 use Rattle.dsn_post.specs.Sink.{Handed}
 use Rattle.dsn_agent.specs.Place.{Place, place_at}
@@ -29,6 +29,7 @@ abbrev pub is_goodbye : Body → Bool
 is_goodbye (Append id outcome) = false
 is_goodbye (Flush key draft) = false
 is_goodbye (Discard key) = false
+is_goodbye (Forget key) = false
 is_goodbye Bye = true
 
 -- how many of these requests are goodbyes

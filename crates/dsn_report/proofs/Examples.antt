@@ -52,6 +52,7 @@ letter_with draft outcome = record {
   key = record { service = Bounce; id = codes "A1B2C3" };
   draft = draft;
   outcomes = outcome âˆ· [];
+  serial = 0;
 }
 
 -- the two dates of the examples
@@ -89,7 +90,7 @@ one_append_one_flush : outbox_of host (letter_with (to_ann None []) bob_fails âˆ
     ++ codes "To: <ann@example.com>" ++ crlf
     ++ codes "Subject: Undelivered Mail Returned to Sender" ++ crlf
     ++ codes "Date: Tue, 14 Nov 2023 22:13:20 +0000" ++ crlf
-    ++ codes "Message-ID: <B.A1B2C3.1700000000@mx.example.net>" ++ crlf
+    ++ codes "Message-ID: <B.A1B2C3.1700000000.0@mx.example.net>" ++ crlf
     ++ codes "Auto-Submitted: auto-replied" ++ crlf
     ++ codes "MIME-Version: 1.0" ++ crlf
     ++ codes "Content-Type: multipart/report; report-type=delivery-status;" ++ crlf
@@ -139,7 +140,7 @@ all_optional_fields : notice_of host (letter_with (to_ann (Some (codes "QQ314159
     ++ codes "To: <ann@example.com>" ++ crlf
     ++ codes "Subject: Undelivered Mail Returned to Sender" ++ crlf
     ++ codes "Date: Tue, 14 Nov 2023 22:13:20 +0000" ++ crlf
-    ++ codes "Message-ID: <B.A1B2C3.1700000000@mx.example.net>" ++ crlf
+    ++ codes "Message-ID: <B.A1B2C3.1700000000.0@mx.example.net>" ++ crlf
     ++ codes "Auto-Submitted: auto-replied" ++ crlf
     ++ codes "MIME-Version: 1.0" ++ crlf
     ++ codes "Content-Type: multipart/report; report-type=delivery-status;" ++ crlf

@@ -1,6 +1,6 @@
 -- A notice: a multipart/report of what became of a message's recipients (RFC 6522, RFC 3464, RFC 3834), as a list
 -- of lines.
-use Rattle.std.specs.Prelude.{ℕ, List, [], ◌∷◌, ◌++◌, codes, unwrap_or}
+use Rattle.std.specs.Prelude.{ℕ, List, [], ◌∷◌, ◌++◌, codes, decimal, unwrap_or}
 use Rattle.std.specs.List.{flat_map}
 use Rattle.dsn_outcome.specs.Action.{action_word}
 use Rattle.dsn_outcome.specs.Letter.{Letter}
@@ -35,7 +35,7 @@ notice_header host letter boundary =
     ∷ (codes "To: <" ++ return_path_of letter ++ codes ">")
     ∷ (codes "Subject: " ++ subject_of letter.key.service)
     ∷ (codes "Date: " ++ date_text letter.draft.moment)
-    ∷ (codes "Message-ID: <" ++ letter_name letter ++ codes "@" ++ host ++ codes ">")
+    ∷ (codes "Message-ID: <" ++ letter_name letter ++ codes "." ++ decimal letter.serial ++ codes "@" ++ host ++ codes ">")
     ∷ codes "Auto-Submitted: auto-replied"
     ∷ codes "MIME-Version: 1.0"
     ∷ codes "Content-Type: multipart/report; report-type=delivery-status;"

@@ -1,5 +1,5 @@
 -- What the types of a site and of a letter keep: each text is legal, and each moment has a date.
-use Rattle.std.specs.Prelude.{ℕ, ◌≤◌, List, length, All, IsTrue}
+use Rattle.std.specs.Prelude.{ℕ, ◌<◌, ◌≤◌, ◌^◌, List, length, All, IsTrue}
 use Rattle.dsn_outcome.specs.Letter.{Letter, IsLetter}
 use Rattle.dsn_outcome.specs.Outcome.{IsLegalOutcome, is_none_or}
 use Rattle.dsn_outcome.specs.Stamp.{last_moment}
@@ -13,6 +13,7 @@ pub record IsWellFormed (host : List ℕ) (letter : Letter) : Type 0 where
   pub arrival_dated : letter.draft.arrival ≤ last_moment
   pub path_legal : IsTrue (is_none_or is_address letter.draft.return_path)
   pub envelope_id_legal : IsTrue (is_none_or is_envelope_id letter.draft.envelope_id)
+  pub serial_fits : letter.serial < 2 ^ 64
   pub header_short : length letter.draft.header ≤ 32768
   pub outcomes_legal : All IsLegalOutcome letter.outcomes
   pub sealed : IsLetter letter

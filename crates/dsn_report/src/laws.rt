@@ -64,6 +64,7 @@ pub fn well_formed_law(site: &Site, letter: &Letter)
     site.bytes();
     letter.key().id.bytes();
     letter.moment().seconds();
+    letter.serial();
     letter.arrival().seconds();
     letter.return_path().bytes();
     letter.header().bytes();

@@ -1,5 +1,5 @@
-//! The name of a letter, and the boundaries made of it.
-ghost use Rattle.std.specs.Prelude.{◌≡◌, ◌+◌, ◌<◌, ◌≤◌, length};
+//! The name and the serial of a letter, and the boundaries made of its name.
+ghost use Rattle.std.specs.Prelude.{◌≡◌, ◌+◌, ◌<◌, ◌≤◌, decimal, length};
 ghost use Rattle.dsn_report.specs.Boundary.{letter_name, boundary_front, boundary_text};
 
 use dsn_outcome::{Letter, ShortText};
@@ -17,6 +17,15 @@ pub(crate) fn letter_name(letter: &Letter) -> ShortText
     name.push(b".");
     name.push_number(letter.moment().seconds());
     name
+}
+
+/// The letter's serial in decimal.
+pub(crate) fn serial_text(letter: &Letter) -> ShortText
+    ensures { result ≡ decimal letter.now.serial }
+{
+    let mut serial = ShortText::new();
+    serial.push_number(letter.serial());
+    serial
 }
 
 /// What the letter's boundaries begin with, whatever their number.

@@ -12,7 +12,7 @@ ghost use Rattle.dsn_report.specs.Notice.{notice_header, notice_lines, notificat
 use crate::boundary_number::boundary;
 use crate::header_lines::{HeaderLines, LINE_ROOM, first_line, show_ended_line};
 use crate::line_writer::LineWriter;
-use crate::name::{boundary_text, letter_name};
+use crate::name::{boundary_text, letter_name, serial_text};
 use crate::site::Site;
 use crate::wording::{opening, subject};
 use dsn_device::Drain;
@@ -24,11 +24,14 @@ fn write_header<W: Drain>(lines: &mut LineWriter<W>, site: &Site, letter: &Lette
 {
     let host = site.bytes();
     let name = letter_name(letter);
+    let serial = serial_text(letter);
     lines.line(&[b"From: Mail Delivery System <MAILER-DAEMON@", host, b">"]);
     lines.line(&[b"To: <", letter.return_path().bytes(), b">"]);
     lines.line(&[b"Subject: ", subject(letter.key().service)]);
     lines.line(&[b"Date: ", &letter.moment().date()]);
-    lines.line(&[b"Message-ID: <", name.bytes(), b"@", host, b">"]);
+    lines.line(&[
+        b"Message-ID: <", name.bytes(), b".", serial.bytes(), b"@", host, b">",
+    ]);
     lines.line(&[b"Auto-Submitted: auto-replied"]);
     lines.line(&[b"MIME-Version: 1.0"]);
     lines.line(&[b"Content-Type: multipart/report; report-type=delivery-status;"]);

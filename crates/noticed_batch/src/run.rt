@@ -22,8 +22,10 @@ pub(crate) struct Run<W> {
 impl<W: Drain> Run<W> {
     /// Answers the frame that stands at this place of the input.
     pub(crate) fn answer(&mut self, alloc: Global, position: u32, bytes: &[u8]) -> Turn
-        requires { self.old.accepted + 1 < 2 ^ 32 }
+        requires counted { self.old.accepted + 1 < 2 ^ 32 }
+        requires sealed { self.old.book.sealed ≤ self.old.accepted }
         ensures counted { self.new.accepted ≤ self.old.accepted + 1 }
+        ensures sealed { self.new.book.sealed ≤ self.new.accepted }
         ensures answered { (limits : Bounds) (host : List ℕ) (start : W) (requests : List Asked) → Stands W.Drain limits host start self.old requests → length requests < limits.requests → Answered W.Drain limits host start self.new requests position bytes.now result }
     {
         match next_request(alloc, position, bytes) {
@@ -37,8 +39,10 @@ impl<W: Drain> Run<W> {
 
     /// Takes a request, posts the letter that it seals, and gives the reply.
     fn ask(&mut self, body: Body) -> Turn
-        requires { self.old.accepted + 1 < 2 ^ 32 }
+        requires counted { self.old.accepted + 1 < 2 ^ 32 }
+        requires sealed { self.old.book.sealed ≤ self.old.accepted }
         ensures counted { self.new.accepted ≤ self.old.accepted + 1 }
+        ensures sealed { self.new.book.sealed ≤ self.new.accepted }
         ensures asked { (limits : Bounds) (host : List ℕ) (start : W) (requests : List Asked) → Stands W.Drain limits host start self.old requests → Asks W.Drain limits host start self.new requests (body_of body) result }
     {
         let request = Request {

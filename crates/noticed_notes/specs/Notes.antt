@@ -4,7 +4,7 @@ use Rattle.std.specs.List.{flat_map}
 use Rattle.dsn_outcome.specs.Letter.{Letter}
 use Rattle.dsn_outcome.specs.Service.{service_letter}
 use Rattle.dsn_outcome.specs.declared.answer.Reply.{Reply}
-use Rattle.dsn_outcome.specs.declared.answer.Reply.TheVariants.{Logged, Closed, TableFull, LogFull, Nothing, NoReturn, Sealed, Discarded, Gone}
+use Rattle.dsn_outcome.specs.declared.answer.Reply.TheVariants.{Logged, Closed, TableFull, LogFull, Nothing, NoReturn, Sealed, Discarded, Gone, Forgotten, NotClosed}
 use Rattle.dsn_outcome.specs.declared.key.Key.{Key}
 use Rattle.dsn_book.specs.declared.line.OpenLine.{OpenLine}
 use Rattle.dsn_frame.specs.declared.spoken.Spoken.{Spoken}
@@ -21,6 +21,8 @@ reply_words (NoReturn count) = codes "no return " ++ decimal count
 reply_words (Sealed count) = codes "sealed " ++ decimal count
 reply_words (Discarded count) = codes "discarded " ++ decimal count
 reply_words Gone = codes "gone"
+reply_words Forgotten = codes "forgotten"
+reply_words NotClosed = codes "not closed"
 
 unfoldable pub spoken_words : Spoken → List ℕ
 spoken_words (spoken.Reply reply) = reply_words reply

@@ -91,6 +91,8 @@ fn push_reply(line: &mut ShortText, reply: Reply)
         Reply::Sealed(count) => push_counted(line, b"sealed ", count),
         Reply::Discarded(count) => push_counted(line, b"discarded ", count),
         Reply::Gone => line.push(b"gone"),
+        Reply::Forgotten => line.push(b"forgotten"),
+        Reply::NotClosed => line.push(b"not closed"),
     }
 }
 

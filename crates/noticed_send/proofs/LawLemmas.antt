@@ -7,7 +7,7 @@ use Rattle.std.specs.List.{flat_map}
 use Rattle.std.proofs.lemmas.List.{append-nil, append_cancel_left, length-append}
 use Rattle.std.proofs.lemmas.Nat.{from_be_bytes-to_be_bytes_4}
 use Rattle.dsn_outcome.specs.Request.{Body}
-use Rattle.dsn_outcome.specs.declared.answer.Reply.TheVariants.{Logged, Closed, TableFull, LogFull, Nothing, NoReturn, Sealed, Discarded, Gone}
+use Rattle.dsn_outcome.specs.declared.answer.Reply.TheVariants.{Logged, Closed, TableFull, LogFull, Nothing, NoReturn, Sealed, Discarded, Gone, Forgotten, NotClosed}
 use Rattle.dsn_frame.specs.Frame.{frame, AreFramesOf, ReadsNone}
 use Rattle.dsn_frame.specs.FrameBody.{IsFrameBody}
 use Rattle.dsn_frame.specs.Session.{Medium, Takes, faulty, out_of_memory, out_of_turn, used_up, asked, given_up, given_up_after, Connection, SessionSoFar, begun, taken}
@@ -37,7 +37,9 @@ said_of kind value =
     else (if kind == 6 then spoken.Reply (NoReturn value)
     else (if kind == 7 then spoken.Reply (Sealed value)
     else (if kind == 8 then spoken.Reply (Discarded value)
-    else (if kind == 9 then spoken.Reply Gone else spoken.Refused value))))))))
+    else (if kind == 9 then spoken.Reply Gone
+    else (if kind == 11 then spoken.Reply Forgotten
+    else (if kind == 12 then spoken.Reply NotClosed else spoken.Refused value))))))))))
 
 said-back : (said : Spoken) → said_of (spoken_kind said) (spoken_value said) ≡ said
 unfolding said_of
@@ -50,6 +52,8 @@ said-back (spoken.Reply (NoReturn count)) = refl
 said-back (spoken.Reply (Sealed count)) = refl
 said-back (spoken.Reply (Discarded count)) = refl
 said-back (spoken.Reply Gone) = refl
+said-back (spoken.Reply Forgotten) = refl
+said-back (spoken.Reply NotClosed) = refl
 said-back (spoken.Refused code) = refl
 
 second : List ℕ → ℕ
@@ -84,6 +88,8 @@ no-fault n (spoken.Reply (NoReturn count)) = refl
 no-fault n (spoken.Reply (Sealed count)) = refl
 no-fault n (spoken.Reply (Discarded count)) = refl
 no-fault n (spoken.Reply Gone) = refl
+no-fault n (spoken.Reply Forgotten) = refl
+no-fault n (spoken.Reply NotClosed) = refl
 no-fault n (spoken.Refused code) = refl
 
 -- ---- answers in a row

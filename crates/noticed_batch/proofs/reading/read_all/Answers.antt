@@ -9,25 +9,25 @@ use Rattle.noticed_batch.proofs.reading.read_all.Goals as goal
 
 pub loop-position-init : goal.loop-position-init
 loop-position-init g c =
-    (omega (arith, c.requires), (λ limits host start same stands. heard-nothing _ _ _ limits host start _ _ _ stands), λ steady. (steady, refl))
+    (omega (arith, c.requires.accepted), omega (arith, c.requires.sealed), (λ limits host start same stands. heard-nothing _ _ _ limits host start _ _ _ stands), λ steady. (steady, refl))
 
 pub returns-in-Ok-None-clause-heard : goal.returns-in-Ok-None-clause-heard
 returns-in-Ok-None-clause-heard g c = λ limits host start same stands.
     let ends = rw c.in-Ok-None.field-0-is at c.in-Ok-None.ensures.next in
-    let so_far = c.loop-position.invariant.1 limits host start same stands in
+    let so_far = c.loop-position.invariant.2 limits host start same stands in
     heard-end _ _ _ limits host start _ _ _ _ _ _ _ AtEnd so_far
     (session_well Input limits.requests 0 _ _ _ _ _ _ so_far.session ends) refl c.in-Ok-None.ensures.count
 
 pub returns-in-Err-clause-heard : goal.returns-in-Err-clause-heard
 returns-in-Err-clause-heard g c = λ limits host start same stands.
-    let so_far = c.loop-position.invariant.1 limits host start same stands in
+    let so_far = c.loop-position.invariant.2 limits host start same stands in
     heard-end _ _ _ limits host start _ _ _ _ _ _ _ (Unreadable c.in-Err.fault) so_far
     (session_cut Input limits.requests 0 _ _ _ _ _ _ so_far.session c.in-Err.fault c.in-Err.ensures.refused) refl c.in-Err.ensures.count
 
 pub returns-then-is_err-clause-heard : goal.returns-then-is_err-clause-heard
 returns-then-is_err-clause-heard g c = λ limits host start same stands.
     let read = rw c.in-Ok-Some.field-0-is at c.in-Ok-Some.ensures.next in
-    let so_far = c.loop-position.invariant.1 limits host start same stands in
+    let so_far = c.loop-position.invariant.2 limits host start same stands in
     let few : c.loop-position.position < limits.requests = omega (arith, same, c.loop-position-test.true) in
     let room : length (requests_of so_far.bodies) < limits.requests = omega (arith, few, so_far.stands.count, c.loop-position.invariant.0) in
     let line = c.bytes.ensures.same ∙ c.answer_line.ensures in
@@ -40,7 +40,7 @@ returns-then-is_err-clause-heard g c = λ limits host start same stands.
 pub returns-then-turn-clause-heard : goal.returns-then-turn-clause-heard
 returns-then-turn-clause-heard g c = λ limits host start same stands.
     let read = rw c.in-Ok-Some.field-0-is at c.in-Ok-Some.ensures.next in
-    let so_far = c.loop-position.invariant.1 limits host start same stands in
+    let so_far = c.loop-position.invariant.2 limits host start same stands in
     let few : c.loop-position.position < limits.requests = omega (arith, same, c.loop-position-test.true) in
     let room : length (requests_of so_far.bodies) < limits.requests = omega (arith, few, so_far.stands.count, c.loop-position.invariant.0) in
     let line = c.bytes.ensures.same ∙ c.answer_line.ensures in
@@ -53,9 +53,10 @@ returns-then-turn-clause-heard g c = λ limits host start same stands.
 pub loop-position-preserved : goal.loop-position-preserved
 loop-position-preserved g c = (
   omega (arith, c.answer-turn.ensures.counted, c.loop-position.invariant.0),
+  c.answer-turn.ensures.sealed,
   (λ limits host start same stands.
       let read = rw c.in-Ok-Some.field-0-is at c.in-Ok-Some.ensures.next in
-      let so_far = c.loop-position.invariant.1 limits host start same stands in
+      let so_far = c.loop-position.invariant.2 limits host start same stands in
       let few : c.loop-position.position < limits.requests = omega (arith, same, c.loop-position-test.true) in
       let room : length (requests_of so_far.bodies) < limits.requests = omega (arith, few, so_far.stands.count, c.loop-position.invariant.0) in
       let line = c.bytes.ensures.same ∙ c.answer_line.ensures in
@@ -65,7 +66,7 @@ loop-position-preserved g c = (
       (c.answer-turn.ensures.answered limits host start (requests_of so_far.bodies) so_far.stands room) c.send.ensures.steady
       c.if-turn.false (rw (← line) (OnOk-is_err c.send.result _ fine c.send.ensures.sent)) (same-after _ _ _ fine c.send.ensures.count)),
   λ steady.
-      let so_far = c.loop-position.invariant.2 steady in
+      let so_far = c.loop-position.invariant.3 steady in
       let more = c.read_frame.ensures.steady so_far.0 in
       (more.0, more.1 ∙ so_far.1),
 )
@@ -73,7 +74,7 @@ loop-position-preserved g c = (
 pub returns-in-Ok-None-read_frame-clause-heard : goal.returns-in-Ok-None-read_frame-clause-heard
 returns-in-Ok-None-read_frame-clause-heard g c = λ limits host start same stands.
     let ends = rw c.in-Ok-None-read_frame.field-0-is at c.in-Ok-None-read_frame.ensures.next in
-    let so_far = c.loop-position.invariant.1 limits host start same stands in
+    let so_far = c.loop-position.invariant.2 limits host start same stands in
     heard-end _ _ _ limits host start _ _ _ _ _ _ _ AtEnd so_far
     (session_well Input limits.requests 0 _ _ _ _ _ _ so_far.session ends) refl c.in-Ok-None-read_frame.ensures.count
 
@@ -81,18 +82,18 @@ pub returns-in-Ok-Some-read_frame-clause-heard : goal.returns-in-Ok-Some-read_fr
 returns-in-Ok-Some-read_frame-clause-heard g c = λ limits host start same stands.
     let next = rw c.in-Ok-Some-read_frame.field-0-is at c.in-Ok-Some-read_frame.ensures.next in
     let all : c.loop-position.position ≡ limits.requests = omega (arith, same, c.loop-position-test.false, c.loop-position.auto.position-end) in
-    let so_far = c.loop-position.invariant.1 limits host start same stands in
+    let so_far = c.loop-position.invariant.2 limits host start same stands in
     heard-end _ _ _ limits host start _ _ _ _ _ _ _ TooMany so_far
     (session_too_many Input limits.requests 0 _ _ _ _ _ _ so_far.session _ (so_far.frames_counted ∙ all) next) refl c.in-Ok-Some-read_frame.ensures.count
 
 pub returns-clause-heard : goal.returns-clause-heard
 returns-clause-heard g c = λ limits host start same stands.
-    let so_far = c.loop-position.invariant.1 limits host start same stands in
+    let so_far = c.loop-position.invariant.2 limits host start same stands in
     heard-end _ _ _ limits host start _ _ _ _ _ _ _ (Unreadable c.in-Err-read_frame.fault) so_far
     (session_cut Input limits.requests 0 _ _ _ _ _ _ so_far.session c.in-Err-read_frame.fault c.in-Err-read_frame.ensures.refused) refl c.in-Err-read_frame.ensures.count
 
 pub returns-in-Ok-None-clause-steady : goal.returns-in-Ok-None-clause-steady
 returns-in-Ok-None-clause-steady g c = λ steady.
-    let so_far = c.loop-position.invariant.2 steady in
+    let so_far = c.loop-position.invariant.3 steady in
     let last = c.read_frame.ensures.steady so_far.0 in
     (last.0, last.1 ∙ so_far.1)

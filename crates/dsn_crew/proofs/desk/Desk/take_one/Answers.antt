@@ -3,13 +3,16 @@ use Rattle.std.proofs.Common.{rules, ◌≡◌, Bool, false, true, refl, ap, ◌
 use Rattle.dsn_lane.specs.Ends.{End}
 use Rattle.dsn_outcome.specs.declared.answer.Answer.{Answer}
 use Rattle.dsn_outcome.specs.History.{letter_of}
-use Rattle.dsn_crew.proofs.DeskLemmas.{IsAsked, counted_more, first_end, goodbyes_fit, goodbyes_more, keeps, line_agent, line_number, small, told_places, told_none, told_room, within}
+use Rattle.dsn_crew.proofs.DeskLemmas.{IsAsked, counted_more, first_end, goodbyes_fit, letters_fit, goodbyes_more, keeps, line_agent, line_number, small, told_places, told_none, told_room, within}
 use Rattle.dsn_crew.specs.Desk.{Desk, AreTold, history, next_exchange}
 use Rattle.dsn_crew.proofs.desk.Desk.take_one.Goals as goal
 
 pub overflow_add-self-2 : goal.overflow_add-self-2
 overflow_add-self-2 g c =
     record { fits = goodbyes_fit c.self.inside.gone c.from.result c.self.inside.taken 4294967296 c.is_bye.result c.self.inside.requests.taken c.self.invariant.1.1 c.self.invariant.1.0 (search rules) (search rules) }
+
+pub apply-requires : goal.apply-requires
+apply-requires g c = record { room = letters_fit _ c.self.inside.requests.taken c.self.inside.taken c.self.invariant.0.book c.self.invariant.1.0 (search rules) }
 
 pub tell-requires-clause-within : goal.tell-requires-clause-within
 tell-requires-clause-within g c =

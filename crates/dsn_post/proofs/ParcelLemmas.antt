@@ -87,15 +87,15 @@ letters_after taken sent came marked is =
 pub first_letters : (taken sent : List Letter) (came marked : Bool) → IsPrefix (parcels_of taken came) (parcels_of sent marked) → IsPrefix taken sent
 first_letters taken sent came marked is = (letters_of is.0, letters_after taken sent came marked is)
 
-letter_few : (letter : Option Letter) → length (option_to_list letter) ≤ 1
-letter_few None = omega arith
-letter_few (Some letter) = omega arith
+pub option_few : {A : Type 0} (option : Option A) → length (option_to_list option) ≤ 1
+option_few None = omega arith
+option_few (Some one) = omega arith
 
 -- no more letters than parcels
 letters_few : (parcels : List Parcel) → length (letters_of parcels) ≤ length parcels
 letters_few [] = omega arith
 letters_few (parcel ∷ rest) =
-    let one = letter_few parcel.letter in
+    let one = option_few parcel.letter in
     let few = letters_few rest in
     let both = length-append (option_to_list parcel.letter) (letters_of rest) in omega arith
 

@@ -1,6 +1,5 @@
 -- Posting: an outbox to which nothing was handed is untouched, and no more letters are left than were handed on.
-use Rattle.std.proofs.Common.{◌≡◌, ℕ, ◌≤◌, ◌&&◌, Bool, true, false, List, [], ◌∷◌, length, refl, ap, ◌∙◌, subst, length-append, arith}
-use Rattle.std.proofs.lemmas.Bool.{false≢true}
+use Rattle.std.proofs.Common.{◌≡◌, ℕ, ◌≤◌, Bool, true, false, List, [], ◌∷◌, length, refl, ap, ◌∙◌, subst, length-append, arith}
 use Rattle.std.specs.Io.KnownBytes.{Appends}
 use mathlib.Core.List.{IsPrefix}
 use Rattle.dsn_device.specs.declared.drain.Drain.{Ghosts as Drain}
@@ -39,7 +38,3 @@ none_first [] sent is none = refl
 none_first (letter ∷ rest) sent is none =
     let long = ap length (is.1 ∙ none) in
     let split = length-append (letter ∷ rest) is.0 in absurd (omega arith)
-
-pub and_right : (a b : Bool) → (a && b) ≡ true → b ≡ true
-and_right true b both = both
-and_right false b both = absurd (false≢true both)

@@ -1,9 +1,10 @@
 -- The letters that came were handed on, and those that are unsent are the last of them.
 use Rattle.std.proofs.Common.{rules, ap, length, ◌<◌, ◌∙◌, subst, arith}
 use mathlib.Core.List.{IsPrefix}
+use Rattle.std.proofs.lemmas.Bool.{and_parts}
 use Rattle.dsn_lane.specs.Ends.{Identity}
 use Rattle.dsn_post.specs.Parcel.{Parcel}
-use Rattle.dsn_post.proofs.PostingLemmas.{and_right, unsent_within}
+use Rattle.dsn_post.proofs.PostingLemmas.{unsent_within}
 use Rattle.dsn_post.proofs.end.end_posting.Goals as goal
 
 pub overflow_cast-result : goal.overflow_cast-result
@@ -30,7 +31,7 @@ returns g c =
       letters = c.join-outgoing.result.source.letters;
       came = subst (IsPrefix c.join-outgoing.result.source.letters) letters_are first;
       few = (let few = c.close-all.ensures.few in let lane = ap (λ (it : Identity Parcel). it.capacity) c.mark-sink.ensures.0 in let long = ap length letters_are in omega arith);
-      all_came = λ all. (c.close-all.ensures.all.0 (and_right c.is_marked-marked.result _ all)).0 ∙ letters_are;
+      all_came = λ all. (c.close-all.ensures.all.0 (and_parts c.is_marked-marked.result _ all).1).0 ∙ letters_are;
       count = (let count = c.join-outgoing.ensures.count in let left = c.len.ensures in omega arith);
       outbox = outbox;
     }

@@ -1,6 +1,6 @@
 -- Crews: what each agent's thread, the collector and the poster came to, put together.
-use Rattle.std.proofs.Common.{◌≡◌, ◌≢◌, ℕ, suc, ◌+◌, ◌<◌, ◌≤◌, inr, Bool, true, All, List, [], ◌∷◌, ◌++◌, length, map, refl, ap, sym, ◌∙◌, subst, append_assoc, length-append, arith}
-use Rattle.std.specs.Prelude.{IfErr, IfOk, IfSome, Option, Some, None, Result, Ok, Err, is_none, not}
+use Rattle.std.proofs.Common.{◌≡◌, ◌≢◌, ℕ, suc, ◌+◌, ◌<◌, ◌≤◌, inr, Bool, true, false, All, List, [], ◌∷◌, ◌++◌, length, map, refl, ap, sym, ◌∙◌, subst, append_assoc, length-append, arith}
+use Rattle.std.specs.Prelude.{IfErr, IfOk, IfSome, Option, Some, Result, Ok, Err, is_none, not}
 use Rattle.std.specs.declared.thread.PromisedHandle.{PromisedHandle}
 use Rattle.std.specs.List.{AllZip, flat_map, slice_index_or}
 use Rattle.std.proofs.lemmas.List.{append-nil, length-map}
@@ -22,15 +22,16 @@ use Rattle.dsn_post.specs.LetterSink.{LetterSink, TakesLetter}
 use Rattle.dsn_post.specs.Posting.{IsPosted}
 use Rattle.dsn_post.specs.declared.posted.Posted.{Posted}
 use Rattle.dsn_post.proofs.LetterSinkLemmas.{handed_letters}
+use Rattle.dsn_post.proofs.ParcelLemmas.{option_few}
 use Rattle.dsn_report.specs.Outgoing.{IsOutbox}
 use Rattle.dsn_agent.specs.Agent.{Agent, Ends, after_reply}
-use Rattle.dsn_crew.specs.Close.{IsHeard}
+use Rattle.dsn_desk.specs.Close.{IsHeard}
 use Rattle.dsn_crew.specs.Collected.{HasCollected}
-use Rattle.dsn_crew.specs.Conclude.{Concludes, HasFaulted, MayClose, account_of, fault_of}
+use Rattle.dsn_crew.specs.Conclude.{Concludes, MayClose, account_of, fault_of, missing_cause}
 use Rattle.dsn_crew.specs.Crew.{Account, AreAgentAccounts, CrewFault, IsAccount, IsAgentAccount, IsBrokenOff, IsCrewFault}
-use Rattle.dsn_crew.specs.Desk.{Desk, IsDesk, IsRun, goodbyes, history, letter_kept, missing as missing_more, places_of}
+use Rattle.dsn_desk.specs.Desk.{Desk, IsDesk, IsRun, goodbyes, history, letter_kept, missing as missing_more, places_of}
 use Rattle.dsn_crew.specs.Gathered.{AreEnded, IsGathered}
-use Rattle.dsn_crew.specs.Open.{IsOpened, opened_agent}
+use Rattle.dsn_desk.specs.Open.{IsOpened, opened_agent}
 use Rattle.dsn_agent.specs.Place.{place_at, place_of}
 use Rattle.dsn_agent.specs.Port.{AreOverPort, Conn, IsPortServed, Session, answers_of, bodies_of}
 use Rattle.dsn_agent.specs.Serve.{after_requests, answers_from, numbered_answer, numbered_from, numbered_request, requests_from}
@@ -40,7 +41,7 @@ use Rattle.dsn_crew.specs.declared.collected.Collected.{Collected}
 use Rattle.dsn_crew.specs.declared.collected.Collected.TheVariants.{Whole, Failed}
 use Rattle.dsn_crew.specs.declared.crew_cause.CrewCause.{CrewCause}
 use Rattle.dsn_crew.specs.declared.crew_cause.CrewCause.TheVariants as causes
-use Rattle.dsn_crew.specs.declared.desk_fault.DeskFault.{DeskFault}
+use Rattle.dsn_desk.specs.declared.desk_fault.DeskFault.{DeskFault}
 use Rattle.dsn_crew.specs.declared.gathered.Gathered.{Gathered}
 use Rattle.dsn_crew.specs.declared.gathered.Gathered.TheVariants as gathered
 use Rattle.dsn_agent.specs.declared.port.Port.{Ghosts as Port}
@@ -157,10 +158,6 @@ run_letters old new sink after result run none no_sent =
       took.1,
     )
 
-one_at_most : (letter : Option Letter) → length (letters_in letter) ≤ 1
-one_at_most None = omega arith
-one_at_most (Some letter) = omega arith
-
 module _ {W : Type 0} (drain : Drain W) (host : List ℕ) (limits : Limits) (start : W) (sent : List Letter) (posted : Posted W) (is : IsPosted drain host start 16 sent posted) (desk : Desk) (limits_are : desk.book.limits ≡ limits) (kept : IsDesk desk) (agents : ℕ) (lines : length desk.answers ≡ agents) where
   -- what is left of a run whose letters were these
   abbrev broken_off : (cause : CrewCause) (held : List Letter) → length held ≤ 1 → sealed_letters (history desk) ≡ sent ++ held → IsBrokenOff drain host limits agents start (fault_of cause held desk posted)
@@ -183,20 +180,35 @@ module _ {W : Type 0} (drain : Drain W) (host : List ℕ) (limits : Limits) (sta
 
   pub failed_fault : (fault : CrewFault W) (held : Option Letter) → fault ≡ fault_of causes.Lost (letters_in held) desk posted → sealed_letters (history desk) ≡ sent ++ letters_in held → IsCrewFault drain host limits agents start fault fault.cause
   failed_fault fault held fault_is sealed =
-      subst (λ (it : CrewFault W). IsCrewFault drain host limits agents start it it.cause) (sym fault_is) (broken_off causes.Lost (letters_in held) (one_at_most held) sealed)
+      subst (λ (it : CrewFault W). IsCrewFault drain host limits agents start it it.cause) (sym fault_is) (broken_off causes.Lost (letters_in held) (option_few held) sealed)
 
   module _ (sealed : sealed_letters (history desk) ≡ sent) where
-    of_cause : (cause : CrewCause) → cause ≢ causes.PortCount → (cause ≡ causes.Refused → posted.all ≡ true) → IsCrewFault drain host limits agents start (fault_of cause [] desk posted) cause
-    of_cause causes.PortCount counted all = absurd (counted refl)
-    of_cause causes.Lost counted all = broken_off causes.Lost [] (omega arith) (sealed ∙ sym (append-nil sent))
-    of_cause causes.Refused counted all = inr (
-      broken_off causes.Refused [] (omega arith) (sealed ∙ sym (append-nil sent)),
-      is.all_came (all refl) ∙ (sym sealed ∙ ap (λ (l : Limits). sealed_letters (history_of l desk.requests.taken)) limits_are),
-    )
+    pub lost_fault : (fault : CrewFault W) → fault ≡ fault_of causes.Lost [] desk posted → IsCrewFault drain host limits agents start fault fault.cause
+    lost_fault fault fault_is =
+        subst (λ (it : CrewFault W). IsCrewFault drain host limits agents start it it.cause) (sym fault_is) (broken_off causes.Lost [] (omega arith) (sealed ∙ sym (append-nil sent)))
 
-    pub whole_fault : (fault : CrewFault W) → HasFaulted desk posted fault → IsCrewFault drain host limits agents start fault fault.cause
-    whole_fault fault has =
-        subst (λ (it : CrewFault W). IsCrewFault drain host limits agents start it fault.cause) (sym has.fault_is) (of_cause fault.cause has.counted has.all)
+    missing_is : (all : Bool) → posted.all ≡ all → IsCrewFault drain host limits agents start (fault_of (missing_cause all) [] desk posted) (missing_cause all)
+    missing_is true all = inr (
+      broken_off causes.Refused [] (omega arith) (sealed ∙ sym (append-nil sent)),
+      is.all_came all ∙ (sym sealed ∙ ap (λ (l : Limits). sealed_letters (history_of l desk.requests.taken)) limits_are),
+    )
+    missing_is false all = broken_off causes.Lost [] (omega arith) (sealed ∙ sym (append-nil sent))
+
+    pub missing_fault : (fault : CrewFault W) → fault ≡ fault_of (missing_cause posted.all) [] desk posted → IsCrewFault drain host limits agents start fault fault.cause
+    missing_fault fault fault_is =
+        subst (λ (it : CrewFault W). IsCrewFault drain host limits agents start it it.cause) (sym fault_is) (missing_is posted.all refl)
+
+-- no crew that began is told that its ports are too few or too many
+missing≢count : (all : Bool) → missing_cause all ≢ causes.PortCount
+missing≢count true same = let never : causes.Refused ≡ causes.PortCount = same in cc
+missing≢count false same = let never : causes.Lost ≡ causes.PortCount = same in cc
+
+pub no_count : {W : Type 0} (collected : Collected) (all : Gathered) (posted : Posted W) (result : Result (Account W) (CrewFault W)) → Concludes collected all posted result → IfErr result (λ fault. fault.cause ≢ causes.PortCount)
+no_count collected all posted (Ok account) ends_so = tt
+no_count (Whole new) (gathered.All lines crew) posted (Err fault) faulted = λ same. missing≢count false (sym (ap (λ it. it.cause) faulted.1) ∙ same)
+no_count (Whole new) gathered.Missing posted (Err fault) faulted = λ same. missing≢count posted.all (sym (ap (λ it. it.cause) faulted) ∙ same)
+no_count (Whole new) gathered.Lost posted (Err fault) faulted = λ same. missing≢count false (sym (ap (λ it. it.cause) faulted) ∙ same)
+no_count (Failed held new) all posted (Err fault) faulted = λ same. missing≢count false (sym (ap (λ it. it.cause) faulted) ∙ same)
 
 -- ---- the whole
 
@@ -272,14 +284,21 @@ module _ {P S W : Type 0} (port : Port P S) (drain : Drain W) (host : List ℕ) 
         account_is (Whole new) gathered.Lost (Ok account) has is closed = absurd closed
         account_is (Failed held new) all (Ok account) has is closed = absurd closed
 
-        fault_at : (new : Desk) (fault : CrewFault W) → IsRun TakesLetter begun new sink after (Ok tt) → IsDesk new → HasFaulted new posted fault → IsCrewFault drain host limits (length ports) start fault fault.cause
-        fault_at new fault run kept has = whole_fault drain host limits start after.letters posted post new (limits_are new run) kept (length ports) (lines_length new run) (letters_are new run ∙ append-nil after.letters) fault has
+        module _ (new : Desk) (fault : CrewFault W) (run : IsRun TakesLetter begun new sink after (Ok tt)) (kept : IsDesk new) where
+          sealed_are : sealed_letters (history new) ≡ after.letters
+          sealed_are = letters_are new run ∙ append-nil after.letters
+
+          lost_at : fault ≡ fault_of causes.Lost [] new posted → IsCrewFault drain host limits (length ports) start fault fault.cause
+          lost_at = lost_fault drain host limits start after.letters posted post new (limits_are new run) kept (length ports) (lines_length new run) sealed_are fault
+
+          missing_at : fault ≡ fault_of (missing_cause posted.all) [] new posted → IsCrewFault drain host limits (length ports) start fault fault.cause
+          missing_at = missing_fault drain host limits start after.letters posted post new (limits_are new run) kept (length ports) (lines_length new run) sealed_are fault
 
         pub fault_is : (collected : Collected) (all : Gathered) (result : Result (Account W) (CrewFault W)) → HasCollected begun sink after collected → Concludes collected all posted result → IfErr result (λ fault. IsCrewFault drain host limits (length ports) start fault fault.cause)
         fault_is collected all (Ok account) has ends_so = tt
-        fault_is (Whole new) (gathered.All lines crew) (Err fault) has faulted = fault_at new fault has.0 has.2 faulted
-        fault_is (Whole new) gathered.Missing (Err fault) has faulted = fault_at new fault has.0 has.2 faulted
-        fault_is (Whole new) gathered.Lost (Err fault) has faulted = fault_at new fault has.0 has.2 faulted
+        fault_is (Whole new) (gathered.All lines crew) (Err fault) has faulted = lost_at new fault has.0 has.2 faulted.1
+        fault_is (Whole new) gathered.Missing (Err fault) has faulted = missing_at new fault has.0 has.2 faulted
+        fault_is (Whole new) gathered.Lost (Err fault) has faulted = lost_at new fault has.0 has.2 faulted
         fault_is (Failed held new) all (Err fault) has faulted =
             failed_fault drain host limits start after.letters posted post new.value (limits_are new.value has.1) has.3 (length ports) (lines_length new.value has.1) fault held faulted
             (letters_are new.value has.1 ∙ ap (λ (ls : List Letter). after.letters ++ ls) (sym has.2))

@@ -1,6 +1,9 @@
--- What came of the agents' threads: one agent more that said goodbye.
-use Rattle.std.proofs.Common.{◌≡◌, List, [], ◌∷◌, ◌++◌, length, sym, subst, append_assoc}
+-- What came of the agents' threads: one agent more, and the last of them.
+use Rattle.std.proofs.Common.{◌≡◌, Bool, ◌||◌, List, [], ◌∷◌, ◌++◌, length, ap, sym, ◌∙◌, subst, append_assoc}
 use Rattle.std.specs.Prelude.{Option, Some}
+use Rattle.std.specs.List.{list_any}
+use Rattle.std.proofs.Math.Bool.{or-false}
+use mathlib.Core.Bool.{or_assoc}
 use Rattle.std.proofs.lemmas.List.{append-nil, nil_from_length}
 use Rattle.dsn_agent.specs.Agent.{Ends}
 use Rattle.dsn_crew.specs.Gathered.{AreEnded}
@@ -30,3 +33,19 @@ pub ended_all : (whole left : List (Option PortEnd)) (lines : List AgentLine) (a
 ended_all whole left lines agents none so_far =
     let all = so_far [] [] (subst (λ (ends : List (Option PortEnd)). AreEnded ends [] []) (sym (nil_from_length left none)) tt) in
     subst (λ (ls : List AgentLine). AreEnded whole ls agents) (append-nil lines) (subst (AreEnded whole (lines ++ [])) (append-nil agents) all)
+
+-- ---- whether there is one of a kind
+
+module _ {A : Type 0} (test : A → Bool) where
+  -- there is one among those that went by, or among what is left
+  abbrev pub FoundSoFar : List A → List A → Bool → Type 0
+  FoundSoFar whole left found = list_any test whole ≡ (found || list_any test left)
+
+  pub found_more : (whole left then : List A) (one : A) (found passes now : Bool) → left ≡ one ∷ then → test one ≡ passes → now ≡ (found || passes) → FoundSoFar whole left found → FoundSoFar whole then now
+  found_more whole left then one found passes now left_is is now_is so_far =
+      so_far
+      ∙ (ap (λ (l : List A). found || list_any test l) left_is
+      ∙ (sym (or_assoc found (test one) (list_any test then)) ∙ λ i. (ap (λ (p : Bool). found || p) is ∙ sym now_is) i || list_any test then))
+
+  pub found_all : (whole left : List A) (found : Bool) → length left ≡ 0 → FoundSoFar whole left found → list_any test whole ≡ found
+  found_all whole left found none so_far = so_far ∙ (ap (λ (l : List A). found || list_any test l) (nil_from_length left none) ∙ or-false found)

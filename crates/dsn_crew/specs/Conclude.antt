@@ -1,13 +1,13 @@
 -- Of private parts: how a run is concluded, from how it was collected, what came of its agents, and what was posted.
-use Rattle.std.specs.Prelude.{◌≡◌, ◌≢◌, true, List, [], ◌++◌, All as Each, Result, Ok, Err}
+use Rattle.std.specs.Prelude.{◌≡◌, Bool, true, false, List, [], ◌++◌, All as Each, Result, Ok, Err}
 use Rattle.dsn_book.specs.Book.{Represents}
 use Rattle.dsn_book.specs.Step.{letters_in}
 use Rattle.dsn_outcome.specs.Letter.{Letter}
 use Rattle.dsn_post.specs.declared.posted.Posted.{Posted}
 use Rattle.dsn_agent.specs.Agent.{Ends, IsFinished}
-use Rattle.dsn_crew.specs.Close.{AreCrew, AreOf, IsHeard}
+use Rattle.dsn_desk.specs.Close.{AreCrew, AreOf, IsHeard}
 use Rattle.dsn_crew.specs.Crew.{Account, CrewFault}
-use Rattle.dsn_crew.specs.Desk.{Desk, all_gone, history}
+use Rattle.dsn_desk.specs.Desk.{Desk, all_gone, history}
 use Rattle.dsn_agent.specs.declared.agent_line.AgentLine.{AgentLine}
 use Rattle.dsn_crew.specs.declared.collected.Collected.{Collected}
 use Rattle.dsn_crew.specs.declared.collected.Collected.TheVariants.{Whole, Failed}
@@ -50,16 +50,18 @@ pub record HasClosed {W : Type 0} (lines : List AgentLine) (agents : List Ends) 
   pub only : AreOf agents desk.requests.taken
   pub stands : Represents account.book (history desk)
 
--- one that was not, though its collector ran to its end
-pub record HasFaulted {W : Type 0} (desk : Desk) (posted : Posted W) (fault : CrewFault W) : Type 0 where
-  pub fault_is : fault ≡ fault_of fault.cause [] desk posted
-  pub counted : fault.cause ≢ causes.PortCount
-  pub all : fault.cause ≡ causes.Refused → posted.all ≡ true
+-- the cause of one in which an agent was not started, by whether all letters came to the poster
+abbrev pub missing_cause : Bool → CrewCause
+missing_cause true = causes.Refused
+missing_cause false = causes.Lost
 
+-- where all went well the crew is closed; else this is its fault
 abbrev pub Concludes : {W : Type 0} → Collected → Gathered → Posted W → Result (Account W) (CrewFault W) → Type 0
 Concludes (Whole desk) (All lines agents) posted (Ok account) = HasClosed lines.items agents.items desk posted account
+Concludes (Whole desk) (All lines agents) posted (Err fault) = (posted.all ≡ false) × (fault ≡ fault_of causes.Lost [] desk posted)
 Concludes (Whole desk) Missing posted (Ok account) = ⊥
+Concludes (Whole desk) Missing posted (Err fault) = fault ≡ fault_of (missing_cause posted.all) [] desk posted
 Concludes (Whole desk) Lost posted (Ok account) = ⊥
-Concludes (Whole desk) gathered posted (Err fault) = HasFaulted desk posted fault
+Concludes (Whole desk) Lost posted (Err fault) = fault ≡ fault_of causes.Lost [] desk posted
 Concludes (Failed held desk) gathered posted (Ok account) = ⊥
 Concludes (Failed held desk) gathered posted (Err fault) = fault ≡ fault_of causes.Lost (letters_in held) desk.value posted

@@ -1,5 +1,6 @@
 -- Of private parts: what came of the agents' threads, taken together.
-use Rattle.std.specs.Prelude.{◌≡◌, List, [], ◌∷◌, Option, Some}
+use Rattle.std.specs.Prelude.{◌≡◌, Bool, true, false, List, [], ◌∷◌, Option, Some, None, is_none}
+use Rattle.std.specs.List.{list_any}
 use Rattle.dsn_agent.specs.Agent.{Ends}
 use Rattle.dsn_agent.specs.declared.agent_line.AgentLine.{AgentLine}
 use Rattle.dsn_crew.specs.declared.gathered.Gathered.{Gathered}
@@ -12,8 +13,13 @@ AreEnded [] [] [] = Unit {0}
 AreEnded (end ∷ ends) (line ∷ lines) (agent ∷ agents) = (end ≡ Some (record { line = line; finished = Some agent })) × AreEnded ends lines agents
 AreEnded ends lines agents = ⊥
 
--- where all agents said goodbye, these are their lines and their ends
+-- an agent that was started, and lost a lane
+abbrev pub has_lost : Option PortEnd → Bool
+has_lost None = false
+has_lost (Some end) = is_none end.finished
+
+-- an agent that lost a lane comes first; then one that was not started; where there is neither, these are all lines and ends
 abbrev pub IsGathered : List (Option PortEnd) → Gathered → Type 0
 IsGathered ends (All lines agents) = AreEnded ends lines.items agents.items
-IsGathered ends Missing = Unit {0}
-IsGathered ends Lost = Unit {0}
+IsGathered ends Missing = (list_any is_none ends ≡ true) × (list_any has_lost ends ≡ false)
+IsGathered ends Lost = list_any has_lost ends ≡ true

@@ -1,10 +1,7 @@
-pub mod Close
 pub mod Collected
 pub mod Conclude
 pub mod Crew
-pub mod Desk
 pub mod Gathered
-pub mod Open
 pub mod Room
 pub mod StartServing
 pub mod TakenBy

@@ -3,11 +3,11 @@ ghost use Rattle.std.specs.Prelude.{◌≡◌, true};
 ghost use Rattle.dsn_crew.specs.Conclude.{Concludes, MayClose};
 
 use crate::account::Account;
-use crate::close::close_crew;
 use crate::collected::Collected;
 use crate::crew_cause::CrewCause;
 use crate::crew_fault::CrewFault;
 use crate::gathered::Gathered;
+use dsn_desk::close_crew;
 use dsn_post::Posted;
 use std::snapshot::Snapshot;
 use std::sync::Wait;

@@ -2,16 +2,14 @@
 ghost use Rattle.std.specs.Prelude.{◌≤◌, IfOk};
 ghost use Rattle.dsn_crew.specs.Room.{IsRoom};
 
-use crate::desk::Desk;
-use crate::open::open_crew;
-use crate::start_serving::Serves;
-use dsn_agent::{Agent, AgentLine, Finished, Port, PortEnd};
+use crate::slots::Slots;
+use dsn_agent::{Agent, Port};
 use dsn_book::Limits;
+use dsn_desk::{Desk, open_crew};
 use dsn_outcome::NoMemory;
 use dsn_post::{LetterSink, LetterSource, open_post};
 use std::alloc::Global;
 use std::sync::Wait;
-use std::thread::PromisedHandle;
 
 /// All that a run needs memory for, so that nothing is refused once its first thread is started.
 #[derive(Drop)]
@@ -20,11 +18,7 @@ pub(crate) struct Room<P: Port> {
     pub(crate) desk: Desk,
     pub(crate) sink: LetterSink,
     pub(crate) source: LetterSource,
-    /// Room for the agents' threads, for what comes of them, and for its two parts.
-    pub(crate) handles: Vec<Option<PromisedHandle<PortEnd, Serves<P>>>>,
-    pub(crate) ends: Vec<Option<PortEnd>>,
-    pub(crate) lines: Vec<AgentLine>,
-    pub(crate) finished: Vec<Finished>,
+    pub(crate) slots: Slots<P>,
 }
 
 impl<P: Port> Room<P> {
@@ -42,27 +36,13 @@ impl<P: Port> Room<P> {
             return Err(NoMemory);
         };
         let (sink, source) = open_post(rt, alloc)?;
-        let Ok(handles) = Vec::with_capacity(alloc, agents as usize) else {
-            return Err(NoMemory);
-        };
-        let Ok(ends) = Vec::with_capacity(alloc, agents as usize) else {
-            return Err(NoMemory);
-        };
-        let Ok(lines) = Vec::with_capacity(alloc, agents as usize) else {
-            return Err(NoMemory);
-        };
-        let Ok(finished) = Vec::with_capacity(alloc, agents as usize) else {
-            return Err(NoMemory);
-        };
+        let slots = Slots::take(alloc, agents)?;
         Ok(Room {
             agents: crew,
             desk,
             sink,
             source,
-            handles,
-            ends,
-            lines,
-            finished,
+            slots,
         })
     }
 }

@@ -9,6 +9,7 @@ use crate::crew_cause::CrewCause;
 use crate::crew_fault::CrewFault;
 use crate::gathered::Gathered;
 use crate::room::Room;
+use crate::slots::Slots;
 use crate::start_serving::{count_missing, join_all, start_all};
 use dsn_agent::{Gate, Port};
 use dsn_book::Limits;
@@ -95,15 +96,18 @@ fn run_in<
         mut desk,
         sink,
         source,
-        handles,
-        ends,
-        lines,
-        finished,
+        slots,
     } = room;
     let (mut sink, poster) = match start_posting(scope, rt, site, outbox, sink, source) {
         Ok(started) => started,
         Err(outbox) => return Err(CrewFault::unbegun(CrewCause::Refused, outbox)),
     };
+    let Slots {
+        handles,
+        ends,
+        lines,
+        finished,
+    } = slots;
     let handles = start_all(scope, rt, alloc, agents, ports, handles, gate);
     desk.miss(count_missing(&handles) as u32);
     let collected = Collected::by(rt, desk, &mut sink);

@@ -1,7 +1,7 @@
 //! An agent by one thread, whose answers wait before it asks: what its session calls, reads and
 //! writes, and what it is told where no answer comes.
 ghost use Rattle.std.specs.Prelude.{◌<◌, IfSome};
-ghost use Rattle.dsn_crew.specs.Open.{IsLine};
+ghost use Rattle.dsn_desk.specs.Open.{IsLine};
 
 use super::bodies::discard;
 use super::memory::Memory;

@@ -1,8 +1,8 @@
 //! A collector that runs until its agents are gone.
 ghost use Rattle.std.specs.Prelude.{◌≡◌, List, true, IfSome};
 ghost use Rattle.dsn_agent.specs.Agent.{Ends};
-ghost use Rattle.dsn_crew.specs.Close.{AreCrew};
-ghost use Rattle.dsn_crew.specs.Desk.{all_gone};
+ghost use Rattle.dsn_desk.specs.Close.{AreCrew};
+ghost use Rattle.dsn_desk.specs.Desk.{all_gone};
 
 use dsn_crew::{Desk, Sink};
 use dsn_outcome::Letter;

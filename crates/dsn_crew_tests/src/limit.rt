@@ -2,9 +2,9 @@
 //! and the close of the crew.
 ghost use Rattle.std.specs.Prelude.{◌≡◌, List, true, [], ◌∷◌, IfSome};
 ghost use Rattle.dsn_agent.specs.Agent.{Ends};
-ghost use Rattle.dsn_crew.specs.Close.{AreCrew};
+ghost use Rattle.dsn_desk.specs.Close.{AreCrew};
 ghost use Rattle.dsn_agent.specs.Place.{place_of};
-ghost use Rattle.dsn_crew.specs.Desk.{all_gone};
+ghost use Rattle.dsn_desk.specs.Desk.{all_gone};
 
 use super::bodies::append;
 use super::collect::collect;

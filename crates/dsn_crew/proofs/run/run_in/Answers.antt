@@ -4,7 +4,7 @@ use Rattle.dsn_lane.specs.Ends.{Identity}
 use Rattle.dsn_post.specs.LetterSink.{LetterSink}
 use Rattle.dsn_post.specs.Parcel.{Parcel}
 use Rattle.dsn_post.specs.Posting.{IsPosted, Posts}
-use Rattle.dsn_crew.proofs.CrewLemmas.{account_is, collected_lane, ends_length, fault_is, handles_length, may_close, may_miss, missing_few}
+use Rattle.dsn_crew.proofs.CrewLemmas.{account_is, collected_lane, ends_length, fault_is, handles_length, may_close, may_miss, missing_few, no_count}
 use Rattle.dsn_crew.proofs.run.run_in.Goals as goal
 
 pub overflow_cast-count_missing : goal.overflow_cast-count_missing
@@ -26,22 +26,22 @@ pub join_all-requires-clause-room : goal.join_all-requires-clause-room
 join_all-requires-clause-room g c κs within =
     let room = c.in-Ok.ensures in
     let long = handles_length g.P.Port g.W.Drain c.args.site c.args.limits c.args.ports.items c.args.outbox _ _ _ room.opened (search rules) _ c.start_all-handles.ensures in
-    let fits = room.ends.1 in
-    (room.ends.0, omega arith)
+    let fits = room.slots.ends.1 in
+    (room.slots.ends.0, omega arith)
 
 pub of-gathered-requires-clause-lines : goal.of-gathered-requires-clause-lines
 of-gathered-requires-clause-lines g c =
     let room = c.in-Ok.ensures in
     let long = ends_length g.P.Port g.W.Drain c.args.site c.args.limits c.args.ports.items c.args.outbox _ _ _ room.opened (search rules) _ c.start_all-handles.ensures _ c.join_all.ensures in
-    let fits = room.lines.1 in
-    (room.lines.0, omega arith)
+    let fits = room.slots.lines.1 in
+    (room.slots.lines.0, omega arith)
 
 pub of-gathered-requires-clause-finished : goal.of-gathered-requires-clause-finished
 of-gathered-requires-clause-finished g c =
     let room = c.in-Ok.ensures in
     let long = ends_length g.P.Port g.W.Drain c.args.site c.args.limits c.args.ports.items c.args.outbox _ _ _ room.opened (search rules) _ c.start_all-handles.ensures _ c.join_all.ensures in
-    let fits = room.finished.1 in
-    (room.finished.0, omega arith)
+    let fits = room.slots.finished.1 in
+    (room.slots.finished.0, omega arith)
 
 pub end_posting-posted-requires : goal.end_posting-posted-requires
 end_posting-posted-requires g c =
@@ -77,3 +77,6 @@ returns-clause-fault g c =
     subst (λ (posts : Posts g.row.W.Denot). IsPosted g.W.Drain posts.site posts.outbox c.by-collected.new.sink.lane.capacity c.by-collected.new.sink.letters c.end_posting-posted.result) c.in-Ok-start_posting.ensures.promise c.end_posting-posted.ensures in
     let post = subst (λ (most : ℕ). IsPosted g.W.Drain c.args.site c.args.outbox most c.by-collected.new.sink.letters c.end_posting-posted.result) waiting posted in
     fault_is g.P.Port g.W.Drain c.args.site c.args.limits c.args.ports.items c.args.outbox _ _ _ room.opened (search rules) _ c.start_all-handles.ensures _ c.join_all.ensures _ _ c.miss.ensures.missed _ _ (ap (λ (sink : LetterSink). sink.letters) same ∙ room.sink) _ post _ _ _ c.by-collected.ensures c.conclude.ensures
+
+pub returns-clause-counted : goal.returns-clause-counted
+returns-clause-counted g c = no_count _ _ _ _ c.conclude.ensures

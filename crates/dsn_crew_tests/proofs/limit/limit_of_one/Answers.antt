@@ -1,6 +1,6 @@
 -- A crew that was just opened has its two agents, at their places.
 use Rattle.std.proofs.Common.{rules}
-use Rattle.dsn_crew.proofs.OpenLemmas.{opened_two}
+use Rattle.dsn_desk.proofs.OpenLemmas.{opened_two}
 use Rattle.dsn_crew_tests.proofs.limit.limit_of_one.Goals as goal
 
 pub two_agents-requires-after_bounds : goal.two_agents-requires-after_bounds

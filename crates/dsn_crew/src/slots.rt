@@ -1,0 +1,44 @@
+//! Room for what comes of each agent.
+ghost use Rattle.std.specs.Prelude.{IfOk};
+ghost use Rattle.dsn_crew.specs.Room.{AreSlots};
+
+use crate::start_serving::Serves;
+use dsn_agent::{AgentLine, Finished, Port, PortEnd};
+use dsn_outcome::NoMemory;
+use std::alloc::Global;
+use std::thread::PromisedHandle;
+
+/// Room for the agents' threads, for what comes of them, and for its two parts.
+#[derive(Drop)]
+pub(crate) struct Slots<P: Port> {
+    pub(crate) handles: Vec<Option<PromisedHandle<PortEnd, Serves<P>>>>,
+    pub(crate) ends: Vec<Option<PortEnd>>,
+    pub(crate) lines: Vec<AgentLine>,
+    pub(crate) finished: Vec<Finished>,
+}
+
+impl<P: Port> Slots<P> {
+    /// Room for so many agents. `NoMemory` comes only where memory was refused.
+    pub(crate) fn take(alloc: Global, agents: u32) -> Result<Slots<P>, NoMemory>
+        ensures { IfOk result (AreSlots agents) }
+    {
+        let Ok(handles) = Vec::with_capacity(alloc, agents as usize) else {
+            return Err(NoMemory);
+        };
+        let Ok(ends) = Vec::with_capacity(alloc, agents as usize) else {
+            return Err(NoMemory);
+        };
+        let Ok(lines) = Vec::with_capacity(alloc, agents as usize) else {
+            return Err(NoMemory);
+        };
+        let Ok(finished) = Vec::with_capacity(alloc, agents as usize) else {
+            return Err(NoMemory);
+        };
+        Ok(Slots {
+            handles,
+            ends,
+            lines,
+            finished,
+        })
+    }
+}

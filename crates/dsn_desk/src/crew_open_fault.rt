@@ -1,0 +1,28 @@
+//! Why a crew was not opened.
+ghost use Rattle.std.specs.Prelude.{◌≡◌};
+ghost use Rattle.dsn_desk.specs.Open.{crew_open_fault_code};
+
+use thiserror::Error;
+
+/// Why a crew was not opened.
+#[derive(Clone, Copy, Debug, PartialEq, Eq, Error)]
+pub enum CrewOpenFault {
+    /// The memory for the crew was refused.
+    #[error("out of memory")]
+    NoMemory,
+    /// There are not 1 to 16 agents.
+    #[error("a crew has 1 to 16 agents")]
+    AgentCount,
+}
+
+impl CrewOpenFault {
+    /// The number of the fault: 42 or 43.
+    pub fn code(&self) -> u32
+        ensures { result ≡ crew_open_fault_code self.now }
+    {
+        match self {
+            CrewOpenFault::NoMemory => 42,
+            CrewOpenFault::AgentCount => 43,
+        }
+    }
+}

@@ -1,0 +1,47 @@
+//! The collector's side of one agent's answer lane.
+ghost use Rattle.std.specs.Prelude.{◌≡◌, ◌<◌, [], ◌∷◌, length, OnOk, OnErr, vec_capacity, ◌≤◌};
+ghost use Rattle.dsn_desk.specs.Desk.{answered_more};
+
+use dsn_lane::LaneIn;
+use dsn_outcome::Answer;
+use std::marker::Model;
+use std::sync::Wait;
+
+/// The end by which one agent is answered, with room for it at the close.
+#[derive(Drop)]
+pub(crate) struct Line {
+    pub(crate) end: LaneIn<Answer>,
+    pub(crate) room: Vec<LaneIn<Answer>>,
+}
+
+impl Model for Line {
+    ghost use Rattle.std.specs.Prelude.{◌≡◌, ◌≤◌, [], vec_capacity};
+    ghost use Rattle.dsn_lane.specs.Ends.{End};
+    ghost use Rattle.dsn_outcome.specs.declared.answer.Answer.{Answer};
+
+    ghost Value = { End Answer };
+
+    ghost view = { λ l. l.end };
+
+    ghost invariant = { λ l. (l.room.items ≡ []) × (1 ≤ vec_capacity l.room) };
+}
+
+impl Line {
+    /// The end of a lane that has just this one.
+    pub(crate) fn new(end: LaneIn<Answer>, room: Vec<LaneIn<Answer>>) -> Line
+        requires { (room.items ≡ []) × (1 ≤ vec_capacity room) }
+        ensures { result ≡ end }
+    {
+        Line { end, room }
+    }
+
+    /// Sends an answer; false where the agent is gone.
+    pub(crate) fn send(&mut self, rt: &impl Wait, answer: Answer) -> bool
+        requires agent { answer.agent ≡ self.old.agent }
+        requires number { answer.number ≡ length self.old.sent }
+        requires room { length self.old.sent < 4294967295 }
+        ensures { self.new ≡ answered_more result self.old answer }
+    {
+        self.end.send(rt, answer).is_ok()
+    }
+}

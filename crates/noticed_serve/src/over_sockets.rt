@@ -1,5 +1,5 @@
 //! The run of the daemon over a listening socket.
-ghost use Rattle.std.specs.Prelude.{◌≡◌, length, IfOk};
+ghost use Rattle.std.specs.Prelude.{◌≡◌, All, length, IfOk};
 ghost use Rattle.noticed_serve.specs.Serve.{IsSocketServe};
 
 use crate::over_ports::serve_ports;
@@ -45,7 +45,8 @@ fn socket_ports<'a>(
     agents: u32,
     max_use: u32,
 ) -> Result<Vec<SocketPort<'a>>, NoMemory>
-    ensures { IfOk result (λ ports. length ports.items ≡ agents) }
+    ensures count { IfOk result (λ ports. length ports.items ≡ agents) }
+    ensures uses { IfOk result (λ ports. All (λ port. port.left ≡ max_use) ports.items) }
 {
     let mut ports = Vec::with_capacity(alloc, agents as usize).map_err(|_| NoMemory)?;
     for _ in 0..agents {

@@ -1,6 +1,7 @@
 //! Answers with their bytes, and bytes that are no answer.
 use dsn_frame::{Spoken, decode_answer, encode_answer};
 use dsn_outcome::Reply;
+use std::process::Abort;
 use std::test::Fail;
 
 /// Each reply, and a refusal, with its frame's bytes after the number.
@@ -22,31 +23,32 @@ const ANSWERS: [(Spoken, u8, [u8; 4]); 11] = [
     (Spoken::Refused(46), 10, [0, 0, 0, 46]),
 ];
 
+/// The frame of an answer has these bytes.
+fn expect_frame(rt: &impl Abort, number: u32, answer: &Spoken, want: &[u8]) {
+    let bytes = encode_answer(number, answer);
+    assert_eq!(rt; bytes.as_slice(), want, "{answer:?}");
+}
+
+/// The frame of an answer has this kind and value, and is read back.
+fn expect_answer(rt: &impl Abort, number: u32, answer: Spoken, kind: u8, value: [u8; 4]) {
+    let [n0, n1, n2, n3] = number.to_be_bytes();
+    let [v0, v1, v2, v3] = value;
+    let want = [0, 0, 0, 10, 1, kind, n0, n1, n2, n3, v0, v1, v2, v3];
+    expect_frame(rt, number, &answer, &want);
+    assert_eq!(rt; decode_answer(&want[4..]).ok(), Some((number, answer)));
+}
+
 #[test]
-fn frames_and_answers_encoded(rt: HostRuntime) -> Result<(), Fail> {
-    let sealed = encode_answer(1, &Spoken::Reply(Reply::Sealed(1)));
-    assert_eq!(rt;
-        sealed.as_slice(),
-        b"\0\0\0\x0a\x01\x07\0\0\0\x01\0\0\0\x01".as_slice()
-    );
-    let refused = encode_answer(0, &Spoken::Refused(24));
-    assert_eq!(rt;
-        refused.as_slice(),
-        b"\0\0\0\x0a\x01\x0a\0\0\0\0\0\0\0\x18".as_slice()
-    );
+fn frames_and_answers_encoded(rt: HostRuntime) {
+    let sealed = Spoken::Reply(Reply::Sealed(1));
+    expect_frame(&rt, 1, &sealed, b"\0\0\0\x0a\x01\x07\0\0\0\x01\0\0\0\x01");
+    let refused = Spoken::Refused(24);
+    expect_frame(&rt, 0, &refused, b"\0\0\0\x0a\x01\x0a\0\0\0\0\0\0\0\x18");
     for (answer, kind, value) in ANSWERS {
         for number in [0, 1, 999_999, u32::MAX] {
-            let [n0, n1, n2, n3] = number.to_be_bytes();
-            let [v0, v1, v2, v3] = value;
-            let want = [0, 0, 0, 10, 1, kind, n0, n1, n2, n3, v0, v1, v2, v3];
-            let bytes = encode_answer(number, &answer);
-            assert_eq!(rt; bytes.as_slice(), want.as_slice(), "{answer:?}");
-            let (place, said) = decode_answer(&bytes[4..]).ok().ok_or("an answer")?;
-            assert_eq!(rt; place, number, "{answer:?}");
-            assert_eq!(rt; said, answer);
+            expect_answer(&rt, number, answer, kind, value);
         }
     }
-    Ok(())
 }
 
 #[test]

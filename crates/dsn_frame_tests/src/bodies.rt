@@ -5,6 +5,8 @@ mod near;
 
 use dsn_frame::decode_request;
 use dsn_outcome::{Body, Parts, Service};
+use std::alloc::AllocGlobal;
+use std::process::Abort;
 use std::test::Fail;
 
 /// An append of version 1 to `B K1` without optional texts.
@@ -48,7 +50,7 @@ fn push_text(body: &mut Vec<u8>, text: &[u8]) -> Result<(), Fail> {
     Ok(())
 }
 
-fn head_bytes(rt: &HostRuntime, kind: u8, service: u8, id: &[u8]) -> Result<Vec<u8>, Fail> {
+fn head_bytes(rt: &impl AllocGlobal, kind: u8, service: u8, id: &[u8]) -> Result<Vec<u8>, Fail> {
     let mut body = vec![in rt.alloc(); 1, kind, 0, 0, 0, 7, service]?;
     push_text(&mut body, id)?;
     Ok(body)
@@ -62,7 +64,7 @@ fn refusal(rt: &impl AllocGlobal, bytes: &[u8]) -> u32 {
     }
 }
 
-fn append_refusal(rt: &HostRuntime, service: u8, parts: Parts<'_>) -> Result<u32, Fail> {
+fn append_refusal(rt: &impl AllocGlobal, service: u8, parts: Parts<'_>) -> Result<u32, Fail> {
     let mut body = head_bytes(rt, 1, service, b"K1")?;
     push_text(&mut body, parts.original)?;
     push_text(&mut body, parts.recipient)?;
@@ -74,7 +76,7 @@ fn append_refusal(rt: &HostRuntime, service: u8, parts: Parts<'_>) -> Result<u32
     Ok(refusal(rt, &body))
 }
 
-fn flush_refusal(rt: &HostRuntime, parts: FlushParts<'_>) -> Result<u32, Fail> {
+fn flush_refusal(rt: &impl AllocGlobal, parts: FlushParts<'_>) -> Result<u32, Fail> {
     let mut body = head_bytes(rt, 2, 1, b"K1")?;
     body.extend_from_slice(&parts.moment.to_be_bytes())?;
     body.extend_from_slice(&parts.arrival.to_be_bytes())?;
@@ -84,8 +86,27 @@ fn flush_refusal(rt: &HostRuntime, parts: FlushParts<'_>) -> Result<u32, Fail> {
     Ok(refusal(rt, &body))
 }
 
+/// Appends to `B K1` with these fields are refused with these numbers, or accepted for 0.
+fn expect_appends(rt: &(impl Abort + AllocGlobal), cases: &[(Parts<'_>, u32)]) -> Result<(), Fail> {
+    for (parts, want) in cases {
+        assert_eq!(rt; append_refusal(rt, 1, *parts)?, *want);
+    }
+    Ok(())
+}
+
+/// The same of flushes.
+fn expect_flushes(
+    rt: &(impl Abort + AllocGlobal),
+    cases: &[(FlushParts<'_>, u32)],
+) -> Result<(), Fail> {
+    for (parts, want) in cases {
+        assert_eq!(rt; flush_refusal(rt, *parts)?, *want);
+    }
+    Ok(())
+}
+
 #[test]
-fn short_bodies(rt: HostRuntime) -> Result<(), Fail> {
+fn short_bodies(rt: HostRuntime) {
     for (bytes, want) in [
         (b"".as_slice(), 23),
         (b"\x00".as_slice(), 21),
@@ -104,51 +125,65 @@ fn short_bodies(rt: HostRuntime) -> Result<(), Fail> {
     ] {
         assert_eq!(rt; refusal(&rt, bytes), want, "{bytes:?}");
     }
-    let discard = b"\x01\x03\0\0\0\0\x01\0\x02K1";
-    let (number, body) = decode_request(rt.alloc(), discard).ok().ok_or("a discard")?;
-    assert_eq!(rt; number, 0);
-    let Body::Discard(key) = body else {
-        return Err("no discard")?;
-    };
-    assert_eq!(rt; key.service, Service::Bounce);
-    assert_eq!(rt; key.id.bytes(), b"K1".as_slice());
-    Ok(())
 }
 
 #[test]
-fn one_append_one_flush(rt: HostRuntime) -> Result<(), Fail> {
-    let append =
-        b"\x01\x01\0\0\0\0\x01\0\x06A1B2C3\0\0\0\x0fbob@example.org\x01\0\x055.1.1\0\0\0\0\0\0";
-    let (number, body) = decode_request(rt.alloc(), append).ok().ok_or("an append")?;
-    assert_eq!(rt; number, 0);
+fn one_discard(rt: HostRuntime) -> Result<(), Fail> {
+    let discard = b"\x01\x03\0\0\0\0\x01\0\x02K1";
+    let (number, body) = decode_request(rt.alloc(), discard).ok().ok_or("a discard")?;
+    let Body::Discard(key) = body else {
+        return Err("no discard")?;
+    };
+    let told = (number, key.service, key.id.bytes());
+    assert_eq!(rt; told, (0, Service::Bounce, b"K1".as_slice()));
+    Ok(())
+}
+
+/// An append to `B A1B2C3`, with number 0.
+const WHOLE_APPEND: &[u8] =
+    b"\x01\x01\0\0\0\0\x01\0\x06A1B2C3\0\0\0\x0fbob@example.org\x01\0\x055.1.1\0\0\0\0\0\0";
+
+/// A flush of `B A1B2C3`, with number 1.
+const WHOLE_FLUSH: &[u8] =
+    b"\x01\x02\0\0\0\x01\x01\0\x06A1B2C3\0\0\0\0\x65\x53\xf1\0\0\0\0\0\x65\x53\xe2\xf0\0\x0fann@example.com\0\0\0\0";
+
+fn expect_append(rt: &(impl Abort + AllocGlobal)) -> Result<(), Fail> {
+    let (number, body) = decode_request(rt.alloc(), WHOLE_APPEND)
+        .ok()
+        .ok_or("an append")?;
     let Body::Append(id, node) = body else {
         return Err("no append")?;
     };
-    assert_eq!(rt; id.bytes(), b"A1B2C3".as_slice());
-    assert_eq!(rt;
-        node.outcome().recipient().bytes(),
-        b"bob@example.org".as_slice()
-    );
-    assert_eq!(rt; node.outcome().status().bytes(), b"5.1.1".as_slice());
-    assert!(rt; node.outcome().mta().is_none());
-    let flush =
-        b"\x01\x02\0\0\0\x01\x01\0\x06A1B2C3\0\0\0\0\x65\x53\xf1\0\0\0\0\0\x65\x53\xe2\xf0\0\x0fann@example.com\0\0\0\0";
-    let (number, body) = decode_request(rt.alloc(), flush).ok().ok_or("a flush")?;
-    assert_eq!(rt; number, 1);
+    assert_eq!(rt; (number, id.bytes()), (0, b"A1B2C3".as_slice()));
+    let outcome = node.outcome();
+    let texts = (outcome.recipient().bytes(), outcome.status().bytes());
+    assert_eq!(rt; texts, (b"bob@example.org".as_slice(), b"5.1.1".as_slice()));
+    assert!(rt; outcome.mta().is_none());
+    Ok(())
+}
+
+fn expect_flush(rt: &(impl Abort + AllocGlobal)) -> Result<(), Fail> {
+    let (number, body) = decode_request(rt.alloc(), WHOLE_FLUSH)
+        .ok()
+        .ok_or("a flush")?;
     let Body::Flush(key, draft) = body else {
         return Err("no flush")?;
     };
-    assert_eq!(rt; key.id.bytes(), b"A1B2C3".as_slice());
+    assert_eq!(rt; (number, key.id.bytes()), (1, b"A1B2C3".as_slice()));
     assert!(rt; draft.has_return());
     Ok(())
 }
 
 #[test]
+fn one_append_one_flush(rt: HostRuntime) -> Result<(), Fail> {
+    expect_append(&rt)?;
+    expect_flush(&rt)
+}
+
+#[test]
 fn a_body_cut_anywhere_is_short(rt: HostRuntime) {
-    let append =
-        b"\x01\x01\0\0\0\0\x01\0\x06A1B2C3\0\0\0\x0fbob@example.org\x01\0\x055.1.1\0\0\0\0\0\0";
-    for end in 0..append.len() {
-        assert_eq!(rt; refusal(&rt, &append[..end]), 23, "{end} bytes");
+    for end in 0..WHOLE_APPEND.len() {
+        assert_eq!(rt; refusal(&rt, &WHOLE_APPEND[..end]), 23, "{end} bytes");
     }
 }
 

@@ -35,28 +35,41 @@ fn append(rt: &HostRuntime, service: Service, text: &[u8], parts: Parts<'_>) -> 
     Ok(Body::Append(id(text)?, Outcome::new(rt.alloc(), service, parts)?))
 }
 
+/// The address of this text; none of an empty one.
+fn address(rt: &HostRuntime, text: &[u8]) -> Result<Option<Address>, Fail> {
+    match text {
+        [] => Ok(None),
+        text => Ok(Some(Address::new(rt.alloc(), text)?)),
+    }
+}
+
+/// The same of an envelope id.
+fn envelope_id(rt: &HostRuntime, text: &[u8]) -> Result<Option<EnvelopeId>, Fail> {
+    match text {
+        [] => Ok(None),
+        text => Ok(Some(EnvelopeId::new(rt.alloc(), text)?)),
+    }
+}
+
 fn flush(rt: &HostRuntime, seconds: [u64; 2], texts: Texts<'_>) -> Result<Body, Fail> {
     let [moment, arrival] = seconds;
-    let return_path = match texts.return_path {
-        [] => None,
-        text => Some(Address::new(rt.alloc(), text)?),
-    };
-    let envelope_id = match texts.envelope_id {
-        [] => None,
-        text => Some(EnvelopeId::new(rt.alloc(), text)?),
-    };
-    let draft = Draft::new(
-        rt.alloc(),
-        Stamp::new(moment).ok_or("a moment")?,
-        Stamp::new(arrival).ok_or("a moment")?,
-        return_path,
-        envelope_id,
-        RawHeader::new(rt.alloc(), texts.header)?,
-    )?;
     let key = Key {
         service: Service::Defer,
         id: id(b"Q")?,
     };
+    let moment = Stamp::new(moment).ok_or("a moment")?;
+    let arrival = Stamp::new(arrival).ok_or("a moment")?;
+    let return_path = address(rt, texts.return_path)?;
+    let envelope_id = envelope_id(rt, texts.envelope_id)?;
+    let header = RawHeader::new(rt.alloc(), texts.header)?;
+    let draft = Draft::new(
+        rt.alloc(),
+        moment,
+        arrival,
+        return_path,
+        envelope_id,
+        header,
+    )?;
     Ok(Body::Flush(key, draft))
 }
 
@@ -185,7 +198,6 @@ fn text_if(there: bool, text: &'static [u8]) -> &'static [u8] {
 
 #[test]
 fn appends_read_back(rt: HostRuntime) -> Result<(), Fail> {
-    let long = vec![in rt.alloc(); b'a'; 800]?;
     for shape in 0..16u8 {
         let parts = Parts {
             original: text_if(shape & 1 != 0, ALL.original),
@@ -197,6 +209,12 @@ fn appends_read_back(rt: HostRuntime) -> Result<(), Fail> {
         let body = append(&rt, Service::Bounce, b"0", parts)?;
         goes_and_comes_back(&rt, u32::from(shape), &body)?;
     }
+    Ok(())
+}
+
+#[test]
+fn a_longest_append_reads_back(rt: HostRuntime) -> Result<(), Fail> {
+    let long = vec![in rt.alloc(); b'a'; 800]?;
     let longest = Parts {
         recipient: &long[..256],
         original: &long[..256],

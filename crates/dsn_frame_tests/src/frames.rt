@@ -1,10 +1,12 @@
 //! Frames from readers that give them in pieces, end anywhere and fail anywhere.
 ghost use Rattle.std.specs.Prelude.{Some};
 
-use dsn_frame::{LONGEST_BODY, read_frame};
+use dsn_frame::{Frame, LONGEST_BODY, read_frame};
 use dsn_outcome::Plain;
+use std::alloc::AllocGlobal;
 use std::io;
 use std::io::{ErrorKind, Read};
+use std::process::Abort;
 use std::test::Fail;
 
 /// A reader over bytes in memory, which gives at most `most` bytes a call, but at least one; the
@@ -44,16 +46,32 @@ fn fault(rt: &HostRuntime, input: &[u8], good: usize) -> u32 {
     }
 }
 
+/// The next frame, or none at the end.
+fn next_frame(
+    rt: &impl AllocGlobal,
+    source: &mut Plain<PieceReader<'_>>,
+) -> Result<Option<Frame>, Fail> {
+    Ok(read_frame(rt.alloc(), source).ok().ok_or("no fault")?)
+}
+
+/// The next frame has this body.
+fn expect_body(
+    rt: &(impl Abort + AllocGlobal),
+    source: &mut Plain<PieceReader<'_>>,
+    want: &[u8],
+) -> Result<(), Fail> {
+    let frame = next_frame(rt, source)?.ok_or("a frame")?;
+    assert_eq!(rt; frame.body(), want);
+    Ok(())
+}
+
 #[test]
 fn frames_in_pieces(rt: HostRuntime) -> Result<(), Fail> {
     for most in 1..20 {
         let mut source = source(TWO_FRAMES, most, 100);
-        for want in [b"abc".as_slice(), b"d".as_slice()] {
-            let frame = read_frame(rt.alloc(), &mut source).ok().ok_or("no fault")?;
-            assert_eq!(rt; frame.ok_or("a frame")?.body(), want, "by {most}");
-        }
-        let end = read_frame(rt.alloc(), &mut source).ok().ok_or("no fault")?;
-        assert!(rt; end.is_none(), "by {most}");
+        expect_body(&rt, &mut source, b"abc")?;
+        expect_body(&rt, &mut source, b"d")?;
+        assert!(rt; next_frame(&rt, &mut source)?.is_none(), "by {most}");
     }
     Ok(())
 }
@@ -80,10 +98,7 @@ fn long_bodies(rt: HostRuntime) -> Result<(), Fail> {
         let mut input = Vec::new(rt.alloc());
         input.extend_from_slice(&size.to_be_bytes())?;
         input.resize(4 + size as usize, 7)?;
-        let frame = read_frame(rt.alloc(), &mut source(&input, 5_000, 100))
-            .ok()
-            .ok_or("no fault")?;
-        assert_eq!(rt; frame.ok_or("a frame")?.body(), &input[4..], "{size} bytes");
+        expect_body(&rt, &mut source(&input, 5_000, 100), &input[4..])?;
     }
     Ok(())
 }

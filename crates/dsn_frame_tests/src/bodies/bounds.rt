@@ -4,7 +4,7 @@ use super::*;
 #[test]
 fn recipient(rt: HostRuntime) -> Result<(), Fail> {
     let long = vec![in rt.alloc(); b'a'; 257]?;
-    for (parts, want) in [
+    let cases = [
         (
             Parts {
                 recipient: &long[..256],
@@ -34,16 +34,14 @@ fn recipient(rt: HostRuntime) -> Result<(), Fail> {
             },
             1,
         ),
-    ] {
-        assert_eq!(rt; append_refusal(&rt, 1, parts)?, want);
-    }
-    Ok(())
+    ];
+    expect_appends(&rt, &cases)
 }
 
 #[test]
 fn reporting_mta(rt: HostRuntime) -> Result<(), Fail> {
     let long = vec![in rt.alloc(); b'a'; 256]?;
-    for (parts, want) in [
+    let cases = [
         (
             Parts {
                 mta: b"a b",
@@ -65,16 +63,14 @@ fn reporting_mta(rt: HostRuntime) -> Result<(), Fail> {
             },
             6,
         ),
-    ] {
-        assert_eq!(rt; append_refusal(&rt, 1, parts)?, want);
-    }
-    Ok(())
+    ];
+    expect_appends(&rt, &cases)
 }
 
 #[test]
 fn texts(rt: HostRuntime) -> Result<(), Fail> {
     let long = vec![in rt.alloc(); b'a'; 801]?;
-    for (parts, want) in [
+    let cases = [
         (
             Parts {
                 diagnostic: &long[..800],
@@ -97,15 +93,13 @@ fn texts(rt: HostRuntime) -> Result<(), Fail> {
             },
             8,
         ),
-    ] {
-        assert_eq!(rt; append_refusal(&rt, 1, parts)?, want);
-    }
-    Ok(())
+    ];
+    expect_appends(&rt, &cases)
 }
 
 #[test]
 fn moments(rt: HostRuntime) -> Result<(), Fail> {
-    for (parts, want) in [
+    let cases = [
         (FLUSH, 0),
         (
             FlushParts {
@@ -121,16 +115,14 @@ fn moments(rt: HostRuntime) -> Result<(), Fail> {
             },
             27,
         ),
-    ] {
-        assert_eq!(rt; flush_refusal(&rt, parts)?, want);
-    }
-    Ok(())
+    ];
+    expect_flushes(&rt, &cases)
 }
 
 #[test]
 fn header(rt: HostRuntime) -> Result<(), Fail> {
     let long = vec![in rt.alloc(); b'a'; 32_769]?;
-    for (parts, want) in [
+    let cases = [
         (
             FlushParts {
                 arrival: 253_402_300_800,
@@ -154,16 +146,14 @@ fn header(rt: HostRuntime) -> Result<(), Fail> {
             },
             28,
         ),
-    ] {
-        assert_eq!(rt; flush_refusal(&rt, parts)?, want);
-    }
-    Ok(())
+    ];
+    expect_flushes(&rt, &cases)
 }
 
 #[test]
 fn envelope_id(rt: HostRuntime) -> Result<(), Fail> {
     let long = vec![in rt.alloc(); b'a'; 101]?;
-    for (parts, want) in [
+    let cases = [
         (
             FlushParts {
                 return_path: b"a b",
@@ -193,10 +183,8 @@ fn envelope_id(rt: HostRuntime) -> Result<(), Fail> {
             },
             30,
         ),
-    ] {
-        assert_eq!(rt; flush_refusal(&rt, parts)?, want);
-    }
-    Ok(())
+    ];
+    expect_flushes(&rt, &cases)
 }
 
 #[test]

@@ -1,7 +1,5 @@
 //! Bodies that are one byte away from a legal one.
 use super::*;
-use std::alloc::AllocGlobal;
-use std::process::Abort;
 
 /// An append of version 1 to `T K1` with every optional text, 41 bytes.
 const APPEND_BODY: &[u8] =

@@ -8,7 +8,7 @@ use std::alloc::Global;
 use std::sync::Wait;
 
 /// A lane of so many agents, the first of which is 0.
-pub fn opened(
+pub(crate) fn opened(
     rt: &impl Wait,
     alloc: Global,
     agents: u32,
@@ -23,7 +23,7 @@ pub fn opened(
 }
 
 /// Takes the last of the ends that are left, of so many agents, none of which has sent anything.
-pub fn last_end(
+pub(crate) fn last_end(
     ends: &mut Vec<LaneIn<Item>>,
     out: &LaneOut<Item>,
     left: u32,
@@ -39,7 +39,11 @@ pub fn last_end(
 }
 
 /// Puts an end by.
-pub fn put_by(used: &mut Vec<LaneIn<Item>>, out: &LaneOut<Item>, end: LaneIn<Item>) -> Option<()>
+pub(crate) fn put_by(
+    used: &mut Vec<LaneIn<Item>>,
+    out: &LaneOut<Item>,
+    end: LaneIn<Item>,
+) -> Option<()>
     requires lane { end.lane ≡ out.now.lane }
     requires lanes { All (λ it. it.lane ≡ out.now.lane) used.old.items }
     ensures { IfSome result (λ _. All (λ it. it.lane ≡ out.now.lane) used.new.items) }
@@ -50,7 +54,7 @@ pub fn put_by(used: &mut Vec<LaneIn<Item>>, out: &LaneOut<Item>, end: LaneIn<Ite
 
 /// Closes a lane of so many agents, and tells what its close counts; `None` where an end is
 /// missing.
-pub fn shut(
+pub(crate) fn shut(
     rt: &impl Wait,
     used: Vec<LaneIn<Item>>,
     out: LaneOut<Item>,

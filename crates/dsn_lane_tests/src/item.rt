@@ -28,7 +28,7 @@ impl Carried for Item {
 }
 
 /// Sends the next item of an agent; false where the receiving end is gone.
-pub fn send_next(rt: &impl Wait, end: &mut LaneIn<Item>, agent: u32) -> bool
+pub(crate) fn send_next(rt: &impl Wait, end: &mut LaneIn<Item>, agent: u32) -> bool
     requires { agent ≡ end.old.agent }
     ensures { (end.new.lane ≡ end.old.lane) × (end.new.agent ≡ end.old.agent) }
 {
@@ -37,7 +37,7 @@ pub fn send_next(rt: &impl Wait, end: &mut LaneIn<Item>, agent: u32) -> bool
 }
 
 /// Sends so many items of an agent, one after another.
-pub fn send_many(rt: &impl Wait, end: &mut LaneIn<Item>, agent: u32, more: u32) -> bool
+pub(crate) fn send_many(rt: &impl Wait, end: &mut LaneIn<Item>, agent: u32, more: u32) -> bool
     requires { agent ≡ end.old.agent }
     ensures { (end.new.lane ≡ end.old.lane) × (end.new.agent ≡ end.old.agent) }
 {
@@ -50,7 +50,7 @@ pub fn send_many(rt: &impl Wait, end: &mut LaneIn<Item>, agent: u32, more: u32) 
 }
 
 /// Takes so many items, or fewer where the lane ends before, and adds them to a list.
-pub fn take_many(
+pub(crate) fn take_many(
     rt: &impl Wait,
     out: &mut LaneOut<Item>,
     items: &mut Vec<Item>,
@@ -69,7 +69,7 @@ pub fn take_many(
 
 /// How many items of each agent a list has; `None` where those of one aren't numbered from 0 in
 /// their order.
-pub fn counts(items: &[Item]) -> Option<[u32; 16]> {
+pub(crate) fn counts(items: &[Item]) -> Option<[u32; 16]> {
     let mut counts = [0; 16];
     for item in items {
         let count = counts.get_mut(item.agent as usize)?;

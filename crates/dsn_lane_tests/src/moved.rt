@@ -1,5 +1,5 @@
 //! Ends of lanes of requests and of answers, each moved into a thread of a scope.
-ghost use Rattle.std.specs.Prelude.{◌≡◌, length};
+ghost use Rattle.std.specs.Prelude.{◌≡◌, IfSome, length};
 
 use dsn_lane::{LaneIn, LaneOut, open_lane};
 use dsn_outcome::{Answer, Body, Key, QueueId, Request, Service};
@@ -56,19 +56,27 @@ fn agent_elsewhere<R: Threads + Wait>(rt: &R, ends: AgentEnds) -> Option<u32> {
     })
 }
 
-/// The ends of a lane of requests of agent 0, the first of which it has sent.
-fn lane_of_requests(rt: &impl Wait, alloc: Global) -> Option<(LaneIn<Request>, LaneOut<Request>)> {
-    let (mut ends, out) = open_lane::<Request>(rt, alloc, 0, 1, 1).ok()?;
-    let mut end = ends.pop()?;
+/// The first request of agent 0.
+fn first_request() -> Option<Request>
+    ensures { IfSome result (λ request. (request.agent ≡ 0) × (request.number ≡ 0)) }
+{
+    let id = QueueId::new(b"A1B2C3")?;
     let key = Key {
-        id: QueueId::new(b"A1B2C3")?,
+        id,
         service: Service::Bounce,
     };
-    let request = Request {
+    Some(Request {
         agent: 0,
         number: 0,
         body: Body::Discard(key),
-    };
+    })
+}
+
+/// The ends of a lane of requests of agent 0, the first of which it has sent.
+fn lane_of_requests(rt: &impl Wait, alloc: Global) -> Option<(LaneIn<Request>, LaneOut<Request>)> {
+    let request = first_request()?;
+    let (mut ends, out) = open_lane::<Request>(rt, alloc, 0, 1, 1).ok()?;
+    let mut end = ends.pop()?;
     end.send(rt, request).ok()?;
     Some((end, out))
 }

@@ -18,7 +18,7 @@ pub struct Peer<'a> {
 
 impl<'a> Peer<'a> {
     /// A daemon that says these bytes, and takes so many.
-    pub fn new(unread: &'a [u8], held: Vec<u8>, room: usize) -> Peer<'a> {
+    pub(crate) fn new(unread: &'a [u8], held: Vec<u8>, room: usize) -> Peer<'a> {
         Peer {
             unread,
             held,

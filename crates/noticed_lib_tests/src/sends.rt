@@ -58,31 +58,40 @@ const FIRST_TOLD: Case<'static> = Case {
     ..FIRST_SENT
 };
 
-/// Asserts what a send comes to; the case is told where it came to something else.
-fn expect_send(rt: &(impl Wait + Abort), alloc: Global, want: &Case<'_>, case: usize) {
-    let (bytes, _) = ONE_MESSAGE.split_at(want.input.min(ONE_MESSAGE.len()));
+/// What a send came to: its fault, or 0, its status, how many writes the daemon was sent; the bytes
+/// of these, and the lines.
+type Sent = ((u32, u8, u32), Vec<u8>, Vec<u8>);
+
+/// The first bytes of [`ONE_MESSAGE`].
+fn front(size: usize) -> &'static [u8] {
+    ONE_MESSAGE.split_at(size.min(ONE_MESSAGE.len())).0
+}
+
+/// Sends over the devices of a case.
+fn sent(rt: &impl Wait, alloc: Global, case: &Case<'_>) -> Sent {
     let mut input = Plain::new(PieceReader {
-        rest: bytes,
+        rest: front(case.input),
         most: usize::MAX,
-        good: want.good,
+        good: case.good,
     });
-    let mut peer = Peer::new(want.answers, Vec::new(alloc), want.room);
+    let mut peer = Peer::new(case.answers, Vec::new(alloc), case.room);
     let mut notes = Plain::new(PieceWriter {
         held: Vec::new(alloc),
         most: usize::MAX,
-        room: want.lines_room,
+        room: case.lines_room,
     });
     let SendEnd { status, fault } = send(rt, alloc, &mut input, &mut peer, &mut notes);
     let end = (fault.unwrap_or(0), status, peer.writes);
+    (end, peer.held, notes.into_inner().held)
+}
+
+/// Asserts what a send comes to; the case is told where it came to something else.
+fn expect_send(rt: &(impl Wait + Abort), alloc: Global, want: &Case<'_>, case: usize) {
+    let (end, held, lines) = sent(rt, alloc, want);
     let status = u8::from(want.fault != 0);
     assert_eq!(rt; end, (want.fault, status, want.writes), "case {case}");
-    let (sent, _) = ONE_MESSAGE.split_at(want.sent.min(ONE_MESSAGE.len()));
-    assert_eq!(rt; peer.held.as_slice(), sent, "case {case}");
-    assert_eq!(rt;
-        notes.into_inner().held.as_slice(),
-        want.lines,
-        "case {case}"
-    );
+    assert_eq!(rt; held.as_slice(), front(want.sent), "case {case}");
+    assert_eq!(rt; lines.as_slice(), want.lines, "case {case}");
 }
 
 /// Asserts what sends come to whose first answer has these bytes: this fault, and no line.
@@ -97,9 +106,16 @@ fn expect_refused(rt: &(impl Wait + Abort), alloc: Global, answers: &[(&[u8], u3
     }
 }
 
+/// Asserts what each of these sends comes to.
+fn expect_sends(rt: &(impl Wait + Abort), alloc: Global, wanted: &[Case<'_>]) {
+    for (case, want) in wanted.iter().enumerate() {
+        expect_send(rt, alloc, want, case);
+    }
+}
+
 #[test]
 fn answers_are_told(rt: HostRuntime) {
-    for (case, want) in [
+    let wanted = [
         WHOLE,
         // Nothing is sent of an empty input.
         Case {
@@ -113,12 +129,8 @@ fn answers_are_told(rt: HostRuntime) {
             input: 52,
             ..FIRST_TOLD
         },
-    ]
-    .iter()
-    .enumerate()
-    {
-        expect_send(&rt, rt.alloc(), want, case);
-    }
+    ];
+    expect_sends(&rt, rt.alloc(), &wanted);
 }
 
 #[test]
@@ -143,9 +155,8 @@ fn client_faults(rt: HostRuntime) {
 }
 
 #[test]
-fn devices_that_fail(rt: HostRuntime) {
-    let (first_answer, _) = LOGGED_SEALED.split_at(14);
-    for (case, want) in [
+fn inputs_and_notes_that_fail(rt: HostRuntime) {
+    let wanted = [
         // The input is cut, and fails.
         Case {
             input: 60,
@@ -157,6 +168,21 @@ fn devices_that_fail(rt: HostRuntime) {
             fault: 14,
             ..FIRST_TOLD
         },
+        // A line is lost in part.
+        Case {
+            lines_room: 4,
+            lines: b"0 lo",
+            fault: 33,
+            ..FIRST_SENT
+        },
+    ];
+    expect_sends(&rt, rt.alloc(), &wanted);
+}
+
+#[test]
+fn daemons_that_leave(rt: HostRuntime) {
+    let (first_answer, _) = LOGGED_SEALED.split_at(14);
+    let wanted = [
         // The daemon takes ten bytes; and the first frame, and ten bytes.
         Case {
             room: 10,
@@ -171,7 +197,7 @@ fn devices_that_fail(rt: HostRuntime) {
             fault: 35,
             ..FIRST_TOLD
         },
-        // The daemon leaves after one answer.
+        // It leaves after one answer.
         Case {
             answers: first_answer,
             sent: 108,
@@ -179,17 +205,6 @@ fn devices_that_fail(rt: HostRuntime) {
             fault: 48,
             ..FIRST_TOLD
         },
-        // A line is lost in part.
-        Case {
-            lines_room: 4,
-            lines: b"0 lo",
-            fault: 33,
-            ..FIRST_SENT
-        },
-    ]
-    .iter()
-    .enumerate()
-    {
-        expect_send(&rt, rt.alloc(), want, case);
-    }
+    ];
+    expect_sends(&rt, rt.alloc(), &wanted);
 }

@@ -156,6 +156,16 @@ impl<T: Opaque> Stream for Plain<T> {
 mod tests {
     use super::*;
     use crate::fakes::{PieceReader, PieceWriter};
+    use std::alloc::Global;
+
+    /// What a read came to, and how many failures are counted then.
+    fn read(
+        source: &mut Plain<PieceReader<'_>>,
+        buffer: &mut [u8],
+    ) -> (Result<usize, Broken>, u64) {
+        let read = source.read(buffer);
+        (read, source.failures)
+    }
 
     #[test]
     fn failed_reads_are_counted(rt: HostRuntime) {
@@ -165,36 +175,51 @@ mod tests {
             good: 1,
         });
         let mut buffer = [0; 8];
-        assert_eq!(rt; source.read(&mut buffer), Ok(4));
-        assert_eq!(rt; source.failures, 0);
-        assert_eq!(rt; source.read(&mut buffer), Err(Broken));
-        assert_eq!(rt; source.failures, 1);
-        assert_eq!(rt; source.read(&mut buffer), Ok(0));
-        assert_eq!(rt; source.failures, 1);
+        assert_eq!(rt; read(&mut source, &mut buffer), (Ok(4), 0));
+        assert_eq!(rt; read(&mut source, &mut buffer), (Err(Broken), 1));
+        assert_eq!(rt; read(&mut source, &mut buffer), (Ok(0), 1));
         assert_eq!(rt; source.into_inner().rest.len(), 0);
     }
 
+    /// A device over a writer that takes so many bytes a write, and fails once it has taken so many.
+    fn drain(alloc: Global, most: usize, room: usize) -> Plain<PieceWriter> {
+        Plain::new(PieceWriter {
+            held: Vec::new(alloc),
+            most,
+            room,
+        })
+    }
+
+    /// What a write came to, and how many failures are counted then.
+    fn write(drain: &mut Plain<PieceWriter>, text: &[u8]) -> (Result<usize, Broken>, u64) {
+        let wrote = drain.write(text);
+        (wrote, drain.failures)
+    }
+
+    /// The same of a flush.
+    fn flush(drain: &mut Plain<PieceWriter>) -> (Result<(), Broken>, u64) {
+        let flushed = drain.flush();
+        (flushed, drain.failures)
+    }
+
     #[test]
-    fn failed_writes_and_flushes_are_counted(rt: HostRuntime) {
-        let mut drain = Plain::new(PieceWriter {
-            held: Vec::new(rt.alloc()),
-            most: 3,
-            room: 3,
-        });
-        assert_eq!(rt; drain.write(b"QUIT"), Ok(3));
-        assert_eq!(rt; drain.failures, 0);
-        assert_eq!(rt; drain.write(b"T"), Err(Broken));
-        assert_eq!(rt; drain.failures, 1);
-        assert_eq!(rt; drain.write(b""), Ok(0));
-        assert_eq!(rt; drain.flush(), Ok(()));
-        assert_eq!(rt; drain.failures, 1);
-        drain.inner.room = 0;
-        assert_eq!(rt; drain.flush(), Err(Broken));
-        assert_eq!(rt; drain.failures, 2);
+    fn failed_writes_are_counted(rt: HostRuntime) {
+        let mut drain = drain(rt.alloc(), 3, 3);
+        assert_eq!(rt; write(&mut drain, b"QUIT"), (Ok(3), 0));
+        assert_eq!(rt; write(&mut drain, b"T"), (Err(Broken), 1));
+        assert_eq!(rt; write(&mut drain, b""), (Ok(0), 1));
         drain.inner.most = 0;
-        assert_eq!(rt; drain.write(b"T"), Ok(0));
-        assert_eq!(rt; drain.failures, 3);
+        assert_eq!(rt; write(&mut drain, b"T"), (Ok(0), 2));
         assert_eq!(rt; drain.into_inner().held.as_slice(), b"QUI".as_slice());
+    }
+
+    #[test]
+    fn failed_flushes_are_counted(rt: HostRuntime) {
+        let mut drain = drain(rt.alloc(), 3, 0);
+        assert_eq!(rt; write(&mut drain, b"T"), (Err(Broken), 1));
+        assert_eq!(rt; flush(&mut drain), (Ok(()), 1));
+        drain.inner.room = 0;
+        assert_eq!(rt; flush(&mut drain), (Err(Broken), 2));
     }
 
     #[test]
@@ -205,7 +230,6 @@ mod tests {
             good: 0,
         });
         source.failures = u64::MAX;
-        assert_eq!(rt; source.read(&mut [0; 8]), Err(Broken));
-        assert_eq!(rt; source.failures, u64::MAX);
+        assert_eq!(rt; read(&mut source, &mut [0; 8]), (Err(Broken), u64::MAX));
     }
 }

@@ -25,14 +25,11 @@ fn sent_into(rt: &HostRuntime, room: usize, most: usize) -> Result<(bool, Vec<u8
 #[test]
 fn sends_a_front_up_to_the_failure(rt: HostRuntime) -> Result<(), Fail> {
     for most in 1..TEXT.len() + 1 {
-        for room in 0..TEXT.len() {
+        for room in 0..TEXT.len() + 1 {
             let (sent, held) = sent_into(&rt, room, most)?;
-            assert!(rt; !sent, "{room} bytes by {most}");
-            assert_eq!(rt; held.as_slice(), &TEXT[..room]);
+            let told = (sent, held.as_slice());
+            assert_eq!(rt; told, (room == TEXT.len(), &TEXT[..room]), "by {most}");
         }
-        let (sent, held) = sent_into(&rt, TEXT.len(), most)?;
-        assert!(rt; sent, "all by {most}");
-        assert_eq!(rt; held.as_slice(), TEXT);
     }
     Ok(())
 }
@@ -40,8 +37,7 @@ fn sends_a_front_up_to_the_failure(rt: HostRuntime) -> Result<(), Fail> {
 #[test]
 fn a_write_that_takes_nothing_is_a_failure(rt: HostRuntime) -> Result<(), Fail> {
     let (sent, held) = sent_into(&rt, TEXT.len(), 0)?;
-    assert!(rt; !sent);
-    assert_eq!(rt; held.len(), 0);
+    assert_eq!(rt; (sent, held.len()), (false, 0));
     Ok(())
 }
 
@@ -71,41 +67,26 @@ fn filled_from(good: usize, most: usize, input: &[u8]) -> (Result<usize, Broken>
 #[test]
 fn fills_until_full_or_at_the_end(rt: HostRuntime) {
     for most in 1..10 {
-        let (filled, buffer) = filled_from(100, most, TEXT);
-        assert_eq!(rt; filled, Ok(8));
-        assert_eq!(rt; buffer.as_slice(), b"MAIL FRO".as_slice());
-        let (filled, buffer) = filled_from(100, most, b"QUIT");
-        assert_eq!(rt; filled, Ok(4));
-        assert_eq!(rt; buffer.as_slice(), b"QUIT\0\0\0\0".as_slice());
+        assert_eq!(rt; filled_from(100, most, TEXT), (Ok(8), *b"MAIL FRO"));
+        assert_eq!(rt; filled_from(100, most, b"QUIT"), (Ok(4), *b"QUIT\0\0\0\0"));
     }
 }
 
 #[test]
 fn an_interrupted_read_is_a_failure(rt: HostRuntime) {
-    for good in 0..8 {
-        assert_eq!(rt;
-            filled_from(good, 1, TEXT).0,
-            Err(Broken),
-            "after {good} bytes"
-        );
+    // a full buffer asks for no more
+    for good in 0..9 {
+        let want = if good < 8 { Err(Broken) } else { Ok(8) };
+        assert_eq!(rt; filled_from(good, 1, TEXT).0, want, "after {good} bytes");
     }
-    assert_eq!(rt;
-        filled_from(8, 1, TEXT).0,
-        Ok(8),
-        "a full buffer asks for no more"
-    );
-    for good in 0..5 {
-        assert_eq!(rt;
-            filled_from(good, 1, b"QUIT").0,
-            Err(Broken),
-            "after {good} bytes"
-        );
+}
+
+#[test]
+fn the_end_is_asked_for_once(rt: HostRuntime) {
+    for good in 0..6 {
+        let want = if good < 5 { Err(Broken) } else { Ok(4) };
+        assert_eq!(rt; filled_from(good, 1, b"QUIT").0, want, "after {good} bytes");
     }
-    assert_eq!(rt;
-        filled_from(5, 1, b"QUIT").0,
-        Ok(4),
-        "the end is asked for once"
-    );
 }
 
 #[test]
@@ -142,9 +123,11 @@ fn a_socket_is_a_stream(rt: HostRuntime) -> Result<(), Fail> {
     Ok(())
 }
 
-#[test]
-fn one_connection_counts_both_ways(rt: HostRuntime) -> Result<(), Fail> {
-    let mut stream = Plain::new(PieceConnection {
+type Connection = Plain<PieceConnection<'static>>;
+
+// A connection whose peer sent a reply and takes the text, and whose fifth read is interrupted.
+fn connection(rt: &HostRuntime) -> Connection {
+    Plain::new(PieceConnection {
         input: PieceReader {
             rest: b"250 OK\r\n",
             most: 3,
@@ -155,13 +138,32 @@ fn one_connection_counts_both_ways(rt: HostRuntime) -> Result<(), Fail> {
             most: 5,
             room: TEXT.len(),
         },
-    });
+    })
+}
+
+// What came of the exchange over it.
+fn exchanged(stream: &mut Connection) -> (Result<usize, Broken>, [u8; 8]) {
     let mut buffer = [0; 8];
-    assert_eq!(rt; exchange(&mut stream, TEXT, &mut buffer), Ok(8));
-    assert_eq!(rt; buffer.as_slice(), b"250 OK\r\n".as_slice());
-    assert_eq!(rt; send(&mut stream, b"."), Err(Broken));
-    assert_eq!(rt; fill(&mut stream, &mut buffer), Ok(0));
-    assert_eq!(rt; fill(&mut stream, &mut buffer), Err(Broken));
+    let filled = exchange(stream, TEXT, &mut buffer);
+    (filled, buffer)
+}
+
+// What came of sending a text over it.
+fn sent_over(stream: &mut Connection, text: &[u8]) -> Result<(), Broken> {
+    send(stream, text)
+}
+
+// What came of filling 8 bytes from it.
+fn filled_over(stream: &mut Connection) -> Result<usize, Broken> {
+    fill(stream, &mut [0; 8])
+}
+
+#[test]
+fn one_connection_counts_both_ways(rt: HostRuntime) {
+    let mut stream = connection(&rt);
+    assert_eq!(rt; exchanged(&mut stream), (Ok(8), *b"250 OK\r\n"));
+    assert_eq!(rt; sent_over(&mut stream, b"."), Err(Broken));
+    assert_eq!(rt; filled_over(&mut stream), Ok(0));
+    assert_eq!(rt; filled_over(&mut stream), Err(Broken));
     assert_eq!(rt; stream.into_inner().output.held.as_slice(), TEXT);
-    Ok(())
 }

@@ -14,7 +14,7 @@ SHELL := /bin/sh
 .SHELLFLAGS := -euc
 .ONESHELL:
 .DELETE_ON_ERROR:
-.PHONY: all build demo check edits bench install clean
+.PHONY: all build demo check edits bench planted install clean
 
 all: build
 
@@ -116,6 +116,10 @@ bench: $(NOTICED) $(PROBE)
 	python3 bench/crew.py
 	python3 bench/daemon.py
 	python3 bench/bench.py
+
+# Shows that the fuzzers of tests/ find small wrong edits of the plain reading; takes a minute or two.
+planted: $(NOTICED)
+	@PYTHONDONTWRITEBYTECODE=1 python3 tests/support/planted.py
 
 install: $(NOTICED)
 	@install -D -m 755 $(NOTICED) "$(DESTDIR)$(PREFIX)/bin/noticed"

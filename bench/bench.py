@@ -1,7 +1,8 @@
 #!/usr/bin/env python3
 """Measures `noticed batch` on the workloads of bench/workloads.py: frames, notices and MB a second, peak memory, reads
 and writes (strace -c), user instructions an item (valgrind --tool=callgrind; those of an empty run are taken off),
-beside `cat` of the same input and a plain script (bench/plain.py), whose outbox must be the same.
+beside `cat` of the same input and a plain reading of the formats in Python (bench/plain.py), whose outbox must be the
+same.
 
     python3 bench/bench.py [WORD ..]      only the workloads whose names have one of these words
 
@@ -79,9 +80,9 @@ def measure(workload, room: Path, empty) -> list:
     plain_seconds = timed(PLAIN, source, plain, room / "nothing")
     size, lines = outbox.stat().st_size, notes.read_bytes().count(b"\n")
     letters = outbox.read_bytes().count(b"\r\nMAIL FROM:<>\r\n")
-    over = [] if outbox.read_bytes() == plain.read_bytes() else ["the plain script's outbox differs"]
+    over = [] if outbox.read_bytes() == plain.read_bytes() else ["the plain reading's outbox differs"]
     print(f"{workload.name}: {workload.items} {workload.item}s in {workload.frames} frames of {len(workload.stream)} bytes; {size} bytes out, {letters} notices, {lines} lines")
-    print(f"  {seconds:.2f} s: {workload.frames / seconds:.0f} frames, {letters / seconds:.0f} notices, {size / seconds / 1e6:.1f} MB out a second; cat {cat_seconds:.2f} s, plain script {plain_seconds:.2f} s")
+    print(f"  {seconds:.2f} s: {workload.frames / seconds:.0f} frames, {letters / seconds:.0f} notices, {size / seconds / 1e6:.1f} MB out a second; cat {cat_seconds:.2f} s, plain reading {plain_seconds:.2f} s")
     memory = peak_memory(source)
     print(f"  peak memory {memory} KiB")
     if memory and letters == workload.items and memory * 1024 > KEPT:

@@ -1,0 +1,165 @@
+#!/usr/bin/env python3
+"""Lets each read and each write of the program's devices fail in turn, by a small library that is preloaded
+(tests/support/fail.c, compiled here with gcc): with an error, interrupted, and as a write that takes no byte. What came
+before stands, what is lost is told, and nothing comes after, as a plain reading of docs/FORMATS.md has it."""
+import errno
+import os
+import socket
+import subprocess
+import sys
+import tempfile
+from pathlib import Path
+from typing import Optional
+
+sys.path.insert(0, str(Path(__file__).parent / "support"))
+from daemon import Daemon, line  # noqa: E402
+from formats import sessions  # noqa: E402
+from formats.logs import REFUSED, Limits, Logs  # noqa: E402
+from formats.notices import crlf, mail, outbox  # noqa: E402
+from running import EXAMPLES, HOST, Checks, Ran, batch, frames_module  # noqa: E402
+
+SOURCE = Path(__file__).parent / "support" / "fail.c"
+FRAMES = frames_module()
+FAILS = {"an error": errno.EIO, "an interruption": errno.EINTR, "a write that takes no byte": 0}
+MOST = 2000  # calls of a run; more than this and the sweep is broken
+
+
+def messages() -> bytes:
+    """Three messages that are flushed, the second with a letter of more than 64 KiB, and one that stays open."""
+    header = 32 * (1023 * b"a" + b"\n")
+    made = [FRAMES.append(0, 1, b"K1", b"x@y", 1, b"5.0.0"), FRAMES.flush(1, 1, b"K1")]
+    made += [FRAMES.append(it, 1, b"K2", b"x@y", 1, b"5.0.0", diagnostic=800 * b"d", reason=800 * b"r") for it in range(2, 26)]
+    made += [FRAMES.flush(26, 1, b"K2", header=header), FRAMES.append(27, 1, b"K3", b"x@y", 1, b"5.0.0")]
+    return b"".join([*made, FRAMES.flush(28, 1, b"K3"), FRAMES.append(29, 1, b"K4", b"x@y", 1, b"5.0.0")])
+
+
+def failing(library: Path, call: str, at: int, error: int, short: int = 0) -> dict:
+    """The environment of a run whose call of that number fails."""
+    return {**os.environ, "LD_PRELOAD": str(library), "FAIL": call, "FAIL_AT": str(at), "FAIL_WITH": str(error), "SHORT": str(short)}
+
+
+def check_reads(checks: Checks, library: Path):
+    """Each read of the input fails in turn, where each gives a byte: the frames before it are answered, and 14 is told."""
+    given = (EXAMPLES / "one-bounce.frames").read_bytes()
+    for about, error in list(FAILS.items())[:2]:
+        for at in range(1, len(given) + 3):
+            wanted = sessions.batch(HOST.encode(), given[: at - 1], broken=at <= len(given) + 1)
+            found = batch(given, env=failing(library, "read:0", at, error, 1))
+            checks.equal(f"{about} at read {at} of the input", found, wanted)
+    print(f"  the input: {len(given) + 1} reads, each failed twice")
+
+
+def parts_of(given: bytes) -> list:
+    """The outbox in its parts: the greeting with the first letter, each other letter, the end."""
+    letters = []
+    list(sessions.answers(given, Logs(Limits()), letters))
+    sent = [mail(HOST.encode(), it) for it in letters]
+    return [crlf([b"EHLO " + HOST.encode()]) + sent[0], *sent[1:], crlf([b"QUIT"])]
+
+
+def after_outbox(written: bytes, given: bytes) -> Ran:
+    """What a run gives whose outbox took these bytes and no more."""
+    whole, parts = sessions.batch(HOST.encode(), given), parts_of(given)
+    if written == whole.outbox:
+        return whole
+    ends = [sum(map(len, parts[: at + 1])) for at in range(len(parts) - 1)]
+    unsent = [b"unsent B K%d\n" % (at + 1) for at, end in enumerate(ends) if end > len(written)]
+    answers, is_open, rest = whole.notes.partition(b"open ")
+    return Ran(written, answers + b"fault 31\n" + b"".join(unsent) + is_open + rest, 1)
+
+
+def check_outbox(checks: Checks, library: Path):
+    """Each write of the outbox fails in turn: what stands is a prefix that ends where that write began, the letters
+    that aren't whole in it are told as unsent. An interrupted write is repeated by std's buffer, below the device."""
+    given = messages()
+    whole = sessions.batch(HOST.encode(), given)
+    for about, error in FAILS.items():
+        lengths, at = [], 0
+        while at < MOST and (not lengths or lengths[-1] < len(whole.outbox)):
+            at += 1
+            found = batch(given, env=failing(library, "write:1", at, error))
+            checks.true(f"{about} at write {at} of the outbox: a prefix", whole.outbox.startswith(found.outbox))
+            checks.equal(f"{about} at write {at} of the outbox", found, after_outbox(found.outbox, given))
+            lengths.append(len(found.outbox))
+        checks.equal(f"{about}: each write begins after the one before", lengths, sorted(set(lengths)))
+        print(f"  the outbox: {at - 1} writes, each failed with {about}")
+
+
+def check_notes(checks: Checks, library: Path):
+    """Each write of the notes fails in turn: the lines before it stand, no frame is read after it, and the outbox is
+    finished."""
+    given = messages()
+    for about, error in FAILS.items():
+        at, found, whole = 0, None, sessions.batch(HOST.encode(), given)
+        while at < MOST and found != whole:
+            at += 1
+            found = batch(given, env=failing(library, "write:2", at, error))
+            checks.equal(f"{about} at line {at} of the notes", found, sessions.batch(HOST.encode(), given, room=at - 1))
+        print(f"  the notes: {at - 1} lines, each failed with {about}")
+
+
+def conversation(daemon: Daemon, given: bytes) -> bytes:
+    """What a client hears that sends all of a session at once."""
+    with daemon.connect() as client:
+        client.sendall(given)
+        client.shutdown(socket.SHUT_WR)
+        got = b""
+        try:
+            while more := client.recv(4096):
+                got += more
+        except ConnectionResetError:
+            pass  # the daemon ended the session with bytes of it unread
+        return got
+
+
+def served(given: bytes, broken: bool = False, room: Optional[int] = None):
+    """What one connection to one agent gives: the answers, of which there is room for so many if that is said, and the
+    daemon's end."""
+    logs, letters, heard, requests, faults = Logs(Limits()), [], [], 0, 0
+    try:
+        for number, reply, value in sessions.answers(given, logs, letters, broken):
+            requests += reply != REFUSED
+            if len(heard) == room:
+                raise sessions.Fault(35)
+            heard.append(sessions.answer(number, reply, value))
+    except sessions.Fault:
+        faults = 1
+    notes = line(0, requests, 1, faults) + b"".join(sessions.open_lines(logs))
+    return b"".join(heard), Ran(outbox(HOST.encode(), letters), notes, 0)
+
+
+def serve(library: Path, given: bytes, call: str, at: int, error: int, short: int = 0):
+    """The answers of a session on a connection to one agent, and the daemon's end, where a call of the daemon fails."""
+    with Daemon(1, 1, env=failing(library, call, at, error, short)) as daemon:
+        return conversation(daemon, given), daemon.end()
+
+
+def check_connection(checks: Checks, library: Path):
+    """Each read of a connection fails in turn, where each gives a byte, and each write of an answer: the session ends
+    there, and what was logged and sealed stands."""
+    given = (EXAMPLES / "one-bounce.frames").read_bytes()
+    for about, error in list(FAILS.items())[:2]:
+        for at in range(1, len(given) + 3):
+            wanted = served(given[: at - 1], broken=at <= len(given) + 1)
+            checks.equal(f"{about} at read {at} of a connection", serve(library, given, "read:socket", at, error, 1), wanted)
+    given = messages()
+    for about, error in FAILS.items():
+        for at in range(1, 32):
+            found = serve(library, given, "write:socket", at, error)
+            checks.equal(f"{about} at answer {at}", found, served(given, room=at - 1))
+    print("  a connection: 109 reads, each failed twice, and 30 answers, each failed three times")
+
+
+def main():
+    checks = Checks("calls that fail: each read and each write of the devices in turn")
+    with tempfile.TemporaryDirectory() as room:
+        library = Path(room) / "fail.so"
+        subprocess.run(["gcc", "-O2", "-shared", "-fPIC", "-o", str(library), str(SOURCE), "-ldl"], check=True)
+        check_reads(checks, library)
+        check_outbox(checks, library)
+        check_notes(checks, library)
+        check_connection(checks, library)
+    checks.done()
+
+
+main()

@@ -3,9 +3,10 @@
  *     agent append NUMBER SERVICE ID RECIPIENT ACTION STATUS [ORIGINAL [MTA [DIAGNOSTIC [REASON]]]]
  *     agent flush NUMBER SERVICE ID MOMENT ARRIVAL RETURN-PATH [ENVELOPE-ID] < RETURNED-HEADER
  *     agent discard NUMBER SERVICE ID
+ *     agent forget NUMBER SERVICE ID
  *     agent answers < ANSWER-FRAMES
  *
- * The first three write one frame to standard output. SERVICE and ACTION are the bytes of docs/FORMATS.md, as numbers;
+ * The first four write one frame to standard output. SERVICE and ACTION are the bytes of docs/FORMATS.md, as numbers;
  * an empty word stands for a text that is missing. The last one prints a line for each answer, as the daemon's notes
  * have it, and `fault N` at the first that is none. Nothing of a request is tested here but what a frame can hold: the
  * daemon answers what is wrong with it. The exit status is 0, 1 after a fault, and 2 for wrong arguments. */
@@ -15,7 +16,7 @@
 #include <string.h>
 
 enum { LONGEST_BODY = 65536, LONGEST_TEXT = 65535, ANSWER_BODY = 10 };
-enum kind { APPEND = 1, FLUSH = 2, DISCARD = 3 };
+enum kind { APPEND = 1, FLUSH = 2, DISCARD = 3, FORGET = 4 };
 
 /* ---- a request's frame */
 
@@ -80,10 +81,10 @@ static uint64_t number_of(const char *word, uint64_t most)
     return number;
 }
 
-/* What each body begins with: version 1, kind, number, service and queue id. */
+/* What each body begins with: version 2 of a Forget, else 1; kind, number, service and queue id. */
 static void put_head(struct body *body, enum kind kind, char **words)
 {
-    put_number(body, 1, 1);
+    put_number(body, kind == FORGET ? 2 : 1, 1);
     put_number(body, kind, 1);
     put_number(body, number_of(words[0], UINT32_MAX), 4);
     put_number(body, number_of(words[1], 255), 1);
@@ -144,6 +145,7 @@ static const struct {
 } REPLIES[] = {
     { "logged", 1 }, { "closed", 0 }, { "table full", 0 }, { "log full", 0 }, { "nothing", 0 },
     { "no return", 1 }, { "sealed", 1 }, { "discarded", 1 }, { "gone", 0 }, { "refused", 1 },
+    { "forgotten", 0 }, { "not closed", 0 },
 };
 
 static uint32_t number_at(const unsigned char *bytes)
@@ -156,7 +158,7 @@ static int fault_of(const unsigned char *body, size_t length)
 {
     if (length > 0 && body[0] != 1)
         return 21;
-    if (length > 1 && (body[1] < 1 || body[1] > 10))
+    if (length > 1 && (body[1] < 1 || body[1] > 12))
         return 22;
     if (length < ANSWER_BODY)
         return 23;
@@ -221,6 +223,8 @@ int main(int argc, char **argv)
         put_flush(&body, count, words);
     else if (strcmp(what, "discard") == 0 && count == 3)
         put_head(&body, DISCARD, words);
+    else if (strcmp(what, "forget") == 0 && count == 3)
+        put_head(&body, FORGET, words);
     else
         fail("wrong arguments: the head of agent.c says what there is");
     return write_frame(&body);

@@ -11,6 +11,7 @@ standard input, and each frame is written as soon as its line is there.
     append NUMBER SERVICE ID RECIPIENT ACTION STATUS [original=T] [mta=T] [diagnostic=T] [reason=T]
     flush NUMBER SERVICE ID [return=T] [moment=N] [arrival=N] [envelope=T] [header=T]
     discard NUMBER SERVICE ID
+    forget NUMBER SERVICE ID
     hex DIGITS               these bytes as they are, for input that is not as it should be
 
 NUMBER is the frame's place, from 0; a dot stands for it. SERVICE is bounce, defer or trace, ACTION is failed, delayed, delivered, relayed or expanded (or either is the
@@ -30,6 +31,7 @@ import time
 SERVICES = {"bounce": 1, "defer": 2, "trace": 3}
 ACTIONS = {"failed": 1, "delayed": 2, "delivered": 3, "relayed": 4, "expanded": 5}
 VERSION, APPEND, FLUSH, DISCARD = 1, 1, 2, 3
+SECOND_VERSION, FORGET = 2, 4
 
 
 def text(value: bytes) -> bytes:
@@ -42,9 +44,9 @@ def frame(body: bytes) -> bytes:
     return struct.pack(">I", len(body)) + body
 
 
-def start(kind: int, number: int, service: int, queue_id: bytes) -> bytes:
+def start(kind: int, number: int, service: int, queue_id: bytes, version: int = VERSION) -> bytes:
     """The part that all bodies begin with."""
-    return struct.pack(">BBIB", VERSION, kind, number, service) + text(queue_id)
+    return struct.pack(">BBIB", version, kind, number, service) + text(queue_id)
 
 
 def append(number, service, queue_id, recipient, action, status, original=b"", mta=b"", diagnostic=b"", reason=b""):
@@ -62,6 +64,11 @@ def flush(number, service, queue_id, return_path=b"ann@example.com", moment=1700
 def discard(number, service, queue_id):
     """The frame of a request to close a log without a notice."""
     return frame(start(DISCARD, number, service, queue_id))
+
+
+def forget(number, service, queue_id):
+    """The frame of a request to let a closed log's key go; it is of version 2."""
+    return frame(start(FORGET, number, service, queue_id, SECOND_VERSION))
 
 
 ESCAPE = re.compile(rb"\\(?:x([0-9A-Fa-f]{2})|\{(\d+)\*([^}])\}|(.))", re.DOTALL)
@@ -101,7 +108,7 @@ def frame_of_line(line: str, place: int) -> bytes:
     kind, *words = words_of(line)
     if kind == "hex":
         return bytes.fromhex("".join(words))
-    named = {"append": 6, "flush": 3, "discard": 3}.get(kind)
+    named = {"append": 6, "flush": 3, "discard": 3, "forget": 3}.get(kind)
     if named is None or len(words) < named:
         raise ValueError("not a request")
     fixed, options = words[:named], dict(it.partition("=")[::2] for it in words[named:])
@@ -114,8 +121,8 @@ def frame_of_line(line: str, place: int) -> bytes:
         texts = {"return_path" if it == "return" else it: unescaped(value) for it, value in options.items()}
         return flush(number, service, queue_id, **times, **texts)
     if options:
-        raise ValueError("a discard has nothing after the queue id")
-    return discard(number, service, queue_id)
+        raise ValueError(f"a {kind} has nothing after the queue id")
+    return (forget if kind == "forget" else discard)(number, service, queue_id)
 
 
 def frames_in(lines):

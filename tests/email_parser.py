@@ -208,7 +208,7 @@ def differences(message, case):
     yield from differs("To", message["To"].addresses[0].addr_spec if message["To"] else None, case.to)
     yield from differs("Subject", message["Subject"], subject)
     yield from differs("Date", parsedate_to_datetime(message["Date"]).isoformat() if message["Date"] else None, MOMENT)
-    yield from differs("Message-ID", message["Message-ID"], f"<{name}@{HOST}>")
+    yield from differs("Message-ID", message["Message-ID"], f"<{name}.0@{HOST}>")
     yield from differs("Auto-Submitted", message["Auto-Submitted"], "auto-replied")
     yield from differs("MIME-Version", message["MIME-Version"], "1.0")
     yield from differs("the content's type", message.get_content_type(), "multipart/report")

@@ -1,7 +1,7 @@
 //! An outbox as a mail program gets it, written out from the profile.
 
 /// One failed recipient of the message A1B2C3.
-pub(super) const ONE_NOTICE: &[u8; 1003] = b"\
+pub(super) const ONE_NOTICE: &[u8; 1005] = b"\
 EHLO mx.example.net\r\n\
 MAIL FROM:<>\r\n\
 RCPT TO:<ann@example.com>\r\n\
@@ -10,7 +10,7 @@ From: Mail Delivery System <MAILER-DAEMON@mx.example.net>\r\n\
 To: <ann@example.com>\r\n\
 Subject: Undelivered Mail Returned to Sender\r\n\
 Date: Tue, 14 Nov 2023 22:13:20 +0000\r\n\
-Message-ID: <B.A1B2C3.1700000000@mx.example.net>\r\n\
+Message-ID: <B.A1B2C3.1700000000.0@mx.example.net>\r\n\
 Auto-Submitted: auto-replied\r\n\
 MIME-Version: 1.0\r\n\
 Content-Type: multipart/report; report-type=delivery-status;\r\n\

@@ -71,7 +71,7 @@ const GREETING: usize = 21;
 
 /// The bytes of the mail transaction of a letter like that of [`ONE_NOTICE`], whose queue id has
 /// two bytes in place of six, five times, and whose recipient has three in place of fifteen, twice.
-const SHORTER_LETTER: usize = 1003 - GREETING - 6 - 5 * 4 - 2 * 12;
+const SHORTER_LETTER: usize = 1005 - GREETING - 6 - 5 * 4 - 2 * 12;
 
 /// An append and a flush of each of three logs.
 fn three_letters(alloc: Global) -> Result<Frames, Fail> {

@@ -5,7 +5,7 @@ use std::process::Abort;
 use std::test::Fail;
 
 /// Each reply, and a refusal, with its frame's bytes after the number.
-const ANSWERS: [(Spoken, u8, [u8; 4]); 11] = [
+const ANSWERS: [(Spoken, u8, [u8; 4]); 13] = [
     (Spoken::Reply(Reply::Logged(0)), 1, [0, 0, 0, 0]),
     (Spoken::Reply(Reply::Logged(0x0102_0304)), 1, [1, 2, 3, 4]),
     (Spoken::Reply(Reply::Closed), 2, [0, 0, 0, 0]),
@@ -21,6 +21,8 @@ const ANSWERS: [(Spoken, u8, [u8; 4]); 11] = [
     ),
     (Spoken::Reply(Reply::Gone), 9, [0, 0, 0, 0]),
     (Spoken::Refused(46), 10, [0, 0, 0, 46]),
+    (Spoken::Reply(Reply::Forgotten), 11, [0, 0, 0, 0]),
+    (Spoken::Reply(Reply::NotClosed), 12, [0, 0, 0, 0]),
 ];
 
 /// The frame of an answer has these bytes.
@@ -59,7 +61,10 @@ fn bodies_that_are_no_answer(rt: HostRuntime) -> Result<(), Fail> {
         (b"\x02\x0b".as_slice(), 21),
         (b"\x01".as_slice(), 23),
         (b"\x01\0".as_slice(), 22),
-        (b"\x01\x0b".as_slice(), 22),
+        (b"\x01\x0d".as_slice(), 22),
+        (b"\x01\x0b".as_slice(), 23),
+        (b"\x01\x0b\0\0\0\0\0\0\0\x01".as_slice(), 34),
+        (b"\x01\x0c\0\0\0\0\x01\0\0\0".as_slice(), 34),
         (b"\x01\x01".as_slice(), 23),
         (b"\x01\x02\0\0\0\0\0\0\0\x05".as_slice(), 34),
         (b"\x01\x03\0\0\0\0\0\0\x01\0".as_slice(), 34),

@@ -103,6 +103,7 @@ fn same_body(a: &Body, b: &Body) -> bool {
         (Body::Flush(key, draft), Body::Flush(other, later)) => key == other
             && same_draft(draft, later),
         (Body::Discard(key), Body::Discard(other)) => key == other,
+        (Body::Forget(key), Body::Forget(other)) => key == other,
         _ => false,
     }
 }
@@ -171,6 +172,20 @@ fn a_flush_and_a_discard_encoded(rt: HostRuntime) -> Result<(), Fail> {
     let frame = frame_of(&rt, u32::MAX, &Body::Discard(key))?;
     let want = b"\0\0\0\x0b\x01\x03\xff\xff\xff\xff\x03\0\x02K1";
     assert_eq!(rt; frame.as_slice(), want.as_slice());
+    Ok(())
+}
+
+#[test]
+fn forget_encoded(rt: HostRuntime) -> Result<(), Fail> {
+    let key = Key {
+        service: Service::Bounce,
+        id: id(b"K1")?,
+    };
+    let body = Body::Forget(key);
+    let frame = frame_of(&rt, 0, &body)?;
+    let want = b"\0\0\0\x0b\x02\x04\0\0\0\0\x01\0\x02K1";
+    assert_eq!(rt; frame.as_slice(), want.as_slice());
+    goes_and_comes_back(&rt, 0, &body)?;
     Ok(())
 }
 

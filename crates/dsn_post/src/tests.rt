@@ -85,7 +85,7 @@ fn letter(alloc: Global, id: &[u8]) -> Result<Letter, Fail> {
         service: Service::Bounce,
         id: QueueId::new(id).ok_or("the queue id")?,
     };
-    Ok(Letter::seal(key, draft, chain))
+    Ok(Letter::seal(key, draft, chain, 0))
 }
 
 /// What an outbox holds to which a poster posted these letters, one after another.

@@ -68,7 +68,7 @@ pub(crate) fn sealed(alloc: Global, chain: Chain, flush: Flush<'_>) -> Result<Le
         service: Service::Bounce,
         id: QueueId::new(flush.id).ok_or("the queue id")?,
     };
-    Ok(Letter::seal(key, draft, chain))
+    Ok(Letter::seal(key, draft, chain, 0))
 }
 
 /// The site of all tests.

@@ -62,12 +62,12 @@ fn dots_long_lines_eight_bit(rt: HostRuntime) -> Result<(), Fail> {
 }
 
 /// A notice with every optional field and two returned lines.
-const ALL_FIELDS: &[u8; 1256] = b"\
+const ALL_FIELDS: &[u8; 1258] = b"\
 From: Mail Delivery System <MAILER-DAEMON@mx.example.net>\r\n\
 To: <ann@example.com>\r\n\
 Subject: Undelivered Mail Returned to Sender\r\n\
 Date: Tue, 14 Nov 2023 22:13:20 +0000\r\n\
-Message-ID: <B.A1B2C3.1700000000@mx.example.net>\r\n\
+Message-ID: <B.A1B2C3.1700000000.0@mx.example.net>\r\n\
 Auto-Submitted: auto-replied\r\n\
 MIME-Version: 1.0\r\n\
 Content-Type: multipart/report; report-type=delivery-status;\r\n\

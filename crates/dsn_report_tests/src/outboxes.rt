@@ -124,7 +124,7 @@ fn nothing_after_the_fault(rt: HostRuntime) -> Result<(), Fail> {
 const FIRST_LETTER: usize = 956;
 
 /// The outbox of one letter.
-const OUTBOX: &[u8; 1003] = b"\
+const OUTBOX: &[u8; 1005] = b"\
 EHLO mx.example.net\r\n\
 MAIL FROM:<>\r\n\
 RCPT TO:<ann@example.com>\r\n\
@@ -133,7 +133,7 @@ From: Mail Delivery System <MAILER-DAEMON@mx.example.net>\r\n\
 To: <ann@example.com>\r\n\
 Subject: Undelivered Mail Returned to Sender\r\n\
 Date: Tue, 14 Nov 2023 22:13:20 +0000\r\n\
-Message-ID: <B.A1B2C3.1700000000@mx.example.net>\r\n\
+Message-ID: <B.A1B2C3.1700000000.0@mx.example.net>\r\n\
 Auto-Submitted: auto-replied\r\n\
 MIME-Version: 1.0\r\n\
 Content-Type: multipart/report; report-type=delivery-status;\r\n\

@@ -153,7 +153,7 @@ fn input_fails(rt: HostRuntime) -> Result<(), Fail> {
 
 /// The bytes of the mail transaction of a letter like that of [`ONE_NOTICE`], whose queue id has
 /// two bytes in place of six, five times.
-const SHORTER_LETTER: usize = 1003 - 21 - 6 - 5 * 4;
+const SHORTER_LETTER: usize = 1005 - 21 - 6 - 5 * 4;
 
 /// One log for each of three queue ids, sealed.
 const THREE_LETTERS: [Ask<'static>; 6] = [
@@ -182,7 +182,7 @@ fn outbox_fails_in_second_letter(rt: HostRuntime) -> Result<(), Fail> {
 
 #[test]
 fn outbox_fails(rt: HostRuntime) -> Result<(), Fail> {
-    for room in 0..1003usize {
+    for room in 0..1005usize {
         let outbox = writer(&rt, 100, room);
         let ran = run_on(&rt, reader(ONE_MESSAGE, 200), outbox, whole_writer(&rt))?;
         let notes = if room <= 997 {

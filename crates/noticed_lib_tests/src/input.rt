@@ -64,6 +64,8 @@ pub(super) enum Ask<'a> {
     Flush(u8, &'a [u8], FlushTexts<'a>),
     /// Discards a log.
     Discard(u8, &'a [u8]),
+    /// Lets a closed log's key go.
+    Forget(u8, &'a [u8]),
     /// Lets this many numbers pass, and has no frame.
     Skip(u32),
 }
@@ -100,6 +102,7 @@ impl Input {
             Ask::Append(service, id, parts) => self.append(alloc, *service, id, parts),
             Ask::Flush(service, id, texts) => self.flush(alloc, *service, id, texts),
             Ask::Discard(service, id) => self.discard(alloc, *service, id),
+            Ask::Forget(service, id) => self.forget(alloc, *service, id),
             Ask::Skip(numbers) => {
                 self.next = self.next.wrapping_add(*numbers);
                 Ok(())
@@ -143,6 +146,12 @@ impl Input {
 
     fn discard(&mut self, alloc: Global, service: u8, id: &[u8]) -> Result<(), Fail> {
         let body = self.head(alloc, 3, service, id)?;
+        self.push_frame(&body)
+    }
+
+    fn forget(&mut self, alloc: Global, service: u8, id: &[u8]) -> Result<(), Fail> {
+        let mut body = self.head(alloc, 4, service, id)?;
+        body[0] = 2;
         self.push_frame(&body)
     }
 

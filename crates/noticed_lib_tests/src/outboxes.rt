@@ -7,7 +7,7 @@ QUIT\r\n\
 ";
 
 /// One failed recipient of the message A1B2C3.
-pub(super) const ONE_NOTICE: &[u8; 1003] = b"\
+pub(super) const ONE_NOTICE: &[u8; 1005] = b"\
 EHLO mx.example.net\r\n\
 MAIL FROM:<>\r\n\
 RCPT TO:<ann@example.com>\r\n\
@@ -16,7 +16,7 @@ From: Mail Delivery System <MAILER-DAEMON@mx.example.net>\r\n\
 To: <ann@example.com>\r\n\
 Subject: Undelivered Mail Returned to Sender\r\n\
 Date: Tue, 14 Nov 2023 22:13:20 +0000\r\n\
-Message-ID: <B.A1B2C3.1700000000@mx.example.net>\r\n\
+Message-ID: <B.A1B2C3.1700000000.0@mx.example.net>\r\n\
 Auto-Submitted: auto-replied\r\n\
 MIME-Version: 1.0\r\n\
 Content-Type: multipart/report; report-type=delivery-status;\r\n\
@@ -49,7 +49,7 @@ QUIT\r\n\
 ";
 
 /// The same with every optional field, and two returned lines.
-pub(super) const ALL_FIELDS: &[u8; 1333] = b"\
+pub(super) const ALL_FIELDS: &[u8; 1335] = b"\
 EHLO mx.example.net\r\n\
 MAIL FROM:<>\r\n\
 RCPT TO:<ann@example.com>\r\n\
@@ -58,7 +58,7 @@ From: Mail Delivery System <MAILER-DAEMON@mx.example.net>\r\n\
 To: <ann@example.com>\r\n\
 Subject: Undelivered Mail Returned to Sender\r\n\
 Date: Tue, 14 Nov 2023 22:13:20 +0000\r\n\
-Message-ID: <B.A1B2C3.1700000000@mx.example.net>\r\n\
+Message-ID: <B.A1B2C3.1700000000.0@mx.example.net>\r\n\
 Auto-Submitted: auto-replied\r\n\
 MIME-Version: 1.0\r\n\
 Content-Type: multipart/report; report-type=delivery-status;\r\n\
@@ -103,7 +103,7 @@ QUIT\r\n\
 ";
 
 /// The same where a returned line rules the first boundary out.
-pub(super) const COLLISION: &[u8; 1162] = b"\
+pub(super) const COLLISION: &[u8; 1164] = b"\
 EHLO mx.example.net\r\n\
 MAIL FROM:<>\r\n\
 RCPT TO:<ann@example.com>\r\n\
@@ -112,7 +112,7 @@ From: Mail Delivery System <MAILER-DAEMON@mx.example.net>\r\n\
 To: <ann@example.com>\r\n\
 Subject: Undelivered Mail Returned to Sender\r\n\
 Date: Tue, 14 Nov 2023 22:13:20 +0000\r\n\
-Message-ID: <B.A1B2C3.1700000000@mx.example.net>\r\n\
+Message-ID: <B.A1B2C3.1700000000.0@mx.example.net>\r\n\
 Auto-Submitted: auto-replied\r\n\
 MIME-Version: 1.0\r\n\
 Content-Type: multipart/report; report-type=delivery-status;\r\n\
@@ -152,7 +152,7 @@ QUIT\r\n\
 ";
 
 /// A failed and a delayed recipient of the message X1.
-pub(super) const TWO_SERVICES: &[u8; 1944] = b"\
+pub(super) const TWO_SERVICES: &[u8; 1948] = b"\
 EHLO mx.example.net\r\n\
 MAIL FROM:<>\r\n\
 RCPT TO:<ann@example.com>\r\n\
@@ -161,7 +161,7 @@ From: Mail Delivery System <MAILER-DAEMON@mx.example.net>\r\n\
 To: <ann@example.com>\r\n\
 Subject: Undelivered Mail Returned to Sender\r\n\
 Date: Tue, 14 Nov 2023 22:13:20 +0000\r\n\
-Message-ID: <B.X1.1700000000@mx.example.net>\r\n\
+Message-ID: <B.X1.1700000000.0@mx.example.net>\r\n\
 Auto-Submitted: auto-replied\r\n\
 MIME-Version: 1.0\r\n\
 Content-Type: multipart/report; report-type=delivery-status;\r\n\
@@ -197,7 +197,7 @@ From: Mail Delivery System <MAILER-DAEMON@mx.example.net>\r\n\
 To: <ann@example.com>\r\n\
 Subject: Delayed Mail (still being retried)\r\n\
 Date: Tue, 14 Nov 2023 22:13:20 +0000\r\n\
-Message-ID: <D.X1.1700000000@mx.example.net>\r\n\
+Message-ID: <D.X1.1700000000.1@mx.example.net>\r\n\
 Auto-Submitted: auto-replied\r\n\
 MIME-Version: 1.0\r\n\
 Content-Type: multipart/report; report-type=delivery-status;\r\n\
@@ -230,7 +230,7 @@ QUIT\r\n\
 ";
 
 /// A bounce's outbox up to what it tells a person of each recipient.
-pub(super) const BEFORE_LINES: &[u8; 660] = b"\
+pub(super) const BEFORE_LINES: &[u8; 662] = b"\
 EHLO mx.example.net\r\n\
 MAIL FROM:<>\r\n\
 RCPT TO:<ann@example.com>\r\n\
@@ -239,7 +239,7 @@ From: Mail Delivery System <MAILER-DAEMON@mx.example.net>\r\n\
 To: <ann@example.com>\r\n\
 Subject: Undelivered Mail Returned to Sender\r\n\
 Date: Tue, 14 Nov 2023 22:13:20 +0000\r\n\
-Message-ID: <B.A1B2C3.1700000000@mx.example.net>\r\n\
+Message-ID: <B.A1B2C3.1700000000.0@mx.example.net>\r\n\
 Auto-Submitted: auto-replied\r\n\
 MIME-Version: 1.0\r\n\
 Content-Type: multipart/report; report-type=delivery-status;\r\n\

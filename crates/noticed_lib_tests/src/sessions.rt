@@ -78,6 +78,23 @@ fn discard_closes_log(rt: HostRuntime) -> Result<(), Fail> {
     expect_run(&rt, rt.alloc(), &asks, no_notice(notes))
 }
 
+#[test]
+fn forget_frees_a_key(rt: HostRuntime) -> Result<(), Fail> {
+    let asks = [
+        Ask::Append(BOUNCE, b"K1", FAILED),
+        Ask::Discard(BOUNCE, b"K1"),
+        Ask::Append(BOUNCE, b"K2", FAILED),
+        Ask::Forget(BOUNCE, b"K1"),
+        Ask::Append(BOUNCE, b"K2", FAILED),
+        Ask::Append(BOUNCE, b"K1", FAILED),
+        Ask::Forget(BOUNCE, b"K2"),
+        Ask::Forget(BOUNCE, b"K1"),
+    ];
+    let notes = b"0 logged 0\n1 discarded 1\n2 table full\n3 forgotten\n4 logged 0\n\
+5 table full\n6 not closed\n7 not closed\nopen B K2 1\n";
+    expect_notes_within(&rt, rt.alloc(), (1, 10, 100), &asks, notes)
+}
+
 /// A failed recipient with this status.
 fn with_status(status: &[u8]) -> Ask<'_> {
     Ask::Append(BOUNCE, b"K1", Parts { status, ..FAILED })

@@ -6,7 +6,7 @@ use Rattle.std.specs.declared.thread.PromisedHandle.{PromisedHandle}
 use Rattle.std.proofs.lemmas.List.{append-nil, nil_from_length}
 use Rattle.dsn_agent.specs.Agent.{Agent}
 use Rattle.dsn_agent.specs.Port.{IsPortServed}
-use Rattle.dsn_crew.specs.StartServing.{AreServed, AreStarted, HasBegun, IsJoined}
+use Rattle.dsn_crew.specs.StartServing.{AreServed, AreStarted, IsStarted, IsJoined}
 use Rattle.dsn_agent.specs.declared.port.Port.{Ghosts as Port}
 use Rattle.dsn_agent.specs.declared.port_end.PortEnd.{PortEnd}
 use Rattle.dsn_crew.specs.declared.start_serving.Serves.{Serves}
@@ -40,7 +40,7 @@ module _ {P : Type 0} where
   abbrev pub Fits : List Agent × List P → List (Option (PromisedHandle PortEnd (Serves P))) → Type 0
   Fits both handles = AreStarted both.0 both.1 handles
 
-  pub starts-more : (agents rest : List Agent) (ports left : List P) (agent : Agent) (port : P) (handle : Option (PromisedHandle PortEnd (Serves P))) → agents ≡ agent ∷ rest → ports ≡ port ∷ left → IfSome handle (λ started. HasBegun agent port started.promise)
+  pub starts-more : (agents rest : List Agent) (ports left : List P) (agent : Agent) (port : P) (handle : Option (PromisedHandle PortEnd (Serves P))) → agents ≡ agent ∷ rest → ports ≡ port ∷ left → IfSome handle (λ started. IsStarted agent port started.promise)
       → (more : List (Option (PromisedHandle PortEnd (Serves P)))) → AreStarted rest left more → AreStarted agents ports (handle ∷ more)
   starts-more agents rest ports left agent port handle agents_are ports_are begun more started =
       subst (λ l. AreStarted l ports (handle ∷ more)) (sym agents_are) (subst (λ l. AreStarted (agent ∷ rest) l (handle ∷ more)) (sym ports_are) (begun, started))
@@ -61,7 +61,7 @@ module _ {P : Type 0} where
 -- ---- what comes of the threads
 
 module _ {P S : Type 0} (port : Port P S) where
-  end-of : (agent : Agent) (served : P) (handle : Option (PromisedHandle PortEnd (Serves P))) (end : Option PortEnd) → IfSome handle (λ started. HasBegun agent served started.promise) → IsJoined port handle end
+  end-of : (agent : Agent) (served : P) (handle : Option (PromisedHandle PortEnd (Serves P))) (end : Option PortEnd) → IfSome handle (λ started. IsStarted agent served started.promise) → IsJoined port handle end
       → IfSome end (IsPortServed (port.conns served) agent)
   end-of agent served None None begun joined = tt
   end-of agent served None (Some end) begun joined = absurd (let never : Some end ≡ None = joined in cc)

@@ -9,6 +9,8 @@ use Rattle.dsn_desk.specs.declared.desk_fault.DeskFault.{DeskFault}
 
 -- the collector ran to its end, or failed with the letter that it held
 abbrev pub HasCollected : Desk → LetterSink → LetterSink → Collected → Type 0
-HasCollected old sink after (Whole new) = IsRun TakesLetter old new sink after (Ok tt) × (all_gone new ≡ true) × IsDesk new
+HasCollected old sink after (Whole new) =
+    IsRun TakesLetter old new sink after (Ok tt) × (all_gone new ≡ true) × IsDesk new
 HasCollected old sink after (Failed letter new) =
-    (fault : DeskFault) × IsRun TakesLetter old new.value sink after (Err fault) × (letters_in letter ≡ letter_kept (Err fault)) × IsDesk new.value
+    (fault : DeskFault) × IsRun TakesLetter old new.value sink after (Err fault)
+    × (letters_in letter ≡ letter_kept (Err fault)) × IsDesk new.value

@@ -42,7 +42,8 @@ fault_of cause held desk posted =
     record { cause = cause; outbox = posted.outbox; unsent = posted.unsent ++ held; taken = desk.requests.taken }
 
 -- a crew that was closed
-pub record HasClosed {W : Type 0} (lines : List AgentLine) (agents : List Ends) (desk : Desk) (posted : Posted W) (account : Account W) : Type 0 where
+pub record HasClosed {W : Type 0} (lines : List AgentLine) (agents : List Ends) (desk : Desk) (posted : Posted W)
+    (account : Account W) : Type 0 where
   pub all : posted.all ≡ true
   pub account_is : account ≡ account_of lines agents desk posted
   pub heard : Each (IsHeard desk) agents
@@ -58,10 +59,12 @@ missing_cause false = causes.Lost
 -- where all went well the crew is closed; else this is its fault
 abbrev pub Concludes : {W : Type 0} → Collected → Gathered → Posted W → Result (Account W) (CrewFault W) → Type 0
 Concludes (Whole desk) (All lines agents) posted (Ok account) = HasClosed lines.items agents.items desk posted account
-Concludes (Whole desk) (All lines agents) posted (Err fault) = (posted.all ≡ false) × (fault ≡ fault_of causes.Lost [] desk posted)
+Concludes (Whole desk) (All lines agents) posted (Err fault) =
+    (posted.all ≡ false) × (fault ≡ fault_of causes.Lost [] desk posted)
 Concludes (Whole desk) Missing posted (Ok account) = ⊥
 Concludes (Whole desk) Missing posted (Err fault) = fault ≡ fault_of (missing_cause posted.all) [] desk posted
 Concludes (Whole desk) Lost posted (Ok account) = ⊥
 Concludes (Whole desk) Lost posted (Err fault) = fault ≡ fault_of causes.Lost [] desk posted
 Concludes (Failed held desk) gathered posted (Ok account) = ⊥
-Concludes (Failed held desk) gathered posted (Err fault) = fault ≡ fault_of causes.Lost (letters_in held) desk.value posted
+Concludes (Failed held desk) gathered posted (Err fault) =
+    fault ≡ fault_of causes.Lost (letters_in held) desk.value posted

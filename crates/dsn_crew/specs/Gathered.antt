@@ -10,7 +10,8 @@ use Rattle.dsn_agent.specs.declared.port_end.PortEnd.{PortEnd}
 -- each agent said goodbye, with the line and the ends in its place
 abbrev pub AreEnded : List (Option PortEnd) → List AgentLine → List Ends → Type 0
 AreEnded [] [] [] = Unit {0}
-AreEnded (end ∷ ends) (line ∷ lines) (agent ∷ agents) = (end ≡ Some (record { line = line; finished = Some agent })) × AreEnded ends lines agents
+AreEnded (end ∷ ends) (line ∷ lines) (agent ∷ agents) =
+    (end ≡ Some (record { line = line; finished = Some agent })) × AreEnded ends lines agents
 AreEnded ends lines agents = ⊥
 
 -- an agent that was started, and lost a lane
@@ -18,7 +19,8 @@ abbrev pub has_lost : Option PortEnd → Bool
 has_lost None = false
 has_lost (Some end) = is_none end.finished
 
--- an agent that lost a lane comes first; then one that was not started; where there is neither, these are all lines and ends
+-- an agent that lost a lane comes first; then one that was not started; where there is neither, these are all lines and
+-- ends
 abbrev pub IsGathered : List (Option PortEnd) → Gathered → Type 0
 IsGathered ends (All lines agents) = AreEnded ends lines.items agents.items
 IsGathered ends Missing = (list_any is_none ends ≡ true) × (list_any has_lost ends ≡ false)

@@ -1,7 +1,7 @@
 //! The starts and the ends of the agents' threads.
 ghost use Rattle.std.specs.Prelude.{◌≡◌, ◌≤◌, [], length, IfSome, vec_capacity};
 ghost use Rattle.std.specs.List.{AllZip};
-ghost use Rattle.dsn_crew.specs.StartServing.{AreStarted, HasBegun, IsJoined, missing};
+ghost use Rattle.dsn_crew.specs.StartServing.{AreStarted, IsStarted, IsJoined, missing};
 
 use dsn_agent::{Agent, Gate, Port, PortEnd, serve_port};
 use std::alloc::Global;
@@ -32,7 +32,7 @@ pub(crate) fn start_one<'s, E: 's, R: Wait + Sync, P: Port + Drop + Send + 's, G
     port: P,
     gate: &'s G,
 ) -> Option<PromisedHandle<PortEnd, Serves<P>>>
-    ensures { IfSome result (λ handle. HasBegun agent port handle.promise) }
+    ensures { IfSome result (λ handle. IsStarted agent port handle.promise) }
 {
     let promise = Serves {
         agent: Snapshot::of(&agent),

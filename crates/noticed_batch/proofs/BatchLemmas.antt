@@ -13,7 +13,7 @@ use Rattle.dsn_device.specs.declared.source.Source.{Ghosts as Source}
 use Rattle.dsn_frame.specs.declared.frame_fault.FrameFault.TheVariants as faults
 use Rattle.dsn_frame.specs.declared.spoken.Spoken.{Spoken}
 use Rattle.dsn_frame.proofs.SessionLemmas.{session_no_memory}
-use Rattle.dsn_outcome.specs.History.{Limits, history_after, history_of, sealed_letters}
+use Rattle.dsn_outcome.specs.History.{Limits, held_after, history_after, history_of, sealed_letters}
 use Rattle.dsn_device.specs.UntilFailure.{Sent, counts_failure}
 use Rattle.dsn_report.specs.Outgoing.{Outgoing, Delivered}
 use Rattle.noticed_batch.proofs.RunLemmas.{letters-none, replies-none}
@@ -32,7 +32,7 @@ sorted-none : IsSortedByKey (λ (line : OpenLine). line.key) key_cmp []
 sorted-none = search rules
 
 lines-none : (limits : Limits) → open_lines_after (history_of limits []) ≡ []
-unfolding history_after
+unfolding history_after held_after
 lines-none limits = refl
 
 -- ---- the numbers of ends

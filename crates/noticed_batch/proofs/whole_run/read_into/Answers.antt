@@ -1,4 +1,4 @@
-use Rattle.dsn_book.proofs.OpenLineLemmas.{open_lines-represented}
+use Rattle.std.proofs.lemmas.Result.{IfOk-weaker}
 use Rattle.noticed_notes.proofs.OpenLogsLemmas.{AreOpenLines-listed}
 use Rattle.noticed_batch.proofs.RunLemmas.{stands-nothing}
 use Rattle.noticed_batch.proofs.whole_run.read_into.Goals as goal
@@ -12,7 +12,7 @@ returns-clause-harvest g c = λ limits host start same kept represents delivered
       session = heard.session;
       replies = heard.replies;
       delivered = heard.stands.letters;
-      logs_are = AreOpenLines-listed _ c.open_lines-logs.result _ (rw (← open_lines-represented _ _ heard.stands.book) c.open_lines-logs.ensures.lines) c.open_lines-logs.ensures.order;
+      logs_are = AreOpenLines-listed _ c.open_lines-logs.result _ (IfOk-weaker c.open_lines-logs.result _ _ (λ lines listed. listed _ heard.stands.book) c.open_lines-logs.ensures.history) c.open_lines-logs.ensures.order;
       told = heard.told;
       read_count = heard.read_count;
     }

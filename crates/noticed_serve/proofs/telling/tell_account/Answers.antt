@@ -1,5 +1,5 @@
 use Rattle.std.proofs.Common.{refl, subst}
-use Rattle.dsn_book.proofs.OpenLineLemmas.{open_lines-represented}
+use Rattle.std.proofs.lemmas.Result.{IfOk-weaker}
 use Rattle.dsn_book.specs.Book.{Represents}
 use Rattle.dsn_crew.specs.Crew.{Account}
 use Rattle.dsn_device.proofs.UntilFailureLemmas.{writes-then}
@@ -15,7 +15,7 @@ returns g c =
     λ history. subst (λ (account : Account _). Represents account.book history → TellsAccount g.N.Drain history account c.args.notes.now c.tell_end.new.notes (record { outbox = c.account.inside.outbox; status = c.status_of-status.result })) c.account.view_is
     (λ stands. record {
       logs = _;
-      logs_are = AreOpenLines-listed _ c.open_lines-logs.result _ (rw (← open_lines-represented _ _ stands) c.open_lines-logs.ensures.lines) c.open_lines-logs.ensures.order;
+      logs_are = AreOpenLines-listed _ c.open_lines-logs.result _ (IfOk-weaker c.open_lines-logs.result _ _ (λ lines listed. listed _ stands) c.open_lines-logs.ensures.history) c.open_lines-logs.ensures.order;
       lost = c.tell_end.new.telling.failed;
       told = rw (c.as_slice.ensures.value, c.port_fault-fault.ensures, c.as_slice-2.ensures.value, c.new-telling.ensures) at told;
       outbox_is = refl;

@@ -113,28 +113,41 @@ fn popped(letters: &mut Letters) -> Option<u64> {
     Some(letter.moment().seconds())
 }
 
+/// Pushes letters with the moments from this one up to another.
+fn push_letters(alloc: Global, letters: &mut Letters, first: u64, past: u64) -> Result<(), Fail> {
+    for seconds in first..past {
+        letters.push(letter(alloc, seconds)?);
+    }
+    Ok(())
+}
+
+/// Takes letters, which have the moments from this one up to another.
+fn expect_popped(rt: &impl Abort, letters: &mut Letters, first: u64, past: u64) {
+    for seconds in first..past {
+        assert!(rt; !letters.is_empty());
+        assert_eq!(rt; popped(letters), Some(seconds));
+    }
+}
+
 #[test]
 fn letters_are_taken_in_order(rt: HostRuntime) -> Result<(), Fail> {
     let mut letters = Letters::new();
-    // Pushes in order, then pops as many as are told.
-    let mut next: u64 = 1;
-    let mut taken: u64 = 1;
-    for (pushed, popped_then, left) in [(0, 0, 0), (2, 1, 1), (2, 1, 2), (1, 0, 3), (0, 3, 0)] {
-        for _ in 0..pushed {
-            letters.push(letter(rt.alloc(), next)?);
-            next = next.wrapping_add(1);
-        }
-        for _ in 0..popped_then {
-            assert!(rt; !letters.is_empty());
-            assert_eq!(rt; popped(&mut letters), Some(taken));
-            taken = taken.wrapping_add(1);
-        }
+    assert_eq!(rt; popped(&mut letters), None);
+    // Of each step the moments of the letters that are pushed, and of those that are taken then.
+    for (pushed, taken) in [
+        ((1, 1), (1, 1)),
+        ((1, 3), (1, 2)),
+        ((3, 5), (2, 3)),
+        ((5, 6), (3, 3)),
+        ((6, 6), (3, 6)),
+    ] {
+        push_letters(rt.alloc(), &mut letters, pushed.0, pushed.1)?;
+        expect_popped(&rt, &mut letters, taken.0, taken.1);
+        let left: u64 = pushed.1.saturating_sub(taken.1);
         assert_eq!(rt; letters.len(), left);
-        if left == 0 {
-            assert_eq!(rt; popped(&mut letters), None);
-            assert!(rt; letters.is_empty());
-        }
+        assert_eq!(rt; letters.is_empty(), left == 0);
     }
+    assert_eq!(rt; popped(&mut letters), None);
     Ok(())
 }
 

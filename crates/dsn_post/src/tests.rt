@@ -1,5 +1,5 @@
 //! Letters on their way from a collector's sink to the outbox.
-ghost use Rattle.std.specs.Prelude.{◌≡◌};
+ghost use Rattle.std.specs.Prelude.{◌≡◌, IfOk, IsSome};
 
 use crate::posting::post_all;
 use crate::{LetterSink, Posted, Sink, end_posting, open_post, start_posting};
@@ -58,6 +58,17 @@ fn site(alloc: Global) -> Result<Site, Fail> {
     Ok(Site::new(alloc, b"mx.example.net")?)
 }
 
+/// A draft of a notice to the sender.
+fn draft(alloc: Global) -> Result<Draft, Fail>
+    ensures { IfOk result (λ draft. IsSome draft.return_path) }
+{
+    let moment = Stamp::new(1_700_000_000).ok_or("the moment")?;
+    let arrival = Stamp::new(1_699_996_400).ok_or("the arrival")?;
+    let sender = Address::new(alloc, b"ann@example.com")?;
+    let header = RawHeader::new(alloc, b"")?;
+    Ok(Draft::new(alloc, moment, arrival, Some(sender), None, header)?)
+}
+
 /// A letter about the message with this queue id.
 fn letter(alloc: Global, id: &[u8]) -> Result<Letter, Fail> {
     let parts = Parts {
@@ -71,20 +82,13 @@ fn letter(alloc: Global, id: &[u8]) -> Result<Letter, Fail> {
         last_attempt: None,
         retry_until: None,
     };
-    let mut chain = Chain::new();
-    chain.push(Outcome::new(alloc, Service::Bounce, parts)?);
-    let draft = Draft::new(
-        alloc,
-        Stamp::new(1_700_000_000).ok_or("the moment")?,
-        Stamp::new(1_699_996_400).ok_or("the arrival")?,
-        Some(Address::new(alloc, b"ann@example.com")?),
-        None,
-        RawHeader::new(alloc, b"")?,
-    )?;
     let key = Key {
         service: Service::Bounce,
         id: QueueId::new(id).ok_or("the queue id")?,
     };
+    let draft = draft(alloc)?;
+    let mut chain = Chain::new();
+    chain.push(Outcome::new(alloc, Service::Bounce, parts)?);
     Ok(Letter::seal(key, draft, chain, 0))
 }
 
@@ -112,6 +116,45 @@ fn hand_all(rt: &impl Wait, alloc: Global, sink: &mut LetterSink, ids: &[&[u8]])
     Ok(())
 }
 
+/// The queue id of the first letter, which is taken.
+fn next_id(letters: &mut Letters) -> Option<QueueId> {
+    let letter = letters.pop()?;
+    Some(letter.key().id)
+}
+
+/// The queue ids of these letters, one after another.
+fn ids_of(alloc: Global, mut letters: Letters) -> Result<Vec<u8>, Fail> {
+    let mut ids = Vec::new(alloc);
+    for _ in 0..4 {
+        if let Some(id) = next_id(&mut letters) {
+            ids.extend_from_slice(id.bytes())?;
+        }
+    }
+    Ok(ids)
+}
+
+/// What became of letters: whether all came, whether the outbox is whole, and how many were posted;
+/// the queue ids of those that were not; and what the outbox holds.
+#[derive(Drop)]
+struct Told {
+    end: (bool, bool, u32),
+    unsent: Vec<u8>,
+    held: Vec<u8>,
+}
+
+impl Told {
+    fn of(alloc: Global, posted: Posted<Plain<Full>>) -> Result<Told, Fail> {
+        let end = (posted.all, posted.whole, posted.posted);
+        let Posted { outbox, unsent, .. } = posted;
+        let held = outbox.into_inner().held;
+        Ok(Told {
+            end,
+            unsent: ids_of(alloc, unsent)?,
+            held,
+        })
+    }
+}
+
 /// What becomes of letters that are handed to a poster on a thread of its own, whose outbox has
 /// room for so many bytes.
 fn posted<R: Threads + Wait + Sync>(
@@ -119,49 +162,41 @@ fn posted<R: Threads + Wait + Sync>(
     alloc: Global,
     ids: &[&[u8]],
     room: usize,
-) -> Result<Posted<Plain<Full>>, Fail> {
+) -> Result<Told, Fail> {
     let site = site(alloc)?;
     let outbox = outbox(alloc, room);
-    thread::scope(thread::scope_env(), rt, move |scope| {
-        let (sink, source) = open_post(rt, alloc)?;
-        let started = start_posting(scope, rt, site, outbox, sink, source);
-        let Ok((mut sink, handle)) = started else {
-            return Err("no thread".into());
-        };
-        hand_all(rt, alloc, &mut sink, ids)?;
-        Ok(end_posting(rt, sink, handle))
-    })
-}
-
-/// The queue ids of these letters, one after another.
-fn ids_of(alloc: Global, mut letters: Letters) -> Result<Vec<u8>, Fail> {
-    let mut ids = Vec::new(alloc);
-    for _ in 0..4 {
-        if let Some(letter) = letters.pop() {
-            ids.extend_from_slice(letter.key().id.bytes())?;
-        }
-    }
-    Ok(ids)
+    let posted = thread::scope(
+        thread::scope_env(),
+        rt,
+        move |scope| -> Result<Posted<Plain<Full>>, Fail> {
+            let (sink, source) = open_post(rt, alloc)?;
+            let started = start_posting(scope, rt, site, outbox, sink, source);
+            let Ok((mut sink, handle)) = started else {
+                return Err("no thread".into());
+            };
+            hand_all(rt, alloc, &mut sink, ids)?;
+            Ok(end_posting(rt, sink, handle))
+        },
+    )?;
+    Told::of(alloc, posted)
 }
 
 #[test]
 fn letters_in_order(rt: HostRuntime) -> Result<(), Fail> {
     let ids = [b"K1".as_slice(), b"K2".as_slice(), b"K3".as_slice()];
-    let posted = posted(&rt, rt.alloc(), &ids, usize::MAX)?;
-    assert!(rt; posted.all && posted.whole && posted.unsent.is_empty());
-    assert_eq!(rt; posted.posted, 3);
-    let held = posted.outbox.into_inner().held;
-    assert_eq!(rt; held.as_slice(), outbox_of(rt.alloc(), &ids)?.as_slice());
+    let told = posted(&rt, rt.alloc(), &ids, usize::MAX)?;
+    assert_eq!(rt; (told.end, told.unsent.len()), ((true, true, 3), 0));
+    let held = outbox_of(rt.alloc(), &ids)?;
+    assert_eq!(rt; told.held.as_slice(), held.as_slice());
     Ok(())
 }
 
 #[test]
 fn no_letters_make_an_empty_outbox(rt: HostRuntime) -> Result<(), Fail> {
-    let posted = posted(&rt, rt.alloc(), &[], usize::MAX)?;
-    assert!(rt; posted.all && posted.whole && posted.posted == 0);
-    let held = posted.outbox.into_inner().held;
+    let told = posted(&rt, rt.alloc(), &[], usize::MAX)?;
+    assert_eq!(rt; told.end, (true, true, 0));
     let empty = b"EHLO mx.example.net\r\nQUIT\r\n";
-    assert_eq!(rt; held.as_slice(), empty.as_slice());
+    assert_eq!(rt; told.held.as_slice(), empty.as_slice());
     Ok(())
 }
 
@@ -169,14 +204,12 @@ fn no_letters_make_an_empty_outbox(rt: HostRuntime) -> Result<(), Fail> {
 fn outbox_fails_in_second_letter(rt: HostRuntime) -> Result<(), Fail> {
     let ids = [b"K1".as_slice(), b"K2".as_slice(), b"K3".as_slice()];
     let room = outbox_of(rt.alloc(), &ids[..1])?.len();
-    let posted = posted(&rt, rt.alloc(), &ids, room)?;
-    assert!(rt; posted.all && !posted.whole && posted.posted == 1);
-    let unsent = ids_of(rt.alloc(), posted.unsent)?;
-    assert_eq!(rt; unsent.as_slice(), b"K2K3".as_slice());
-    let held = posted.outbox.into_inner().held;
     let both = outbox_of(rt.alloc(), &ids[..2])?;
+    let told = posted(&rt, rt.alloc(), &ids, room)?;
+    assert_eq!(rt; told.end, (true, false, 1));
+    assert_eq!(rt; told.unsent.as_slice(), b"K2K3".as_slice());
     let front = both.get(..room).ok_or("two letters are longer than one")?;
-    assert_eq!(rt; held.as_slice(), front);
+    assert_eq!(rt; told.held.as_slice(), front);
     Ok(())
 }
 

@@ -77,21 +77,23 @@ fn send_one(rt: &impl Wait, agent: Agent, body: Body) -> Option<LaneOut<Answer>>
     Some(answers)
 }
 
-/// A collector that five agents have asked: the first two an append and a flush of the log `1`, the
-/// next two the same of the log `2`; the fifth has said goodbye, and the others are not awaited.
-/// Beside it, the ends by which the agents are answered.
+/// What five agents ask: the first two an append and a flush of the log `1`, the next two the same of
+/// the log `2`; the fifth says goodbye.
+fn bodies(alloc: Global) -> Option<[Body; 5]> {
+    let first = append(alloc, b"1")?;
+    let second = flush(alloc, b"1")?;
+    let third = append(alloc, b"2")?;
+    let fourth = flush(alloc, b"2")?;
+    Some([first, second, third, fourth, Body::Bye])
+}
+
+/// A collector that five agents have asked, of which only the fifth's goodbye is awaited. Beside it,
+/// the ends by which the agents are answered.
 fn asked(rt: &impl Wait, alloc: Global) -> Option<(Vec<LaneOut<Answer>>, Desk)> {
     let limits = Limits::new(8, 8, 8)?;
+    let mut bodies = bodies(alloc)?.into_iter();
     let (crew, mut desk) = open_crew(rt, alloc, limits, 5).ok()?;
     desk.miss(4);
-    let bodies = [
-        append(alloc, b"1")?,
-        flush(alloc, b"1")?,
-        append(alloc, b"2")?,
-        flush(alloc, b"2")?,
-        Body::Bye,
-    ];
-    let mut bodies = bodies.into_iter();
     let mut heard = Vec::new(alloc);
     for agent in crew {
         heard.push(send_one(rt, agent, bodies.next()?)?).ok()?;

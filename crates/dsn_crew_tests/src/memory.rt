@@ -19,7 +19,7 @@ pub struct Memory<'a> {
 
 impl<'a> Memory<'a> {
     /// A connection whose peer has sent this.
-    pub fn new(alloc: Global, sent: &'a [u8]) -> Memory<'a> {
+    pub(crate) fn new(alloc: Global, sent: &'a [u8]) -> Memory<'a> {
         Memory {
             unread: sent,
             written: Vec::new(alloc),

@@ -157,20 +157,39 @@ fn served<R: Threads + Wait + Sync>(
     )
 }
 
+/// What a connection sends; what becomes of it, the number of its fault, or 0, and the count of its
+/// frames; and all that is written to it.
+type Connection = (&'static [u8], (u32, u32), &'static [u8]);
+
+/// What these connections send.
+fn inputs_of(alloc: Global, connections: &[Connection]) -> Result<Vec<&'static [u8]>, Fail> {
+    let mut inputs = Vec::new(alloc);
+    for (sent, _, _) in connections {
+        inputs.push(*sent)?;
+    }
+    Ok(inputs)
+}
+
+/// Asserts what became of these connections.
+fn assert_told(rt: &impl Abort, all: &[Told], connections: &[Connection]) {
+    assert_eq!(rt; all.len(), connections.len());
+    for (told, (_, end, written)) in all.iter().zip(connections) {
+        let came = (told.code, told.frames, told.written.as_slice());
+        assert_eq!(rt; came, (end.0, end.1, *written));
+    }
+}
+
 /// Asserts what becomes of these connections of an agent that may make so many requests, one after
-/// another: the number and the count of frames of each, and all that was written to it.
+/// another.
 fn assert_served<R: Threads + Wait + Sync + Abort>(
     rt: &R,
     alloc: Global,
     requests: u32,
-    connections: &[(&'static [u8], (u32, u32), &'static [u8])],
+    connections: &[Connection],
     room: usize,
 ) -> Result<(), Fail> {
     for most in 1..4 {
-        let mut inputs = Vec::new(alloc);
-        for (sent, _, _) in connections {
-            inputs.push(*sent)?;
-        }
+        let inputs = inputs_of(alloc, connections)?;
         let (agent, desk) = one_agent(rt, alloc, requests).ok_or("a crew")?;
         let work = Work {
             agent,
@@ -179,11 +198,7 @@ fn assert_served<R: Threads + Wait + Sync + Abort>(
             room,
         };
         let all = served(rt, alloc, work, desk).ok_or("a thread")?;
-        assert_eq!(rt; all.len(), connections.len());
-        for (told, (_, end, written)) in all.iter().zip(connections) {
-            assert_eq!(rt; (told.code, told.frames), *end);
-            assert_eq!(rt; told.written.as_slice(), *written);
-        }
+        assert_told(rt, &all, connections);
     }
     Ok(())
 }

@@ -46,16 +46,20 @@ pub(crate) fn letter(alloc: Global, parts: Parts<'_>, flush: Flush<'_>) -> Resul
     sealed(alloc, chain, flush)
 }
 
+/// The envelope id of this text; none of an empty one.
+fn envelope_id(alloc: Global, text: &[u8]) -> Result<Option<EnvelopeId>, Fail> {
+    match text {
+        [] => Ok(None),
+        text => Ok(Some(EnvelopeId::new(alloc, text)?)),
+    }
+}
+
 /// A letter to the sender about these outcomes of the bounce service.
 pub(crate) fn sealed(alloc: Global, chain: Chain, flush: Flush<'_>) -> Result<Letter, Fail>
     requires reports { chain ≢ [] }
     requires of_service { All (λ outcome. outcome.service ≡ Service.Bounce) chain }
 {
-    let envelope_id = if flush.envelope_id.is_empty() {
-        None
-    } else {
-        Some(EnvelopeId::new(alloc, flush.envelope_id)?)
-    };
+    let envelope_id = envelope_id(alloc, flush.envelope_id)?;
     let draft = Draft::new(
         alloc,
         Stamp::new(flush.moment).ok_or("the moment")?,

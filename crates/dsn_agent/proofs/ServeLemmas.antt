@@ -68,6 +68,7 @@ outcome_few outcome.StatusClass = lit≤ tt
 outcome_few outcome.BadMta = lit≤ tt
 outcome_few outcome.LongDiagnostic = lit≤ tt
 outcome_few outcome.LongReason = lit≤ tt
+outcome_few outcome.RetryUntil = lit≤ tt
 outcome_few outcome.NoMemory = lit≤ tt
 
 body_few : (fault : BodyFault) → body_fault_code fault ≤ 30

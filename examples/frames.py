@@ -9,6 +9,7 @@ A description has one frame a line; empty lines and lines that begin with '#' ar
 standard input, and each frame is written as soon as its line is there.
 
     append NUMBER SERVICE ID RECIPIENT ACTION STATUS [original=T] [mta=T] [diagnostic=T] [reason=T]
+           [attempt=N] [retry=N]
     flush NUMBER SERVICE ID [return=T] [moment=N] [arrival=N] [envelope=T] [header=T]
     discard NUMBER SERVICE ID
     forget NUMBER SERVICE ID
@@ -32,6 +33,7 @@ SERVICES = {"bounce": 1, "defer": 2, "trace": 3}
 ACTIONS = {"failed": 1, "delayed": 2, "delivered": 3, "relayed": 4, "expanded": 5}
 VERSION, APPEND, FLUSH, DISCARD = 1, 1, 2, 3
 SECOND_VERSION, FORGET = 2, 4
+NO_MOMENT = 2**64 - 1
 
 
 def text(value: bytes) -> bytes:
@@ -49,10 +51,12 @@ def start(kind: int, number: int, service: int, queue_id: bytes, version: int = 
     return struct.pack(">BBIB", version, kind, number, service) + text(queue_id)
 
 
-def append(number, service, queue_id, recipient, action, status, original=b"", mta=b"", diagnostic=b"", reason=b""):
-    """The frame of a request to add one recipient's outcome to a log."""
-    body = start(APPEND, number, service, queue_id) + text(original) + text(recipient) + bytes([action])
-    return frame(body + text(status) + text(mta) + text(diagnostic) + text(reason))
+def append(number, service, queue_id, recipient, action, status, original=b"", mta=b"", diagnostic=b"", reason=b"", last_attempt=None, retry_until=None):
+    """The frame of a request to add one recipient's outcome to a log; it is of version 2 where it has one of the two moments."""
+    moments = [NO_MOMENT if it is None else it for it in (last_attempt, retry_until)]
+    dated = moments != [NO_MOMENT, NO_MOMENT]
+    body = start(APPEND, number, service, queue_id, SECOND_VERSION if dated else VERSION) + text(original) + text(recipient) + bytes([action])
+    return frame(body + text(status) + text(mta) + text(diagnostic) + text(reason) + (struct.pack(">QQ", *moments) if dated else b""))
 
 
 def flush(number, service, queue_id, return_path=b"ann@example.com", moment=1700000000, arrival=1699996400, envelope=b"", header=b""):
@@ -115,7 +119,9 @@ def frame_of_line(line: str, place: int) -> bytes:
     number, service, queue_id = place if fixed[0] == "." else int(fixed[0]), SERVICES.get(fixed[1]) or int(fixed[1]), unescaped(fixed[2])
     if kind == "append":
         recipient, action, status = unescaped(fixed[3]), ACTIONS.get(fixed[4]) or int(fixed[4]), unescaped(fixed[5])
-        return append(number, service, queue_id, recipient, action, status, **{it: unescaped(value) for it, value in options.items()})
+        times = {name: moment_of(options.pop(it)) for it, name in (("attempt", "last_attempt"), ("retry", "retry_until")) if it in options}
+        texts = {it: unescaped(value) for it, value in options.items()}
+        return append(number, service, queue_id, recipient, action, status, **times, **texts)
     if kind == "flush":
         times = {it: moment_of(options.pop(it)) for it in ("moment", "arrival") if it in options}
         texts = {"return_path" if it == "return" else it: unescaped(value) for it, value in options.items()}

@@ -4,13 +4,25 @@ mod moments;
 mod near;
 
 use dsn_frame::decode_request;
-use dsn_outcome::{Body, Parts, Service};
+use dsn_outcome::{Body, Service};
 use std::alloc::AllocGlobal;
 use std::process::Abort;
 use std::test::Fail;
 
+/// The fields of an append on the wire, whether they are legal or not.
+#[derive(Clone, Copy)]
+struct RecipientParts<'a> {
+    recipient: &'a [u8],
+    original: &'a [u8],
+    action: u8,
+    status: &'a [u8],
+    mta: &'a [u8],
+    diagnostic: &'a [u8],
+    reason: &'a [u8],
+}
+
 /// An append of version 1 to `B K1` without optional texts.
-const APPEND: Parts<'static> = Parts {
+const APPEND: RecipientParts<'static> = RecipientParts {
     recipient: b"x@y",
     original: b"",
     action: 1,
@@ -18,8 +30,6 @@ const APPEND: Parts<'static> = Parts {
     mta: b"",
     diagnostic: b"",
     reason: b"",
-    last_attempt: None,
-    retry_until: None,
 };
 
 /// The fields of a flush on the wire, whether they are legal or not.
@@ -64,7 +74,11 @@ fn refusal(rt: &impl AllocGlobal, bytes: &[u8]) -> u32 {
     }
 }
 
-fn append_refusal(rt: &impl AllocGlobal, service: u8, parts: Parts<'_>) -> Result<u32, Fail> {
+fn append_refusal(
+    rt: &impl AllocGlobal,
+    service: u8,
+    parts: RecipientParts<'_>,
+) -> Result<u32, Fail> {
     let mut body = head_bytes(rt, 1, service, b"K1")?;
     push_text(&mut body, parts.original)?;
     push_text(&mut body, parts.recipient)?;
@@ -205,7 +219,7 @@ fn statuses_refused(rt: HostRuntime) -> Result<(), Fail> {
         (b"2.0.0".as_slice(), 5),
         (b"4.4.7".as_slice(), 0),
     ] {
-        let parts = Parts { status, ..APPEND };
+        let parts = RecipientParts { status, ..APPEND };
         assert_eq!(rt; append_refusal(&rt, 1, parts)?, want, "{status:?}");
     }
     Ok(())
@@ -219,7 +233,7 @@ fn actions_and_services(rt: HostRuntime) -> Result<(), Fail> {
         (2, 2, b"4.4.1".as_slice(), 0),
         (3, 5, b"2.0.0".as_slice(), 0),
     ] {
-        let parts = Parts {
+        let parts = RecipientParts {
             action,
             status,
             ..APPEND

@@ -32,7 +32,30 @@ fn id(text: &[u8]) -> Result<QueueId, Fail> {
 }
 
 fn append(rt: &HostRuntime, service: Service, text: &[u8], parts: Parts<'_>) -> Result<Body, Fail> {
-    Ok(Body::Append(id(text)?, Outcome::new(rt.alloc(), service, parts)?))
+    let Parts {
+        recipient,
+        original,
+        action,
+        status,
+        mta,
+        diagnostic,
+        reason,
+        last_attempt,
+        retry_until,
+    } = parts;
+    let parts = Parts {
+        recipient,
+        original,
+        action,
+        status,
+        mta,
+        diagnostic,
+        reason,
+        last_attempt,
+        retry_until,
+    };
+    let node = Outcome::new(rt.alloc(), service, parts)?;
+    Ok(Body::Append(id(text)?, node))
 }
 
 /// The address of this text; none of an empty one.

@@ -6,28 +6,28 @@ fn recipient(rt: HostRuntime) -> Result<(), Fail> {
     let long = vec![in rt.alloc(); b'a'; 257]?;
     let cases = [
         (
-            Parts {
+            RecipientParts {
                 recipient: &long[..256],
                 ..APPEND
             },
             0,
         ),
         (
-            Parts {
+            RecipientParts {
                 recipient: &long,
                 ..APPEND
             },
             1,
         ),
         (
-            Parts {
+            RecipientParts {
                 original: b"<",
                 ..APPEND
             },
             2,
         ),
         (
-            Parts {
+            RecipientParts {
                 original: b"<",
                 recipient: b"<",
                 ..APPEND
@@ -43,21 +43,21 @@ fn reporting_mta(rt: HostRuntime) -> Result<(), Fail> {
     let long = vec![in rt.alloc(); b'a'; 256]?;
     let cases = [
         (
-            Parts {
+            RecipientParts {
                 mta: b"a b",
                 ..APPEND
             },
             6,
         ),
         (
-            Parts {
+            RecipientParts {
                 mta: &long[..255],
                 ..APPEND
             },
             0,
         ),
         (
-            Parts {
+            RecipientParts {
                 mta: &long,
                 ..APPEND
             },
@@ -72,14 +72,14 @@ fn texts(rt: HostRuntime) -> Result<(), Fail> {
     let long = vec![in rt.alloc(); b'a'; 801]?;
     let cases = [
         (
-            Parts {
+            RecipientParts {
                 diagnostic: &long[..800],
                 ..APPEND
             },
             0,
         ),
         (
-            Parts {
+            RecipientParts {
                 diagnostic: &long,
                 reason: &long,
                 ..APPEND
@@ -87,7 +87,7 @@ fn texts(rt: HostRuntime) -> Result<(), Fail> {
             7,
         ),
         (
-            Parts {
+            RecipientParts {
                 reason: &long,
                 ..APPEND
             },

@@ -1,7 +1,7 @@
 //! Appends of version 2: two moments after the reason.
 use super::*;
 use dsn_frame::encode_request;
-use dsn_outcome::{LAST_MOMENT, Outcome, QueueId, Stamp};
+use dsn_outcome::{LAST_MOMENT, Outcome, Parts, QueueId, Stamp};
 
 /// What stands for no moment.
 const NONE: u64 = u64::MAX;
@@ -10,7 +10,7 @@ const NONE: u64 = u64::MAX;
 fn dated(
     rt: &HostRuntime,
     service: u8,
-    parts: Parts<'_>,
+    parts: RecipientParts<'_>,
     moments: &[u64],
 ) -> Result<Vec<u8>, Fail> {
     let mut body = vec![in rt.alloc(); 2, 1, 0, 0, 0, 0, service]?;
@@ -29,7 +29,7 @@ fn dated(
 }
 
 /// A delayed recipient without optional texts.
-const DELAYED: Parts<'static> = Parts {
+const DELAYED: RecipientParts<'static> = RecipientParts {
     recipient: b"bob@example.org",
     action: 2,
     status: b"4.4.1",
@@ -70,9 +70,15 @@ fn the_moments_of_a_body_are_written_again(rt: HostRuntime) -> Result<(), Fail> 
         [LAST_MOMENT, LAST_MOMENT],
     ] {
         let parts = Parts {
+            recipient: b"bob@example.org",
+            original: b"",
+            action: 2,
+            status: b"4.4.1",
+            mta: b"",
+            diagnostic: b"",
+            reason: b"",
             last_attempt: Stamp::new(moments[0]),
             retry_until: Stamp::new(moments[1]),
-            ..DELAYED
         };
         let node = Outcome::new(rt.alloc(), Service::Defer, parts)?;
         let id = QueueId::new(b"X1").ok_or("a queue id")?;
@@ -92,12 +98,12 @@ fn the_moments_of_a_body_are_written_again(rt: HostRuntime) -> Result<(), Fail> 
 
 #[test]
 fn version_two_bounds(rt: HostRuntime) -> Result<(), Fail> {
-    let failed = Parts {
+    let failed = RecipientParts {
         recipient: b"bob@example.org",
         status: b"5.1.1",
         ..APPEND
     };
-    let spoiled = Parts {
+    let spoiled = RecipientParts {
         recipient: b"<",
         ..DELAYED
     };

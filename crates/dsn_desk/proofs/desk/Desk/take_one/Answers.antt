@@ -11,8 +11,8 @@ pub overflow_add-self-2 : goal.overflow_add-self-2
 overflow_add-self-2 g c =
     record { fits = goodbyes_fit c.self.inside.gone c.from.result c.self.inside.taken 4294967296 c.is_bye.result c.self.inside.requests.taken c.self.invariant.1.1 c.self.invariant.1.0 (search rules) (search rules) }
 
-pub apply-requires : goal.apply-requires
-apply-requires g c = record { room = letters_fit _ c.self.inside.requests.taken c.self.inside.taken c.self.invariant.0.book c.self.invariant.1.0 (search rules) }
+pub apply-letter-requires : goal.apply-letter-requires
+apply-letter-requires g c = record { room = letters_fit _ c.self.inside.requests.taken c.self.inside.taken c.self.invariant.0.book c.self.invariant.1.0 (search rules) }
 
 pub tell-requires-clause-within : goal.tell-requires-clause-within
 tell-requires-clause-within g c =

@@ -101,7 +101,10 @@ fn flush_refusal(rt: &impl AllocGlobal, parts: FlushParts<'_>) -> Result<u32, Fa
 }
 
 /// Appends to `B K1` with these fields are refused with these numbers, or accepted for 0.
-fn expect_appends(rt: &(impl Abort + AllocGlobal), cases: &[(Parts<'_>, u32)]) -> Result<(), Fail> {
+fn expect_appends(
+    rt: &(impl Abort + AllocGlobal),
+    cases: &[(RecipientParts<'_>, u32)],
+) -> Result<(), Fail> {
     for (parts, want) in cases {
         assert_eq!(rt; append_refusal(rt, 1, *parts)?, *want);
     }

@@ -30,7 +30,13 @@ fn write_header<W: Drain>(lines: &mut LineWriter<W>, site: &Site, letter: &Lette
     lines.line(&[b"Subject: ", subject(letter.key().service)]);
     lines.line(&[b"Date: ", &letter.moment().date()]);
     lines.line(&[
-        b"Message-ID: <", name.bytes(), b".", serial.bytes(), b"@", host, b">",
+        b"Message-ID: <",
+        name.bytes(),
+        b".",
+        serial.bytes(),
+        b"@",
+        host,
+        b">",
     ]);
     lines.line(&[b"Auto-Submitted: auto-replied"]);
     lines.line(&[b"MIME-Version: 1.0"]);

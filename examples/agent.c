@@ -1,13 +1,14 @@
 /* A delivery agent's side of the frames: it writes requests and reads answers. C99 and its library alone.
  *
- *     agent append NUMBER SERVICE ID RECIPIENT ACTION STATUS [ORIGINAL [MTA [DIAGNOSTIC [REASON]]]]
+ *     agent append NUMBER SERVICE ID RECIPIENT ACTION STATUS
+ *                  [ORIGINAL [MTA [DIAGNOSTIC [REASON [LAST-ATTEMPT [RETRY-UNTIL]]]]]]
  *     agent flush NUMBER SERVICE ID MOMENT ARRIVAL RETURN-PATH [ENVELOPE-ID] < RETURNED-HEADER
  *     agent discard NUMBER SERVICE ID
  *     agent forget NUMBER SERVICE ID
  *     agent answers < ANSWER-FRAMES
  *
  * The first four write one frame to standard output. SERVICE and ACTION are the bytes of docs/FORMATS.md, as numbers;
- * an empty word stands for a text that is missing. The last one prints a line for each answer, as the daemon's notes
+ * an empty word stands for a text or a moment that is missing. The last one prints a line for each answer, as the daemon's notes
  * have it, and `fault N` at the first that is none. Nothing of a request is tested here but what a frame can hold: the
  * daemon answers what is wrong with it. The exit status is 0, 1 after a fault, and 2 for wrong arguments. */
 #include <stdint.h>
@@ -81,10 +82,10 @@ static uint64_t number_of(const char *word, uint64_t most)
     return number;
 }
 
-/* What each body begins with: version 2 of a Forget, else 1; kind, number, service and queue id. */
-static void put_head(struct body *body, enum kind kind, char **words)
+/* What each body begins with: version, kind, number, service and queue id. */
+static void put_head(struct body *body, int version, enum kind kind, char **words)
 {
-    put_number(body, kind == FORGET ? 2 : 1, 1);
+    put_number(body, (uint64_t)version, 1);
     put_number(body, kind, 1);
     put_number(body, number_of(words[0], UINT32_MAX), 4);
     put_number(body, number_of(words[1], 255), 1);
@@ -97,9 +98,18 @@ static const char *word_at(int count, char **words, int at)
     return at < count ? words[at] : "";
 }
 
+/* A moment, or all ones where there is none. */
+static void put_moment(struct body *body, const char *word)
+{
+    put_number(body, *word == '\0' ? UINT64_MAX : number_of(word, UINT64_MAX), 8);
+}
+
+/* An append: of version 2 where it has one of the two moments. */
 static void put_append(struct body *body, int count, char **words)
 {
-    put_head(body, APPEND, words);
+    const char *last_attempt = word_at(count, words, 10), *retry_until = word_at(count, words, 11);
+    int version = *last_attempt == '\0' && *retry_until == '\0' ? 1 : 2;
+    put_head(body, version, APPEND, words);
     put_word(body, word_at(count, words, 6)); /* the original recipient stands before the final one */
     put_word(body, words[3]);
     put_number(body, number_of(words[4], 255), 1);
@@ -107,6 +117,10 @@ static void put_append(struct body *body, int count, char **words)
     put_word(body, word_at(count, words, 7));
     put_word(body, word_at(count, words, 8));
     put_word(body, word_at(count, words, 9));
+    if (version == 2) {
+        put_moment(body, last_attempt);
+        put_moment(body, retry_until);
+    }
 }
 
 static void put_flush(struct body *body, int count, char **words)
@@ -115,7 +129,7 @@ static void put_flush(struct body *body, int count, char **words)
     size_t length = fread(header, 1, sizeof header, stdin);
     if (ferror(stdin))
         fail("the returned header can't be read");
-    put_head(body, FLUSH, words);
+    put_head(body, 1, FLUSH, words);
     put_number(body, number_of(words[3], UINT64_MAX), 8);
     put_number(body, number_of(words[4], UINT64_MAX), 8);
     put_word(body, words[5]);
@@ -217,14 +231,14 @@ int main(int argc, char **argv)
     char **words = argv + 2;
     if (strcmp(what, "answers") == 0 && count == 0)
         return tell_answers();
-    if (strcmp(what, "append") == 0 && 6 <= count && count <= 10)
+    if (strcmp(what, "append") == 0 && 6 <= count && count <= 12)
         put_append(&body, count, words);
     else if (strcmp(what, "flush") == 0 && 6 <= count && count <= 7)
         put_flush(&body, count, words);
     else if (strcmp(what, "discard") == 0 && count == 3)
-        put_head(&body, DISCARD, words);
+        put_head(&body, 1, DISCARD, words);
     else if (strcmp(what, "forget") == 0 && count == 3)
-        put_head(&body, FORGET, words);
+        put_head(&body, 2, FORGET, words);
     else
         fail("wrong arguments: the head of agent.c says what there is");
     return write_frame(&body);

@@ -79,6 +79,16 @@ def check_exchange(checks: Checks, program: Path, title: str, stored: Path, fram
     checks.equal(f"{title}: the answers as the client reads them", told(program, answers), (notes, 0))
 
 
+def check_moments(checks: Checks, program: Path):
+    """An append with two moments is of version 2, and so is one with the first or the second alone."""
+    stored = (EXAMPLES / "last-attempt-and-retry-until.frames").read_bytes()
+    delayed = ["append", "0", "2", "X1", "bob@example.org", "2", "4.4.1", "", "", "", ""]
+    absent = bytes.fromhex("ffffffffffffffff")
+    checks.equal("an append with two moments", written(program, [*delayed, "1700000000", "1700432000"]), stored[:64])
+    checks.equal("one without a last attempt", written(program, [*delayed, "", "1700432000"]), stored[:48] + absent + stored[56:64])
+    checks.equal("one without a retry until", written(program, [*delayed, "1700000000"]), stored[:56] + absent)
+
+
 def check_answers(checks: Checks, program: Path):
     """Every reply, and answers that are none, with the number that docs/FORMATS.md gives them."""
     replies = ["logged 5", "closed", "table full", "log full", "nothing", "no return 5", "sealed 5", "discarded 5", "gone", "refused 5",
@@ -101,6 +111,7 @@ def main():
         program = build(Path(folder))
         for title, (stored, frames) in frames_of_exchanges(program).items():
             check_exchange(checks, program, title, EXAMPLES / stored, frames)
+        check_moments(checks, program)
         check_answers(checks, program)
     checks.done()
 

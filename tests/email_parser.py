@@ -84,6 +84,25 @@ ALL_FIELDS = Recipient(
     ],
 )
 
+# a delayed recipient with both of its moments (RFC 3464 sections 2.3.7 and 2.3.9)
+RETRIED = Recipient(
+    given={
+        "recipient": b"bob@example.org",
+        "action": ACTIONS["delayed"],
+        "status": b"4.4.1",
+        "last_attempt": 1_700_000_000,
+        "retry_until": 1_700_432_000,
+    },
+    lines=["<bob@example.org>: delayed (4.4.1)"],
+    fields=[
+        ("Final-Recipient", "rfc822; bob@example.org"),
+        ("Action", "delayed"),
+        ("Status", "4.4.1"),
+        ("Last-Attempt-Date", "Tue, 14 Nov 2023 22:13:20 +0000"),
+        ("Will-Retry-Until", "Sun, 19 Nov 2023 22:13:20 +0000"),
+    ],
+)
+
 # texts that try to end a line, the message, a part or the session
 HOSTILE = Recipient(
     given={
@@ -122,6 +141,7 @@ CASES = [
         to="list-owner@lists.example.com",
         returned=b"From: <a@b>\r\n",
     ),
+    Case("a delayed recipient with its two dates", "defer", "D43", [RETRIED, plain("amy@example.net", "delayed", "4.2.2")]),
     Case(
         "a trace of each action",
         "trace",

@@ -33,6 +33,7 @@ fn appends_with_another_head(rt: HostRuntime) -> Result<(), Fail> {
     let changes = [
         (0, 0, 21),
         (0, 2, 23),
+        (0, 3, 21),
         (0, 255, 21),
         (1, 0, 22),
         (1, 4, 22),

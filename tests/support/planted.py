@@ -31,7 +31,7 @@ EDITS = [
     ("batch", "formats/bodies.py", "is None or action == DELAYED, 10", "is None or action != DELIVERED, 10"),
     ("batch", "formats/bodies.py", "fields.at == len(body), 24", "fields.at <= len(body), 24"),
     ("batch", "formats/bodies.py", "{1: (1, 2, 3), 2: (1, 2, 3, 4)}", "{1: (1, 2, 3, 4), 2: (1, 2, 3, 4)}"),
-    ("batch", "formats/logs.py", "if log is not None:\n            return NOT_CLOSED", "if log:\n            return NOT_CLOSED"),
+    ("batch", "formats/logs.py", "return FORGOTTEN, 0, None", "return NOT_CLOSED, 0, None"),
     ("batch", "formats/logs.py", "        del self.held[key]\n", ""),
     ("batch", "formats/logs.py", "if not log:\n            return NOTHING", "if not log and request.draft.return_path:\n            return NOTHING"),
     ("batch", "formats/logs.py", "        self.held[request.key] = None\n", "        self.held[request.key] = log and None\n"),

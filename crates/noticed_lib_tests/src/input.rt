@@ -1,5 +1,4 @@
 //! Inputs built frame by frame, as the profile lays them out.
-use dsn_outcome::Parts;
 use std::alloc::Global;
 use std::test::Fail;
 
@@ -20,8 +19,20 @@ pub(super) const ONE_MESSAGE: &[u8; 108] = b"\
 \0\0\0\0\x65\x53\xf1\0\0\0\0\0\x65\x53\xe2\xf0\
 \0\x0fann@example.com\0\0\0\0";
 
+/// The fields of an append of version 1, whether they are legal or not.
+#[derive(Clone, Copy)]
+pub(super) struct AppendFields<'a> {
+    pub(super) recipient: &'a [u8],
+    pub(super) original: &'a [u8],
+    pub(super) action: u8,
+    pub(super) status: &'a [u8],
+    pub(super) mta: &'a [u8],
+    pub(super) diagnostic: &'a [u8],
+    pub(super) reason: &'a [u8],
+}
+
 /// A failed recipient without optional texts.
-pub(super) const FAILED: Parts<'static> = Parts {
+pub(super) const FAILED: AppendFields<'static> = AppendFields {
     recipient: b"x@y",
     original: b"",
     action: 1,
@@ -29,12 +40,10 @@ pub(super) const FAILED: Parts<'static> = Parts {
     mta: b"",
     diagnostic: b"",
     reason: b"",
-    last_attempt: None,
-    retry_until: None,
 };
 
 /// The failed recipient of [`ONE_MESSAGE`].
-pub(super) const BOB: Parts<'static> = Parts {
+pub(super) const BOB: AppendFields<'static> = AppendFields {
     recipient: b"bob@example.org",
     status: b"5.1.1",
     ..FAILED
@@ -59,7 +68,7 @@ pub(super) const TO_ANN: FlushTexts<'static> = FlushTexts {
 #[derive(Clone, Copy)]
 pub(super) enum Ask<'a> {
     /// Logs an outcome.
-    Append(u8, &'a [u8], Parts<'a>),
+    Append(u8, &'a [u8], AppendFields<'a>),
     /// Seals a log, at 1700000000 for a message that came at 1699996400.
     Flush(u8, &'a [u8], FlushTexts<'a>),
     /// Discards a log.
@@ -115,9 +124,9 @@ impl Input {
         alloc: Global,
         service: u8,
         id: &[u8],
-        parts: &Parts<'_>,
+        parts: &AppendFields<'_>,
     ) -> Result<(), Fail> {
-        let mut body = self.head(alloc, 1, service, id)?;
+        let mut body = self.head(alloc, [1, 1], service, id)?;
         push_texts(&mut body, &[parts.original, parts.recipient])?;
         body.push(parts.action)?;
         push_texts(
@@ -134,7 +143,7 @@ impl Input {
         id: &[u8],
         texts: &FlushTexts<'_>,
     ) -> Result<(), Fail> {
-        let mut body = self.head(alloc, 2, service, id)?;
+        let mut body = self.head(alloc, [1, 2], service, id)?;
         body.extend_from_slice(&1_700_000_000u64.to_be_bytes())?;
         body.extend_from_slice(&1_699_996_400u64.to_be_bytes())?;
         push_texts(
@@ -145,18 +154,25 @@ impl Input {
     }
 
     fn discard(&mut self, alloc: Global, service: u8, id: &[u8]) -> Result<(), Fail> {
-        let body = self.head(alloc, 3, service, id)?;
+        let body = self.head(alloc, [1, 3], service, id)?;
         self.push_frame(&body)
     }
 
     fn forget(&mut self, alloc: Global, service: u8, id: &[u8]) -> Result<(), Fail> {
-        let mut body = self.head(alloc, 4, service, id)?;
-        body[0] = 2;
+        let body = self.head(alloc, [2, 4], service, id)?;
         self.push_frame(&body)
     }
 
-    fn head(&mut self, alloc: Global, kind: u8, service: u8, id: &[u8]) -> Result<Vec<u8>, Fail> {
-        let mut body = vec![in alloc; 1, kind]?;
+    /// What a body begins with: its version and kind, its number, and the key.
+    fn head(
+        &mut self,
+        alloc: Global,
+        kind: [u8; 2],
+        service: u8,
+        id: &[u8],
+    ) -> Result<Vec<u8>, Fail> {
+        let mut body = Vec::new(alloc);
+        body.extend_from_slice(&kind)?;
         body.extend_from_slice(&self.next.to_be_bytes())?;
         body.push(service)?;
         push_text(&mut body, id)?;

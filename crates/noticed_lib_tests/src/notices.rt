@@ -1,10 +1,11 @@
 //! Inputs that put notices into the outbox.
-use super::input::{Ask, BOB, BOUNCE, DEFER, FlushTexts, Input, ONE_MESSAGE, TO_ANN, input_of};
+use super::input::{
+    AppendFields, Ask, BOB, BOUNCE, DEFER, FlushTexts, Input, ONE_MESSAGE, TO_ANN, input_of,
+};
 use super::outboxes::{
     AFTER_GROUPS, ALL_FIELDS, BEFORE_GROUPS, BEFORE_LINES, COLLISION, ONE_NOTICE, TWO_SERVICES,
 };
 use super::runs::{PROGRAM, Want, expect_bytes, expect_run, run_within};
-use dsn_outcome::Parts;
 use noticed_lib::MemoryRun;
 use std::alloc::Global;
 use std::process::Abort;
@@ -25,7 +26,7 @@ fn well<'a>(outbox: &'a [u8], notes: &'a [u8]) -> Want<'a> {
 const SEALED: &[u8; 22] = b"0 logged 0\n1 sealed 1\n";
 
 /// One append and one flush of `B A1B2C3`.
-fn one_message<'a>(parts: Parts<'a>, texts: FlushTexts<'a>) -> [Ask<'a>; 2] {
+fn one_message<'a>(parts: AppendFields<'a>, texts: FlushTexts<'a>) -> [Ask<'a>; 2] {
     [
         Ask::Append(BOUNCE, b"A1B2C3", parts),
         Ask::Flush(BOUNCE, b"A1B2C3", texts),
@@ -41,7 +42,7 @@ fn one_append_one_flush(rt: HostRuntime) -> Result<(), Fail> {
 
 #[test]
 fn all_optional_fields(rt: HostRuntime) -> Result<(), Fail> {
-    let parts = Parts {
+    let parts = AppendFields {
         original: b"bob.alias@example.org",
         mta: b"mail.example.org",
         diagnostic: b"550 5.1.1 no such user",
@@ -106,7 +107,7 @@ fn dots_long_lines_eight_bit(rt: HostRuntime) -> Result<(), Fail> {
 
 #[test]
 fn two_services_one_message(rt: HostRuntime) -> Result<(), Fail> {
-    let delayed = Parts {
+    let delayed = AppendFields {
         action: 2,
         status: b"4.4.1",
         ..BOB
@@ -196,7 +197,7 @@ struct Log {
 /// Appends the outcome with this number.
 fn append_numbered(alloc: Global, log: &mut Log, number: u16) -> Result<(), Fail> {
     let texts = numbered_texts(alloc, number)?;
-    let parts = Parts {
+    let parts = AppendFields {
         recipient: &texts.recipient,
         original: &texts.original,
         action: 1,
@@ -204,8 +205,6 @@ fn append_numbered(alloc: Global, log: &mut Log, number: u16) -> Result<(), Fail
         mta: &texts.mta,
         diagnostic: &texts.diagnostic,
         reason: &texts.reason,
-        last_attempt: None,
-        retry_until: None,
     };
     log.input
         .push(alloc, &Ask::Append(BOUNCE, b"A1B2C3", parts))?;

@@ -1,10 +1,9 @@
 //! Inputs that are answered without a notice, or refused.
 use super::input::{
-    Ask, BOB, BOUNCE, DEFER, FAILED, FlushTexts, ONE_MESSAGE, TO_ANN, TRACE, input_of,
+    AppendFields, Ask, BOB, BOUNCE, DEFER, FAILED, FlushTexts, ONE_MESSAGE, TO_ANN, TRACE, input_of,
 };
 use super::outboxes::EMPTY;
 use super::runs::{Want, expect_bytes, expect_run, expect_within, run_within};
-use dsn_outcome::Parts;
 use noticed_lib::Site;
 use std::alloc::Global;
 use std::process::Abort;
@@ -64,7 +63,7 @@ fn null_return_path(rt: HostRuntime) -> Result<(), Fail> {
 
 #[test]
 fn discard_closes_log(rt: HostRuntime) -> Result<(), Fail> {
-    let later = Parts {
+    let later = AppendFields {
         recipient: b"z@y",
         ..FAILED
     };
@@ -97,7 +96,7 @@ fn forget_frees_a_key(rt: HostRuntime) -> Result<(), Fail> {
 
 /// A failed recipient with this status.
 fn with_status(status: &[u8]) -> Ask<'_> {
-    Ask::Append(BOUNCE, b"K1", Parts { status, ..FAILED })
+    Ask::Append(BOUNCE, b"K1", AppendFields { status, ..FAILED })
 }
 
 #[test]
@@ -190,7 +189,7 @@ fn bad_lengths_and_bodies(rt: HostRuntime) -> Result<(), Fail> {
 
 #[test]
 fn open_logs_in_order(rt: HostRuntime) -> Result<(), Fail> {
-    let delivered = Parts {
+    let delivered = AppendFields {
         action: 3,
         status: b"2.0.0",
         ..FAILED
@@ -255,16 +254,16 @@ fn frames_beyond_the_limit(rt: HostRuntime) -> Result<(), Fail> {
 
 #[test]
 fn refused_outcomes(rt: HostRuntime) -> Result<(), Fail> {
-    let delayed = Parts {
+    let delayed = AppendFields {
         action: 2,
         status: b"4.4.1",
         ..FAILED
     };
-    let no_original = Parts {
+    let no_original = AppendFields {
         original: b"<",
         ..BOB
     };
-    let spaced = Parts {
+    let spaced = AppendFields {
         mta: b"mail example",
         ..BOB
     };

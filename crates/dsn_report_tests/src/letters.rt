@@ -9,18 +9,41 @@ use dsn_report::{Site, SiteFault};
 use std::alloc::Global;
 use std::test::Fail;
 
+/// The texts of a failed recipient.
+#[derive(Clone, Copy)]
+pub(crate) struct Texts<'a> {
+    pub(crate) recipient: &'a [u8],
+    pub(crate) original: &'a [u8],
+    pub(crate) status: &'a [u8],
+    pub(crate) mta: &'a [u8],
+    pub(crate) diagnostic: &'a [u8],
+    pub(crate) reason: &'a [u8],
+}
+
 /// A failed recipient without optional texts.
-pub(crate) const BOB: Parts<'static> = Parts {
+pub(crate) const BOB: Texts<'static> = Texts {
     recipient: b"bob@example.org",
     original: b"",
-    action: 1,
     status: b"5.1.1",
     mta: b"",
     diagnostic: b"",
     reason: b"",
-    last_attempt: None,
-    retry_until: None,
 };
+
+/// What an agent says of a failed recipient with these texts.
+pub(crate) fn failed(texts: Texts<'_>) -> Parts<'_> {
+    Parts {
+        recipient: texts.recipient,
+        original: texts.original,
+        action: 1,
+        status: texts.status,
+        mta: texts.mta,
+        diagnostic: texts.diagnostic,
+        reason: texts.reason,
+        last_attempt: None,
+        retry_until: None,
+    }
+}
 
 /// What a letter is sealed with, its outcome apart.
 #[derive(Clone, Copy)]
@@ -40,9 +63,9 @@ pub(crate) const A1B2C3: Flush<'static> = Flush {
 };
 
 /// A letter to the sender about one recipient of the bounce service.
-pub(crate) fn letter(alloc: Global, parts: Parts<'_>, flush: Flush<'_>) -> Result<Letter, Fail> {
+pub(crate) fn letter(alloc: Global, texts: Texts<'_>, flush: Flush<'_>) -> Result<Letter, Fail> {
     let mut chain = Chain::new();
-    chain.push(Outcome::new(alloc, Service::Bounce, parts)?);
+    chain.push(Outcome::new(alloc, Service::Bounce, failed(texts))?);
     sealed(alloc, chain, flush)
 }
 

@@ -1,10 +1,9 @@
 //! Hosts, headers and outcomes at their longest and in between, with ample memory.
 ghost use Rattle.std.specs.Prelude.{◌≡◌, ◌≤◌, All, IfOk, length};
 
-use crate::letters::{A1B2C3, BOB, Flush, letter, sealed, site};
+use crate::letters::{A1B2C3, BOB, Flush, Texts, failed, letter, sealed, site};
 use dsn_outcome::{
-    Chain, LONGEST_ADDRESS, LONGEST_CLEAN, LONGEST_HEADER, LONGEST_MTA_NAME, Outcome, Parts,
-    Service,
+    Chain, LONGEST_ADDRESS, LONGEST_CLEAN, LONGEST_HEADER, LONGEST_MTA_NAME, Outcome, Service,
 };
 use dsn_report::{LONGEST_HOST, Site, boundary, notice};
 use std::alloc::Global;
@@ -74,14 +73,14 @@ Content-Type: text/rfc822-headers\r\n\
 \r\n";
 
 /// So many outcomes of the bounce service, one like the other.
-fn outcomes(alloc: Global, parts: Parts<'_>, count: u32) -> Result<Chain, Fail>
+fn outcomes(alloc: Global, texts: Texts<'_>, count: u32) -> Result<Chain, Fail>
     requires { count ≤ 1000 }
     ensures count { IfOk result (λ chain. length chain ≡ count) }
     ensures of_service { IfOk result (λ chain. All (λ outcome. outcome.service ≡ Service.Bounce) chain) }
 {
     let mut chain = Chain::new();
     for _ in 0..count {
-        chain.push(Outcome::new(alloc, Service::Bounce, parts)?);
+        chain.push(Outcome::new(alloc, Service::Bounce, failed(texts))?);
     }
     Ok(chain)
 }
@@ -92,20 +91,17 @@ fn thousand_outcomes_of_the_longest_texts(rt: HostRuntime) -> Result<(), Fail> {
     let address = vec![in alloc; b'a'; LONGEST_ADDRESS]?;
     let name = vec![in alloc; b'm'; LONGEST_MTA_NAME]?;
     let clean = vec![in alloc; b'c'; LONGEST_CLEAN]?;
-    let parts = Parts {
+    let texts = Texts {
         recipient: &address,
         original: &address,
-        action: 1,
         status: b"5.999.999",
         mta: &name,
         diagnostic: &clean,
         reason: &clean,
-        last_attempt: None,
-        retry_until: None,
     };
     let site = site(alloc)?;
     let least = notice(alloc, &site, &letter(alloc, BOB, A1B2C3)?)?;
-    let letter = sealed(alloc, outcomes(alloc, parts, 1_000)?, A1B2C3)?;
+    let letter = sealed(alloc, outcomes(alloc, texts, 1_000)?, A1B2C3)?;
     let text = notice(alloc, &site, &letter)?;
     // 110 bytes of the notice about bob are his; an outcome of the longest texts has 2,791
     let more = text.len().saturating_sub(least.len());

@@ -1,6 +1,5 @@
 //! The text of notices.
-use crate::letters::{A1B2C3, BOB, Flush, letter, site};
-use dsn_outcome::Parts;
+use crate::letters::{A1B2C3, BOB, Flush, Texts, letter, site};
 use dsn_report::{boundary, notice};
 use std::test::Fail;
 
@@ -21,7 +20,7 @@ fn boundary_collision(rt: HostRuntime) -> Result<(), Fail> {
 
 #[test]
 fn all_optional_fields(rt: HostRuntime) -> Result<(), Fail> {
-    let parts = Parts {
+    let texts = Texts {
         original: b"bob.alias@example.org",
         mta: b"mail.example.org",
         diagnostic: b"550 5.1.1 no such user",
@@ -33,7 +32,7 @@ fn all_optional_fields(rt: HostRuntime) -> Result<(), Fail> {
         header: b"Subject: hi\nX: y\r\n\r\nbody",
         ..A1B2C3
     };
-    let letter = letter(rt.alloc(), parts, flush)?;
+    let letter = letter(rt.alloc(), texts, flush)?;
     let text = notice(rt.alloc(), &site(rt.alloc())?, &letter)?;
     assert_eq!(rt; text.as_slice(), ALL_FIELDS.as_slice());
     Ok(())

@@ -121,7 +121,7 @@ fn nothing_after_the_fault(rt: HostRuntime) -> Result<(), Fail> {
 }
 
 /// The bytes of the mail transaction of a letter whose queue id has two bytes.
-const FIRST_LETTER: usize = 956;
+const FIRST_LETTER: usize = 958;
 
 /// The outbox of one letter.
 const OUTBOX: &[u8; 1005] = b"\

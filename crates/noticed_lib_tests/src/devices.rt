@@ -185,7 +185,7 @@ fn outbox_fails(rt: HostRuntime) -> Result<(), Fail> {
     for room in 0..1005usize {
         let outbox = writer(&rt, 100, room);
         let ran = run_on(&rt, reader(ONE_MESSAGE, 200), outbox, whole_writer(&rt))?;
-        let notes = if room <= 997 {
+        let notes = if room <= 999 {
             b"0 logged 0\n1 sealed 1\nfault 31\nunsent B A1B2C3\n".as_slice()
         } else {
             b"0 logged 0\n1 sealed 1\nfault 31\n".as_slice()

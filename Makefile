@@ -7,6 +7,7 @@ RT      ?= $(shell command -v rt || echo /opt/rattle/bin/rt)
 
 NOTICED := crates/noticed/out/noticed
 PROBE   := crates/crew_probe/out/crew_probe
+CALLS   := crates/call_probe/out/call_probe
 SOURCES := $(shell find crates -name out -prune -o -type f -print)
 EXAMPLE := examples/one-bounce
 
@@ -32,11 +33,11 @@ $(NOTICED): $(SOURCES) crates.txt HANDLES
 	fi
 	touch $@
 
-# The same for the program that the scripts run to refuse a crew memory and threads, and to measure it.
-$(PROBE): $(SOURCES) crates.txt HANDLES
+# The same for the programs that the scripts run to refuse a crew, or a call, its memory and threads, and to measure a crew.
+$(PROBE) $(CALLS): $(SOURCES) crates.txt HANDLES
 	@mkdir -p out
 	echo "proving and building $@ (log: out/probe.log) .."
-	if ! (cd crates/crew_probe && "$(RT)" run -- 2 1) < /dev/null > out/probe.log 2>&1; then
+	if ! (cd crates/$(@F) && "$(RT)" run -- $$(cat args)) < /dev/null > out/probe.log 2>&1; then
 	    cat out/probe.log
 	    echo "$@ could not be proved or built"
 	    exit 1
@@ -92,7 +93,7 @@ check:
 	    echo "== $$script"
 	    run=sh
 	    case $$script in *.py) run=python3 ;; esac
-	    if ! NOTICED="$(CURDIR)/$(NOTICED)" CREW_PROBE="$(CURDIR)/$(PROBE)" PYTHONDONTWRITEBYTECODE=1 $$run "$$script"; then
+	    if ! NOTICED="$(CURDIR)/$(NOTICED)" CREW_PROBE="$(CURDIR)/$(PROBE)" CALL_PROBE="$(CURDIR)/$(CALLS)" PYTHONDONTWRITEBYTECODE=1 $$run "$$script"; then
 	        failed=$$((failed + 1))
 	        scripts="$$scripts $$script"
 	    fi

@@ -35,8 +35,8 @@ const DISCARDED_AND_CLOSED: &[u8] =
 /// The first answer of a connection: the log was discarded before.
 const CLOSED: &[u8] = b"\0\0\0\x0a\x01\x02\0\0\0\0\0\0\0\0";
 
-/// The first answers of a connection that are refusals: the number is out of turn, and the requests
-/// are used up.
+/// The first answers of a connection that are refusals: the number is out of turn (46), and the
+/// requests are used up (44).
 const OUT_OF_TURN: &[u8] = b"\0\0\0\x0a\x01\x0a\0\0\0\0\0\0\0\x2e";
 
 const USED_UP: &[u8] = b"\0\0\0\x0a\x01\x0a\0\0\0\0\0\0\0\x2c";

@@ -1,0 +1,98 @@
+//! A collector and an outbox at work, once their requests and letters are made.
+use crate::asked::{append, flush};
+use crate::begin;
+use dsn_book::Limits;
+use dsn_crew::{Agent, Desk, Sink, open_crew};
+use dsn_device::Plain;
+use dsn_lane::LaneOut;
+use dsn_outcome::{Answer, Body, Letter, Letters, Request};
+use dsn_report::{Poster, Site};
+use std::alloc::Global;
+use std::sync::Wait;
+
+/// The room for the outbox, in bytes: two notices take no memory beyond it.
+const ROOM: usize = 65_536;
+
+/// A sink that keeps the letters.
+#[derive(Drop)]
+struct Kept {
+    letters: Letters,
+}
+
+impl Sink for Kept {
+    ghost takes = { λ _ _ _. Unit {0} };
+
+    fn hand(&mut self, _rt: &impl Wait, letter: Letter) -> Result<(), Letter> {
+        self.letters.push(letter);
+        Ok(())
+    }
+}
+
+/// Sends the agent's only request, and gives the end by which it is answered.
+fn send_one(rt: &impl Wait, agent: Agent, body: Body) -> Option<LaneOut<Answer>> {
+    let agent_number = agent.number();
+    let (mut requests, answers) = agent.into_ends();
+    let number = requests.count();
+    if number == u32::MAX {
+        return None;
+    }
+    let request = Request {
+        agent: agent_number,
+        number,
+        body,
+    };
+    requests.send(rt, request).ok()?;
+    Some(answers)
+}
+
+/// What five agents ask: an append and a flush of one log, the same of another one, a goodbye.
+fn bodies(alloc: Global) -> Option<[Body; 5]> {
+    let first = append(alloc, b"K1")?;
+    let second = flush(alloc, b"K1")?;
+    let third = append(alloc, b"K2")?;
+    let fourth = flush(alloc, b"K2")?;
+    Some([first, second, third, fourth, Body::Bye])
+}
+
+/// A collector that five agents have asked, of which only the fifth's goodbye is awaited. Beside it,
+/// the ends by which the agents are answered.
+fn asked(rt: &impl Wait, alloc: Global) -> Option<(Vec<LaneOut<Answer>>, Desk)> {
+    let limits = Limits::new(8, 8, 8)?;
+    let mut bodies = bodies(alloc)?.into_iter();
+    let (crew, mut desk) = open_crew(rt, alloc, limits, 5).ok()?;
+    desk.miss(4);
+    let mut heard = Vec::new(alloc);
+    for agent in crew {
+        heard.push(send_one(rt, agent, bodies.next()?)?).ok()?;
+    }
+    Some((heard, desk))
+}
+
+/// Posts the letters, and says how many there were; none where one could not be posted.
+fn post_all(poster: Poster<Plain<Vec<u8>>>, letters: Letters) -> Option<u32> {
+    let (mut poster, mut letters) = (poster, letters);
+    let mut count = 0u32;
+    while let Some(letter) = letters.pop() {
+        poster.post(letter).ok()?;
+        count = count.wrapping_add(1);
+    }
+    drop(poster.finish());
+    Some(count)
+}
+
+/// A collector answers an append and a flush of two logs each, and its two letters are posted: 0
+/// where all of this succeeds.
+pub(crate) fn collect(rt: &(impl Print + Wait), alloc: Global) -> Option<u32> {
+    let (heard, mut desk) = asked(rt, alloc)?;
+    let site = Site::new(alloc, b"mx.example.net").ok()?;
+    let outbox = Vec::with_capacity(alloc, ROOM).ok()?;
+    let poster = Poster::new(site, Plain::new(outbox));
+    let mut kept = Kept {
+        letters: Letters::new(),
+    };
+    begin(rt)?;
+    desk.run(rt, &mut kept).ok()?;
+    let posted = post_all(poster, kept.letters)?;
+    drop(heard);
+    if posted == 2 { Some(0) } else { None }
+}

@@ -1,0 +1,74 @@
+//! Makes one public call that takes memory, on values that are made before it, for scripts that
+//! refuse it memory: `call_probe CALL`. Standard output gets the line `begin` once the values are
+//! made, and after the call `made`, or `refused` and the number of the refusal. `call_probe collect`
+//! is a collector and an outbox at work, which take no memory.
+#![tactic(auto)]
+
+mod asked;
+mod collect;
+mod crews;
+mod frames;
+mod logs;
+mod notices;
+mod texts;
+
+use std::alloc::Global;
+use std::env;
+use std::env::Env;
+use std::process::ExitCode;
+use std::sync::Wait;
+
+fn main(rt: HostRuntime) -> ExitCode {
+    let came = match called(&rt) {
+        Some(call) => come_to(&rt, rt.alloc(), call.as_str()),
+        None => None,
+    };
+    let shown = match came {
+        Some(0) => println!(rt; "made"),
+        Some(refusal) => println!(rt; "refused {refusal}"),
+        None => println!(rt; "nothing"),
+    };
+    ExitCode::from(u8::from(came.is_none() || shown.is_err()))
+}
+
+/// The call that the argument names.
+fn called(rt: &(impl Env + Alloc)) -> Option<String> {
+    let mut words = env::args(rt).ok()?;
+    let _program = words.next();
+    words.next()
+}
+
+/// What a call comes to: 0, or the number of its refusal; none where no such call is known, or a
+/// value before it could not be made.
+fn come_to(rt: &(impl Print + Wait), alloc: Global, call: &str) -> Option<u32> {
+    match call {
+        "address" => texts::address(rt, alloc),
+        "mta-name" => texts::mta_name(rt, alloc),
+        "envelope-id" => texts::envelope_id(rt, alloc),
+        "clean" => texts::clean(rt, alloc),
+        "raw-header" => texts::raw_header(rt, alloc),
+        "outcome" => logs::outcome(rt, alloc),
+        "draft" => logs::draft(rt, alloc),
+        "book" => logs::book(rt, alloc),
+        "open-lines" => logs::open_lines(rt, alloc),
+        "read-frame" => frames::read(rt, alloc, frames::FRAME),
+        "read-empty" => frames::read(rt, alloc, frames::EMPTY),
+        "read-too-long" => frames::read(rt, alloc, frames::TOO_LONG),
+        "decode-append" => frames::decode(rt, alloc, frames::APPEND),
+        "decode-flush" => frames::decode(rt, alloc, frames::FLUSH),
+        "encode-append" => frames::encode(rt, alloc, frames::APPEND),
+        "encode-flush" => frames::encode(rt, alloc, frames::FLUSH),
+        "site" => notices::site(rt, alloc),
+        "notice" => notices::notice_of_letter(rt, alloc),
+        "open-lane" => crews::lane(rt, alloc),
+        "open-post" => crews::post(rt, alloc),
+        "open-crew" => crews::crew(rt, alloc),
+        "collect" => collect::collect(rt, alloc),
+        _ => None,
+    }
+}
+
+/// Says that the values are made, and that the call comes now.
+fn begin(rt: &impl Print) -> Option<()> {
+    println!(rt; "begin").ok()
+}

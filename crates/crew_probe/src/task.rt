@@ -1,0 +1,65 @@
+//! What the arguments ask for.
+use crate::failing::{Call, Failing, Failure};
+use std::env;
+use std::env::{Args, Env};
+
+/// What to do.
+#[derive(Drop)]
+pub(crate) enum Task {
+    /// Runs a crew of so many agents, of which each serves so many appends.
+    Crew(u32, u32),
+    /// Exchanges so many messages.
+    Channel(u32),
+    /// Runs a crew of one agent over given connections, each read giving at most so many bytes.
+    Given(usize, Failing),
+}
+
+/// What the arguments ask for; none where they are wrong, or memory was refused.
+pub(crate) fn asked_for(rt: &(impl Env + Alloc)) -> Option<Task> {
+    let mut words = env::args(rt).ok()?;
+    let _program = words.next();
+    let first = words.next()?;
+    match first.as_str() {
+        "channel" => Some(Task::Channel(number(&mut words)?)),
+        "given" => given(words),
+        agents => Some(Task::Crew(agents.parse().ok()?, number(&mut words)?)),
+    }
+}
+
+/// The next word as a number.
+fn number(words: &mut Args) -> Option<u32> {
+    words.next()?.as_str().parse().ok()
+}
+
+/// The arguments `MOST CALL NUMBER FAILURE` of given connections.
+fn given(mut words: Args) -> Option<Task> {
+    let most = number(&mut words)?;
+    let call = call_of(words.next()?.as_str())?;
+    let at = number(&mut words)?;
+    let failure = failure_of(words.next()?.as_str())?;
+    Some(Task::Given(
+        most as usize,
+        Failing::new(call, u64::from(at), failure),
+    ))
+}
+
+/// The call that a word names.
+fn call_of(word: &str) -> Option<Call> {
+    match word {
+        "read" => Some(Call::Read),
+        "write" => Some(Call::Write),
+        "post" => Some(Call::Post),
+        "flush" => Some(Call::Flush),
+        _ => None,
+    }
+}
+
+/// The failure that a word names.
+fn failure_of(word: &str) -> Option<Failure> {
+    match word {
+        "error" => Some(Failure::Error),
+        "interruption" => Some(Failure::Interruption),
+        "nothing" => Some(Failure::Nothing),
+        _ => None,
+    }
+}

@@ -1,0 +1,112 @@
+#!/usr/bin/env python3
+"""Refuses the first, the second, .. growth of memory by a small library that is preloaded (tests/support/refuse.c,
+compiled here with gcc): of a run of `batch` until it is whole, each of whose ends is one that want of memory may have;
+and of each public call that takes memory (the program call_probe makes the values before it, then the call), which
+answers 9 (42 of a crew) until it succeeds. A call that takes no memory succeeds where each growth is refused."""
+import os
+import subprocess
+import sys
+import tempfile
+from pathlib import Path
+
+sys.path.insert(0, str(Path(__file__).parent / "support"))
+from running import EXAMPLES, ROOT, Checks, Ran, batch, empty_outbox  # noqa: E402
+
+SOURCE = Path(__file__).parent / "support" / "refuse.c"
+PROBE = os.environ.get("CALL_PROBE") or str(ROOT / "crates/call_probe/out/call_probe")
+MOST = 200  # growths of a run; more than this and the sweep is broken
+UNBEGUN = Ran(b"", b"fault 9\n", 1)  # nothing is read or written
+FIRST_FRAME = 52  # bytes of the example's append
+
+
+def ended(notes: bytes, status: int) -> Ran:
+    """A run that made no notice."""
+    return Ran(empty_outbox(), notes, status)
+
+
+def sweep(library: Path, given: bytes) -> list:
+    """How the run ends where its first growth is refused, its second, and so on up to the first run that is whole."""
+    ends, whole = [], batch(given)
+    for number in range(1, MOST):
+        environment = {**os.environ, "LD_PRELOAD": str(library), "REFUSE": str(number)}
+        ends.append(batch(given, env=environment))
+        if ends[-1] == whole:
+            break
+    return ends
+
+
+def check(checks: Checks, about: str, ends: list, wanted: dict):
+    """Compares the ends, which come in the order of the wanted ones, with each of these met."""
+    named = {(end.outbox, end.notes, end.status): name for name, end in wanted.items()}
+    met = [named.get((it.outbox, it.notes, it.status), f"another end: {it}") for it in ends]
+    in_order = [name for at, name in enumerate(met) if at == 0 or met[at - 1] != name]
+    checks.equal(about, in_order, list(wanted))
+    print(f"  {about}: {len(ends) - 1} growths, each refused once")
+
+
+# How often each public call grows its memory, at least; each growth is refused with 9, or 42 of a crew.
+CALLS = {
+    "address": 1, "mta-name": 1, "envelope-id": 1, "clean": 1, "raw-header": 1, "outcome": 2, "draft": 1, "book": 2, "open-lines": 1,
+    "read-frame": 1, "decode-append": 2, "decode-flush": 2, "encode-append": 1, "encode-flush": 1, "site": 1, "notice": 1,
+    "open-lane": 2, "open-post": 2, "open-crew": 3,
+}  # fmt: skip
+# What takes no memory, and what it comes to: lengths that no frame has, and a collector and an outbox at work.
+WITHOUT_MEMORY = {"read-empty": b"refused 12", "read-too-long": b"refused 11", "collect": b"made"}
+
+
+def called(library: Path, call: str, growth) -> bytes:
+    """What a public call comes to whose growth of this number is refused; "all" of them, or None."""
+    refused = {} if growth is None else {"LD_PRELOAD": str(library), "REFUSE": str(growth), "REFUSE_AFTER": "begin\n"}
+    ended = subprocess.run([PROBE, call], capture_output=True, env={**os.environ, **refused}, check=False)
+    begun, _, came = ended.stdout.partition(b"begin\n")
+    return came.strip() if (begun, ended.stderr, ended.returncode) == (b"", b"", 0) else b"another end: " + str(ended).encode()
+
+
+def check_calls(checks: Checks, library: Path):
+    """Each public call that takes memory is refused its first growth, its second, and so on, until it succeeds."""
+    total = 0
+    for call, least in CALLS.items():
+        checks.equal(f"{call} with ample memory", called(library, call, None), b"made")
+        refusal = b"refused 42" if call == "open-crew" else b"refused 9"
+        ends = [called(library, call, 1)]
+        while ends[-1] == refusal and len(ends) < MOST:
+            ends.append(called(library, call, len(ends) + 1))
+        checks.equal(f"{call} after {len(ends) - 1} growths", ends[-1], b"made")
+        checks.true(f"{call} has {least} growths at least: {len(ends) - 1}", len(ends) > least)
+        checks.equal(f"{call} without memory", called(library, call, "all"), refusal)
+        total += len(ends) - 1
+    for call, end in WITHOUT_MEMORY.items():
+        checks.equal(f"{call} without memory", called(library, call, "all"), end)
+    print(f"  {len(CALLS)} public calls: {total} growths, each refused once; {len(WITHOUT_MEMORY)} that take no memory")
+
+
+def main():
+    checks = Checks("growths_refused: each growth of memory refused in turn")
+    if not os.access(PROBE, os.X_OK):
+        print(f"there is no program {PROBE}: run the gate, or name one in CALL_PROBE")
+        sys.exit(1)
+    given = (EXAMPLES / "one-bounce.frames").read_bytes()
+    outbox, notes = ((EXAMPLES / f"one-bounce.{it}").read_bytes() for it in ("outbox", "notes"))
+    with tempfile.TemporaryDirectory() as room:
+        library = Path(room) / "refuse.so"
+        subprocess.run(["gcc", "-O2", "-shared", "-fPIC", "-o", str(library), str(SOURCE), "-ldl"], check=True)
+        check_calls(checks, library)
+        check(checks, "an append and a flush", sweep(library, given), {
+            "before the run": UNBEGUN,
+            "for the book, or for the first frame": ended(b"fault 9\n", 1),
+            "for the append": ended(b"0 refused 9\n1 nothing\n", 0),
+            "for the second frame": ended(b"0 logged 0\nfault 9\nopen B A1B2C3 1\n", 1),
+            "for the flush": ended(b"0 logged 0\n1 refused 9\nopen B A1B2C3 1\n", 0),
+            "none": Ran(outbox, notes, 0),
+        })
+        check(checks, "the append alone", sweep(library, given[:FIRST_FRAME]), {
+            "before the run": UNBEGUN,
+            "for the book, or for the frame": ended(b"fault 9\n", 1),
+            "for the append": ended(b"0 refused 9\n", 0),
+            "for the list of open logs": ended(b"0 logged 0\nfault 9\n", 1),
+            "none": ended(b"0 logged 0\nopen B A1B2C3 1\n", 0),
+        })
+    checks.done()
+
+
+main()

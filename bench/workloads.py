@@ -98,7 +98,19 @@ def short_messages() -> Workload:
     for number in range(MESSAGES):
         stream.append(long_id(number), b"user%05d@example.org" % number)
         stream.flush(long_id(number), return_path=b"sender%05d@example.com" % number)
-    return Workload("short messages", "message", MESSAGES, 16_500, stream.bytes(), len(stream.parts))
+    return Workload("short messages", "message", MESSAGES, 8_900, stream.bytes(), len(stream.parts))
+
+
+def scattered_messages() -> Workload:
+    """The same messages with their keys in any order, all appends before the first flush."""
+    source, stream = random.Random(SEED), Stream()
+    order = list(range(MESSAGES))
+    source.shuffle(order)
+    for number in order:
+        stream.append(long_id(number), b"user%05d@example.org" % number)
+    for number in order:
+        stream.flush(long_id(number), return_path=b"sender%05d@example.com" % number)
+    return Workload("scattered messages", "message", MESSAGES, 10_000, stream.bytes(), len(stream.parts))
 
 
 def long_messages() -> Workload:
@@ -108,7 +120,7 @@ def long_messages() -> Workload:
         for at in range(10):
             stream.append(long_id(number), b"user%02d-%05d@example.org" % (at, number), **texts_of(source))
         stream.flush(long_id(number), return_path=b"sender%05d@example.com" % number, envelope=b"envelope-%024d" % number, header=header_of(source, 2048))
-    return Workload("long messages", "message", MESSAGES, 155_000, stream.bytes(), len(stream.parts))
+    return Workload("long messages", "message", MESSAGES, 64_000, stream.bytes(), len(stream.parts))
 
 
 def full_logs() -> Workload:
@@ -118,7 +130,7 @@ def full_logs() -> Workload:
         for at in range(ENTRIES):
             stream.append(long_id(number), b"user%04d@example.org" % at, **texts_of(source))
         stream.flush(long_id(number))
-    return Workload("full logs", "outcome", 4 * ENTRIES, 9_500, stream.bytes(), len(stream.parts))
+    return Workload("full logs", "outcome", 4 * ENTRIES, 4_600, stream.bytes(), len(stream.parts))
 
 
 def full_table() -> Workload:
@@ -147,7 +159,25 @@ def full_table() -> Workload:
             stream.append(long_id(source.choice(full)), b"somebody.else@mail.example.org")
         else:
             stream.broken()
-    return Workload("full table", "frame", FRAMES, 5_000, stream.bytes(), len(stream.parts))
+    return Workload("full table", "frame", FRAMES, 2_150, stream.bytes(), len(stream.parts))
+
+
+def touched_table() -> Workload:
+    """Every key flushed empty, and then asked for again in any order, a million frames in all."""
+    source, stream = random.Random(SEED), Stream()
+    for number in range(LOGS):
+        stream.flush(long_id(number))
+    while len(stream.parts) < FRAMES:
+        stream.discard(long_id(source.randrange(LOGS)))
+    return Workload("touched table", "frame", FRAMES, 1_200, stream.bytes(), len(stream.parts))
+
+
+def new_keys(name: str, limit: int, order) -> Workload:
+    """Every key discarded once, in this order."""
+    stream = Stream()
+    for number in order:
+        stream.discard(long_id(number))
+    return Workload(name, "key", LOGS, limit, stream.bytes(), len(stream.parts))
 
 
 def headers(name: str, limit: int, header_for) -> Workload:
@@ -167,8 +197,12 @@ def ruled_out(queue_id: bytes) -> bytes:
 def all_workloads():
     """Each workload, made when its turn comes."""
     yield short_messages()
+    yield scattered_messages()
     yield long_messages()
     yield full_logs()
     yield full_table()
-    yield headers("headers of delimiters", 2_700_000, ruled_out)
-    yield headers("headers of dots", 8_000_000, lambda _: b".\n" * (HEADER // 2))
+    yield touched_table()
+    yield new_keys("ascending keys", 1_200, range(LOGS))
+    yield new_keys("descending keys", 1_800, reversed(range(LOGS)))
+    yield headers("headers of delimiters", 1_050_000, ruled_out)
+    yield headers("headers of dots", 3_000_000, lambda _: b".\n" * (HEADER // 2))

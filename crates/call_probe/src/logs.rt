@@ -1,8 +1,8 @@
 //! Outcomes, drafts, and a book of logs.
-use crate::asked::{append, envelope_id, header, parts, return_path};
+use crate::asked::{append, envelope_id, header, key, parts, return_path};
 use crate::begin;
 use dsn_book::{Book, Limits, Step};
-use dsn_outcome::{Draft, Outcome, OutcomeFault, Request, Service, Stamp};
+use dsn_outcome::{Body, Draft, Outcome, OutcomeFault, Request, Service, Stamp};
 use std::alloc::Global;
 
 /// An outcome with all its texts.
@@ -40,21 +40,57 @@ pub(crate) fn book(rt: &impl Print, alloc: Global) -> Option<u32> {
     Some(if Book::new(alloc, limits).is_ok() { 0 } else { 9 })
 }
 
+/// Applies a request with this body.
+fn ask(book: &mut Book, body: Body) -> Option<()> {
+    if book.sealed() == u64::MAX {
+        return None;
+    }
+    let request = Request {
+        agent: 0,
+        number: 0,
+        body,
+    };
+    let Step {
+        answer: _,
+        letter: _,
+    } = book.apply(request);
+    Some(())
+}
+
 /// The lines of three open logs.
 pub(crate) fn open_lines(rt: &impl Print, alloc: Global) -> Option<u32> {
     let mut book = Book::new(alloc, Limits::new(8, 8, 8)?).ok()?;
     for message in [b"K1", b"K2", b"K3"] {
-        let body = append(alloc, message)?;
-        let request = Request {
-            agent: 0,
-            number: 0,
-            body,
-        };
-        if book.sealed() == u64::MAX {
-            return None;
-        }
-        let Step { answer: _, letter: _ } = book.apply(request);
+        ask(&mut book, append(alloc, message)?)?;
     }
     begin(rt)?;
     Some(if book.open_lines(alloc).is_ok() { 0 } else { 9 })
+}
+
+/// A digit of a number, from the right, which is worth so much.
+fn digit(number: u32, worth: u32) -> u8 {
+    b'0'.wrapping_add((number / worth.max(1) % 10) as u8)
+}
+
+/// The body of a discard of the key whose queue id is this number in five digits.
+fn discard(number: u32) -> Option<Body> {
+    let id = [
+        digit(number, 10_000),
+        digit(number, 1000),
+        digit(number, 100),
+        digit(number, 10),
+        digit(number, 1),
+    ];
+    Some(Body::Discard(key(&id)?))
+}
+
+/// A book gets the most keys that it may hold, in ascending or in descending order.
+pub(crate) fn keys(rt: &impl Print, alloc: Global, is_descending: bool) -> Option<u32> {
+    let mut book = Book::new(alloc, Limits::new(65_536, 1, 65_536)?).ok()?;
+    begin(rt)?;
+    for number in 0..65_536u32 {
+        let place = if is_descending { 65_535 - number } else { number };
+        ask(&mut book, discard(place)?)?;
+    }
+    Some(0)
 }

@@ -1,7 +1,8 @@
 //! Makes one public call that takes memory, on values that are made before it, for scripts that
 //! refuse it memory: `call_probe CALL`. Standard output gets the line `begin` once the values are
 //! made, and after the call `made`, or `refused` and the number of the refusal. `call_probe collect`
-//! is a collector and an outbox at work, which take no memory.
+//! is a collector and an outbox at work, and `keys-ascending` and `keys-descending` a book that gets
+//! 65,536 keys in that order; neither takes memory after `begin`.
 #![tactic(auto)]
 
 mod asked;
@@ -51,6 +52,8 @@ fn come_to(rt: &(impl Print + Wait), alloc: Global, call: &str) -> Option<u32> {
         "draft" => logs::draft(rt, alloc),
         "book" => logs::book(rt, alloc),
         "open-lines" => logs::open_lines(rt, alloc),
+        "keys-ascending" => logs::keys(rt, alloc, false),
+        "keys-descending" => logs::keys(rt, alloc, true),
         "read-frame" => frames::read(rt, alloc, frames::FRAME),
         "read-empty" => frames::read(rt, alloc, frames::EMPTY),
         "read-too-long" => frames::read(rt, alloc, frames::TOO_LONG),

@@ -28,9 +28,22 @@ impl Sink for Kept {
     }
 }
 
+/// What the agent of this number asks: the first two an append and a flush of a log, the next two the
+/// same of another one; the fifth says goodbye.
+fn body_of(alloc: Global, agent: u32) -> Option<Body> {
+    match agent {
+        0 => append(alloc, b"K1"),
+        1 => flush(alloc, b"K1"),
+        2 => append(alloc, b"K2"),
+        3 => flush(alloc, b"K2"),
+        _ => Some(Body::Bye),
+    }
+}
+
 /// Sends the agent's only request, and gives the end by which it is answered.
-fn send_one(rt: &impl Wait, agent: Agent, body: Body) -> Option<LaneOut<Answer>> {
+fn send_one(rt: &impl Wait, alloc: Global, agent: Agent) -> Option<LaneOut<Answer>> {
     let agent_number = agent.number();
+    let body = body_of(alloc, agent_number)?;
     let (mut requests, answers) = agent.into_ends();
     let number = requests.count();
     if number == u32::MAX {
@@ -41,43 +54,42 @@ fn send_one(rt: &impl Wait, agent: Agent, body: Body) -> Option<LaneOut<Answer>>
         number,
         body,
     };
-    requests.send(rt, request).ok()?;
-    Some(answers)
+    match requests.send(rt, request) {
+        Ok(()) => Some(answers),
+        Err(_) => None,
+    }
 }
 
-/// What five agents ask: an append and a flush of one log, the same of another one, a goodbye.
-fn bodies(alloc: Global) -> Option<[Body; 5]> {
-    let first = append(alloc, b"K1")?;
-    let second = flush(alloc, b"K1")?;
-    let third = append(alloc, b"K2")?;
-    let fourth = flush(alloc, b"K2")?;
-    Some([first, second, third, fourth, Body::Bye])
+/// Sends each agent's only request, and gives the ends by which they are answered.
+fn send_all(rt: &impl Wait, alloc: Global, crew: Vec<Agent>) -> Option<Vec<LaneOut<Answer>>> {
+    let mut heard = Vec::new(alloc);
+    for agent in crew {
+        heard.push(send_one(rt, alloc, agent)?).ok()?;
+    }
+    Some(heard)
 }
 
 /// A collector that five agents have asked, of which only the fifth's goodbye is awaited. Beside it,
 /// the ends by which the agents are answered.
 fn asked(rt: &impl Wait, alloc: Global) -> Option<(Vec<LaneOut<Answer>>, Desk)> {
     let limits = Limits::new(8, 8, 8)?;
-    let mut bodies = bodies(alloc)?.into_iter();
     let (crew, mut desk) = open_crew(rt, alloc, limits, 5).ok()?;
     desk.miss(4);
-    let mut heard = Vec::new(alloc);
-    for agent in crew {
-        heard.push(send_one(rt, agent, bodies.next()?)?).ok()?;
-    }
-    Some((heard, desk))
+    send_all(rt, alloc, crew).map(|heard| (heard, desk))
 }
 
 /// Posts the letters, and says how many there were; none where one could not be posted.
 fn post_all(poster: Poster<Plain<Vec<u8>>>, letters: Letters) -> Option<u32> {
     let (mut poster, mut letters) = (poster, letters);
     let mut count = 0u32;
-    while let Some(letter) = letters.pop() {
+    for _ in 0..100u32 {
+        let Some(letter) = letters.pop() else {
+            return Some(count);
+        };
         poster.post(letter).ok()?;
         count = count.wrapping_add(1);
     }
-    drop(poster.finish());
-    Some(count)
+    None
 }
 
 /// A collector answers an append and a flush of two logs each, and its two letters are posted: 0

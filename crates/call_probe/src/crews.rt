@@ -11,7 +11,11 @@ use std::sync::Wait;
 /// A lane of three agents.
 pub(crate) fn lane(rt: &(impl Print + Wait), alloc: Global) -> Option<u32> {
     begin(rt)?;
-    Some(if open_lane::<Request>(rt, alloc, 0, 3, 8).is_ok() { 0 } else { 9 })
+    Some(if open_lane::<Request>(rt, alloc, 0, 3, 8).is_ok() {
+        0
+    } else {
+        9
+    })
 }
 
 /// The lane on which letters go to the outbox.

@@ -15,7 +15,9 @@ pub(crate) const FLUSH: &[u8] =
 
 /// A frame of three bytes, and lengths that no frame has: 0 and 65,537.
 pub(crate) const FRAME: &[u8] = b"\0\0\0\x03abc";
+
 pub(crate) const EMPTY: &[u8] = b"\0\0\0\0";
+
 pub(crate) const TOO_LONG: &[u8] = b"\0\x01\0\x01";
 
 /// Reads a frame.
@@ -41,5 +43,9 @@ pub(crate) fn decode(rt: &impl Print, alloc: Global, body: &[u8]) -> Option<u32>
 pub(crate) fn encode(rt: &impl Print, alloc: Global, body: &[u8]) -> Option<u32> {
     let (number, body) = decode_request(alloc, body).ok()?;
     begin(rt)?;
-    Some(if encode_request(alloc, number, &body).is_ok() { 0 } else { 9 })
+    Some(if encode_request(alloc, number, &body).is_ok() {
+        0
+    } else {
+        9
+    })
 }

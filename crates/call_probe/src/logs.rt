@@ -1,8 +1,8 @@
 //! Outcomes, drafts, and a book of logs.
 use crate::asked::{append, envelope_id, header, key, parts, return_path};
 use crate::begin;
-use dsn_book::{Book, Limits, Step};
-use dsn_outcome::{Body, Draft, Outcome, OutcomeFault, Request, Service, Stamp};
+use dsn_book::{Book, Limits};
+use dsn_outcome::{Body, Draft, Letter, Outcome, OutcomeFault, Request, Service, Stamp};
 use std::alloc::Global;
 
 /// An outcome with all its texts.
@@ -37,11 +37,15 @@ pub(crate) fn draft(rt: &impl Print, alloc: Global) -> Option<u32> {
 pub(crate) fn book(rt: &impl Print, alloc: Global) -> Option<u32> {
     let limits = Limits::new(8, 8, 8)?;
     begin(rt)?;
-    Some(if Book::new(alloc, limits).is_ok() { 0 } else { 9 })
+    Some(if Book::new(alloc, limits).is_ok() {
+        0
+    } else {
+        9
+    })
 }
 
-/// Applies a request with this body.
-fn ask(book: &mut Book, body: Body) -> Option<()> {
+/// Applies a request with this body, and gives the letter that it seals, if it does.
+pub(crate) fn ask(book: &mut Book, body: Body) -> Option<Letter> {
     if book.sealed() == u64::MAX {
         return None;
     }
@@ -50,18 +54,15 @@ fn ask(book: &mut Book, body: Body) -> Option<()> {
         number: 0,
         body,
     };
-    let Step {
-        answer: _,
-        letter: _,
-    } = book.apply(request);
-    Some(())
+    book.apply(request).letter
 }
 
 /// The lines of three open logs.
 pub(crate) fn open_lines(rt: &impl Print, alloc: Global) -> Option<u32> {
     let mut book = Book::new(alloc, Limits::new(8, 8, 8)?).ok()?;
     for message in [b"K1", b"K2", b"K3"] {
-        ask(&mut book, append(alloc, message)?)?;
+        let body = append(alloc, message)?;
+        ask(&mut book, body);
     }
     begin(rt)?;
     Some(if book.open_lines(alloc).is_ok() { 0 } else { 9 })
@@ -89,8 +90,13 @@ pub(crate) fn keys(rt: &impl Print, alloc: Global, is_descending: bool) -> Optio
     let mut book = Book::new(alloc, Limits::new(65_536, 1, 65_536)?).ok()?;
     begin(rt)?;
     for number in 0..65_536u32 {
-        let place = if is_descending { 65_535 - number } else { number };
-        ask(&mut book, discard(place)?)?;
+        let place = if is_descending {
+            65_535 - number
+        } else {
+            number
+        };
+        let body = discard(place)?;
+        ask(&mut book, body);
     }
     Some(0)
 }

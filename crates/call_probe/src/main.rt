@@ -20,10 +20,7 @@ use std::process::ExitCode;
 use std::sync::Wait;
 
 fn main(rt: HostRuntime) -> ExitCode {
-    let came = match called(&rt) {
-        Some(call) => come_to(&rt, rt.alloc(), call.as_str()),
-        None => None,
-    };
+    let came = called(&rt, rt.alloc());
     let shown = match came {
         Some(0) => println!(rt; "made"),
         Some(refusal) => println!(rt; "refused {refusal}"),
@@ -32,11 +29,12 @@ fn main(rt: HostRuntime) -> ExitCode {
     ExitCode::from(u8::from(came.is_none() || shown.is_err()))
 }
 
-/// The call that the argument names.
-fn called(rt: &(impl Env + Alloc)) -> Option<String> {
+/// What the call comes to that the argument names.
+fn called(rt: &(impl Env + Alloc + Print + Wait), alloc: Global) -> Option<u32> {
     let mut words = env::args(rt).ok()?;
     let _program = words.next();
-    words.next()
+    let call = words.next()?;
+    come_to(rt, alloc, call.as_str())
 }
 
 /// What a call comes to: 0, or the number of its refusal; none where no such call is known, or a

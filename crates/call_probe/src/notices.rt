@@ -1,7 +1,9 @@
 //! Sites and notices.
-use crate::asked::{draft, key, parts};
+use crate::asked::{append, flush};
 use crate::begin;
-use dsn_outcome::{Chain, Letter, Outcome, Service};
+use crate::logs::ask;
+use dsn_book::{Book, Limits};
+use dsn_outcome::Letter;
 use dsn_report::{Site, SiteFault, notice};
 use std::alloc::Global;
 
@@ -16,13 +18,12 @@ pub(crate) fn site(rt: &impl Print, alloc: Global) -> Option<u32> {
 }
 
 /// A letter of one outcome.
-pub(crate) fn letter(alloc: Global) -> Option<Letter> {
-    let key = key(b"A1B2C3")?;
-    let draft = draft(alloc)?;
-    let node = Outcome::new(alloc, Service::Bounce, parts()).ok()?;
-    let mut chain = Chain::new();
-    chain.push(node);
-    Some(Letter::seal(key, draft, chain, 0))
+fn letter(alloc: Global) -> Option<Letter> {
+    let mut book = Book::new(alloc, Limits::new(8, 8, 8)?).ok()?;
+    let logged = append(alloc, b"A1B2C3")?;
+    ask(&mut book, logged);
+    let flushed = flush(alloc, b"A1B2C3")?;
+    ask(&mut book, flushed)
 }
 
 /// The text of a letter's notice.
@@ -30,5 +31,9 @@ pub(crate) fn notice_of_letter(rt: &impl Print, alloc: Global) -> Option<u32> {
     let site = Site::new(alloc, b"mx.example.net").ok()?;
     let letter = letter(alloc)?;
     begin(rt)?;
-    Some(if notice(alloc, &site, &letter).is_ok() { 0 } else { 9 })
+    Some(if notice(alloc, &site, &letter).is_ok() {
+        0
+    } else {
+        9
+    })
 }

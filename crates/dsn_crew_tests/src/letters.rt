@@ -60,9 +60,22 @@ impl RunEnd {
     }
 }
 
+/// What the agent of this number asks: the first two an append and a flush of the log `1`, the next
+/// two the same of the log `2`; the fifth says goodbye.
+fn body_of(alloc: Global, agent: u32) -> Option<Body> {
+    match agent {
+        0 => append(alloc, b"1"),
+        1 => flush(alloc, b"1"),
+        2 => append(alloc, b"2"),
+        3 => flush(alloc, b"2"),
+        _ => Some(Body::Bye),
+    }
+}
+
 /// Sends the agent's only request, and gives the end by which it is answered.
-fn send_one(rt: &impl Wait, agent: Agent, body: Body) -> Option<LaneOut<Answer>> {
+fn send_one(rt: &impl Wait, alloc: Global, agent: Agent) -> Option<LaneOut<Answer>> {
     let agent_number = agent.number();
+    let body = body_of(alloc, agent_number)?;
     let (mut requests, answers) = agent.into_ends();
     let number = requests.count();
     if number == u32::MAX {
@@ -73,32 +86,28 @@ fn send_one(rt: &impl Wait, agent: Agent, body: Body) -> Option<LaneOut<Answer>>
         number,
         body,
     };
-    requests.send(rt, request).ok()?;
-    Some(answers)
+    match requests.send(rt, request) {
+        Ok(()) => Some(answers),
+        Err(_) => None,
+    }
 }
 
-/// What five agents ask: the first two an append and a flush of the log `1`, the next two the same of
-/// the log `2`; the fifth says goodbye.
-fn bodies(alloc: Global) -> Option<[Body; 5]> {
-    let first = append(alloc, b"1")?;
-    let second = flush(alloc, b"1")?;
-    let third = append(alloc, b"2")?;
-    let fourth = flush(alloc, b"2")?;
-    Some([first, second, third, fourth, Body::Bye])
+/// Sends each agent's only request, and gives the ends by which they are answered.
+fn send_all(rt: &impl Wait, alloc: Global, crew: Vec<Agent>) -> Option<Vec<LaneOut<Answer>>> {
+    let mut heard = Vec::new(alloc);
+    for agent in crew {
+        heard.push(send_one(rt, alloc, agent)?).ok()?;
+    }
+    Some(heard)
 }
 
 /// A collector that five agents have asked, of which only the fifth's goodbye is awaited. Beside it,
 /// the ends by which the agents are answered.
 fn asked(rt: &impl Wait, alloc: Global) -> Option<(Vec<LaneOut<Answer>>, Desk)> {
     let limits = Limits::new(8, 8, 8)?;
-    let mut bodies = bodies(alloc)?.into_iter();
     let (crew, mut desk) = open_crew(rt, alloc, limits, 5).ok()?;
     desk.miss(4);
-    let mut heard = Vec::new(alloc);
-    for agent in crew {
-        heard.push(send_one(rt, agent, bodies.next()?)?).ok()?;
-    }
-    Some((heard, desk))
+    send_all(rt, alloc, crew).map(|heard| (heard, desk))
 }
 
 /// How two runs of such a collector end, one after the other, where this agent is gone and the sink

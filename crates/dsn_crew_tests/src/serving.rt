@@ -129,7 +129,7 @@ fn answer_each(rt: &impl Wait, desk: &mut Desk) {
 /// An agent that may make so many requests, and its collector.
 fn one_agent(rt: &impl Wait, alloc: Global, requests: u32) -> Option<(Agent, Desk)> {
     let (mut agents, desk) = opened(rt, alloc, requests, 1)?.ok()?;
-    Some((agents.pop()?, desk))
+    agents.pop().map(|agent| (agent, desk))
 }
 
 /// What becomes of these connections. The agent serves them in a thread of its own.

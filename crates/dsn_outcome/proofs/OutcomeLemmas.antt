@@ -3,10 +3,11 @@ use Rattle.std.proofs.Common.{◌≡◌, ℕ, ◌≤◌, Bool, true, false, List
 use Rattle.std.specs.Prelude.{Option, Some, None, IsTrue, if◌then◌else◌}
 use Rattle.std.specs.Option.{option_map_or}
 use Rattle.std.proofs.lemmas.Bool.{leb-true}
+use Rattle.std.proofs.lemmas.Grind.{common_steps}
 use Rattle.dsn_outcome.specs.Action.{action_of_byte}
 use Rattle.dsn_outcome.specs.Outcome.{Fields, Outcome, first_failed, first_outcome_fault, outcome_checks, unless_empty, is_none_or, takes, fits_class, fits_retry, AreDated, IsLegalOutcome, IsOutcomeOf}
 use Rattle.dsn_outcome.specs.Status.{is_status_code, status_class}
-use Rattle.dsn_outcome.specs.Text.{is_address, is_mta_name, is_remark, clean_text}
+use Rattle.dsn_outcome.specs.Text.{is_address, is_mta_name, is_remark, is_text, clean_text}
 use Rattle.dsn_outcome.proofs.TextLemmas.{is_remark-clean_text}
 use Rattle.dsn_outcome.specs.declared.service.Service.{Service}
 
@@ -60,6 +61,34 @@ passes-none service fields none =
       diagnostic = leb-true _ _ diagnostic.0;
       reason = leb-true _ _ reason.0;
       retry = retry.0;
+    }
+
+-- a text of a kind is no longer than its kind allows
+length-is_text : (allowed : ℕ → Bool) (least most : ℕ) (text : List ℕ) → IsTrue (is_text allowed least most text) → length text ≤ most
+length-is_text allowed least most text is = grind (arith, common_steps)
+
+-- nor is one that may be missing
+length-unless_empty : (allowed : ℕ → Bool) (least most : ℕ) (text : List ℕ) → IsTrue (is_none_or (is_text allowed least most) (unless_empty text)) → length text ≤ most
+length-unless_empty allowed least most [] is = omega arith
+length-unless_empty allowed least most (byte ∷ rest) is = length-is_text allowed least most (byte ∷ rest) is
+
+-- how long the texts of fields without a fault are
+pub record AreShort (fields : Fields) : Type 0 where
+  pub recipient : length fields.recipient ≤ 256
+  pub original : length fields.original ≤ 256
+  pub mta : length fields.mta ≤ 255
+  pub diagnostic : length fields.diagnostic ≤ 800
+  pub reason : length fields.reason ≤ 800
+
+pub short-none : (service : Service) (fields : Fields) → first_outcome_fault service fields ≡ None → AreShort fields
+short-none service fields none =
+    let passes = passes-none service fields none in
+    record {
+      recipient = length-is_text _ _ _ fields.recipient passes.recipient;
+      original = length-unless_empty _ _ _ fields.original passes.original;
+      mta = length-unless_empty _ _ _ fields.mta passes.mta;
+      diagnostic = passes.diagnostic;
+      reason = passes.reason;
     }
 
 -- a cleaned text that is short enough, if there is one

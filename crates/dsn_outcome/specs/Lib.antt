@@ -19,3 +19,4 @@ pub mod Service
 pub mod Stamp
 pub mod Status
 pub mod Text
+pub mod Texts

@@ -2,7 +2,7 @@
 ghost use Rattle.std.specs.Prelude.{◌≡◌, ◌↔◌, ◌<◌, ◌≤◌, length, IsTrue, IfOk, IsOk, IsErr, IsErrOf};
 ghost use Rattle.dsn_outcome.specs.Text.{IsClean, clean_byte, clean_text};
 
-use crate::text::{Alphabet, TextFault};
+use crate::text::{Alphabet, TextFault, copied};
 use std::alloc::Global;
 use std::marker::Model;
 
@@ -69,13 +69,21 @@ fn printable(byte: u8) -> u8
     }
 }
 
+/// Writes `?` over each byte that isn't printable.
+pub(crate) fn replace_unprintable(text: &mut [u8])
+    ensures { text.new ≡ clean_text text.old }
+{
+    for byte in text.iter_mut() {
+        *byte = printable(*byte);
+    }
+}
+
 /// The cleaned text in memory of its own.
 fn cleaned(alloc: Global, text: &[u8]) -> Result<Vec<u8>, TextFault>
     ensures kept { IfOk result (λ copy. copy.items ≡ clean_text text.now) }
     ensures fault { IsErr result → IsErrOf result TextFault.NoMemory }
 {
-    text.iter()
-        .map(|&byte| printable(byte))
-        .collect::<Vec<u8>>(alloc)
-        .map_err(|_| TextFault::NoMemory)
+    let mut bytes = copied(alloc, text)?;
+    replace_unprintable(&mut bytes);
+    Ok(bytes)
 }

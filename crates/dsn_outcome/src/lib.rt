@@ -33,6 +33,7 @@ mod short_text;
 mod stamp;
 mod status;
 mod text;
+mod texts;
 
 pub use action::Action;
 pub use address::{Address, LONGEST_ADDRESS};

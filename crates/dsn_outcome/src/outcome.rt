@@ -1,5 +1,5 @@
 //! What became of one recipient (RFC 3464 section 2.3).
-ghost use Rattle.std.specs.Prelude.{◌≡◌, IfOk, IfErr, unwrap_or};
+ghost use Rattle.std.specs.Prelude.{◌≡◌, IsTrue, IfOk, IfErr, unwrap_or};
 ghost use Rattle.dsn_outcome.specs.Action.{action_of_byte};
 
 use crate::action::Action;
@@ -7,15 +7,13 @@ use crate::address::Address;
 use crate::clean::Clean;
 use crate::mta_name::MtaName;
 use crate::node::Node;
-use crate::optional::{
-    is_optional_address, is_optional_mta_name, optional_address, optional_clean, optional_mta_name,
-    optional_stamp,
-};
+use crate::optional::{is_optional_address, is_optional_mta_name, optional_stamp, unless_empty};
 use crate::outcome_fault::OutcomeFault;
 use crate::parts::Parts;
 use crate::service::Service;
 use crate::stamp::Stamp;
 use crate::status::Status;
+use crate::texts::Texts;
 use std::alloc::Global;
 use std::marker::Model;
 
@@ -23,32 +21,30 @@ use std::marker::Model;
 /// texts are within their bounds, and only a delayed recipient's delivery is tried again.
 #[derive(Drop)]
 pub struct Outcome {
-    service: Service,
-    recipient: Address,
-    original: Option<Address>,
-    action: Action,
-    status: Status,
-    mta: Option<MtaName>,
-    diagnostic: Option<Clean>,
-    reason: Option<Clean>,
+    texts: Texts,
     last_attempt: Option<Stamp>,
     retry_until: Option<Stamp>,
+    service: Service,
+    action: Action,
+    status: Status,
 }
 
 impl Model for Outcome {
     ghost use Rattle.dsn_outcome.specs.Outcome.{Outcome, IsLegalOutcome};
+    ghost use Rattle.dsn_outcome.specs.Texts.{outcome_of};
 
     ghost Value = { Outcome };
 
-    ghost view = { λ o. record { service = o.service; recipient = o.recipient; original = o.original; action = o.action; status = o.status; mta = o.mta; diagnostic = o.diagnostic; reason = o.reason; last_attempt = o.last_attempt; retry_until = o.retry_until } };
+    ghost view = { λ o. outcome_of o.texts o.service o.action o.status o.last_attempt o.retry_until };
 
-    ghost invariant = { λ o. IsLegalOutcome (record { service = o.service; recipient = o.recipient; original = o.original; action = o.action; status = o.status; mta = o.mta; diagnostic = o.diagnostic; reason = o.reason; last_attempt = o.last_attempt; retry_until = o.retry_until }) };
+    ghost invariant = { λ o. IsLegalOutcome (outcome_of o.texts o.service o.action o.status o.last_attempt o.retry_until) };
 }
 
 impl Outcome {
     ghost use Rattle.std.specs.Option.{option_copied};
-    ghost use Rattle.dsn_outcome.specs.Outcome.{IsLegalOutcome, IsOutcomeOf, first_outcome_fault};
+    ghost use Rattle.dsn_outcome.specs.Outcome.{IsLegalOutcome, IsOutcomeOf, first_outcome_fault, is_none_or};
     ghost use Rattle.dsn_outcome.specs.Parts.{fields_of};
+    ghost use Rattle.dsn_outcome.specs.Text.{IsAddress, is_address, is_mta_name, is_remark};
 
     /// The outcome of a service's log that these fields describe, ready to be linked into its
     /// log. The fields are tested, in the order of `OutcomeFault`'s variants, before memory is
@@ -86,16 +82,12 @@ impl Outcome {
             },
         )?;
         let outcome = Outcome {
-            service,
-            recipient: Address::new(alloc, recipient).map_err(|_| OutcomeFault::NoMemory)?,
-            original: optional_address(alloc, original)?,
-            action,
-            status,
-            mta: optional_mta_name(alloc, mta)?,
-            diagnostic: optional_clean(alloc, diagnostic)?,
-            reason: optional_clean(alloc, reason)?,
+            texts: Texts::new(alloc, recipient, original, mta, diagnostic, reason)?,
             last_attempt: optional_stamp(last_attempt),
             retry_until: optional_stamp(retry_until),
+            service,
+            action,
+            status,
         };
         linked(alloc, outcome)
     }
@@ -108,18 +100,20 @@ impl Outcome {
         self.service
     }
 
-    /// The final recipient.
-    pub fn recipient(&self) -> &Address
-        ensures { result.now ≡ self.now.recipient }
+    /// The final recipient, an address.
+    pub fn recipient(&self) -> &[u8]
+        ensures same { result.now ≡ self.now.recipient }
+        ensures legal { IsAddress result.now }
     {
-        &self.recipient
+        self.texts.recipient()
     }
 
-    /// The recipient as the sender gave it, if the agent knew it.
-    pub fn original(&self) -> Option<&Address>
-        ensures { option_copied result ≡ self.now.original }
+    /// The recipient as the sender gave it, an address, if the agent knew it.
+    pub fn original(&self) -> Option<&[u8]>
+        ensures same { option_copied result ≡ self.now.original }
+        ensures legal { IsTrue (is_none_or is_address (option_copied result)) }
     {
-        self.original.as_ref()
+        unless_empty(self.texts.original())
     }
 
     /// What was done.
@@ -136,25 +130,28 @@ impl Outcome {
         &self.status
     }
 
-    /// The remote system, if there was one.
-    pub fn mta(&self) -> Option<&MtaName>
-        ensures { option_copied result ≡ self.now.mta }
+    /// The remote system's name, if there was one.
+    pub fn mta(&self) -> Option<&[u8]>
+        ensures same { option_copied result ≡ self.now.mta }
+        ensures legal { IsTrue (is_none_or is_mta_name (option_copied result)) }
     {
-        self.mta.as_ref()
+        unless_empty(self.texts.mta())
     }
 
-    /// What the remote system said, if it said something.
-    pub fn diagnostic(&self) -> Option<&Clean>
-        ensures { option_copied result ≡ self.now.diagnostic }
+    /// What the remote system said, cleaned, if it said something.
+    pub fn diagnostic(&self) -> Option<&[u8]>
+        ensures same { option_copied result ≡ self.now.diagnostic }
+        ensures legal { IsTrue (is_none_or is_remark (option_copied result)) }
     {
-        self.diagnostic.as_ref()
+        unless_empty(self.texts.diagnostic())
     }
 
-    /// The agent's own words, if it had some.
-    pub fn reason(&self) -> Option<&Clean>
-        ensures { option_copied result ≡ self.now.reason }
+    /// The agent's own words, cleaned, if it had some.
+    pub fn reason(&self) -> Option<&[u8]>
+        ensures same { option_copied result ≡ self.now.reason }
+        ensures legal { IsTrue (is_none_or is_remark (option_copied result)) }
     {
-        self.reason.as_ref()
+        unless_empty(self.texts.reason())
     }
 
     /// When delivery was last tried (RFC 3464 section 2.3.7), if that is known.

@@ -1,46 +1,38 @@
-use Rattle.std.proofs.Common.{refl, rules}
+use Rattle.std.proofs.Common.{refl, ap}
+use Rattle.dsn_outcome.specs.Outcome.{unless_empty}
 use Rattle.dsn_outcome.specs.Parts.{fields_of}
-use Rattle.dsn_outcome.proofs.OutcomeLemmas.{passes-none, legal-IsOutcomeOf}
+use Rattle.dsn_outcome.proofs.OutcomeLemmas.{passes-none, legal-IsOutcomeOf, short-none}
 use Rattle.dsn_outcome.proofs.outcome.Outcome.new.Goals as goal
 
-pub optional_address-requires : goal.optional_address-requires
-optional_address-requires c = (passes-none c.args.service (fields_of c.args.parts) c.in_ok-action.ensures.none).original
+pub new-requires-clause-recipient : goal.new-requires-clause-recipient
+new-requires-clause-recipient c = (short-none c.args.service (fields_of c.args.parts) c.in_ok-action.ensures.none).recipient
 
-pub optional_mta_name-requires : goal.optional_mta_name-requires
-optional_mta_name-requires c = (passes-none c.args.service (fields_of c.args.parts) c.in_ok-action.ensures.none).mta
+pub new-requires-clause-original : goal.new-requires-clause-original
+new-requires-clause-original c = (short-none c.args.service (fields_of c.args.parts) c.in_ok-action.ensures.none).original
 
-pub optional_clean-requires : goal.optional_clean-requires
-optional_clean-requires c = (passes-none c.args.service (fields_of c.args.parts) c.in_ok-action.ensures.none).diagnostic
+pub new-requires-clause-mta : goal.new-requires-clause-mta
+new-requires-clause-mta c = (short-none c.args.service (fields_of c.args.parts) c.in_ok-action.ensures.none).mta
 
-pub optional_clean-requires-2 : goal.optional_clean-requires-2
-optional_clean-requires-2 c = (passes-none c.args.service (fields_of c.args.parts) c.in_ok-action.ensures.none).reason
+pub new-requires-clause-diagnostic : goal.new-requires-clause-diagnostic
+new-requires-clause-diagnostic c = (short-none c.args.service (fields_of c.args.parts) c.in_ok-action.ensures.none).diagnostic
+
+pub new-requires-clause-reason : goal.new-requires-clause-reason
+new-requires-clause-reason c = (short-none c.args.service (fields_of c.args.parts) c.in_ok-action.ensures.none).reason
 
 pub invariant_of-outcome : goal.invariant_of-outcome
 invariant_of-outcome c =
     legal-IsOutcomeOf c.args.service (fields_of c.args.parts) _ (passes-none c.args.service (fields_of c.args.parts) c.in_ok-action.ensures.none) (record { last_attempt = c.optional_stamp.ensures.dated; retry_until = c.optional_stamp-2.ensures.dated }) (record {
       service_is = refl;
-      recipient_is = search rules;
-      original_is = c.in_ok-optional_address.ensures.kept;
+      recipient_is = c.in_ok-new.ensures.recipient;
+      original_is = ap unless_empty c.in_ok-new.ensures.original;
       action_is = c.in_ok-action.ensures.action;
       status_is = c.in_ok-action.ensures.status;
-      mta_is = c.in_ok-optional_mta_name.ensures.kept;
-      diagnostic_is = c.in_ok-optional_clean.ensures.kept;
-      reason_is = c.in_ok-optional_clean-2.ensures.kept;
+      mta_is = ap unless_empty c.in_ok-new.ensures.mta;
+      diagnostic_is = ap unless_empty c.in_ok-new.ensures.diagnostic;
+      reason_is = ap unless_empty c.in_ok-new.ensures.reason;
       last_attempt_is = c.optional_stamp.ensures.same;
       retry_until_is = c.optional_stamp-2.ensures.same;
     })
 
 pub linked-requires : goal.linked-requires
-linked-requires c =
-    legal-IsOutcomeOf c.args.service (fields_of c.args.parts) _ (passes-none c.args.service (fields_of c.args.parts) c.in_ok-action.ensures.none) (record { last_attempt = c.optional_stamp.ensures.dated; retry_until = c.optional_stamp-2.ensures.dated }) (record {
-      service_is = refl;
-      recipient_is = search rules;
-      original_is = c.in_ok-optional_address.ensures.kept;
-      action_is = c.in_ok-action.ensures.action;
-      status_is = c.in_ok-action.ensures.status;
-      mta_is = c.in_ok-optional_mta_name.ensures.kept;
-      diagnostic_is = c.in_ok-optional_clean.ensures.kept;
-      reason_is = c.in_ok-optional_clean-2.ensures.kept;
-      last_attempt_is = c.optional_stamp.ensures.same;
-      retry_until_is = c.optional_stamp-2.ensures.same;
-    })
+linked-requires c = invariant_of-outcome c

@@ -14,7 +14,7 @@ use crate::parts::{BodyParts, FlushParts, HeadParts, NO_MOMENT, RecipientParts, 
 use crate::writing::{body_len, push_frame};
 use crate::{SECOND_VERSION, VERSION};
 use dsn_outcome::{
-    Address, Body, Clean, Draft, EnvelopeId, MtaName, NoMemory, Outcome, QueueId, Service, Stamp,
+    Address, Body, Draft, EnvelopeId, NoMemory, Outcome, QueueId, Service, Stamp,
 };
 use std::alloc::Global;
 
@@ -118,13 +118,13 @@ fn recipient_parts(outcome: &Outcome) -> RecipientParts<'_>
     ensures { recipient_fields_in result ≡ fields_for outcome.now }
 {
     RecipientParts {
-        recipient: outcome.recipient().bytes(),
-        original: address_text(outcome.original()),
+        recipient: outcome.recipient(),
+        original: text_or_empty(outcome.original()),
         action: outcome.action().byte(),
         status: outcome.status().bytes(),
-        mta: mta_text(outcome.mta()),
-        diagnostic: clean_text(outcome.diagnostic()),
-        reason: clean_text(outcome.reason()),
+        mta: text_or_empty(outcome.mta()),
+        diagnostic: text_or_empty(outcome.diagnostic()),
+        reason: text_or_empty(outcome.reason()),
     }
 }
 
@@ -164,22 +164,12 @@ fn envelope_id_text(id: Option<&EnvelopeId>) -> &[u8]
     }
 }
 
-/// The remote system's name, or the empty text.
-fn mta_text(name: Option<&MtaName>) -> &[u8]
-    ensures { result.now ≡ text_or_empty (option_copied name.entry) }
-{
-    match name {
-        Some(name) => name.bytes(),
-        None => b"",
-    }
-}
-
-/// The diagnostic or reason, or the empty text.
-fn clean_text(text: Option<&Clean>) -> &[u8]
+/// The text, or the empty one where there is none.
+fn text_or_empty(text: Option<&[u8]>) -> &[u8]
     ensures { result.now ≡ text_or_empty (option_copied text.entry) }
 {
     match text {
-        Some(text) => text.bytes(),
+        Some(text) => text,
         None => b"",
     }
 }

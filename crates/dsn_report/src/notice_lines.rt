@@ -16,7 +16,7 @@ use crate::name::{boundary_text, letter_name, serial_text};
 use crate::site::Site;
 use crate::wording::{opening, subject};
 use dsn_device::Drain;
-use dsn_outcome::{Address, Clean, EnvelopeId, Letter, MtaName, Outcome, Stamp};
+use dsn_outcome::{EnvelopeId, Letter, Outcome, Stamp};
 
 /// Writes a notice's header.
 fn write_header<W: Drain>(lines: &mut LineWriter<W>, site: &Site, letter: &Letter, boundary: &[u8])
@@ -97,14 +97,14 @@ fn write_outcome<W: Drain>(lines: &mut LineWriter<W>, outcome: &Outcome)
 {
     lines.line(&[
         b"<",
-        outcome.recipient().bytes(),
+        outcome.recipient(),
         b">: ",
         action_word(outcome),
         b" (",
         outcome.status().bytes(),
         b")",
     ]);
-    write_if_any(lines, b"    ", outcome.reason().map(Clean::bytes));
+    write_if_any(lines, b"    ", outcome.reason());
 }
 
 /// The word of an outcome's action.
@@ -173,20 +173,20 @@ fn write_recipient_fields<W: Drain>(lines: &mut LineWriter<W>, outcome: &Outcome
     write_if_any(
         lines,
         b"Original-Recipient: rfc822; ",
-        outcome.original().map(Address::bytes),
+        outcome.original(),
     );
-    lines.line(&[b"Final-Recipient: rfc822; ", outcome.recipient().bytes()]);
+    lines.line(&[b"Final-Recipient: rfc822; ", outcome.recipient()]);
     lines.line(&[b"Action: ", outcome.action().word()]);
     lines.line(&[b"Status: ", outcome.status().bytes()]);
     write_if_any(
         lines,
         b"Remote-MTA: dns; ",
-        outcome.mta().map(MtaName::bytes),
+        outcome.mta(),
     );
     write_if_any(
         lines,
         b"Diagnostic-Code: smtp; ",
-        outcome.diagnostic().map(Clean::bytes),
+        outcome.diagnostic(),
     );
     write_date_if_any(lines, b"Last-Attempt-Date: ", outcome.last_attempt());
     write_date_if_any(lines, b"Will-Retry-Until: ", outcome.retry_until());

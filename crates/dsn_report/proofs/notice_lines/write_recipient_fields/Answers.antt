@@ -8,12 +8,12 @@ use Rattle.dsn_report.proofs.notice_lines.write_recipient_fields.Goals as goal
 pub returns : goal.returns
 unfolding per_recipient_fields
 returns g c =
-    let original : option_copied c.map.result ≡ c.args.outcome.now.original = search rules in
-    let recipient : c.bytes.result.now ≡ c.args.outcome.now.recipient = search rules in
+    let original : option_copied c.original.result ≡ c.args.outcome.now.original = search rules in
+    let recipient : c.recipient.result.now ≡ c.args.outcome.now.recipient = search rules in
     let action : c.word.result.now ≡ action_word c.args.outcome.now.action = search rules in
-    let status : c.bytes-2.result.now ≡ c.args.outcome.now.status = search rules in
-    let mta : option_copied c.map-2.result ≡ c.args.outcome.now.mta = search rules in
-    let diagnostic : option_copied c.map-3.result ≡ c.args.outcome.now.diagnostic = search rules in
+    let status : c.bytes.result.now ≡ c.args.outcome.now.status = search rules in
+    let mta : option_copied c.mta.result ≡ c.args.outcome.now.mta = search rules in
+    let diagnostic : option_copied c.diagnostic.result ≡ c.args.outcome.now.diagnostic = search rules in
     let last_attempt : c.last_attempt.result ≡ c.args.outcome.now.last_attempt = search rules in
     let retry_until : c.retry_until.result ≡ c.args.outcome.now.retry_until = search rules in
     Wrote-as (simp (append_assoc, append-nil, original, recipient, action, status, mta, diagnostic, last_attempt, retry_until) refl)

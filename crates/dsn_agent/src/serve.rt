@@ -12,7 +12,7 @@ use crate::serve_fault::ServeFault;
 use crate::served::Served;
 use crate::turn::Turn;
 use dsn_device::{Stream, send};
-use dsn_frame::{Spoken, encode_answer, next_request, read_frame};
+use dsn_frame::{FrameBuffer, Spoken, encode_answer, next_request};
 use dsn_outcome::Body;
 use std::alloc::Global;
 use std::sync::Wait;
@@ -20,7 +20,8 @@ use std::sync::Wait;
 impl Agent {
     /// Serves one connection: reads its frames, asks the collector what they ask, and answers each
     /// frame before the next one is read. It makes no flush. Memory is taken only to read a frame
-    /// and its body.
+    /// that is longer than any before it on the connection, in one buffer that is kept until its
+    /// end, and for what a frame asks.
     ///
     /// A body that is refused, and one beyond the agent's requests (44), is answered so, and the
     /// session goes on. It ends with the first of these: `Frame` (9, 11 to 14) where no frame can
@@ -40,8 +41,9 @@ impl Agent {
         ensures kept { IsAgent self.new }
     {
         let limit = self.limit;
+        let mut buffer = FrameBuffer::new(alloc);
         for place in 0..limit {
-            let frame = match read_frame(alloc, stream) {
+            let frame = match buffer.read_next(stream) {
                 Ok(Some(frame)) => frame,
                 Ok(None) => return Ok(Served { frames: place }),
                 Err(fault) => return Err(ServeFault::Frame(fault)),
@@ -56,7 +58,7 @@ impl Agent {
                 return Err(ServeFault::Number);
             }
         }
-        match read_frame(alloc, stream) {
+        match buffer.read_next(stream) {
             Ok(None) => Ok(Served { frames: limit }),
             Ok(Some(_)) => Err(ServeFault::Frames),
             Err(fault) => Err(ServeFault::Frame(fault)),

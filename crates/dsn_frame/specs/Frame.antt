@@ -73,6 +73,12 @@ pub record ConsumesLength (old new : Option (List ℕ)) (size : ℕ) : Type 0 wh
   pub consumed : Consumes old new (to_be_bytes w32 size)
   pub legal : IsFrameLength size
 
+-- the length of the next frame, which is longer than a buffer with this much room
+pub record LacksRoom (room : ℕ) (old new : Option (List ℕ)) : Type 0 where
+  pub size : ℕ
+  pub consumed : ConsumesLength old new size
+  pub lacks : room < 4 + size
+
 -- the length of the next frame, or none at the end
 abbrev pub ReadsLength : Option (List ℕ) → Option (List ℕ) → Option ℕ → Type 0
 ReadsLength old new None = IsAtEnd old × IsAtEnd new

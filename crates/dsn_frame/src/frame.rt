@@ -1,5 +1,5 @@
 //! Frames: a length in four bytes, and a body of that length.
-ghost use Rattle.std.specs.Prelude.{◌≡◌, ℕ, ◌+◌, length, drop, IfOk, IfErr, OnOk, MatchOption};
+ghost use Rattle.std.specs.Prelude.{◌≡◌, ◌≢◌, ℕ, ◌+◌, length, drop, IfOk, IfErr, OnOk, MatchOption};
 ghost use Rattle.std.specs.Int.{w32, from_be_bytes, to_be_bytes};
 ghost use Rattle.std.specs.Io.KnownBytes.{Consumes, IsAtEnd, Keeps};
 ghost use Rattle.dsn_device.specs.Failures.{counted};
@@ -16,7 +16,7 @@ use std::marker::Model;
 pub const LONGEST_BODY: usize = 65_536;
 
 /// How many bytes a frame's length has.
-const LENGTH: usize = 4;
+pub(crate) const LENGTH: usize = 4;
 
 /// A frame that was read.
 #[derive(Debug, Drop)]
@@ -74,9 +74,10 @@ pub fn read_frame<S: Source>(alloc: Global, source: &mut S) -> Result<Option<Fra
 }
 
 /// Reads the length of the next frame's body, or none where the input ends before its first byte.
-fn read_length<S: Source>(source: &mut S) -> Result<Option<usize>, FrameFault>
+pub(crate) fn read_length<S: Source>(source: &mut S) -> Result<Option<usize>, FrameFault>
     ensures next { IfOk result (λ size. ReadsLength (S.remaining source.old) (S.remaining source.new) size) }
     ensures refused { IfErr result (λ fault. ReadsNone (S.remaining source.old) (S.remaining source.new) fault) }
+    ensures no_growth { IfErr result (λ fault. fault ≢ FrameFault.NoMemory) }
     ensures held { Keeps (S.holds source.old) (S.holds source.new) }
     ensures no_flush { S.flushes source.new ≡ S.flushes source.old }
     ensures count { S.failures source.new ≡ counted (source_failed result) (S.failures source.old) }
@@ -125,13 +126,18 @@ fn read_after_length<S: Source>(
 }
 
 /// Writes a length into the room for a whole frame, and reads the body after it.
-fn fill_frame<S: Source>(source: &mut S, size: usize, room: &mut [u8]) -> Result<(), FrameFault>
+pub(crate) fn fill_frame<S: Source>(
+    source: &mut S,
+    size: usize,
+    room: &mut [u8],
+) -> Result<(), FrameFault>
     requires legal { IsFrameLength size }
     requires room { length room.old ≡ 4 + size }
     ensures long { length room.new ≡ 4 + size }
     ensures whole { OnOk result (IsHeld room.new) }
     ensures body { OnOk result ((length (drop 4 room.new) ≡ size) × Consumes (S.remaining source.old) (S.remaining source.new) (drop 4 room.new)) }
     ensures refused { IfErr result (λ fault. BodyMissing (S.remaining source.old) (S.remaining source.new) size fault) }
+    ensures no_growth { IfErr result (λ fault. fault ≢ FrameFault.NoMemory) }
     ensures held { Keeps (S.holds source.old) (S.holds source.new) }
     ensures no_flush { S.flushes source.new ≡ S.flushes source.old }
     ensures count { S.failures source.new ≡ counted (source_failed result) (S.failures source.old) }

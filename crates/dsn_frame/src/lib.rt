@@ -7,7 +7,9 @@ mod body_fault;
 mod decode;
 mod encode;
 mod frame;
+mod frame_buffer;
 mod frame_fault;
+mod frame_ref;
 mod laws;
 mod optional;
 mod parts;
@@ -23,7 +25,9 @@ pub use body_fault::BodyFault;
 pub use decode::decode_request;
 pub use encode::encode_request;
 pub use frame::{Frame, LONGEST_BODY, read_frame};
+pub use frame_buffer::FrameBuffer;
 pub use frame_fault::FrameFault;
+pub use frame_ref::FrameRef;
 pub use laws::{
     bodies_are_requests_or_refused, inputs_are_frames_and_an_end, requests_in_turn_are_taken,
     sessions_are_functions_of_their_bytes, sessions_take_the_frames_of_their_bytes,

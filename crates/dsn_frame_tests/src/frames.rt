@@ -12,7 +12,7 @@ use std::test::Fail;
 /// A reader over bytes in memory, which gives at most `most` bytes a call, but at least one; the
 /// call after `good` calls is interrupted.
 #[derive(Drop)]
-struct PieceReader<'a> {
+pub(crate) struct PieceReader<'a> {
     rest: &'a [u8],
     most: usize,
     good: usize,
@@ -34,7 +34,7 @@ impl Read for PieceReader<'_> {
 
 const TWO_FRAMES: &[u8] = b"\0\0\0\x03abc\0\0\0\x01d";
 
-fn source(rest: &[u8], most: usize, good: usize) -> Plain<PieceReader<'_>> {
+pub(crate) fn source(rest: &[u8], most: usize, good: usize) -> Plain<PieceReader<'_>> {
     Plain::new(PieceReader { rest, most, good })
 }
 

@@ -7,6 +7,8 @@ mod answers;
 #[cfg(test)]
 mod bodies;
 #[cfg(test)]
+mod buffers;
+#[cfg(test)]
 mod encodings;
 #[cfg(test)]
 mod frames;

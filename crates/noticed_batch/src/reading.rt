@@ -7,13 +7,14 @@ ghost use Rattle.noticed_batch.specs.Run.{Stands};
 
 use crate::reading_end::ReadingEnd;
 use crate::run::Run;
-use dsn_frame::read_frame;
+use dsn_frame::FrameBuffer;
 use dsn_outcome::{Drain, Source, send};
 use noticed_notes::answer_line;
 use std::alloc::Global;
 
 /// Reads and answers frames, as many as the limit allows, and tells each answer in a line of its
-/// own, before the next frame is read. Nothing is read once a line could not be written.
+/// own, before the next frame is read. Nothing is read once a line could not be written. One
+/// buffer serves all frames.
 pub(crate) fn read_all<R: Source, W: Drain, N: Drain>(
     alloc: Global,
     requests: u32,
@@ -27,8 +28,9 @@ pub(crate) fn read_all<R: Source, W: Drain, N: Drain>(
         Heard R.Source W.Drain N.Drain limits host start input.old input.new run.new notes.old notes.new result }
     ensures steady { R.steady input.old → R.steady input.new × (R.failures input.new ≡ R.failures input.old) }
 {
+    let mut buffer = FrameBuffer::new(alloc);
     for position in 0..requests {
-        let frame = match read_frame(alloc, input) {
+        let frame = match buffer.read_next(input) {
             Ok(Some(frame)) => frame,
             Ok(None) => return ReadingEnd::AtEnd,
             Err(fault) => return ReadingEnd::Unreadable(fault),
@@ -41,7 +43,7 @@ pub(crate) fn read_all<R: Source, W: Drain, N: Drain>(
             return ReadingEnd::OutOfTurn;
         }
     }
-    match read_frame(alloc, input) {
+    match buffer.read_next(input) {
         Ok(None) => ReadingEnd::AtEnd,
         Ok(Some(_)) => ReadingEnd::TooMany,
         Err(fault) => ReadingEnd::Unreadable(fault),

@@ -10,7 +10,7 @@ ghost use Rattle.noticed_send.specs.SendFault.{is_stream_failed};
 use crate::send_end::SendEnd;
 use crate::send_fault::SendFault;
 use dsn_device::{Drain, Source, Stream};
-use dsn_frame::{Frame, Spoken, decode_answer, read_frame};
+use dsn_frame::{FrameBuffer, FrameRef, Spoken, decode_answer};
 use noticed_notes::answer_line;
 use std::alloc::Global;
 use std::sync::Wait;
@@ -21,7 +21,7 @@ const MOST_FRAMES: u32 = 1_000_000;
 /// Sends the frames of `input` over `stream`, each in one write and the next one only after the
 /// last answer, and tells each answer in a line of `notes`. The first fault ends it, and nothing
 /// is read or written after it; an answer out of turn has no line. It makes no flush. Memory is
-/// taken only to read a frame and an answer.
+/// taken only to read a frame or an answer that is longer than any before it.
 pub fn send<R: Source, S: Stream, N: Drain>(
     _rt: &impl Wait,
     alloc: Global,
@@ -52,13 +52,15 @@ fn hand_over<R: Source, S: Stream, N: Drain>(
 ) -> Result<(), SendFault>
     ensures { HandsOver R.Source S.Source S.Drain N.Drain input.old input.new stream.old stream.new notes.old notes.new (result_err result) }
 {
+    let mut frames = FrameBuffer::new(alloc);
+    let mut answers = FrameBuffer::new(alloc);
     for position in 0..MOST_FRAMES {
-        let frame = match read_frame(alloc, input) {
+        let frame = match frames.read_next(input) {
             Ok(Some(frame)) => frame,
             Ok(None) => return Ok(()),
             Err(fault) => return Err(SendFault::Input(fault)),
         };
-        let answer = match ask(alloc, stream, position, &frame) {
+        let answer = match ask(&mut answers, stream, position, &frame) {
             Ok(answer) => answer,
             Err(fault) => return Err(fault),
         };
@@ -66,19 +68,19 @@ fn hand_over<R: Source, S: Stream, N: Drain>(
             return Err(SendFault::NotesLost);
         }
     }
-    match read_frame(alloc, input) {
+    match frames.read_next(input) {
         Ok(None) => Ok(()),
         Ok(Some(_)) => Err(SendFault::TooMany),
         Err(fault) => Err(SendFault::Input(fault)),
     }
 }
 
-/// Sends the frame at this position, and reads its answer.
+/// Sends the frame at this position, and reads its answer into a buffer for answers.
 fn ask<S: Stream>(
-    alloc: Global,
+    answers: &mut FrameBuffer,
     stream: &mut S,
     position: u32,
-    frame: &Frame,
+    frame: &FrameRef<'_>,
 ) -> Result<Spoken, SendFault>
     ensures asked { IsAsked position frame.now (S.contents stream.old) (S.contents stream.new) (S.remaining stream.old) (S.remaining stream.new) result }
     ensures counts { Counts (S.Source.failures) (S.Source.flushes) (S.Source.steady) (is_stream_failed (result_err result)) stream.old stream.new }
@@ -86,7 +88,7 @@ fn ask<S: Stream>(
     if dsn_device::send(stream, frame.bytes()).is_err() {
         return Err(SendFault::NotSent);
     }
-    let answer = match read_frame(alloc, stream) {
+    let answer = match answers.read_next(stream) {
         Ok(Some(answer)) => answer,
         Ok(None) => return Err(SendFault::Unanswered),
         Err(fault) => return Err(SendFault::AnswerFrame(fault)),

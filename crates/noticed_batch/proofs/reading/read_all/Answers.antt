@@ -67,33 +67,33 @@ loop-position-preserved g c = (
       c.if-turn.false (rw (← line) (OnOk-is_err c.send.result _ fine c.send.ensures.sent)) (same-after _ _ _ fine c.send.ensures.count)),
   λ steady.
       let so_far = c.loop-position.invariant.3 steady in
-      let more = c.read_frame.ensures.steady so_far.0 in
+      let more = c.read_next.ensures.steady so_far.0 in
       (more.0, more.1 ∙ so_far.1),
 )
 
-pub returns-in-Ok-None-read_frame-clause-heard : goal.returns-in-Ok-None-read_frame-clause-heard
-returns-in-Ok-None-read_frame-clause-heard g c = λ limits host start same stands.
-    let ends = rw c.in-Ok-None-read_frame.field-0-is at c.in-Ok-None-read_frame.ensures.next in
+pub returns-in-Ok-None-read_next-clause-heard : goal.returns-in-Ok-None-read_next-clause-heard
+returns-in-Ok-None-read_next-clause-heard g c = λ limits host start same stands.
+    let ends = rw c.in-Ok-None-read_next.field-0-is at c.in-Ok-None-read_next.ensures.next in
     let so_far = c.loop-position.invariant.2 limits host start same stands in
     heard-end _ _ _ limits host start _ _ _ _ _ _ _ AtEnd so_far
-    (session_well Input limits.requests 0 _ _ _ _ _ _ so_far.session ends) refl c.in-Ok-None-read_frame.ensures.count
+    (session_well Input limits.requests 0 _ _ _ _ _ _ so_far.session ends) refl c.in-Ok-None-read_next.ensures.count
 
-pub returns-in-Ok-Some-read_frame-clause-heard : goal.returns-in-Ok-Some-read_frame-clause-heard
-returns-in-Ok-Some-read_frame-clause-heard g c = λ limits host start same stands.
-    let next = rw c.in-Ok-Some-read_frame.field-0-is at c.in-Ok-Some-read_frame.ensures.next in
+pub returns-in-Ok-Some-read_next-clause-heard : goal.returns-in-Ok-Some-read_next-clause-heard
+returns-in-Ok-Some-read_next-clause-heard g c = λ limits host start same stands.
+    let next = rw c.in-Ok-Some-read_next.field-0-is at c.in-Ok-Some-read_next.ensures.next in
     let all : c.loop-position.position ≡ limits.requests = omega (arith, same, c.loop-position-test.false, c.loop-position.auto.position-end) in
     let so_far = c.loop-position.invariant.2 limits host start same stands in
     heard-end _ _ _ limits host start _ _ _ _ _ _ _ TooMany so_far
-    (session_too_many Input limits.requests 0 _ _ _ _ _ _ so_far.session _ (so_far.frames_counted ∙ all) next) refl c.in-Ok-Some-read_frame.ensures.count
+    (session_too_many Input limits.requests 0 _ _ _ _ _ _ so_far.session _ (so_far.frames_counted ∙ all) next) refl c.in-Ok-Some-read_next.ensures.count
 
 pub returns-clause-heard : goal.returns-clause-heard
 returns-clause-heard g c = λ limits host start same stands.
     let so_far = c.loop-position.invariant.2 limits host start same stands in
-    heard-end _ _ _ limits host start _ _ _ _ _ _ _ (Unreadable c.in-Err-read_frame.fault) so_far
-    (session_cut Input limits.requests 0 _ _ _ _ _ _ so_far.session c.in-Err-read_frame.fault c.in-Err-read_frame.ensures.refused) refl c.in-Err-read_frame.ensures.count
+    heard-end _ _ _ limits host start _ _ _ _ _ _ _ (Unreadable c.in-Err-read_next.fault) so_far
+    (session_cut Input limits.requests 0 _ _ _ _ _ _ so_far.session c.in-Err-read_next.fault c.in-Err-read_next.ensures.refused) refl c.in-Err-read_next.ensures.count
 
 pub returns-in-Ok-None-clause-steady : goal.returns-in-Ok-None-clause-steady
 returns-in-Ok-None-clause-steady g c = λ steady.
     let so_far = c.loop-position.invariant.3 steady in
-    let last = c.read_frame.ensures.steady so_far.0 in
+    let last = c.read_next.ensures.steady so_far.0 in
     (last.0, last.1 ∙ so_far.1)

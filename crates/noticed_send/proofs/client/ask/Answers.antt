@@ -38,8 +38,8 @@ returns-in-Ok-2-clause-asked g c =
     ask-out-of-turn g.S.Source g.S.Drain laws.held_is_written laws.left_is_unread c.args.position c.args.frame.now _ c.bytes.ensures _ _ _ (OnOk-is_err c.send.result _ fine c.send.ensures.sent) c.send.ensures.unread c.in-Ok-Some.ensures.held
     c.body.result.now (rw c.body.ensures.same next) c.in-Ok.number c.in-Ok.answer c.in-Ok.ensures.encoded c.in-Ok.ensures.fits c.if-number-position.false
 
-pub returns-clause-asked : goal.returns-clause-asked
-returns-clause-asked g c =
+pub returns-in-Err-decode_answer-clause-asked : goal.returns-in-Err-decode_answer-clause-asked
+returns-in-Err-decode_answer-clause-asked g c =
     let laws = g.met.S.Stream in
     let fine = sym c.is_err.ensures.value ∙ c.if-is_err.false in
     let next = rw c.in-Ok-Some.field-0-is at c.in-Ok-Some.ensures.next in

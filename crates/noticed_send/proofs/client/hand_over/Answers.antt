@@ -48,6 +48,6 @@ loop-position-preserved g c =
 
 pub returns : goal.returns
 returns g c =
-    let told = c.in-Err-read_frame.ensures in
-    sent-cut g.R.Source g.S.Source g.S.Drain g.N.Drain c.loop-position.position _ _ _ _ _ _ _ c.loop-position.invariant c.in-Err-read_frame.fault told.refused
+    let told = c.in-Err-read_next.ensures in
+    sent-cut g.R.Source g.S.Source g.S.Drain g.N.Drain c.loop-position.position _ _ _ _ _ _ _ c.loop-position.invariant c.in-Err-read_next.fault told.refused
     (counts-of g.R.Source.failures g.R.Source.flushes g.R.Source.steady _ _ _ told.count told.no_flush told.steady)

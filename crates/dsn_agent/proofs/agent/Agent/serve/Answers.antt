@@ -86,34 +86,34 @@ loop-place-preserved g c =
       c.answer.ensures.kept,
     )
 
-pub returns-in-Ok-None-read_frame-clause-served : goal.returns-in-Ok-None-read_frame-clause-served
-returns-in-Ok-None-read_frame-clause-served g c =
+pub returns-in-Ok-None-read_next-clause-served : goal.returns-in-Ok-None-read_next-clause-served
+returns-in-Ok-None-read_next-clause-served g c =
     let laws = g.met.S.Stream in
-    let next = rw c.in-Ok-None-read_frame.field-0-is at c.in-Ok-None-read_frame.ensures.next in
+    let next = rw c.in-Ok-None-read_next.field-0-is at c.in-Ok-None-read_next.ensures.next in
     let so_far = c.loop-place.invariant.0 in
     let all : c.self.inside.limit ≡ c.loop-place.place = omega (arith, c.loop-place-test.false, c.loop-place.auto.place-end) in
     served-end _ _ _ _ _ _ _ c.loop-place.place _ so_far
     (session_well Connection _ _ _ _ _ _ _ _ so_far.session next) refl refl all
-    (keeps-as g.S.Source.holds g.S.Drain.contents laws.held_is_written _ _ c.in-Ok-None-read_frame.ensures.held)
-    (counts-read _ _ laws.one_count laws.one_flush_count laws.one_promise _ _ false c.in-Ok-None-read_frame.ensures.count c.in-Ok-None-read_frame.ensures.no_flush c.in-Ok-None-read_frame.ensures.steady)
+    (keeps-as g.S.Source.holds g.S.Drain.contents laws.held_is_written _ _ c.in-Ok-None-read_next.ensures.held)
+    (counts-read _ _ laws.one_count laws.one_flush_count laws.one_promise _ _ false c.in-Ok-None-read_next.ensures.count c.in-Ok-None-read_next.ensures.no_flush c.in-Ok-None-read_next.ensures.steady)
 
-pub returns-in-Ok-Some-read_frame-clause-served : goal.returns-in-Ok-Some-read_frame-clause-served
-returns-in-Ok-Some-read_frame-clause-served g c =
+pub returns-in-Ok-Some-read_next-clause-served : goal.returns-in-Ok-Some-read_next-clause-served
+returns-in-Ok-Some-read_next-clause-served g c =
     let laws = g.met.S.Stream in
-    let next = rw c.in-Ok-Some-read_frame.field-0-is at c.in-Ok-Some-read_frame.ensures.next in
+    let next = rw c.in-Ok-Some-read_next.field-0-is at c.in-Ok-Some-read_next.ensures.next in
     let so_far = c.loop-place.invariant.0 in
     let limit = ap (λ (agent : Agent). agent.limit) c.self.view_is in
     let all : c.loop-place.place ≡ c.args.self.now.limit = omega (arith, limit, c.loop-place-test.false, c.loop-place.auto.place-end) in
     served-end _ _ _ _ _ _ _ c.loop-place.place _ so_far
     (session_too_many Connection _ _ _ _ _ _ _ _ so_far.session _ (so_far.frames_counted ∙ all) next) refl refl tt
-    (keeps-as g.S.Source.holds g.S.Drain.contents laws.held_is_written _ _ c.in-Ok-Some-read_frame.ensures.held)
-    (counts-read _ _ laws.one_count laws.one_flush_count laws.one_promise _ _ false c.in-Ok-Some-read_frame.ensures.count c.in-Ok-Some-read_frame.ensures.no_flush c.in-Ok-Some-read_frame.ensures.steady)
+    (keeps-as g.S.Source.holds g.S.Drain.contents laws.held_is_written _ _ c.in-Ok-Some-read_next.ensures.held)
+    (counts-read _ _ laws.one_count laws.one_flush_count laws.one_promise _ _ false c.in-Ok-Some-read_next.ensures.count c.in-Ok-Some-read_next.ensures.no_flush c.in-Ok-Some-read_next.ensures.steady)
 
 pub returns-clause-served : goal.returns-clause-served
 returns-clause-served g c =
     let laws = g.met.S.Stream in
     let so_far = c.loop-place.invariant.0 in
     served-end _ _ _ _ _ _ _ c.loop-place.place _ so_far
-    (session_cut Connection _ _ _ _ _ _ _ _ so_far.session c.in-Err-read_frame.fault c.in-Err-read_frame.ensures.refused) refl refl tt
-    (keeps-as g.S.Source.holds g.S.Drain.contents laws.held_is_written _ _ c.in-Err-read_frame.ensures.held)
-    (counts-read _ _ laws.one_count laws.one_flush_count laws.one_promise _ _ _ c.in-Err-read_frame.ensures.count c.in-Err-read_frame.ensures.no_flush c.in-Err-read_frame.ensures.steady)
+    (session_cut Connection _ _ _ _ _ _ _ _ so_far.session c.in-Err-read_next.fault c.in-Err-read_next.ensures.refused) refl refl tt
+    (keeps-as g.S.Source.holds g.S.Drain.contents laws.held_is_written _ _ c.in-Err-read_next.ensures.held)
+    (counts-read _ _ laws.one_count laws.one_flush_count laws.one_promise _ _ _ c.in-Err-read_next.ensures.count c.in-Err-read_next.ensures.no_flush c.in-Err-read_next.ensures.steady)

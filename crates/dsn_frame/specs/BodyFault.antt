@@ -1,6 +1,8 @@
 -- The numbers of the refusals of a body (this project's profile).
 use Rattle.std.specs.Prelude.{ℕ}
 use Rattle.dsn_outcome.specs.OutcomeFault.{outcome_fault_code}
+use Rattle.dsn_outcome.specs.declared.draft_fault.DraftFault.{DraftFault}
+use Rattle.dsn_outcome.specs.declared.draft_fault.DraftFault.TheVariants as draft
 use Rattle.dsn_outcome.specs.declared.outcome_fault.OutcomeFault.{OutcomeFault}
 use Rattle.dsn_outcome.specs.declared.outcome_fault.OutcomeFault.TheVariants as outcome
 use Rattle.dsn_frame.specs.declared.body_fault.BodyFault.{BodyFault}
@@ -24,3 +26,10 @@ body_fault_code NoMemory = 9
 abbrev pub outcome_refusal : OutcomeFault → BodyFault
 outcome_refusal outcome.NoMemory = NoMemory
 outcome_refusal fault = Outcome fault
+
+-- how a draft's refusal refuses the body that carries its texts
+abbrev pub draft_refusal : DraftFault → BodyFault
+draft_refusal draft.Header = Header
+draft_refusal draft.ReturnPath = ReturnPath
+draft_refusal draft.EnvelopeId = EnvelopeId
+draft_refusal draft.NoMemory = NoMemory

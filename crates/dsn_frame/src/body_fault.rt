@@ -2,7 +2,7 @@
 ghost use Rattle.std.specs.Prelude.{◌≡◌};
 ghost use Rattle.dsn_frame.specs.BodyFault.{body_fault_code};
 
-use dsn_outcome::OutcomeFault;
+use dsn_outcome::{DraftFault, OutcomeFault};
 use thiserror::Error;
 
 /// Why a body is refused; the first reason in this order is given.
@@ -77,6 +77,21 @@ impl From<OutcomeFault> for BodyFault {
         match fault {
             OutcomeFault::NoMemory => BodyFault::NoMemory,
             fault => BodyFault::Outcome(fault),
+        }
+    }
+}
+
+impl From<DraftFault> for BodyFault {
+    ghost use Rattle.dsn_frame.specs.BodyFault.{draft_refusal};
+
+    ghost from_gives = { λ fault refusal. refusal ≡ draft_refusal fault };
+
+    fn from(fault: DraftFault) -> BodyFault {
+        match fault {
+            DraftFault::Header => BodyFault::Header,
+            DraftFault::ReturnPath => BodyFault::ReturnPath,
+            DraftFault::EnvelopeId => BodyFault::EnvelopeId,
+            DraftFault::NoMemory => BodyFault::NoMemory,
         }
     }
 }

@@ -1,22 +1,19 @@
 //! Bodies to requests.
-ghost use Rattle.std.specs.Prelude.{◌≡◌, ◌≢◌, [], true, false, IfOk, IfErr, OnOk, Some, None, unwrap_or};
+ghost use Rattle.std.specs.Prelude.{◌≡◌, ◌≢◌, ◌&&◌, nat_le, [], true, false, IfOk, IfErr, OnOk, Some, None, unwrap_or};
 ghost use Rattle.std.specs.Option.{option_map};
 ghost use Rattle.dsn_outcome.specs.Body.{body_of};
 ghost use Rattle.dsn_outcome.specs.Outcome.{IsOutcomeOf, first_failed, first_outcome_fault, is_none_or};
 ghost use Rattle.dsn_outcome.specs.Request.{Bye};
-ghost use Rattle.dsn_outcome.specs.Stamp.{is_moment};
+ghost use Rattle.dsn_outcome.specs.Stamp.{is_moment, last_moment};
 ghost use Rattle.dsn_frame.specs.BodyFault.{outcome_refusal};
 ghost use Rattle.dsn_frame.specs.BodyParts.{head_in, recipient_fields_in, retry_fields_in, flush_fields_in, wire_body_in};
 ghost use Rattle.dsn_frame.specs.Wire.{body_at, head_of};
 ghost use Rattle.dsn_frame.specs.Request.{Encodes, IsKeyOf, IsWhole, StandsFor, draft_of, first_body_fault, first_own_fault, flush_checks, moment_if_any, outcome_fields, retry_checks, has_kind, head_checks, layout_checks};
 
 use crate::body_fault::BodyFault;
-use crate::optional::{
-    is_optional_address, is_optional_envelope_id, optional_address, optional_envelope_id,
-};
 use crate::parts::{BodyParts, FlushParts, HeadParts, NO_MOMENT, RecipientParts, RetryParts};
 use crate::{SECOND_VERSION, VERSION, reading};
-use dsn_outcome::{Body, Draft, Key, Node, Outcome, Parts, QueueId, RawHeader, Service, Stamp};
+use dsn_outcome::{Body, Draft, Key, Node, Outcome, Parts, QueueId, Service, Stamp};
 use std::alloc::Global;
 
 /// The request that a body stands for, with its number on the connection. It is never a goodbye.
@@ -165,32 +162,26 @@ fn draft_from(alloc: Global, fields: FlushParts<'_>) -> Result<Draft, BodyFault>
     ensures accepted { OnOk result (first_failed (flush_checks (flush_fields_in fields.entry)) ≡ None) }
     ensures refused { IfErr result (λ fault. fault ≡ unwrap_or (first_failed (flush_checks (flush_fields_in fields.entry))) BodyFault.NoMemory) }
 {
-    let (moment, arrival) = checked_moments(fields)?;
-    let return_path = optional_address(alloc, fields.return_path)?;
-    let envelope_id = optional_envelope_id(alloc, fields.envelope_id)?;
-    let header = RawHeader::new(alloc, fields.header).map_err(|_| BodyFault::NoMemory)?;
-    Draft::new(alloc, moment, arrival, return_path, envelope_id, header).map_err(
-        |_| BodyFault::NoMemory,
-    )
+    let (moment, arrival) = checked_moments(fields.moment, fields.arrival)?;
+    Ok(Draft::read(
+        alloc,
+        moment,
+        arrival,
+        fields.return_path,
+        fields.envelope_id,
+        fields.header,
+    )?)
 }
 
-/// The moment and the arrival of a flush whose fields have no fault. It takes no memory.
-fn checked_moments(fields: FlushParts<'_>) -> Result<(Stamp, Stamp), BodyFault>
-    ensures moment { IfOk result (λ moments. moments.0 ≡ fields.entry.moment) }
-    ensures arrival { IfOk result (λ moments. moments.1 ≡ fields.entry.arrival) }
-    ensures accepted { OnOk result (first_failed (flush_checks (flush_fields_in fields.entry)) ≡ None) }
-    ensures refused { IfErr result (λ fault. first_failed (flush_checks (flush_fields_in fields.entry)) ≡ Some fault) }
+/// The moment and the arrival of a flush, if each is a moment.
+fn checked_moments(moment: u64, arrival: u64) -> Result<(Stamp, Stamp), BodyFault>
+    ensures moment { IfOk result (λ moments. moments.0 ≡ moment) }
+    ensures arrival { IfOk result (λ moments. moments.1 ≡ arrival) }
+    ensures accepted { OnOk result (nat_le moment last_moment && nat_le arrival last_moment ≡ true) }
+    ensures refused { IfErr result (λ fault. fault ≡ BodyFault.Moment) }
+    ensures after { IfErr result (λ fault. nat_le moment last_moment && nat_le arrival last_moment ≡ false) }
 {
-    let moment = Stamp::new(fields.moment).ok_or(BodyFault::Moment)?;
-    let arrival = Stamp::new(fields.arrival).ok_or(BodyFault::Moment)?;
-    if !RawHeader::is_valid(fields.header) {
-        return Err(BodyFault::Header);
-    }
-    if !is_optional_address(fields.return_path) {
-        return Err(BodyFault::ReturnPath);
-    }
-    if !is_optional_envelope_id(fields.envelope_id) {
-        return Err(BodyFault::EnvelopeId);
-    }
+    let moment = Stamp::new(moment).ok_or(BodyFault::Moment)?;
+    let arrival = Stamp::new(arrival).ok_or(BodyFault::Moment)?;
     Ok((moment, arrival))
 }

@@ -11,7 +11,6 @@ mod frame_buffer;
 mod frame_fault;
 mod frame_ref;
 mod laws;
-mod optional;
 mod parts;
 mod reading;
 mod refusal;

@@ -1,8 +1,10 @@
 -- Drafts: what a flush says of the notice that it asks for, before the outcomes are added.
-use Rattle.std.specs.Prelude.{ℕ, ◌≤◌, List, length, Option, IsTrue}
-use Rattle.dsn_outcome.specs.Outcome.{is_none_or}
+use Rattle.std.specs.Prelude.{ℕ, ◌≤◌, nat_le, Bool, List, [], ◌∷◌, length, Option, IsTrue}
+use Rattle.dsn_outcome.specs.Outcome.{first_failed, is_none_or, unless_empty}
 use Rattle.dsn_outcome.specs.Stamp.{last_moment}
 use Rattle.dsn_outcome.specs.Text.{is_address, is_envelope_id}
+use Rattle.dsn_outcome.specs.declared.draft_fault.DraftFault.{DraftFault}
+use Rattle.dsn_outcome.specs.declared.draft_fault.DraftFault.TheVariants.{Header, ReturnPath, EnvelopeId}
 
 -- moment and arrival in whole seconds since 1970; no return path means the null path (RFC 5321 section 4.5.5);
 -- the header is the returned header as it came
@@ -20,3 +22,14 @@ pub record IsLegalDraft (draft : Draft) : Type 0 where
   pub return_path_legal : IsTrue (is_none_or is_address draft.return_path)
   pub envelope_id_legal : IsTrue (is_none_or is_envelope_id draft.envelope_id)
   pub header_short : length draft.header ≤ 32768
+
+-- the first fault of a draft's texts, if they have one
+abbrev pub draft_checks : List ℕ → List ℕ → List ℕ → List (Bool × DraftFault)
+draft_checks header return_path envelope_id =
+    (nat_le (length header) 32768, Header)
+    ∷ (is_none_or is_address (unless_empty return_path), ReturnPath)
+    ∷ (is_none_or is_envelope_id (unless_empty envelope_id), EnvelopeId)
+    ∷ []
+
+abbrev pub first_draft_fault : List ℕ → List ℕ → List ℕ → Option DraftFault
+first_draft_fault header return_path envelope_id = first_failed (draft_checks header return_path envelope_id)

@@ -2,6 +2,7 @@
 ghost use Rattle.std.specs.Prelude.{◌≡◌, ◌↔◌, IsTrue, IfOk, IsOk, IsErrOf};
 ghost use Rattle.dsn_outcome.specs.Text.{IsAddress};
 
+use crate::no_memory::NoMemory;
 use crate::text::{Alphabet, TextFault, copied, has_form};
 use std::alloc::Global;
 use std::marker::Model;
@@ -45,6 +46,14 @@ impl Address {
         if !Address::is_valid(text) {
             return Err(TextFault::Bad);
         }
+        Ok(Address::kept(alloc, text)?)
+    }
+
+    /// Keeps a text that was tested.
+    pub(crate) fn kept(alloc: Global, text: &[u8]) -> Result<Address, NoMemory>
+        requires { IsAddress text.now }
+        ensures { IfOk result (λ kept. kept ≡ text.now) }
+    {
         let bytes = copied(alloc, text)?;
         Ok(Address { bytes })
     }

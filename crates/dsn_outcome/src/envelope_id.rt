@@ -2,6 +2,7 @@
 ghost use Rattle.std.specs.Prelude.{◌≡◌, ◌↔◌, IsTrue, IfOk, IsOk, IsErrOf};
 ghost use Rattle.dsn_outcome.specs.Text.{IsEnvelopeId};
 
+use crate::no_memory::NoMemory;
 use crate::text::{Alphabet, TextFault, copied, has_form};
 use std::alloc::Global;
 use std::marker::Model;
@@ -44,6 +45,14 @@ impl EnvelopeId {
         if !EnvelopeId::is_valid(text) {
             return Err(TextFault::Bad);
         }
+        Ok(EnvelopeId::kept(alloc, text)?)
+    }
+
+    /// Keeps a text that was tested.
+    pub(crate) fn kept(alloc: Global, text: &[u8]) -> Result<EnvelopeId, NoMemory>
+        requires { IsEnvelopeId text.now }
+        ensures { IfOk result (λ kept. kept ≡ text.now) }
+    {
         let bytes = copied(alloc, text)?;
         Ok(EnvelopeId { bytes })
     }

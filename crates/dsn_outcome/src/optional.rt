@@ -1,13 +1,16 @@
 //! Texts and moments that may be missing: an empty text means that there is none.
-ghost use Rattle.std.specs.Prelude.{◌≡◌, ◌↔◌, IsTrue};
+ghost use Rattle.std.specs.Prelude.{◌≡◌, ◌↔◌, IsTrue, IfOk};
 ghost use Rattle.std.specs.Option.{option_copied};
 ghost use Rattle.dsn_outcome.specs.Outcome.{unless_empty, is_none_or};
 ghost use Rattle.dsn_outcome.specs.Stamp.{is_moment};
-ghost use Rattle.dsn_outcome.specs.Text.{is_address, is_mta_name};
+ghost use Rattle.dsn_outcome.specs.Text.{is_address, is_envelope_id, is_mta_name};
 
 use crate::address::Address;
+use crate::envelope_id::EnvelopeId;
 use crate::mta_name::MtaName;
+use crate::no_memory::NoMemory;
 use crate::stamp::Stamp;
+use std::alloc::Global;
 
 /// Whether a text is empty or can be an address.
 pub(crate) fn is_optional_address(text: &[u8]) -> bool
@@ -21,6 +24,38 @@ pub(crate) fn is_optional_mta_name(text: &[u8]) -> bool
     ensures { IsTrue result ↔ IsTrue (is_none_or is_mta_name (unless_empty text.now)) }
 {
     text.is_empty() || MtaName::is_valid(text)
+}
+
+/// Whether a text is empty or can be an envelope id.
+pub(crate) fn is_optional_envelope_id(text: &[u8]) -> bool
+    ensures { IsTrue result ↔ IsTrue (is_none_or is_envelope_id (unless_empty text.now)) }
+{
+    text.is_empty() || EnvelopeId::is_valid(text)
+}
+
+/// The address that a tested text is, or `None` for an empty text.
+pub(crate) fn optional_address(alloc: Global, text: &[u8]) -> Result<Option<Address>, NoMemory>
+    requires { IsTrue (is_none_or is_address (unless_empty text.now)) }
+    ensures { IfOk result (λ address. address ≡ unless_empty text.now) }
+{
+    if text.is_empty() {
+        return Ok(None);
+    }
+    Ok(Some(Address::kept(alloc, text)?))
+}
+
+/// The envelope id that a tested text is, or `None` for an empty text.
+pub(crate) fn optional_envelope_id(
+    alloc: Global,
+    text: &[u8],
+) -> Result<Option<EnvelopeId>, NoMemory>
+    requires { IsTrue (is_none_or is_envelope_id (unless_empty text.now)) }
+    ensures { IfOk result (λ id. id ≡ unless_empty text.now) }
+{
+    if text.is_empty() {
+        return Ok(None);
+    }
+    Ok(Some(EnvelopeId::kept(alloc, text)?))
 }
 
 /// A text, or `None` for an empty one.

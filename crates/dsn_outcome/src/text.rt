@@ -1,9 +1,10 @@
 //! What the kinds of text have in common: their fault, which bytes each may hold, and how a text
 //! is kept.
-ghost use Rattle.std.specs.Prelude.{◌≡◌, IfOk, IsErr, IsErrOf};
+ghost use Rattle.std.specs.Prelude.{◌≡◌, IfOk};
 ghost use Rattle.std.specs.List.{list_all};
 ghost use Rattle.dsn_outcome.specs.Text.{allows, is_text, is_visible, is_printable};
 
+use crate::no_memory::NoMemory;
 use std::alloc::Global;
 use thiserror::Error;
 
@@ -16,6 +17,16 @@ pub enum TextFault {
     /// The memory to keep it was refused.
     #[error("out of memory")]
     NoMemory,
+}
+
+impl From<NoMemory> for TextFault {
+    ghost use Rattle.dsn_outcome.specs.declared.text.TextFault.TheVariants as fault;
+
+    ghost from_gives = { λ _ refusal. refusal ≡ fault.NoMemory };
+
+    fn from(_: NoMemory) -> TextFault {
+        TextFault::NoMemory
+    }
 }
 
 /// Which bytes a text may hold.
@@ -68,9 +79,8 @@ pub(crate) fn has_form(text: &[u8], least: usize, most: usize, alphabet: Alphabe
 }
 
 /// The text in memory of its own.
-pub(crate) fn copied(alloc: Global, text: &[u8]) -> Result<Vec<u8>, TextFault>
-    ensures kept { IfOk result (λ copy. copy.items ≡ text.now) }
-    ensures fault { IsErr result → IsErrOf result TextFault.NoMemory }
+pub(crate) fn copied(alloc: Global, text: &[u8]) -> Result<Vec<u8>, NoMemory>
+    ensures { IfOk result (λ copy. copy.items ≡ text.now) }
 {
-    text.to_vec(alloc).map_err(|_| TextFault::NoMemory)
+    text.to_vec(alloc).map_err(|_| NoMemory)
 }

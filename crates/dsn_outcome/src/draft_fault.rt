@@ -1,0 +1,32 @@
+//! Why the texts of a draft are refused.
+ghost use Rattle.std.specs.Prelude.{◌≡◌};
+
+use crate::no_memory::NoMemory;
+use thiserror::Error;
+
+/// Why the texts of a draft are refused; the first reason in this order is given.
+#[derive(Clone, Copy, Debug, PartialEq, Eq, Error)]
+pub enum DraftFault {
+    /// The header has more than 32,768 bytes.
+    #[error("the header has more than 32,768 bytes")]
+    Header,
+    /// The return path is neither empty nor an address.
+    #[error("the return path is neither empty nor an address")]
+    ReturnPath,
+    /// The envelope id is neither empty nor 1 to 100 printable bytes.
+    #[error("the envelope id is neither empty nor 1 to 100 printable bytes")]
+    EnvelopeId,
+    /// Memory for the draft was refused.
+    #[error("out of memory")]
+    NoMemory,
+}
+
+impl From<NoMemory> for DraftFault {
+    ghost use Rattle.dsn_outcome.specs.declared.draft_fault.DraftFault.TheVariants as fault;
+
+    ghost from_gives = { λ _ refusal. refusal ≡ fault.NoMemory };
+
+    fn from(_: NoMemory) -> DraftFault {
+        DraftFault::NoMemory
+    }
+}

@@ -1,5 +1,5 @@
 -- The lines of a header, one at a time.
-use Rattle.std.proofs.Common.{min, codes, ◌≡◌, ℕ, suc, ◌+◌, ◌<◌, ◌≤◌, Bool, true, false, not, List, [], ◌∷◌, ◌++◌, length, take, drop, get_or, map, refl, sym, ap, subst, ◌∙◌, cond, arith, if◌then◌else◌}
+use Rattle.std.proofs.Common.{min, codes, ◌≡◌, ℕ, suc, ◌+◌, ◌-◌, ◌<◌, ◌≤◌, Bool, true, false, not, List, [], ◌∷◌, ◌++◌, length, take, drop, get_or, map, refl, sym, ap, subst, ◌∙◌, cond, arith, add-one, if◌then◌else◌}
 use Rattle.std.specs.Prelude.{◌==◌}
 use Rattle.std.specs.List.{All, onto_first, slice_split, before_first, prefix_len}
 use Rattle.std.specs.Str.Lines.{lines, lines_of_parts, strip_carriage_return}
@@ -78,6 +78,14 @@ shown-whole line len e =
     let front : take len line ≡ take 998 line =
     sym (take-take len 998 line short) ∙ take_all len (take 998 line) (omega (arith, length-take 998 line)) in
     ap (map shown_byte) (take-take len len line (omega arith) ∙ front) ∙ sym (take-map shown_byte 998 line)
+
+-- the line that stands behind a dot
+pub line-behind : (len : ℕ) (shown line : List ℕ) → take (len + 1) shown ≡ 46 ∷ line → take (len + 1 - 1) (drop 1 shown) ≡ line
+line-behind len [] line e = let none : take (suc len) [] ≡ 46 ∷ line = rw add-one at e in absurd cc
+line-behind len (byte ∷ rest) line e =
+    let behind : byte ∷ take len rest ≡ 46 ∷ line = rw add-one at e in
+    let same : len + 1 - 1 ≡ len = omega arith in
+    rw same (cc)
 
 -- a header whose first line is empty has no returned part
 pub returned_part-none : (boundary header line rest : List ℕ) → header_lines header ≡ (if length line == 0 then [] else line ∷ header_lines rest)

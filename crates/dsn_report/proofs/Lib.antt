@@ -1,3 +1,4 @@
+pub mod BlockLemmas
 mod BoundaryLemmas
 mod BoundaryLaw
 mod CountLemmas

@@ -1,12 +1,14 @@
 -- What a writer of lines did with several texts, one after another, is what it did with them together.
-use Rattle.std.proofs.Common.{◌≡◌, ℕ, ◌+◌, ◌<◌, ◌&&◌, if◌then◌else◌, codes, Bool, true, false, List, [], ◌∷◌, ◌++◌, length, take, get_or, refl, sym, ap, subst, ◌∙◌, append_assoc, append-nil, add-one}
-use Rattle.std.specs.List.{flat_map}
+use Rattle.std.proofs.Common.{◌≡◌, ℕ, ◌+◌, ◌<◌, ◌&&◌, if◌then◌else◌, codes, Bool, true, false, List, [], ◌∷◌, ◌++◌, drop, length, take, get_or, map, refl, sym, ap, subst, ◌∙◌, append_assoc, append-nil, add-one}
+use Rattle.std.specs.Prelude.{◌==◌}
+use Rattle.std.specs.List.{flat_map, list_any}
 use Rattle.std.proofs.Math.Seq.{take-suc}
+use Rattle.std.proofs.lemmas.Bool.{or_parts}
 use Rattle.std.proofs.lemmas.Grind.{flat_map-append}
 use Rattle.std.proofs.lemmas.List.{map-append}
 use Rattle.dsn_device.proofs.UntilFailureLemmas.{writes-none, writes-then}
 use Rattle.dsn_device.specs.declared.drain.Drain.{Ghosts as Drain}
-use Rattle.dsn_report.specs.LineWriter.{Took, Wrote, lines_sent}
+use Rattle.dsn_report.specs.LineWriter.{IsBlock, Took, Wrote, lines_sent}
 use Rattle.dsn_report.specs.Lines.{text_of_lines, dot_stuffed, begins_with_dot}
 use Rattle.dsn_report.specs.declared.line_writer.LineWriter.{LineWriter}
 
@@ -57,23 +59,31 @@ pub flat_map-take-more : {X : Type 0} (f : X → List ℕ) (xs : List X) (i : �
 flat_map-take-more f xs i d within =
     rw (add-one, take-suc xs i d within, flat_map-append) (simp append-nil refl)
 
--- a line with its dot and its end is the text of the one line
-pub line_text : (dots : Bool) (line : List ℕ)
-    → (if dots && begins_with_dot line then codes "." else []) ++ line ++ codes "\r\n" ≡ text_of_lines (lines_sent dots (line ∷ []))
-unfolding text_of_lines dot_stuffed
-line_text false line = refl
-line_text true line = with_dot (begins_with_dot line)
-  where
-    with_dot : (dot : Bool) → (if dot then codes "." else []) ++ line ++ codes "\r\n" ≡ (if dot then 46 ∷ line else line) ++ (13 ∷ 10 ∷ [])
-    with_dot true = refl
-    with_dot false = refl
+-- lines of which none begins with a dot get no dots
+dots-none : (lines : List (List ℕ)) → list_any begins_with_dot lines ≡ false → map dot_stuffed lines ≡ lines
+unfolding dot_stuffed
+dots-none [] none = refl
+dots-none (line ∷ rest) none =
+    let parts = or_parts (begins_with_dot line) (list_any begins_with_dot rest) none in
+    rw (parts.0, dots-none rest parts.1) refl
 
--- so is a text that is the line with its end
-pub ended_line_text : (dots : Bool) (line text : List ℕ) → text ≡ line ++ codes "\r\n"
-    → (if dots && begins_with_dot text then codes "." else []) ++ text ≡ text_of_lines (lines_sent dots (line ∷ []))
-ended_line_text dots line text is =
-    rw (is, begins line) (sym (append_assoc (if dots && begins_with_dot line then codes "." else []) line (codes "\r\n")) ∙ line_text dots line)
+-- the text of such lines is what is sent of them
+pub block_text : (dots : Bool) (lines : List (List ℕ)) (text : List ℕ) → IsBlock lines text → text ≡ text_of_lines (lines_sent dots lines)
+block_text true lines text block = block.text_is ∙ ap text_of_lines (sym (dots-none lines block.no_dot))
+block_text false lines text block = block.text_is
+
+-- of a line with its end behind a dot, what is sent is the text of the one line
+pub dotted_text : (dots : Bool) (line dotted : List ℕ) → dotted ≡ codes "." ++ line ++ codes "\r\n"
+    → (if dots && begins_with_dot (drop 1 dotted) then dotted else drop 1 dotted) ≡ text_of_lines (lines_sent dots (line ∷ []))
+unfolding text_of_lines dot_stuffed
+dotted_text dots line dotted is = rw is (here dots line)
   where
-    begins : (line : List ℕ) → begins_with_dot (line ++ codes "\r\n") ≡ begins_with_dot line
-    begins [] = refl
-    begins (byte ∷ rest) = refl
+    with_dot : (dot : Bool) (line : List ℕ) → (if dot then codes "." ++ line ++ codes "\r\n" else line ++ codes "\r\n") ≡ (if dot then 46 ∷ line else line) ++ (13 ∷ 10 ∷ [])
+    with_dot true line = refl
+    with_dot false line = refl
+
+    here : (dots : Bool) (line : List ℕ)
+        → (if dots && begins_with_dot (line ++ codes "\r\n") then codes "." ++ line ++ codes "\r\n" else line ++ codes "\r\n") ≡ text_of_lines (lines_sent dots (line ∷ []))
+    here false line = refl
+    here true [] = refl
+    here true (byte ∷ rest) = with_dot (byte == 46) (byte ∷ rest)

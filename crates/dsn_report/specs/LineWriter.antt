@@ -1,8 +1,9 @@
 -- What a writer of lines did with a text: it writes nothing more after its drain's first failure.
-use Rattle.std.specs.Prelude.{◌≡◌, ℕ, Bool, true, false, List, map}
+use Rattle.std.specs.Prelude.{◌≡◌, ℕ, Bool, true, false, not, ◌==◌, List, [], ◌∷◌, map, IsFalse}
+use Rattle.std.specs.List.{list_any}
 use Rattle.dsn_device.specs.QuietWriter.{Writes}
 use Rattle.dsn_device.specs.declared.drain.Drain.{Ghosts as Drain}
-use Rattle.dsn_report.specs.Lines.{text_of_lines, dot_stuffed}
+use Rattle.dsn_report.specs.Lines.{text_of_lines, begins_with_dot, dot_stuffed}
 use Rattle.dsn_report.specs.declared.line_writer.LineWriter.{LineWriter}
 
 -- the writer took the text
@@ -18,3 +19,13 @@ lines_sent false lines = lines
 -- the writer took the lines
 pub record Wrote {W : Type 0} (device : Drain W) (old new : LineWriter W) (lines : List (List ℕ)) : Type 0 where
   pub took : Took device old new (text_of_lines (lines_sent old.dots lines))
+
+-- a text begins, and not with a dot: so does each line that begins with it
+abbrev pub begins_plainly : List ℕ → Bool
+begins_plainly [] = false
+begins_plainly (byte ∷ rest) = not (byte == 46)
+
+-- a text is that of some lines, and none of them begins with a dot
+pub record IsBlock (lines : List (List ℕ)) (text : List ℕ) : Type 0 where
+  pub text_is : text ≡ text_of_lines lines
+  pub no_dot : IsFalse (list_any begins_with_dot lines)

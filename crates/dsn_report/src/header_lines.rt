@@ -1,5 +1,5 @@
 //! The lines of a message's header that a notice returns.
-ghost use Rattle.std.specs.Prelude.{◌≡◌, ◌≤◌, ◌==◌, [], ◌∷◌, ◌++◌, codes, length, take, if◌then◌else◌};
+ghost use Rattle.std.specs.Prelude.{◌≡◌, ◌+◌, ◌≤◌, ◌==◌, [], ◌∷◌, ◌++◌, codes, length, take, if◌then◌else◌};
 ghost use Rattle.std.specs.Iterator.{YieldsFirstRef, item_count};
 ghost use Rattle.std.specs.Str.Lines.{strip_carriage_return};
 ghost use Rattle.dsn_report.specs.Boundary.{header_lines, shown_byte, shown_line};
@@ -10,8 +10,8 @@ use bstr::ByteSlice;
 /// The longest line of a notice, in bytes without its end (RFC 5322 section 2.1.1).
 pub(crate) const LONGEST_LINE: usize = 998;
 
-/// Room for a line of a notice with its end.
-pub(crate) const LINE_ROOM: usize = LONGEST_LINE + 2;
+/// Room for a line of a notice with its end, and for a dot before it.
+pub(crate) const LINE_ROOM: usize = LONGEST_LINE + 3;
 
 /// The lines of a header up to its first empty one, as they came, without their ends.
 #[derive(Drop)]
@@ -56,26 +56,29 @@ fn without_carriage_return(line: &[u8]) -> &[u8]
     }
 }
 
-/// Puts a line as a notice shows it at the front of `shown`, and says how long it is.
+/// Puts a dot, and then a line as a notice shows it, at the front of `shown`, and says how long the
+/// line is.
 pub(crate) fn show_line(line: &[u8], shown: &mut [u8; LINE_ROOM]) -> usize
     ensures within { result ≤ LONGEST_LINE }
-    ensures line { take result shown.new ≡ shown_line line.now }
+    ensures line { take (result + 1) shown.new ≡ codes "." ++ shown_line line.now }
 {
+    shown[0] = b'.';
     let len = line.len().min(LONGEST_LINE);
     for (index, byte) in line[..len].iter().enumerate() {
-        shown[index] = shown_byte(*byte);
+        shown[index + 1] = shown_byte(*byte);
     }
     len
 }
 
-/// Puts a line as a notice shows it, with its end, at the front of `shown`, and gives it.
-pub(crate) fn show_ended_line<'a>(line: &[u8], shown: &'a mut [u8; LINE_ROOM]) -> &'a [u8]
-    ensures { result.now ≡ shown_line line.now ++ codes "\r\n" }
+/// Puts a dot, and then a line as a notice shows it, with its end, at the front of `shown`, and
+/// gives them.
+pub(crate) fn show_dotted_line<'a>(line: &[u8], shown: &'a mut [u8; LINE_ROOM]) -> &'a [u8]
+    ensures { result.now ≡ codes "." ++ shown_line line.now ++ codes "\r\n" }
 {
     let len = show_line(line, shown);
-    shown[len] = b'\r';
-    shown[len + 1] = b'\n';
-    &shown[..len + 2]
+    shown[len + 1] = b'\r';
+    shown[len + 2] = b'\n';
+    &shown[..len + 3]
 }
 
 /// A byte as a notice shows it.

@@ -1,9 +1,8 @@
 //! Lines on their way to a drain, one piece after another.
-ghost use Rattle.std.specs.Prelude.{◌≡◌, false, ℕ, List, [], ◌∷◌, ◌++◌, codes, ◌&&◌, if◌then◌else◌};
+ghost use Rattle.std.specs.Prelude.{◌≡◌, ◌<◌, ℕ, List, [], ◌∷◌, ◌++◌, codes, length};
 ghost use Rattle.std.specs.List.{flat_map};
 ghost use Rattle.dsn_device.specs.QuietWriter.{Flushes};
-ghost use Rattle.dsn_report.specs.LineWriter.{Took, Wrote};
-ghost use Rattle.dsn_report.specs.Lines.{begins_with_dot};
+ghost use Rattle.dsn_report.specs.LineWriter.{IsBlock, Took, Wrote};
 
 use dsn_device::{Drain, QuietWriter};
 
@@ -32,59 +31,27 @@ impl<W: Drain> LineWriter<W> {
         self.writer.flush();
     }
 
-    /// Writes the pieces as one line.
-    pub(crate) fn line(&mut self, pieces: &[&[u8]])
-        ensures { Wrote W.Drain self.old self.new (flat_map (λ piece. piece.now) pieces.now ∷ []) }
-    {
-        self.leading_dot(pieces);
-        self.pieces(pieces);
-        self.piece(b"\r\n");
-    }
-
-    /// Writes a line that stands with its end.
-    pub(crate) fn ended_line(&mut self, text: &[u8])
-        ensures { (line : List ℕ) → text.now ≡ line ++ codes "\r\n" → Wrote W.Drain self.old self.new (line ∷ []) }
-    {
-        self.dot_before(text);
-        self.piece(text);
-    }
-
-    /// Writes the dot that goes before a text that begins with one.
-    fn dot_before(&mut self, text: &[u8])
-        ensures { Took W.Drain self.old self.new (if self.old.dots && begins_with_dot text.now then codes "." else []) }
-    {
-        if self.dots && text.starts_with(b".") {
-            self.piece(b".");
-        }
-    }
-
-    /// Writes the dot that goes before a line that begins with one.
-    fn leading_dot(&mut self, pieces: &[&[u8]])
-        ensures { Took W.Drain self.old self.new (if self.old.dots && begins_with_dot (flat_map (λ piece. piece.now) pieces.now) then codes "." else []) }
-    {
-        if self.dots && begins_with_dot(pieces) {
-            self.piece(b".");
-        }
-    }
-
-    /// Writes the pieces as they are.
-    fn pieces(&mut self, pieces: &[&[u8]])
-        ensures { Took W.Drain self.old self.new (flat_map (λ piece. piece.now) pieces.now) }
+    /// Writes lines with their ends, from pieces of their text, of which each may reach over the ends
+    /// of lines. It adds no dots: none of the lines may begin with one.
+    pub(crate) fn block(&mut self, pieces: &[&[u8]])
+        ensures { (lines : List (List ℕ)) → IsBlock lines (flat_map (λ piece. piece.now) pieces.now) → Wrote W.Drain self.old self.new lines }
     {
         for piece in pieces {
             self.piece(piece);
         }
     }
-}
 
-/// Whether the line of these pieces begins with a dot.
-fn begins_with_dot(pieces: &[&[u8]]) -> bool
-    ensures { result ≡ begins_with_dot (flat_map (λ piece. piece.now) pieces.now) }
-{
-    for piece in pieces {
-        if let Some(byte) = piece.first() {
-            return *byte == b'.';
+    /// Writes a line that stands with its end behind a dot. The dot is written where the line begins
+    /// with one and dots are added.
+    pub(crate) fn dotted_line(&mut self, dotted: &[u8])
+        requires { 0 < length dotted.now }
+        ensures { (line : List ℕ) → dotted.now ≡ codes "." ++ line ++ codes "\r\n" → Wrote W.Drain self.old self.new (line ∷ []) }
+    {
+        let line = &dotted[1..];
+        if self.dots && line.starts_with(b".") {
+            self.piece(dotted);
+        } else {
+            self.piece(line);
         }
     }
-    false
 }

@@ -4,8 +4,11 @@ ghost use Rattle.dsn_report.specs.Boundary.{letter_name, boundary_front, boundar
 
 use dsn_outcome::{Letter, ShortText};
 
+/// How long a boundary's number is, which stands last in it.
+pub(crate) const NUMBER_LEN: usize = 4;
+
 /// The letter's name: its service's letter, its queue id and its moment.
-pub(crate) fn letter_name(letter: &Letter) -> ShortText
+fn letter_name(letter: &Letter) -> ShortText
     ensures name { result ≡ letter_name letter.now }
     ensures short { length result ≤ 55 }
 {

@@ -18,7 +18,7 @@ pub(crate) fn numbers_ruled_out(front: &[u8], header: &[u8]) -> [bool; NUMBERS]
     for line in (HeaderLines { rest: header }) {
         if line.starts_with(b"--") {
             let len = show_line(line, &mut shown);
-            if let Some(number) = number_ruled_out(front, &shown[..len]) {
+            if let Some(number) = number_ruled_out(front, &shown[1..len + 1]) {
                 if number < NUMBERS {
                     ruled_out[number] = true;
                 }

@@ -25,9 +25,11 @@ pub(crate) fn write_transaction<W: Drain>(lines: &mut LineWriter<W>, site: &Site
     requires { lines.old.dots ≡ true }
     ensures { Took W.Drain lines.old lines.new (mail_transaction site.now letter.now) }
 {
-    lines.line(&[b"MAIL FROM:<>"]);
-    lines.line(&[b"RCPT TO:<", letter.return_path().bytes(), b">"]);
-    lines.line(&[b"DATA"]);
+    lines.block(&[
+        b"MAIL FROM:<>\r\nRCPT TO:<",
+        letter.return_path().bytes(),
+        b">\r\nDATA\r\n",
+    ]);
     write_notice(lines, site, letter);
     lines.piece(b".\r\n");
 }

@@ -1,8 +1,9 @@
-use Rattle.std.proofs.Common.{refl, rules, [], ◌≡◌, ◌∙◌, sym, ap, append_assoc, append-nil}
+use Rattle.std.proofs.Common.{refl, rules, [], ◌∷◌, ◌≡◌, ◌∙◌, codes, sym, ap}
 use Rattle.std.specs.Prelude.{decimal, unwrap_or}
 use Rattle.dsn_outcome.specs.Stamp.{date_text}
-use Rattle.dsn_report.proofs.LineWriterLemmas.{Wrote-as, Wrote-then}
-use Rattle.dsn_report.specs.Boundary.{letter_name}
+use Rattle.dsn_report.proofs.BlockLemmas.{block-line, block-none}
+use Rattle.dsn_report.proofs.LineWriterLemmas.{Wrote-as}
+use Rattle.dsn_report.specs.Boundary.{boundary_front}
 use Rattle.dsn_report.specs.Notice.{notice_header, return_path_of, subject_of}
 use Rattle.dsn_report.proofs.notice_lines.write_header.Goals as goal
 
@@ -14,9 +15,16 @@ returns g c =
     c.bytes.ensures.same ∙ sym (ap (λ path. unwrap_or path []) c.return_path.ensures) in
     let subject : c.subject.result.now ≡ subject_of c.args.letter.now.key.service = search rules in
     let date : c.date.result ≡ date_text c.args.letter.now.draft.moment = search rules in
-    let name : c.bytes-2.result.now ≡ letter_name c.args.letter.now = search rules in
-    let serial : c.bytes-3.result.now ≡ decimal c.args.letter.now.serial = search rules in
-    Wrote-as (simp (append_assoc, append-nil, host, path, subject, date, name, serial) refl)
-    (Wrote-then c.line.ensures (Wrote-then c.line-2.ensures (Wrote-then c.line-3.ensures
-    (Wrote-then c.line-4.ensures (Wrote-then c.line-5.ensures (Wrote-then c.line-6.ensures
-    (Wrote-then c.line-7.ensures (Wrote-then c.line-8.ensures c.line-9.ensures))))))))
+    let front : c.args.front.now ≡ boundary_front c.args.letter.now = c.requires in
+    let serial : c.bytes-2.result.now ≡ decimal c.args.letter.now.serial = search rules in
+    Wrote-as (rw (host, path, subject, date, front, serial) refl)
+    (c.block.ensures _
+    (block-line (codes "From: Mail Delivery System <MAILER-DAEMON@") (c.bytes-host.result.now ∷ codes ">" ∷ []) refl
+    (block-line (codes "To: <") (c.bytes.result.now ∷ codes ">" ∷ []) refl
+    (block-line (codes "Subject: ") (c.subject.result.now ∷ []) refl
+    (block-line (codes "Date: ") (c.date.result ∷ []) refl
+    (block-line (codes "Message-ID: <") (c.args.front.now ∷ c.bytes-2.result.now ∷ codes "@" ∷ c.bytes-host.result.now ∷ codes ">" ∷ []) refl
+    (block-line (codes "Auto-Submitted: auto-replied") [] refl
+    (block-line (codes "MIME-Version: 1.0") [] refl
+    (block-line (codes "Content-Type: multipart/report; report-type=delivery-status;") [] refl
+    (block-line (codes " boundary=\"") (c.args.boundary.now ∷ codes "\"" ∷ []) refl block-none))))))))))

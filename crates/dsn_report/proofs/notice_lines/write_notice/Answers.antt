@@ -1,13 +1,27 @@
-use Rattle.std.proofs.Common.{◌≡◌, rules, refl, append_assoc, append-nil}
+use Rattle.std.proofs.Common.{◌≡◌, [], ◌∷◌, codes, rules, refl, ap, length, arith, length-append}
+use Rattle.dsn_report.proofs.BlockLemmas.{block-line, block-none, boundary-front, parts-after}
 use Rattle.dsn_report.proofs.LineWriterLemmas.{Wrote-as, Wrote-then}
-use Rattle.dsn_report.specs.Boundary.{boundary_of}
-use Rattle.dsn_report.specs.Notice.{lines_with_boundary, notice_lines}
+use Rattle.dsn_report.specs.Boundary.{boundary_front, boundary_of, boundary_text, four_digits}
+use Rattle.dsn_report.specs.Notice.{lines_with_boundary, notice_lines, part_of}
 use Rattle.dsn_report.proofs.notice_lines.write_notice.Goals as goal
 
+pub slice_bounds-front-count : goal.slice_bounds-front-count
+unfolding boundary_text
+slice_bounds-front-count g c =
+    let boundary : c.bytes-boundary.result.now ≡ boundary_text c.args.letter.now c.boundary.result = search rules in
+    omega (arith, ap length boundary, length-append (boundary_front c.args.letter.now) (four_digits c.boundary.result))
+
+pub write_header-requires : goal.write_header-requires
+unfolding boundary_text
+write_header-requires g c =
+    let boundary : c.bytes-boundary.result.now ≡ boundary_text c.args.letter.now c.boundary.result = search rules in
+    rw boundary (boundary-front (boundary_front c.args.letter.now) (four_digits c.boundary.result) refl)
+
 pub returns : goal.returns
-unfolding notice_lines lines_with_boundary
+unfolding notice_lines lines_with_boundary part_of
 returns g c =
     let boundary : c.bytes-boundary.result.now ≡ boundary_of c.args.letter.now = search rules in
-    Wrote-as (simp (append_assoc, append-nil, boundary) refl)
-    (Wrote-then c.write_header.ensures (Wrote-then c.line.ensures (Wrote-then c.write_notification.ensures
-    (Wrote-then c.write_delivery_status.ensures (Wrote-then c.write_returned_part.ensures c.line-2.ensures)))))
+    let ended = c.block.ensures _ (block-line (codes "--") (c.bytes-boundary.result.now ∷ codes "--" ∷ []) refl block-none) in
+    Wrote-as (rw boundary (parts-after _ _ _ _ _))
+    (Wrote-then c.write_header.ensures (Wrote-then c.write_notification.ensures
+    (Wrote-then c.write_delivery_status.ensures (Wrote-then c.write_returned_part.ensures ended))))

@@ -1,13 +1,22 @@
-use Rattle.std.proofs.Common.{◌≡◌, rules, refl, append_assoc, append-nil}
+use Rattle.std.proofs.Common.{◌≡◌, ◌∙◌, ap, [], ◌∷◌, codes, rules, refl}
+use Rattle.dsn_report.proofs.BlockLemmas.{block-empty, block-line, block-none, opening-plain}
 use Rattle.dsn_report.proofs.LineWriterLemmas.{Wrote-as, Wrote-then}
-use Rattle.dsn_report.specs.Notice.{notification, part_of, opening_of}
+use Rattle.dsn_report.specs.Lines.{begins_with_dot}
+use Rattle.dsn_report.specs.Notice.{notification, part_header, opening_of}
 use Rattle.dsn_report.proofs.notice_lines.write_notification.Goals as goal
 
 pub returns : goal.returns
-unfolding notification part_of
+unfolding notification part_header
 returns g c =
     let host : c.bytes.result.now ≡ c.args.site.now = c.bytes.ensures.same in
     let opening : c.opening.result.now ≡ opening_of c.args.letter.now.key.service = search rules in
-    Wrote-as (simp (append_assoc, append-nil, host, opening) refl)
-    (Wrote-then c.begin_part.ensures (Wrote-then c.line.ensures (Wrote-then c.line-2.ensures (Wrote-then c.line-3.ensures
-    (Wrote-then c.line-4.ensures (Wrote-then c.write_outcomes.ensures c.line-5.ensures))))))
+    let block = c.block.ensures _
+    (block-empty (block-line (codes "--") (c.args.boundary.now ∷ []) refl
+    (block-line (codes "Content-Description: ") (codes "Notification" ∷ []) refl
+    (block-line (codes "Content-Type: ") (codes "text/plain; charset=us-ascii" ∷ []) refl
+    (block-empty
+    (block-line (codes "This is the mail system at host ") (c.bytes.result.now ∷ codes "." ∷ []) refl
+    (block-empty
+    (block-line c.opening.result.now [] (ap begins_with_dot opening ∙ opening-plain c.args.letter.now.key.service)
+    (block-empty block-none))))))))) in
+    Wrote-as (rw (host, opening) refl) (Wrote-then block c.write_outcomes.ensures)

@@ -1,6 +1,7 @@
-use Rattle.std.proofs.Common.{◌≡◌, rules, refl, append_assoc, append-nil}
+use Rattle.std.proofs.Common.{◌≡◌, [], ◌∷◌, codes, rules, refl, append_assoc}
 use Rattle.std.specs.Option.{option_copied}
 use Rattle.dsn_outcome.specs.Action.{action_word}
+use Rattle.dsn_report.proofs.BlockLemmas.{block-line, block-none}
 use Rattle.dsn_report.proofs.LineWriterLemmas.{Wrote-as, Wrote-then}
 use Rattle.dsn_report.specs.DeliveryStatus.{per_recipient_fields}
 use Rattle.dsn_report.proofs.notice_lines.write_recipient_fields.Goals as goal
@@ -10,13 +11,16 @@ unfolding per_recipient_fields
 returns g c =
     let original : option_copied c.original.result ≡ c.args.outcome.now.original = search rules in
     let recipient : c.recipient.result.now ≡ c.args.outcome.now.recipient = search rules in
-    let action : c.word.result.now ≡ action_word c.args.outcome.now.action = search rules in
+    let action : c.action_word.result.now ≡ action_word c.args.outcome.now.action = search rules in
     let status : c.bytes.result.now ≡ c.args.outcome.now.status = search rules in
     let mta : option_copied c.mta.result ≡ c.args.outcome.now.mta = search rules in
     let diagnostic : option_copied c.diagnostic.result ≡ c.args.outcome.now.diagnostic = search rules in
     let last_attempt : c.last_attempt.result ≡ c.args.outcome.now.last_attempt = search rules in
     let retry_until : c.retry_until.result ≡ c.args.outcome.now.retry_until = search rules in
-    Wrote-as (simp (append_assoc, append-nil, original, recipient, action, status, mta, diagnostic, last_attempt, retry_until) refl)
-    (Wrote-then c.write_if_any.ensures (Wrote-then c.line.ensures (Wrote-then c.line-2.ensures
-    (Wrote-then c.line-3.ensures (Wrote-then c.write_if_any-2.ensures (Wrote-then c.write_if_any-3.ensures
-    (Wrote-then c.write_date_if_any.ensures c.write_date_if_any-2.ensures)))))))
+    let block = c.block.ensures _
+    (block-line (codes "Final-Recipient: rfc822; ") (c.recipient.result.now ∷ []) refl
+    (block-line (codes "Action: ") (c.action_word.result.now ∷ []) refl
+    (block-line (codes "Status: ") (c.bytes.result.now ∷ []) refl block-none))) in
+    Wrote-as (simp (append_assoc, original, recipient, action, status, mta, diagnostic, last_attempt, retry_until) refl)
+    (Wrote-then c.write_if_any.ensures (Wrote-then block (Wrote-then c.write_if_any-2.ensures
+    (Wrote-then c.write_if_any-3.ensures (Wrote-then c.write_date_if_any.ensures c.write_date_if_any-2.ensures)))))

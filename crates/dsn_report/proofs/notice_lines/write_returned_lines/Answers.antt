@@ -17,7 +17,7 @@ loop-line-preserved g c = record {
   rest = λ end later.
       c.loop-line.invariant.rest end
       (Wrote-as (sym (ap (map shown_line) c.in-Some.ensures.steps))
-      (Wrote-then (c.ended_line.ensures _ c.show_ended_line.ensures) later));
+      (Wrote-then (c.dotted_line.ensures _ c.show_dotted_line.ensures) later));
 }
 
 pub returns : goal.returns

@@ -7,7 +7,7 @@ use Rattle.dsn_report.proofs.notice_lines.write_returned_lines.Given as goal
 
 abbrev pub invariant-loop-line : goal.invariant-loop-line
 invariant-loop-line g l = record {
-  room : length l.shown ≡ 1000;
+  room : length l.shown ≡ 1001;
   rest : (end : _)
       → Wrote g.W.Drain l.lines end (map shown_line (lines_left l.line-iterator))
       → Wrote g.W.Drain l.initial.lines end (returned_lines l.header);

@@ -3,6 +3,7 @@ use Rattle.std.specs.List.{list_any}
 use Rattle.std.proofs.lemmas.Bool.{false_from_ne_true}
 use Rattle.std.proofs.lemmas.List.{get_or-replicate, length-set}
 use Rattle.dsn_report.specs.Boundary.{four_digits, is_delimiter, returned_lines, shown_line}
+use Rattle.dsn_report.proofs.HeaderLemmas.{line-behind}
 use Rattle.dsn_report.specs.HeaderLines.{lines_left}
 use Rattle.dsn_report.proofs.BoundaryLemmas.{IsMarked-none, IsMarked-some, delimiter-once}
 use Rattle.dsn_report.proofs.ruled_out.numbers_ruled_out.Goals as goal
@@ -22,7 +23,7 @@ pub loop-line-preserved-then-number-lt-NUMBERS : goal.loop-line-preserved-then-n
 loop-line-preserved-then-number-lt-NUMBERS c =
     let found = c.in-Some-number_ruled_out.number in
     let is : is_delimiter (c.args.front.now ++ four_digits found) (shown_line c.in-Some.line.now) ≡ true =
-    subst (λ line. is_delimiter (c.args.front.now ++ four_digits found) line ≡ true) c.show_line-len.ensures.line c.in-Some-number_ruled_out.ensures.some.1 in
+    subst (λ line. is_delimiter (c.args.front.now ++ four_digits found) line ≡ true) (line-behind c.show_line-len.result _ _ c.show_line-len.ensures.line) c.in-Some-number_ruled_out.ensures.some.1 in
     record {
       room = search rules;
       table = length-set c.loop-line.ruled_out found true ∙ c.loop-line.invariant.table;
@@ -35,7 +36,7 @@ pub loop-line-preserved-else-number-lt-NUMBERS : goal.loop-line-preserved-else-n
 loop-line-preserved-else-number-lt-NUMBERS c =
     let found = c.in-Some-number_ruled_out.number in
     let is : is_delimiter (c.args.front.now ++ four_digits found) (shown_line c.in-Some.line.now) ≡ true =
-    subst (λ line. is_delimiter (c.args.front.now ++ four_digits found) line ≡ true) c.show_line-len.ensures.line c.in-Some-number_ruled_out.ensures.some.1 in
+    subst (λ line. is_delimiter (c.args.front.now ++ four_digits found) line ≡ true) (line-behind c.show_line-len.result _ _ c.show_line-len.ensures.line) c.in-Some-number_ruled_out.ensures.some.1 in
     let none = λ (number : ℕ) (below : number < 2980). false_from_ne_true (is_delimiter (c.args.front.now ++ four_digits number) (shown_line c.in-Some.line.now)) (λ also.
     let same : found ≡ number = delimiter-once c.args.front.now (shown_line c.in-Some.line.now) found number c.in-Some-number_ruled_out.ensures.some.0 (omega arith) is also in
     absurd (omega (arith, same, below, c.if-number-lt-NUMBERS.false))) in

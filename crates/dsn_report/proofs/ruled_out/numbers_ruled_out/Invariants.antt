@@ -6,7 +6,7 @@ use Rattle.dsn_report.proofs.ruled_out.numbers_ruled_out.Given as goal
 
 abbrev pub invariant-loop-line : goal.invariant-loop-line
 invariant-loop-line l = record {
-  room : length l.shown ≡ 1000;
+  room : length l.shown ≡ 1001;
   table : length l.ruled_out ≡ 2980;
   marked : IsMarked l.front l.header l.ruled_out (lines_left l.line-iterator);
 }

@@ -1,0 +1,72 @@
+-- Pieces of the text of several lines, of which each may reach over the ends of lines: a block is put together from its
+-- lines, and each of them from its parts.
+use Rattle.std.proofs.Common.{◌≡◌, ℕ, Bool, true, false, not, ◌||◌, List, [], ◌∷◌, ◌++◌, refl, sym, ap, ◌∙◌, ◌-◌, take, length, arith, length-append, append_assoc}
+use Rattle.std.proofs.Math.Seq.{take-append_seam}
+use Rattle.std.specs.Prelude.{◌==◌}
+use Rattle.std.proofs.lemmas.Bool.{or_from}
+use Rattle.std.specs.List.{list_any}
+use Rattle.dsn_outcome.specs.declared.service.Service.{Service}
+use Rattle.dsn_outcome.specs.declared.service.Service.TheVariants.{Bounce, Defer, Trace}
+use Rattle.dsn_report.specs.LineWriter.{IsBlock, begins_plainly}
+use Rattle.dsn_report.specs.Lines.{begins_with_dot, text_of_lines}
+use Rattle.dsn_report.specs.Notice.{opening_of}
+
+-- a line of these parts, put together as definitions write it
+abbrev pub joined : List ℕ → List (List ℕ) → List ℕ
+joined first [] = first
+joined first (part ∷ parts) = joined (first ++ part) parts
+
+-- the parts before a rest, put together as pieces are
+abbrev pub one_by_one : List (List ℕ) → List ℕ → List ℕ
+one_by_one [] rest = rest
+one_by_one (part ∷ parts) rest = part ++ one_by_one parts rest
+
+joined-one_by_one : (first : List ℕ) (parts : List (List ℕ)) (rest : List ℕ) → first ++ one_by_one parts rest ≡ joined first parts ++ rest
+joined-one_by_one first [] rest = refl
+joined-one_by_one first (part ∷ parts) rest =
+    sym (append_assoc first part (one_by_one parts rest)) ∙ joined-one_by_one (first ++ part) parts rest
+
+-- no lines
+pub block-none : IsBlock [] []
+unfolding text_of_lines
+block-none = record { text_is = refl; no_dot = refl }
+
+-- a line of these parts, and then the lines of a block
+pub block-line : {lines : List (List ℕ)} {text : List ℕ} (first : List ℕ) (parts : List (List ℕ)) → begins_with_dot (joined first parts) ≡ false
+    → IsBlock lines text → IsBlock (joined first parts ∷ lines) (first ++ one_by_one parts (13 ∷ 10 ∷ text))
+unfolding text_of_lines
+block-line {lines} {text} first parts plain block = record {
+  text_is = joined-one_by_one first parts (13 ∷ 10 ∷ text) ∙ ap (λ rest. joined first parts ++ (13 ∷ 10 ∷ rest)) block.text_is;
+  no_dot = or_from (begins_with_dot (joined first parts)) (list_any begins_with_dot lines) plain block.no_dot;
+}
+
+-- an empty line, and then the lines of a block
+pub block-empty : {lines : List (List ℕ)} {text : List ℕ} → IsBlock lines text → IsBlock ([] ∷ lines) (13 ∷ 10 ∷ text)
+block-empty block = block-line [] [] refl block
+
+-- no opening begins with a dot
+pub opening-plain : (service : Service) → begins_with_dot (opening_of service) ≡ false
+opening-plain Bounce = refl
+opening-plain Defer = refl
+opening-plain Trace = refl
+
+-- a line that begins with a name begins with no dot, whatever follows
+pub plain-line : (name value : List ℕ) → begins_plainly name ≡ true → begins_with_dot (name ++ value) ≡ false
+plain-line [] value plain = cc
+plain-line (byte ∷ rest) value plain = here (byte == 46) plain
+  where
+    here : (dot : Bool) → not dot ≡ true → dot ≡ false
+    here true e = cc
+    here false e = refl
+
+-- a boundary without its number is its front
+pub boundary-front : (front number : List ℕ) → length number ≡ 4 → take (length (front ++ number) - 4) (front ++ number) ≡ front
+boundary-front front number four =
+    let len : length (front ++ number) - 4 ≡ length front = omega (arith, length-append front number) in
+    rw len (take-append_seam front number)
+
+-- what stands before the parts of a notice, and after them, with an empty line before each part
+pub parts-after : (header first second third last : List (List ℕ))
+    → header ++ (([] ∷ first) ++ (([] ∷ second) ++ (([] ∷ third) ++ last)))
+    ≡ header ++ [] ∷ [] ++ (first ++ [] ∷ []) ++ (second ++ [] ∷ []) ++ third ++ last
+parts-after header first second third last = simp append_assoc refl

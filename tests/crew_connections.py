@@ -1,7 +1,7 @@
 #!/usr/bin/env python3
 """A crew of one agent over connections in memory (the program crew_probe), with reads of one, two, three and many bytes,
 beside a plain reading of docs/FORMATS.md: the first exchange cut after each byte, with each byte changed to each other,
-with lengths that no frame has, and with a frame too many; and each read, each write, each post and each flush of a run
+with lengths that no frame has, and without an end; and each read, each write, each post and each flush of a run
 failing in turn: with an error, interrupted, and taking no byte."""
 import os
 import struct
@@ -13,7 +13,7 @@ from typing import Optional
 
 sys.path.insert(0, str(Path(__file__).parent / "support"))
 from formats import sessions  # noqa: E402
-from formats.logs import REFUSED, Limits, Logs  # noqa: E402
+from formats.logs import CLOSED, DISCARDED, REFUSED, Limits, Logs  # noqa: E402
 from formats.notices import crlf, mail, outbox  # noqa: E402
 from running import EXAMPLES, HOST, ROOT, Checks, frames_module  # noqa: E402
 
@@ -50,16 +50,16 @@ def crew(sent: list, most: int = MANY, failing: Failing = Failing()) -> Optional
     ran = subprocess.run(words, input=given, capture_output=True, timeout=PATIENCE, check=False)
     if (ran.stderr, ran.returncode) != (b"", 0):
         return None
-    shown, ended, at = ran.stdout, Ended(), 0
+    shown, heard, at = ran.stdout, [], 0
     while shown[at : at + 4] in (b"conn", b"\0\0\0\x0a"):
         if shown[at : at + 4] == b"conn":
-            ended.heard.append(b"")
+            heard.append(bytearray())
             at += 4
         else:
-            ended.heard[-1] += shown[at : at + 14]
+            heard[-1] += shown[at : at + 14]
             at += 14
-    *ended.account, ended.outbox = shown[at:].split(b"\n", 4)
-    return ended
+    *account, text = shown[at:].split(b"\n", 4)
+    return Ended([bytes(it) for it in heard], account, text)
 
 
 class Expected:
@@ -135,6 +135,18 @@ def odd_lengths() -> list:
     bodies = [b"\0\0\0\0", b"\0\1\0\1", b"\xff\xff\xff\xff", b"\0\1\0\0" + bytes(65_536), b"\0\1\0\0" + bytes(65_535)]
     turns = [FRAMES.flush(5, 1, b"K1"), FRAMES.discard(0, 1, b"K1"), FRAMES.discard(0, 1, b"K1") + FRAMES.discard(0, 1, b"K1")]
     return [*bodies, *[it + FIRST for it in bodies[:3]], *turns, b""]
+
+
+def check_endless(checks: Checks):
+    """A peer that asks on and on is answered a million times; after it the agent's requests are used up."""
+    limit = Limits().requests
+    head, tail = FRAMES.discard(0, 1, b"K1")[:6], FRAMES.discard(0, 1, b"K1")[10:]
+    found = crew([b"".join(head + struct.pack(">I", it) + tail for it in range(limit + 1)), FRAMES.discard(0, 1, b"K1")])
+    answered = [sessions.answer(0, DISCARDED, 0), *(sessions.answer(it, CLOSED, 0) for it in range(1, limit))]
+    checks.true("a peer without end: its answers", found.heard[0] == b"".join(answered))
+    checks.equal("the next peer's answer", found.heard[1], sessions.answer(0, REFUSED, 44))
+    agent = b"requests %d connections 2 faults 1" % limit
+    checks.equal("the account", found.account, [b"ok", b"answered %d" % limit, agent, b"letters 0 unsent 0 whole true"])
 
 
 def messages() -> list:
@@ -232,6 +244,7 @@ def main():
     check_cuts(checks)
     check_all(checks, "odd lengths and turns", odd_lengths())
     check_all(checks, "each byte changed", changes())
+    check_endless(checks)
     sent = messages()
     check_reads(checks, sent)
     check_writes(checks, sent)

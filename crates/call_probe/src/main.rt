@@ -1,6 +1,6 @@
 //! Makes one public call that takes memory, on values that are made before it, for scripts that
 //! refuse it memory: `call_probe CALL`. Standard output gets the line `begin` once the values are
-//! made, and after the call `made`, or `refused` and the number of the refusal. `call_probe collect`
+//! made, and after the call a text that was kept and `made`, or `refused` and the number of the refusal. `call_probe collect`
 //! is a collector and an outbox at work, and `keys-ascending` and `keys-descending` a book that gets
 //! 65,536 keys in that order; neither takes memory after `begin`.
 #![tactic(auto)]
@@ -22,7 +22,7 @@ use std::sync::Wait;
 fn main(rt: HostRuntime) -> ExitCode {
     let came = called(&rt, rt.alloc());
     let shown = match came {
-        Some(0) => println!(rt; "made"),
+        Some(0) => println!(rt; " made"),
         Some(refusal) => println!(rt; "refused {refusal}"),
         None => println!(rt; "nothing"),
     };

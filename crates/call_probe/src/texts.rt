@@ -1,43 +1,65 @@
-//! The constructors of texts.
+//! The constructors of texts. A text that is kept is shown.
 use crate::begin;
 use dsn_outcome::{Address, Clean, EnvelopeId, MtaName, RawHeader, TextFault};
 use std::alloc::Global;
+use std::io;
+use std::io::Write;
 
-/// 0 for a text that was kept, 9 for one that there was no memory for, and none for a bad one.
-fn code<T: Drop>(kept: Result<T, TextFault>) -> Option<u32> {
-    match kept {
-        Ok(_) => Some(0),
-        Err(TextFault::NoMemory) => Some(9),
-        Err(TextFault::Bad) => None,
+/// Shows a text that was kept.
+fn shown(rt: &impl Print, text: &[u8]) -> Option<u32> {
+    io::writer(rt).write_all(text).ok()?;
+    Some(0)
+}
+
+/// 9 where there was no memory for a text, and none for a bad one.
+fn code(fault: TextFault) -> Option<u32> {
+    match fault {
+        TextFault::NoMemory => Some(9),
+        TextFault::Bad => None,
     }
 }
 
 /// An address.
 pub(crate) fn address(rt: &impl Print, alloc: Global) -> Option<u32> {
     begin(rt)?;
-    code(Address::new(alloc, b"bob@example.org"))
+    match Address::new(alloc, b"bob@example.org") {
+        Ok(kept) => shown(rt, kept.bytes()),
+        Err(fault) => code(fault),
+    }
 }
 
 /// The name of a remote mail system.
 pub(crate) fn mta_name(rt: &impl Print, alloc: Global) -> Option<u32> {
     begin(rt)?;
-    code(MtaName::new(alloc, b"mail.example.org"))
+    match MtaName::new(alloc, b"mail.example.org") {
+        Ok(kept) => shown(rt, kept.bytes()),
+        Err(fault) => code(fault),
+    }
 }
 
 /// An envelope id.
 pub(crate) fn envelope_id(rt: &impl Print, alloc: Global) -> Option<u32> {
     begin(rt)?;
-    code(EnvelopeId::new(alloc, b"QQ314159"))
+    match EnvelopeId::new(alloc, b"QQ314159") {
+        Ok(kept) => shown(rt, kept.bytes()),
+        Err(fault) => code(fault),
+    }
 }
 
 /// A diagnostic.
 pub(crate) fn clean(rt: &impl Print, alloc: Global) -> Option<u32> {
     begin(rt)?;
-    code(Clean::new(alloc, b"550 5.1.1 no such\tuser"))
+    match Clean::new(alloc, b"550 5.1.1 no such\tuser") {
+        Ok(kept) => shown(rt, kept.bytes()),
+        Err(fault) => code(fault),
+    }
 }
 
 /// A header.
 pub(crate) fn raw_header(rt: &impl Print, alloc: Global) -> Option<u32> {
     begin(rt)?;
-    code(RawHeader::new(alloc, b"Subject: hi\n"))
+    match RawHeader::new(alloc, b"Subject: hi") {
+        Ok(kept) => shown(rt, kept.bytes()),
+        Err(fault) => code(fault),
+    }
 }

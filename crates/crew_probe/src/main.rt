@@ -48,9 +48,7 @@ const ROOM: usize = 65_536;
 
 fn main(rt: HostRuntime) -> ExitCode {
     let done = match asked_for(&rt) {
-        Some(Task::Crew(agents, requests)) => {
-            run_peers(&rt, rt.alloc(), agents, requests)
-        }
+        Some(Task::Crew(agents, requests)) => { run_peers(&rt, rt.alloc(), agents, requests) }
         Some(Task::Channel(messages)) => exchange(&rt, rt.alloc(), messages),
         Some(Task::Given(most, failing)) => {
             let mut sent = Vec::new(rt.alloc());

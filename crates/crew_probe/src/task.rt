@@ -1,7 +1,7 @@
 //! What the arguments ask for.
 use crate::failing::{Call, Failing, Failure};
 use std::env;
-use std::env::{Args, Env};
+use std::env::Args;
 
 /// What to do.
 #[derive(Drop)]
@@ -15,7 +15,7 @@ pub(crate) enum Task {
 }
 
 /// What the arguments ask for; none where they are wrong, or memory was refused.
-pub(crate) fn asked_for(rt: &(impl Env + Alloc)) -> Option<Task> {
+pub(crate) fn asked_for(rt: &HostRuntime) -> Option<Task> {
     let mut words = env::args(rt).ok()?;
     let _program = words.next();
     let first = words.next()?;
@@ -37,10 +37,7 @@ fn given(mut words: Args) -> Option<Task> {
     let call = call_of(words.next()?.as_str())?;
     let at = number(&mut words)?;
     let failure = failure_of(words.next()?.as_str())?;
-    Some(Task::Given(
-        most as usize,
-        Failing::new(call, u64::from(at), failure),
-    ))
+    Some(Task::Given(most as usize, Failing::new(call, u64::from(at), failure)))
 }
 
 /// The call that a word names.

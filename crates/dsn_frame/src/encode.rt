@@ -13,9 +13,7 @@ ghost use Rattle.dsn_frame.specs.Request.{Encodes, IsWritten, append_written_as,
 use crate::parts::{BodyParts, FlushParts, HeadParts, NO_MOMENT, RecipientParts, RetryParts};
 use crate::writing::{body_len, push_frame};
 use crate::{SECOND_VERSION, VERSION};
-use dsn_outcome::{
-    Address, Body, Draft, EnvelopeId, NoMemory, Outcome, QueueId, Service, Stamp,
-};
+use dsn_outcome::{Address, Body, Draft, EnvelopeId, NoMemory, Outcome, QueueId, Service, Stamp};
 use std::alloc::Global;
 
 /// The whole frame of a request: its length, and a body that encodes this number and this request.

@@ -182,7 +182,7 @@ fn expect_append(rt: &(impl Abort + AllocGlobal)) -> Result<(), Fail> {
     };
     assert_eq!(rt; (number, id.bytes()), (0, b"A1B2C3".as_slice()));
     let outcome = node.outcome();
-    let texts = (outcome.recipient().bytes(), outcome.status().bytes());
+    let texts = (outcome.recipient(), outcome.status().bytes());
     assert_eq!(rt; texts, (b"bob@example.org".as_slice(), b"5.1.1".as_slice()));
     assert!(rt; outcome.mta().is_none());
     Ok(())

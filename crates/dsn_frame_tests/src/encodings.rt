@@ -1,8 +1,7 @@
 //! Requests to frames and back, in all their shapes.
 use dsn_frame::{decode_request, encode_request};
 use dsn_outcome::{
-    Address, Body, Clean, Draft, EnvelopeId, Key, MtaName, Outcome, Parts, QueueId, RawHeader,
-    Service, Stamp,
+    Address, Body, Draft, EnvelopeId, Key, Outcome, Parts, QueueId, RawHeader, Service, Stamp,
 };
 use std::test::Fail;
 
@@ -98,13 +97,13 @@ fn flush(rt: &HostRuntime, seconds: [u64; 2], texts: Texts<'_>) -> Result<Body, 
 
 fn same_outcome(a: &Outcome, b: &Outcome) -> bool {
     a.service() == b.service()
-        && a.recipient().bytes() == b.recipient().bytes()
-        && a.original().map(Address::bytes) == b.original().map(Address::bytes)
+        && a.recipient() == b.recipient()
+        && a.original() == b.original()
         && a.action() == b.action()
         && a.status().bytes() == b.status().bytes()
-        && a.mta().map(MtaName::bytes) == b.mta().map(MtaName::bytes)
-        && a.diagnostic().map(Clean::bytes) == b.diagnostic().map(Clean::bytes)
-        && a.reason().map(Clean::bytes) == b.reason().map(Clean::bytes)
+        && a.mta() == b.mta()
+        && a.diagnostic() == b.diagnostic()
+        && a.reason() == b.reason()
         && a.last_attempt() == b.last_attempt()
         && a.retry_until() == b.retry_until()
 }

@@ -60,10 +60,7 @@ fn request_to_another_thread(rt: HostRuntime) -> Result<(), Fail> {
     let Body::Append(_, node) = arrived.body else {
         return Ok(assert!(rt; false, "an append"));
     };
-    assert_eq!(rt;
-        node.outcome().recipient().bytes(),
-        b"bob@example.org".as_slice()
-    );
+    assert_eq!(rt; node.outcome().recipient(), b"bob@example.org".as_slice());
     Ok(())
 }
 

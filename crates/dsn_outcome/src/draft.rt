@@ -91,14 +91,7 @@ impl Draft {
         let return_path = optional_address(alloc, return_path)?;
         let envelope_id = optional_envelope_id(alloc, envelope_id)?;
         let header = RawHeader::kept(alloc, header)?;
-        Ok(Draft::new(
-            alloc,
-            moment,
-            arrival,
-            return_path,
-            envelope_id,
-            header,
-        )?)
+        Ok(Draft::new(alloc, moment, arrival, return_path, envelope_id, header)?)
     }
 
     /// Whether the notice has somebody to go to.

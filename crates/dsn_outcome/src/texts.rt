@@ -66,8 +66,9 @@ impl Texts {
             mta: mta_end as u16,
             diagnostic: diagnostic_end as u16,
         };
-        let mut bytes = Vec::with_capacity(alloc, diagnostic_end + reason.len())
-            .map_err(|_| OutcomeFault::NoMemory)?;
+        let mut bytes = Vec::with_capacity(alloc, diagnostic_end + reason.len()).map_err(
+            |_| OutcomeFault::NoMemory,
+        )?;
         append(&mut bytes, recipient);
         append(&mut bytes, original);
         append(&mut bytes, mta);

@@ -69,7 +69,7 @@ fn expect_recipients(rt: &impl Abort, letter: &Letter) -> Result<(), Fail> {
     let mut outcomes = letter.outcomes();
     for wanted in [b"one@example.org", b"two@example.org", b"six@example.org"] {
         let outcome = outcomes.next().ok_or("an outcome is missing")?;
-        assert_eq!(rt; outcome.recipient().bytes(), wanted.as_slice());
+        assert_eq!(rt; outcome.recipient(), wanted.as_slice());
     }
     assert!(rt; outcomes.next().is_none());
     Ok(())

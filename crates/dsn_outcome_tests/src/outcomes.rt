@@ -1,8 +1,6 @@
 //! Outcomes from their fields, and refusals in their order.
 use super::texts::text_of;
-use dsn_outcome::{
-    Action, Address, Clean, LAST_MOMENT, MtaName, Outcome, OutcomeFault, Parts, Service, Stamp,
-};
+use dsn_outcome::{Action, LAST_MOMENT, Outcome, OutcomeFault, Parts, Service, Stamp};
 use std::process::Abort;
 use std::test::Fail;
 
@@ -32,37 +30,21 @@ const FAULTS: [OutcomeFault; 9] = [
     OutcomeFault::RetryUntil,
 ];
 
-/// The text of an optional address; an empty one where there is none.
-fn address_text(address: Option<&Address>) -> &[u8] {
-    match address {
-        Some(address) => address.bytes(),
-        None => b"",
-    }
-}
-
-/// The same of the name of a system.
-fn name_text(name: Option<&MtaName>) -> &[u8] {
-    match name {
-        Some(name) => name.bytes(),
-        None => b"",
-    }
-}
-
-/// The same of a remark.
-fn clean_text(remark: Option<&Clean>) -> &[u8] {
-    match remark {
-        Some(remark) => remark.bytes(),
+/// The text, or an empty one where there is none.
+fn text_or_empty(text: Option<&[u8]>) -> &[u8] {
+    match text {
+        Some(text) => text,
         None => b"",
     }
 }
 
 /// Asserts the texts of an outcome.
 fn expect_texts(rt: &impl Abort, outcome: &Outcome, want: &Parts<'_>) {
-    let original = address_text(outcome.original());
-    let mta = name_text(outcome.mta());
-    let diagnostic = clean_text(outcome.diagnostic());
-    let reason = clean_text(outcome.reason());
-    assert_eq!(rt; outcome.recipient().bytes(), want.recipient);
+    let original = text_or_empty(outcome.original());
+    let mta = text_or_empty(outcome.mta());
+    let diagnostic = text_or_empty(outcome.diagnostic());
+    let reason = text_or_empty(outcome.reason());
+    assert_eq!(rt; outcome.recipient(), want.recipient);
     assert_eq!(rt; original, want.original);
     assert_eq!(rt; mta, want.mta);
     assert_eq!(rt; diagnostic, want.diagnostic);
@@ -102,11 +84,11 @@ fn an_outcome_of_the_longest_texts_is_kept(rt: HostRuntime) -> Result<(), Fail> 
     };
     let node = Outcome::new(rt.alloc(), Service::Bounce, parts)?;
     let outcome = node.outcome();
-    assert_eq!(rt; outcome.recipient().bytes(), address.as_slice());
-    assert_eq!(rt; address_text(outcome.original()), address.as_slice());
-    assert_eq!(rt; name_text(outcome.mta()), name.as_slice());
-    assert_eq!(rt; clean_text(outcome.diagnostic()), remark.as_slice());
-    assert_eq!(rt; clean_text(outcome.reason()), remark.as_slice());
+    assert_eq!(rt; outcome.recipient(), address.as_slice());
+    assert_eq!(rt; text_or_empty(outcome.original()), address.as_slice());
+    assert_eq!(rt; text_or_empty(outcome.mta()), name.as_slice());
+    assert_eq!(rt; text_or_empty(outcome.diagnostic()), remark.as_slice());
+    assert_eq!(rt; text_or_empty(outcome.reason()), remark.as_slice());
     Ok(())
 }
 

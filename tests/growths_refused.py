@@ -44,6 +44,18 @@ def check(checks: Checks, about: str, ends: list, wanted: dict):
     print(f"  {about}: {len(ends) - 1} growths, each refused once")
 
 
+def longer_and_longer(checks: Checks, library: Path):
+    """Frames that are each a byte longer than the last: what they are read into grows for the first, and then only where
+    a frame is longer than twice what it was."""
+    given = b"".join(size.to_bytes(4, "big") + b"\xff" * size for size in range(1, 1001))
+    ends = sweep(library, given)
+    checks.true("frames that are each longer: the last run is whole", ends[-1] == batch(given))
+    refused = [it.notes.splitlines() for it in ends[:-1] if it != UNBEGUN]
+    checks.equal("each growth that is refused ends it", {it[-1] for it in refused}, {b"fault 9"})
+    answered = sorted({len(it) - 1 for it in refused})
+    checks.equal("growths for frames, after so many", answered, [0, 1, 6, 16, 36, 76, 156, 316, 636])
+
+
 # How often each public call grows its memory, at least; each growth is refused with 9, or 42 of a crew.
 CALLS = {
     "address": 1, "mta-name": 1, "envelope-id": 1, "clean": 1, "raw-header": 1, "outcome": 2, "draft": 1, "book": 2, "open-lines": 1,
@@ -112,6 +124,7 @@ def main():
             "for the list of open logs": ended(b"0 logged 0\nfault 9\n", 1),
             "none": ended(b"0 logged 0\nopen B A1B2C3 1\n", 0),
         })
+        longer_and_longer(checks, library)
     checks.done()
 
 

@@ -2,7 +2,7 @@
 """A crew of one agent over connections in memory (the program crew_probe), with reads of one, two, three and many bytes,
 beside a plain reading of docs/FORMATS.md: the first exchange cut after each byte, with each byte changed to each other,
 with lengths that no frame has, and without an end; and each read, each write, each post and each flush of a run
-failing in turn: with an error, interrupted, and taking no byte."""
+failing in turn: with an error, interrupted (which is a failure like any other), and taking or giving no byte."""
 import os
 import struct
 import subprocess
@@ -167,18 +167,18 @@ def reads_of(given: bytes, most: int) -> list:
 
 
 def check_reads(checks: Checks, sent: list):
-    """Each read of the first connection fails in turn: the frames before it are answered, and the next one is served."""
+    """Each read of the first connection fails in turn, or gives nothing, as at the end: the frames before it are answered,
+    and the next connection is served."""
     for most in (1, 2, 3, MANY):
         reads = reads_of(sent[0], most)
         for number, before in enumerate(reads, 1):
-            broken = Expected()
-            broken.serve(sent[0][:before], broken=True)
-            broken.serve(sent[1])
-            found = crew(sent, most, Failing("read", number, "error"))
-            checks.equal(f"read {number} of {most} bytes fails", found, broken.ended())
-            found = crew(sent, most, Failing("read", number, "interruption"))
-            checks.equal(f"read {number} of {most} bytes is interrupted", found, expected(sent).ended())
-        print(f"  {len(reads)} reads of {most} bytes, each failed twice")
+            for failure in FAILURES:
+                wanted = Expected()
+                wanted.serve(sent[0][:before], broken=failure != "nothing")
+                wanted.serve(sent[1])
+                found = crew(sent, most, Failing("read", number, failure))
+                checks.equal(f"read {number} of {most} bytes: {failure}", found, wanted.ended())
+        print(f"  {len(reads)} reads of {most} bytes, each failed three times")
 
 
 def check_writes(checks: Checks, sent: list):
@@ -186,9 +186,8 @@ def check_writes(checks: Checks, sent: list):
     for number in range(1, 8):
         for failure in FAILURES:
             wanted = Expected()
-            wanted.serve(sent[0], lost=number - 1 if failure != "interruption" else None)
-            served = min(number, 3) if failure != "interruption" and number <= 3 else 3
-            wanted.serve(sent[1], lost=number - 1 - served if failure != "interruption" and number > 3 else None)
+            wanted.serve(sent[0], lost=number - 1)
+            wanted.serve(sent[1], lost=number - 4 if number > 3 else None)
             checks.equal(f"answer {number}: {failure}", crew(sent, MANY, Failing("write", number, failure)), wanted.ended())
     print("  6 answers, each failed three times, and none")
 
@@ -212,14 +211,8 @@ def check_posts(checks: Checks, sent: list, failure: str):
         checks.equal(f"post {number}, {failure}: answers", found.heard, whole.heard)
         checks.equal(f"post {number}, {failure}: account", found.account, wanted.account(posted, False))
         number += 1
-    checks.true(f"posts, {failure}: each is met", number > 10 if failure != "interruption" else number == 1)
+    checks.true(f"posts, {failure}: {number - 1}", number > 10)
     print(f"  {number - 1} posts failed, {failure}")
-
-
-def check_interrupted_posts(checks: Checks, sent: list):
-    """A write to the outbox that is interrupted is made again."""
-    for number in range(1, 100):
-        checks.equal(f"post {number} interrupted", crew(sent, MANY, Failing("post", number, "interruption")), expected(sent).ended())
 
 
 def check_flushes(checks: Checks, sent: list):
@@ -248,9 +241,8 @@ def main():
     sent = messages()
     check_reads(checks, sent)
     check_writes(checks, sent)
-    check_posts(checks, sent, "error")
-    check_posts(checks, sent, "nothing")
-    check_interrupted_posts(checks, sent)
+    for failure in FAILURES:
+        check_posts(checks, sent, failure)
     check_flushes(checks, sent)
     checks.done()
 

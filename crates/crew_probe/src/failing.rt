@@ -21,9 +21,9 @@ pub(crate) enum Call {
 pub(crate) enum Failure {
     /// With an error.
     Error,
-    /// With an interruption, after which it may be tried again.
+    /// With an interruption.
     Interruption,
-    /// A write that takes no byte; other calls fail with an error.
+    /// By taking or giving no byte; a flush goes well.
     Nothing,
 }
 

@@ -64,14 +64,13 @@ def sweep(library: Path, agents: int) -> list:
 
 
 def growths_of_one(checks: Checks, ends: list):
-    """The ends of a crew of one agent come in the order of its growths, and each of them is met."""
+    """The ends of a crew of one agent come in the order of its growths, and each of them is met. The second frame is as
+    long as the first, so what the first was read into has room for it."""
     wanted = [
         ("before the run", UNBEGUN),
         ("for the crew, or for the poster's thread", refused(0, b"")),
         ("for the agent's thread", refused(0, empty_outbox())),
         ("for the first frame", shown(0, [(0, 1)], 0, empty_outbox())),
-        ("for a body", shown(1, [(1, 0)], 0, empty_outbox())),
-        ("for the second frame", shown(1, [(1, 1)], 0, empty_outbox())),
         ("for a body", shown(1, [(1, 0)], 0, empty_outbox())),
         ("none", whole(1)),
     ]

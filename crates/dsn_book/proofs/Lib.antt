@@ -1,4 +1,5 @@
 pub mod BookLemmas
+pub mod CaseLemmas
 pub mod EntryLemmas
 mod Examples
 pub mod HalvingLemmas

@@ -15,3 +15,4 @@ pub mod StampLemmas
 mod StatusExamples
 pub mod StatusLemmas
 pub mod TextLemmas
+pub mod WordLemmas

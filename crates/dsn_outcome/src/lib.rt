@@ -35,6 +35,7 @@ mod stamp;
 mod status;
 mod text;
 mod texts;
+mod words;
 
 pub use action::Action;
 pub use address::{Address, LONGEST_ADDRESS};

@@ -8,6 +8,7 @@ ghost use Rattle.std.specs.Ordering.{nat_cmp, as_partial_cmp};
 ghost use Rattle.dsn_outcome.specs.Text.{IsQueueId};
 
 use crate::text::{Alphabet, has_form};
+use crate::words;
 use std::cmp::Ordering;
 use std::marker::Model;
 
@@ -75,8 +76,9 @@ impl PartialEq for QueueId {
 
     ghost laws = { Prim.search (comparing, rules) };
 
+    #[tactic(auto, using(crate::proofs::WordLemmas::tied_where_equal))]
     fn eq(&self, other: &QueueId) -> bool {
-        self.bytes() == other.bytes()
+        self.cmp(other).is_eq()
     }
 }
 
@@ -104,6 +106,6 @@ impl Ord for QueueId {
     ghost matches_eq = { Prim.search (comparing, rules) };
 
     fn cmp(&self, other: &QueueId) -> Ordering {
-        self.bytes().cmp(other.bytes())
+        words::compare(&self.buffer, &other.buffer)
     }
 }

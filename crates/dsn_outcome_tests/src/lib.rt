@@ -7,6 +7,8 @@ mod letters;
 #[cfg(test)]
 mod outcomes;
 #[cfg(test)]
+mod queue_ids;
+#[cfg(test)]
 mod stamps;
 #[cfg(test)]
 mod texts;

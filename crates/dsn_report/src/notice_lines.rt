@@ -175,11 +175,7 @@ fn write_message_fields<W: Drain>(lines: &mut LineWriter<W>, site: &Site, letter
 fn write_recipient_fields<W: Drain>(lines: &mut LineWriter<W>, outcome: &Outcome)
     ensures { Wrote W.Drain lines.old lines.new (per_recipient_fields outcome.now) }
 {
-    write_if_any(
-        lines,
-        b"Original-Recipient: rfc822; ",
-        outcome.original(),
-    );
+    write_if_any(lines, b"Original-Recipient: rfc822; ", outcome.original());
     lines.block(&[
         b"Final-Recipient: rfc822; ",
         outcome.recipient(),
@@ -189,16 +185,8 @@ fn write_recipient_fields<W: Drain>(lines: &mut LineWriter<W>, outcome: &Outcome
         outcome.status().bytes(),
         b"\r\n",
     ]);
-    write_if_any(
-        lines,
-        b"Remote-MTA: dns; ",
-        outcome.mta(),
-    );
-    write_if_any(
-        lines,
-        b"Diagnostic-Code: smtp; ",
-        outcome.diagnostic(),
-    );
+    write_if_any(lines, b"Remote-MTA: dns; ", outcome.mta());
+    write_if_any(lines, b"Diagnostic-Code: smtp; ", outcome.diagnostic());
     write_date_if_any(lines, b"Last-Attempt-Date: ", outcome.last_attempt());
     write_date_if_any(lines, b"Will-Retry-Until: ", outcome.retry_until());
 }

@@ -62,7 +62,8 @@ CALLS = {
     "read-frame": 1, "decode-append": 2, "decode-flush": 2, "encode-append": 1, "encode-flush": 1, "site": 1, "notice": 1,
     "open-lane": 2, "open-post": 2, "open-crew": 3,
 }  # fmt: skip
-# The texts that are kept.
+# What the program is given beside the call's name, and the texts that are kept.
+TEXTS = {"clean": ["550 5.1.1 no such\tuser"]}
 KEPT = {
     "address": b"bob@example.org ", "mta-name": b"mail.example.org ", "envelope-id": b"QQ314159 ", "clean": b"550 5.1.1 no such?user ",
     "raw-header": b"Subject: hi ",
@@ -74,7 +75,8 @@ WITHOUT_MEMORY = {"read-empty": b"refused 12", "read-too-long": b"refused 11", "
 def called(library: Path, call: str, growth) -> bytes:
     """What a public call comes to whose growth of this number is refused; "all" of them, or None."""
     refused = {} if growth is None else {"LD_PRELOAD": str(library), "REFUSE": str(growth), "REFUSE_AFTER": "begin\n"}
-    ended = subprocess.run([PROBE, call], capture_output=True, env={**os.environ, **refused}, check=False)
+    words = [PROBE, call, *TEXTS.get(call, ())]
+    ended = subprocess.run(words, capture_output=True, env={**os.environ, **refused}, check=False)
     begun, _, came = ended.stdout.partition(b"begin\n")
     return came.strip() if (begun, ended.stderr, ended.returncode) == (b"", b"", 0) else b"another end: " + str(ended).encode()
 

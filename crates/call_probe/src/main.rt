@@ -1,8 +1,10 @@
 //! Makes one public call that takes memory, on values that are made before it, for scripts that
-//! refuse it memory: `call_probe CALL`. Standard output gets the line `begin` once the values are
-//! made, and after the call a text that was kept and `made`, or `refused` and the number of the refusal. `call_probe collect`
-//! is a collector and an outbox at work, and `keys-ascending` and `keys-descending` a book that gets
-//! 65,536 keys in that order; neither takes memory after `begin`.
+//! refuse it memory: `call_probe CALL`, and for a diagnostic `call_probe clean TEXT`.
+//!
+//! Standard output gets the line `begin` once the values are made, and after the call a text that
+//! was kept and `made`, or `refused` and the number of the refusal. `collect` is a collector and an
+//! outbox at work, and `keys-ascending` and `keys-descending` a book that gets 65,536 keys in that
+//! order; they take no memory after `begin`.
 #![tactic(auto)]
 
 mod asked;
@@ -34,7 +36,10 @@ fn called(rt: &(impl Env + Alloc + Print + Wait), alloc: Global) -> Option<u32> 
     let mut words = env::args(rt).ok()?;
     let _program = words.next();
     let call = words.next()?;
-    come_to(rt, alloc, call.as_str())
+    match words.next() {
+        Some(text) => texts::clean(rt, alloc, text.as_bytes()),
+        None => come_to(rt, alloc, call.as_str()),
+    }
 }
 
 /// What a call comes to: 0, or the number of its refusal; none where no such call is known, or a
@@ -44,7 +49,6 @@ fn come_to(rt: &(impl Print + Wait), alloc: Global, call: &str) -> Option<u32> {
         "address" => texts::address(rt, alloc),
         "mta-name" => texts::mta_name(rt, alloc),
         "envelope-id" => texts::envelope_id(rt, alloc),
-        "clean" => texts::clean(rt, alloc),
         "raw-header" => texts::raw_header(rt, alloc),
         "outcome" => logs::outcome(rt, alloc),
         "draft" => logs::draft(rt, alloc),

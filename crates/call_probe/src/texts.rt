@@ -46,10 +46,11 @@ pub(crate) fn envelope_id(rt: &impl Print, alloc: Global) -> Option<u32> {
     }
 }
 
-/// A diagnostic.
-pub(crate) fn clean(rt: &impl Print, alloc: Global) -> Option<u32> {
+/// A diagnostic. (Of a text that is known when the program is built the compiler would keep the copy
+/// on the stack.)
+pub(crate) fn clean(rt: &impl Print, alloc: Global, text: &[u8]) -> Option<u32> {
     begin(rt)?;
-    match Clean::new(alloc, b"550 5.1.1 no such\tuser") {
+    match Clean::new(alloc, text) {
         Ok(kept) => shown(rt, kept.bytes()),
         Err(fault) => code(fault),
     }

@@ -1,4 +1,6 @@
 //! Which call of which device fails, in a run.
+ghost use Rattle.std.specs.Prelude.{◌≡◌, IfOk};
+
 use std::io;
 use std::io::ErrorKind;
 use std::sync::atomic::{AtomicU64, Ordering};
@@ -28,8 +30,10 @@ pub(crate) enum Failure {
 }
 
 impl Failure {
-    /// What the call gives.
-    pub(crate) fn given(self) -> io::Result<usize> {
+    /// What the call gives: no byte, if it gives something.
+    pub(crate) fn given(self) -> io::Result<usize>
+        ensures { IfOk result (λ count. count ≡ 0) }
+    {
         match self {
             Failure::Error => Err(io::Error::from(ErrorKind::Other)),
             Failure::Interruption => Err(io::Error::from(ErrorKind::Interrupted)),

@@ -1,7 +1,7 @@
 //! Frames and their bodies.
 use crate::begin;
 use dsn_device::Plain;
-use dsn_frame::{decode_request, encode_request, read_frame};
+use dsn_frame::{FrameBuffer, decode_request, encode_request, read_frame};
 use std::alloc::Global;
 
 /// The body of an append of `bob@example.org`, failed with status 5.1.1, to the bounce log `A1B2C3`.
@@ -25,6 +25,17 @@ pub(crate) fn read(rt: &impl Print, alloc: Global, input: &[u8]) -> Option<u32> 
     let mut source = Plain::new(input);
     begin(rt)?;
     match read_frame(alloc, &mut source) {
+        Ok(_) => Some(0),
+        Err(fault) => Some(fault.code()),
+    }
+}
+
+/// Reads a frame into a buffer that is kept.
+pub(crate) fn read_next(rt: &impl Print, alloc: Global) -> Option<u32> {
+    let mut source = Plain::new(FRAME);
+    let mut buffer = FrameBuffer::new(alloc);
+    begin(rt)?;
+    match buffer.read_next(&mut source) {
         Ok(_) => Some(0),
         Err(fault) => Some(fault.code()),
     }

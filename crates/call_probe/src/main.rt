@@ -57,6 +57,7 @@ fn come_to(rt: &(impl Print + Wait), alloc: Global, call: &str) -> Option<u32> {
         "keys-ascending" => logs::keys(rt, alloc, false),
         "keys-descending" => logs::keys(rt, alloc, true),
         "read-frame" => frames::read(rt, alloc, frames::FRAME),
+        "read-next" => frames::read_next(rt, alloc),
         "read-empty" => frames::read(rt, alloc, frames::EMPTY),
         "read-too-long" => frames::read(rt, alloc, frames::TOO_LONG),
         "decode-append" => frames::decode(rt, alloc, frames::APPEND),

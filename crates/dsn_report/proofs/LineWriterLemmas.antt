@@ -7,8 +7,9 @@ use Rattle.std.proofs.lemmas.Bool.{or_parts}
 use Rattle.std.proofs.lemmas.Grind.{flat_map-append}
 use Rattle.std.proofs.lemmas.List.{map-append}
 use Rattle.dsn_device.proofs.UntilFailureLemmas.{writes-none, writes-then}
+use Rattle.dsn_device.specs.QuietWriter.{QuietWriter, Writes}
 use Rattle.dsn_device.specs.declared.drain.Drain.{Ghosts as Drain}
-use Rattle.dsn_report.specs.LineWriter.{IsBlock, Took, Wrote, lines_sent}
+use Rattle.dsn_report.specs.LineWriter.{HasTaken, IsBlock, Settled, Took, Wrote, lines_sent}
 use Rattle.dsn_report.specs.Lines.{text_of_lines, dot_stuffed, begins_with_dot}
 use Rattle.dsn_report.specs.declared.line_writer.LineWriter.{LineWriter}
 
@@ -29,13 +30,45 @@ sent_text-append dots xs ys = ap text_of_lines (lines_sent-append dots xs ys) �
 
 module _ {W : Type 0} {device : Drain W} where
   pub Took-none : (s : LineWriter W) → Took device s s []
-  Took-none s = record { text_written = writes-none s.writer.failed s.writer.drain; dots_kept = refl }
+  Took-none s = record { text_taken = λ start before taken. subst (HasTaken device start s) (sym (append-nil before)) taken; dots_kept = refl }
 
   pub Took-then : {s t u : LineWriter W} {a b : List ℕ} → Took device s t a → Took device t u b → Took device s u (a ++ b)
-  Took-then p q = record { text_written = writes-then p.text_written q.text_written; dots_kept = q.dots_kept ∙ p.dots_kept }
+  Took-then {s} {t} {u} {a} {b} p q = record {
+    text_taken = λ start before taken. subst (HasTaken device start u) (append_assoc before a b) (q.text_taken start (before ++ a) (p.text_taken start before taken));
+    dots_kept = q.dots_kept ∙ p.dots_kept;
+  }
 
   pub Took-as : {s t : LineWriter W} {a b : List ℕ} → a ≡ b → Took device s t a → Took device s t b
   Took-as {s} {t} e p = subst (Took device s t) e p
+
+  -- a text that is held back
+  pub Took-held : {s t : LineWriter W} {text : List ℕ} → t.writer ≡ s.writer → t.held ≡ s.held ++ text → t.dots ≡ s.dots → Took device s t text
+  Took-held {s} {t} {text} writer held dots = record {
+    text_taken = λ start before taken. record {
+      front = taken.front;
+      split = ap (λ front. front ++ text) taken.split ∙ append_assoc taken.front s.held text ∙ ap (λ more. taken.front ++ more) (sym held);
+      written = subst (λ now. Writes device start now taken.front) (sym writer) taken.written;
+    };
+    dots_kept = dots;
+  }
+
+  -- a text that is written after what was held back
+  pub Took-written : {s t u : LineWriter W} {text : List ℕ} → Settled device s t → Writes device t.writer u.writer text → u.held ≡ t.held → u.dots ≡ t.dots → Took device s u text
+  Took-written {s} {t} {u} {text} settled wrote held dots = record {
+    text_taken = λ start before taken. record {
+      front = (taken.front ++ s.held) ++ text;
+      split = ap (λ front. front ++ text) taken.split ∙ sym (append-nil _) ∙ ap (λ more. ((taken.front ++ s.held) ++ text) ++ more) (sym (held ∙ settled.none_held));
+      written = writes-then (writes-then taken.written settled.held_written) wrote;
+    };
+    dots_kept = dots ∙ settled.dots_kept;
+  }
+
+  -- a writer that held nothing back took a text, and was settled: all of the text is written
+  pub settled-text : {s t u : LineWriter W} {text : List ℕ} → s.held ≡ [] → Took device s t text → Settled device t u → Writes device s.writer u.writer text
+  settled-text {s} {t} {u} {text} none took settled =
+      let start : HasTaken device s.writer s [] = record { front = []; split = sym none; written = writes-none s.writer.failed s.writer.drain } in
+      let taken = took.text_taken s.writer [] start in
+      subst (Writes device s.writer u.writer) (sym taken.split) (writes-then taken.written settled.held_written)
 
   pub Wrote-none : (s : LineWriter W) → Wrote device s s []
   unfolding text_of_lines

@@ -4,6 +4,7 @@
 
 mod boundary_number;
 mod header_lines;
+mod held;
 mod laws;
 mod line_writer;
 mod name;

@@ -2,17 +2,21 @@
 ghost use Rattle.std.specs.Prelude.{◌≡◌, ◌<◌, ℕ, List, [], ◌∷◌, ◌++◌, codes, length};
 ghost use Rattle.std.specs.List.{flat_map};
 ghost use Rattle.dsn_device.specs.QuietWriter.{Flushes};
-ghost use Rattle.dsn_report.specs.LineWriter.{IsBlock, Took, Wrote};
+ghost use Rattle.dsn_report.specs.LineWriter.{IsBlock, Settled, Took, Wrote};
 
+use crate::held::Held;
 use dsn_device::{Drain, QuietWriter};
 
-/// Writes lines to a drain, each ended by CRLF. After the drain's first failure it writes nothing
-/// more, so that its callers need not look at each line.
+/// Writes lines to a drain, each ended by CRLF. It holds texts back until many of them make one
+/// write, or until it is settled. After the drain's first failure it writes nothing more, so that its
+/// callers need not look at each line.
 #[derive(Drop)]
 pub(crate) struct LineWriter<W> {
     pub(crate) writer: QuietWriter<W>,
     /// Whether a line that begins with a dot gets one more in front (RFC 5321 section 4.5.2).
     pub(crate) dots: bool,
+    /// What it holds back.
+    pub(crate) held: Held,
 }
 
 impl<W: Drain> LineWriter<W> {
@@ -20,13 +24,27 @@ impl<W: Drain> LineWriter<W> {
     pub(crate) fn piece(&mut self, text: &[u8])
         ensures { Took W.Drain self.old self.new text.now }
     {
+        if self.held.push(text) {
+            return;
+        }
+        self.settle();
         self.writer.write(text);
+    }
+
+    /// Writes what it holds back.
+    #[inline(never)]
+    pub(crate) fn settle(&mut self)
+        ensures { Settled W.Drain self.old self.new }
+    {
+        self.writer.write(self.held.bytes());
+        self.held.clear();
     }
 
     /// Has the drain pass on what it holds.
     pub(crate) fn flush(&mut self)
         ensures flushes { Flushes W.Drain self.old.writer self.new.writer }
         ensures dots { self.new.dots ≡ self.old.dots }
+        ensures held { self.new.held ≡ self.old.held }
     {
         self.writer.flush();
     }

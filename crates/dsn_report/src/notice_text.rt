@@ -2,6 +2,7 @@
 ghost use Rattle.std.specs.Prelude.{◌≡◌, IfOk};
 ghost use Rattle.dsn_report.specs.Notice.{notice_of};
 
+use crate::held::Held;
 use crate::line_writer::LineWriter;
 use crate::notice_lines::write_notice;
 use crate::site::Site;
@@ -17,9 +18,15 @@ pub fn notice(alloc: Global, site: &Site, letter: &Letter) -> Result<Vec<u8>, No
     let mut lines = LineWriter {
         writer: QuietWriter::new(Plain::new(Vec::new(alloc))),
         dots: false,
+        held: Held::new(),
     };
     write_notice(&mut lines, site, letter);
-    let LineWriter { writer, dots: _ } = lines;
+    lines.settle();
+    let LineWriter {
+        writer,
+        dots: _,
+        held: _,
+    } = lines;
     let (drain, failed) = writer.into_parts();
     let text = drain.into_inner();
     if failed {

@@ -5,10 +5,11 @@ ghost use Rattle.dsn_device.specs.Transfer.{AppendsFront};
 ghost use Rattle.dsn_device.specs.UntilFailure.{WrittenAndFlushed, counts_failure};
 ghost use Rattle.dsn_report.specs.Poster.{post_fault, post_text, finish_text};
 
+use crate::held::Held;
 use crate::line_writer::LineWriter;
 use crate::post_fault::PostFault;
 use crate::site::Site;
-use crate::transaction::{greet_once, write_goodbye, write_transaction};
+use crate::transaction::{send_goodbye, send_letter};
 use dsn_device::{Drain, QuietWriter};
 use dsn_outcome::Letter;
 use std::marker::Model;
@@ -23,14 +24,14 @@ pub struct Poster<W> {
 }
 
 impl<W> Model for Poster<W> {
-    ghost use Rattle.std.specs.Prelude.{◌≡◌, true};
+    ghost use Rattle.std.specs.Prelude.{◌≡◌, true, []};
     ghost use Rattle.dsn_report.specs.Poster.{Poster};
 
     ghost Value = { Poster W };
 
     ghost view = { λ p. record { host = p.site; outbox = p.lines.writer.drain; greeted = p.greeted; failed = p.lines.writer.failed } };
 
-    ghost invariant = { λ p. p.lines.dots ≡ true };
+    ghost invariant = { λ p. (p.lines.dots ≡ true) × (p.lines.held ≡ []) };
 }
 
 /// What is left of a poster at the end.
@@ -52,6 +53,7 @@ impl<W> Poster<W> {
             lines: LineWriter {
                 writer: QuietWriter::new(outbox),
                 dots: true,
+                held: Held::new(),
             },
             greeted: false,
         }
@@ -89,9 +91,8 @@ impl<W: Drain> Poster<W> {
         if self.lines.writer.has_failed() {
             return Err(PostFault::Failed(letter));
         }
-        greet_once(&mut self.lines, &self.site, self.greeted);
+        send_letter(&mut self.lines, &self.site, &letter, self.greeted);
         self.greeted = true;
-        write_transaction(&mut self.lines, &self.site, &letter);
         self.lines.flush();
         if self.lines.writer.has_failed() {
             return Err(PostFault::Write(letter));
@@ -116,10 +117,13 @@ impl<W: Drain> Poster<W> {
             mut lines,
             greeted,
         } = self;
-        greet_once(&mut lines, &site, greeted);
-        write_goodbye(&mut lines);
+        send_goodbye(&mut lines, &site, greeted);
         lines.flush();
-        let LineWriter { writer, dots: _ } = lines;
+        let LineWriter {
+            writer,
+            dots: _,
+            held: _,
+        } = lines;
         let (outbox, failed) = writer.into_parts();
         Ended {
             outbox,

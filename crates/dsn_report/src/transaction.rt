@@ -1,5 +1,6 @@
 //! The client's side of the mail protocol.
-ghost use Rattle.std.specs.Prelude.{◌≡◌, true, [], if◌then◌else◌};
+ghost use Rattle.std.specs.Prelude.{◌≡◌, true, [], ◌++◌, if◌then◌else◌};
+ghost use Rattle.dsn_device.specs.QuietWriter.{Writes};
 ghost use Rattle.dsn_report.specs.LineWriter.{Took};
 ghost use Rattle.dsn_report.specs.Outbox.{greeting, goodbye, mail_transaction};
 
@@ -9,8 +10,36 @@ use crate::site::Site;
 use dsn_device::Drain;
 use dsn_outcome::Letter;
 
+/// Sends a letter's mail transaction, after what opens the session unless that is sent.
+pub(crate) fn send_letter<W: Drain>(
+    lines: &mut LineWriter<W>,
+    site: &Site,
+    letter: &Letter,
+    greeted: bool,
+)
+    requires dots { lines.old.dots ≡ true }
+    requires none_held { lines.old.held ≡ [] }
+    ensures sent { Writes W.Drain lines.old.writer lines.new.writer ((if greeted then [] else greeting site.now) ++ mail_transaction site.now letter.now) }
+    ensures dots { lines.new.dots ≡ true }
+    ensures none_held { lines.new.held ≡ [] }
+{
+    greet_once(lines, site, greeted);
+    write_transaction(lines, site, letter);
+    lines.settle();
+}
+
+/// Sends what ends the session, after what opens it unless that is sent.
+pub(crate) fn send_goodbye<W: Drain>(lines: &mut LineWriter<W>, site: &Site, greeted: bool)
+    requires { lines.old.held ≡ [] }
+    ensures { Writes W.Drain lines.old.writer lines.new.writer ((if greeted then [] else greeting site.now) ++ goodbye) }
+{
+    greet_once(lines, site, greeted);
+    write_goodbye(lines);
+    lines.settle();
+}
+
 /// Writes what opens the session, unless it is written.
-pub(crate) fn greet_once<W: Drain>(lines: &mut LineWriter<W>, site: &Site, greeted: bool)
+fn greet_once<W: Drain>(lines: &mut LineWriter<W>, site: &Site, greeted: bool)
     ensures { Took W.Drain lines.old lines.new (if greeted then [] else greeting site.now) }
 {
     if !greeted {
@@ -21,7 +50,7 @@ pub(crate) fn greet_once<W: Drain>(lines: &mut LineWriter<W>, site: &Site, greet
 }
 
 /// Writes the mail transaction of a letter.
-pub(crate) fn write_transaction<W: Drain>(lines: &mut LineWriter<W>, site: &Site, letter: &Letter)
+fn write_transaction<W: Drain>(lines: &mut LineWriter<W>, site: &Site, letter: &Letter)
     requires { lines.old.dots ≡ true }
     ensures { Took W.Drain lines.old lines.new (mail_transaction site.now letter.now) }
 {
@@ -35,7 +64,7 @@ pub(crate) fn write_transaction<W: Drain>(lines: &mut LineWriter<W>, site: &Site
 }
 
 /// Writes what ends the session.
-pub(crate) fn write_goodbye<W: Drain>(lines: &mut LineWriter<W>)
+fn write_goodbye<W: Drain>(lines: &mut LineWriter<W>)
     ensures { Took W.Drain lines.old lines.new goodbye }
 {
     lines.piece(b"QUIT\r\n");

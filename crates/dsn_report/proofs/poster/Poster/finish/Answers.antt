@@ -2,7 +2,6 @@ use Rattle.std.proofs.Common.{◌≡◌, Bool, true, false, refl, subst, sym}
 use Rattle.std.specs.Prelude.{not}
 use Rattle.dsn_device.specs.UntilFailure.{WrittenAndFlushed}
 use Rattle.dsn_device.proofs.UntilFailureLemmas.{written-flushed, flushed-front, flushed-whole}
-use Rattle.dsn_report.proofs.LineWriterLemmas.{Took-then}
 use Rattle.dsn_report.specs.Poster.{finish_text}
 use Rattle.dsn_report.proofs.poster.Poster.finish.Goals as goal
 
@@ -13,11 +12,10 @@ twice false = refl
 pub returns-clause-flushed : goal.returns-clause-flushed
 unfolding finish_text
 returns-clause-flushed g c =
-    let took = Took-then c.greet_once.ensures c.write_goodbye.ensures in
     let last = c.flush.new.self.writer in
     rw (twice, c.into_parts-outbox.ensures.drain, c.into_parts-outbox.ensures.failed)
     (subst (λ poster. WrittenAndFlushed g.W.Drain poster.failed last.failed poster.outbox last.drain (finish_text poster))
-    c.self.view_is (written-flushed took.text_written c.flush.ensures.flushes))
+    c.self.view_is (written-flushed c.send_goodbye.ensures c.flush.ensures.flushes))
 
 pub returns-clause-sent : goal.returns-clause-sent
 returns-clause-sent g c = λ whole.

@@ -211,7 +211,7 @@ def check_posts(checks: Checks, sent: list, failure: str):
         checks.equal(f"post {number}, {failure}: answers", found.heard, whole.heard)
         checks.equal(f"post {number}, {failure}: account", found.account, wanted.account(posted, False))
         number += 1
-    checks.true(f"posts, {failure}: {number - 1}", number > 10)
+    checks.true(f"posts, {failure}: one at least for each letter and the end: {number - 1}", number > len(parts))
     print(f"  {number - 1} posts failed, {failure}")
 
 

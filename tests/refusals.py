@@ -1,7 +1,6 @@
 #!/usr/bin/env python3
 """Keeps docs/REFUSALS.md true: each number of docs/FORMATS.md has a row there, with the same words, and no other has; the
-code gives exactly these numbers; each test that a row names is there, and the test, or what its file says of it, has the
-number."""
+code gives exactly these numbers; each test that a row names is there, in a file that has the number."""
 import re
 import sys
 from pathlib import Path

@@ -4,12 +4,14 @@ use Rattle.std.specs.Prelude.{Option, Some, None, IsTrue, if◌then◌else◌}
 use Rattle.std.specs.Option.{option_map_or}
 use Rattle.std.proofs.lemmas.Bool.{leb-true}
 use Rattle.std.proofs.lemmas.Grind.{common_steps}
-use Rattle.dsn_outcome.specs.Action.{action_of_byte}
-use Rattle.dsn_outcome.specs.Outcome.{Fields, Outcome, first_failed, first_outcome_fault, outcome_checks, unless_empty, is_none_or, takes, fits_class, fits_retry, AreDated, IsLegalOutcome, IsOutcomeOf}
-use Rattle.dsn_outcome.specs.Status.{is_status_code, status_class}
-use Rattle.dsn_outcome.specs.Text.{is_address, is_mta_name, is_remark, is_text, clean_text}
-use Rattle.dsn_outcome.proofs.TextLemmas.{is_remark-clean_text}
-use Rattle.dsn_outcome.specs.declared.service.Service.{Service}
+use Rattle.dsn_text.specs.Action.{action_of_byte, fits_class, fits_retry}
+use Rattle.dsn_outcome.specs.Outcome.{Fields, Outcome, first_failed, first_outcome_fault, outcome_checks, AreDated, IsLegalOutcome, IsOutcomeOf}
+use Rattle.dsn_text.specs.Optional.{unless_empty, is_none_or}
+use Rattle.dsn_text.specs.Service.{takes}
+use Rattle.dsn_text.specs.Status.{is_status_code, status_class}
+use Rattle.dsn_text.specs.Text.{is_address, is_mta_name, is_remark, is_text, clean_text}
+use Rattle.dsn_text.proofs.TextLemmas.{is_remark-clean_text}
+use Rattle.dsn_text.specs.declared.service.Service.{Service}
 
 -- every check of a list passes
 abbrev pub AllPass : {F : Type 0} → List (Bool × F) → Type 0

@@ -3,14 +3,14 @@ use Rattle.std.proofs.Common.{◌≡◌, Bool, true, false, not, ◌&&◌, ◌==
 use Rattle.std.specs.Prelude.{◌≢◌, Option, Some, None, is_none}
 use Rattle.std.specs.Option.{option_map_or}
 use Rattle.dsn_outcome.proofs.HistoryLemmas.{and_false}
-use Rattle.dsn_outcome.proofs.KeyLemmas.{same_key-equal}
+use Rattle.dsn_text.proofs.KeyLemmas.{same_key-equal}
 use Rattle.dsn_outcome.specs.History.{Limits, Exchange, is_closed, is_forgotten, is_forget, forgets, is_empty, is_held, held_keys, log_of, reply_when_open, reply_about, reply_to, exchange_of}
-use Rattle.dsn_outcome.specs.Key.{same_key}
+use Rattle.dsn_text.specs.Key.{same_key}
 use Rattle.dsn_outcome.specs.Outcome.{Outcome}
 use Rattle.dsn_outcome.specs.Request.{Request, Body, Append, Flush, Discard, Forget, Bye, key_of}
 use Rattle.dsn_outcome.specs.declared.answer.Reply.{Reply}
 use Rattle.dsn_outcome.specs.declared.answer.Reply.TheVariants.{Logged, Closed, TableFull, LogFull, Nothing, NoReturn, Sealed}
-use Rattle.dsn_outcome.specs.declared.key.Key.{Key}
+use Rattle.dsn_text.specs.declared.key.Key.{Key}
 
 either-keeps : (b : Bool) (first second : Reply) → is_forgotten first ≡ false → is_forgotten second ≡ false → is_forgotten (cond b first second) ≡ false
 either-keeps true first second f s = f

@@ -8,13 +8,13 @@ use Rattle.dsn_outcome.proofs.node.Node.TheLaws.TheKnot as nodes
 use Rattle.dsn_outcome.specs.contracts.cell.Cell as Cell
 use Rattle.dsn_outcome.specs.contracts.cell.Sealed as Sealed
 use Rattle.dsn_outcome.specs.contracts.cell.Terms as Terms
-use Rattle.dsn_outcome.specs.contracts.key.Key as Key
+use Rattle.dsn_text.specs.contracts.key.Key as Key
 use Rattle.dsn_outcome.specs.contracts.letter.Letter as Letter
 use Rattle.dsn_outcome.specs.contracts.letters.Letters as Letters
 use Rattle.dsn_outcome.specs.contracts.links.Links as Links
 use Rattle.dsn_outcome.specs.contracts.node.Node as Node
 use Rattle.dsn_outcome.specs.contracts.outcome.Outcome as Outcome
-use Rattle.dsn_outcome.specs.contracts.queue_id.QueueId as QueueId
+use Rattle.dsn_text.specs.contracts.queue_id.QueueId as QueueId
 use Rattle.dsn_outcome.specs.contracts.request.Request as Request
 
 id : IsSend QueueId.the_row

@@ -5,7 +5,7 @@ use Rattle.dsn_outcome.specs.Draft.{Draft}
 use Rattle.dsn_outcome.specs.Letter.{Letter}
 use Rattle.dsn_outcome.specs.declared.cell.Cell.{Cell, Cell', Held-Cell-next, None', Some'}
 use Rattle.dsn_outcome.specs.declared.cell.Sealed.{Sealed}
-use Rattle.dsn_outcome.specs.declared.service.Service.TheVariants.{Bounce}
+use Rattle.dsn_text.specs.declared.service.Service.TheVariants.{Bounce}
 
 -- the letter of these terms; without a sealed log it reports nothing
 abbrev pub letter_from : Draft → Option Sealed → Letter

@@ -4,7 +4,7 @@ use Rattle.std.specs.List.{list_any, AllByRecursion}
 use Rattle.dsn_outcome.specs.History.{Limits, Exchange, IsClosed, forgets, is_forget, log_of, held_keys, reply_to, exchange_of, history_after, sealed_letters}
 use Rattle.dsn_outcome.specs.Request.{Request, Body, Forget, key_of}
 use Rattle.dsn_outcome.specs.declared.answer.Reply.TheVariants.{Closed}
-use Rattle.dsn_outcome.specs.declared.key.Key.{Key}
+use Rattle.dsn_text.specs.declared.key.Key.{Key}
 
 -- it is closed whatever follows, as long as nothing lets it go
 abbrev pub StaysClosed : Key → List Exchange → Type 0

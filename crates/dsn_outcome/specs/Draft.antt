@@ -1,8 +1,9 @@
 -- Drafts: what a flush says of the notice that it asks for, before the outcomes are added.
 use Rattle.std.specs.Prelude.{ℕ, ◌≤◌, nat_le, Bool, List, [], ◌∷◌, length, Option, IsTrue}
-use Rattle.dsn_outcome.specs.Outcome.{first_failed, is_none_or, unless_empty}
-use Rattle.dsn_outcome.specs.Stamp.{last_moment}
-use Rattle.dsn_outcome.specs.Text.{is_address, is_envelope_id}
+use Rattle.dsn_outcome.specs.Outcome.{first_failed}
+use Rattle.dsn_text.specs.Optional.{is_none_or, unless_empty}
+use Rattle.dsn_text.specs.Stamp.{last_moment}
+use Rattle.dsn_text.specs.Text.{is_address, is_envelope_id}
 use Rattle.dsn_outcome.specs.declared.draft_fault.DraftFault.{DraftFault}
 use Rattle.dsn_outcome.specs.declared.draft_fault.DraftFault.TheVariants.{Header, ReturnPath, EnvelopeId}
 

@@ -2,7 +2,7 @@
 use Rattle.std.specs.Prelude.{◌≡◌, ◌≢◌, ℕ, List, [], All, IsSome}
 use Rattle.dsn_outcome.specs.Draft.{Draft}
 use Rattle.dsn_outcome.specs.Outcome.{Outcome}
-use Rattle.dsn_outcome.specs.declared.key.Key.{Key}
+use Rattle.dsn_text.specs.declared.key.Key.{Key}
 
 -- a log's key, what its flush said, its outcomes, oldest first, and how many letters were sealed before it, of all
 -- keys

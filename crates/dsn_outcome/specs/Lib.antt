@@ -1,4 +1,3 @@
-pub mod Action
 pub mod Agents
 pub mod Body
 pub mod Cell
@@ -6,7 +5,6 @@ pub mod CloseRule
 pub mod Draft
 pub mod Forgetting
 pub mod History
-pub mod Key
 pub mod Letter
 pub mod LinkedOutcome
 pub mod Node
@@ -15,8 +13,4 @@ pub mod OutcomeFault
 pub mod Outcomes
 pub mod Parts
 pub mod Request
-pub mod Service
-pub mod Stamp
-pub mod Status
-pub mod Text
 pub mod Texts

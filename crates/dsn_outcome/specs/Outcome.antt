@@ -1,16 +1,16 @@
 -- Outcomes: what became of one recipient, and which of them are legal (RFC 3464 section 2.3).
-use Rattle.std.specs.Prelude.{◌≡◌, ℕ, Bool, true, false, ◌||◌, ◌==◌, List, [], ◌∷◌, length, Option, Some, None, is_none, IsTrue, if◌then◌else◌, nat_le}
+use Rattle.std.specs.Prelude.{◌≡◌, ℕ, Bool, true, false, List, [], ◌∷◌, length, Option, Some, None, IsTrue, if◌then◌else◌, nat_le}
 use Rattle.std.specs.Option.{option_map_or}
-use Rattle.dsn_outcome.specs.Action.{action_of_byte}
-use Rattle.dsn_outcome.specs.Stamp.{is_moment}
-use Rattle.dsn_outcome.specs.Text.{is_address, is_mta_name, is_remark, clean_text}
-use Rattle.dsn_outcome.specs.Status.{is_status_code, status_class}
-use Rattle.dsn_outcome.specs.declared.action.Action.{Action}
-use Rattle.dsn_outcome.specs.declared.action.Action.TheVariants.{Failed, Delayed, Delivered, Relayed, Expanded}
+use Rattle.dsn_text.specs.Action.{action_of_byte, fits_class, fits_retry}
+use Rattle.dsn_text.specs.Optional.{is_none_or, unless_empty}
+use Rattle.dsn_text.specs.Service.{takes}
+use Rattle.dsn_text.specs.Stamp.{is_moment}
+use Rattle.dsn_text.specs.Text.{is_address, is_mta_name, is_remark, clean_text}
+use Rattle.dsn_text.specs.Status.{is_status_code, status_class}
+use Rattle.dsn_text.specs.declared.action.Action.{Action}
 use Rattle.dsn_outcome.specs.declared.outcome_fault.OutcomeFault.{OutcomeFault}
 use Rattle.dsn_outcome.specs.declared.outcome_fault.OutcomeFault.TheVariants.{BadRecipient, BadOriginal, BadAction, BadStatus, StatusClass, BadMta, LongDiagnostic, LongReason, RetryUntil}
-use Rattle.dsn_outcome.specs.declared.service.Service.{Service}
-use Rattle.dsn_outcome.specs.declared.service.Service.TheVariants.{Bounce, Defer, Trace}
+use Rattle.dsn_text.specs.declared.service.Service.{Service}
 
 -- what became of one recipient; the texts are clean, the two moments in whole seconds since 1970
 pub record Outcome : Type 0 where
@@ -36,43 +36,6 @@ pub record Fields : Type 0 where
   pub reason : List ℕ
   pub last_attempt : Option ℕ
   pub retry_until : Option ℕ
-
--- which actions a service's log takes (this project's profile)
-abbrev pub takes : Service → Action → Bool
-takes Bounce Failed = true
-takes Bounce Delayed = false
-takes Bounce Delivered = false
-takes Bounce Relayed = false
-takes Bounce Expanded = false
-takes Defer Failed = false
-takes Defer Delayed = true
-takes Defer Delivered = false
-takes Defer Relayed = false
-takes Defer Expanded = false
-takes Trace action = true
-
--- which class of status, `2`, `4` or `5`, stands with an action (this project's profile, after RFC 3464 section 2.3.3
--- and RFC 3463 section 2)
-abbrev pub fits_class : Action → ℕ → Bool
-fits_class Failed class = (class == 52) || (class == 53)
-fits_class Delayed class = class == 52
-fits_class Delivered class = class == 50
-fits_class Relayed class = class == 50
-fits_class Expanded class = class == 50
-
--- whether an action stands with what is said of until when delivery is tried: only a delayed recipient's is tried again
--- (RFC 3464 section 2.3.9)
-abbrev pub fits_retry : Action → Option ℕ → Bool
-fits_retry Failed retry_until = is_none retry_until
-fits_retry Delayed retry_until = true
-fits_retry Delivered retry_until = is_none retry_until
-fits_retry Relayed retry_until = is_none retry_until
-fits_retry Expanded retry_until = is_none retry_until
-
--- no text where it is empty
-abbrev pub unless_empty : List ℕ → Option (List ℕ)
-unless_empty [] = None
-unless_empty (byte ∷ rest) = Some (byte ∷ rest)
 
 -- the fault of the first check that fails
 abbrev pub first_failed : {F : Type 0} → List (Bool × F) → Option F
@@ -109,10 +72,6 @@ pub record IsOutcomeOf (service : Service) (fields : Fields) (outcome : Outcome)
   pub reason_is : outcome.reason ≡ unless_empty (clean_text fields.reason)
   pub last_attempt_is : outcome.last_attempt ≡ fields.last_attempt
   pub retry_until_is : outcome.retry_until ≡ fields.retry_until
-
--- a value that is missing, or meets the test
-abbrev pub is_none_or : {A : Type 0} → (A → Bool) → Option A → Bool
-is_none_or test value = option_map_or test value true
 
 -- each of the two moments of an outcome's fields has a date, where there is one
 pub record AreDated (fields : Fields) : Type 0 where

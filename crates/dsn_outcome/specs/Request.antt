@@ -2,7 +2,7 @@
 use Rattle.std.specs.Prelude.{ℕ, List, Option, Some, None}
 use Rattle.dsn_outcome.specs.Draft.{Draft}
 use Rattle.dsn_outcome.specs.Outcome.{Outcome}
-use Rattle.dsn_outcome.specs.declared.key.Key.{Key}
+use Rattle.dsn_text.specs.declared.key.Key.{Key}
 
 -- log this outcome of the message; make a notice of this log; drop this log; let this key go; the agent leaves
 pub data Body : Type 0 where

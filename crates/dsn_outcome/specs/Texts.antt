@@ -1,9 +1,10 @@
 -- The texts of an outcome as they are kept: one after another in the same bytes, where an empty one means that there is
 -- none.
 use Rattle.std.specs.Prelude.{ℕ, ◌≤◌, List, take, drop, length, slice_range, Option}
-use Rattle.dsn_outcome.specs.Outcome.{Outcome, unless_empty}
-use Rattle.dsn_outcome.specs.declared.action.Action.{Action}
-use Rattle.dsn_outcome.specs.declared.service.Service.{Service}
+use Rattle.dsn_outcome.specs.Outcome.{Outcome}
+use Rattle.dsn_text.specs.Optional.{unless_empty}
+use Rattle.dsn_text.specs.declared.action.Action.{Action}
+use Rattle.dsn_text.specs.declared.service.Service.{Service}
 use Rattle.dsn_outcome.specs.declared.texts.Ends.{Ends}
 
 pub record Texts : Type 0 where

@@ -1,8 +1,7 @@
 //! What a delivery agent asks.
 use crate::draft::Draft;
-use crate::key::Key;
 use crate::node::Node;
-use crate::queue_id::QueueId;
+use dsn_text::{Key, QueueId};
 
 /// What a delivery agent asks.
 #[derive(Drop)]

@@ -1,11 +1,7 @@
 //! The one cell of memory that a draft, a letter and a letter in a queue are, so that sealing and
 //! queueing take no memory.
-use crate::address::Address;
-use crate::envelope_id::EnvelopeId;
-use crate::key::Key;
 use crate::links::Links;
-use crate::raw_header::RawHeader;
-use crate::stamp::Stamp;
+use dsn_text::{Address, EnvelopeId, Key, RawHeader, Stamp};
 use std::marker::Model;
 
 /// What a flush says of its notice.

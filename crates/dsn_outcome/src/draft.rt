@@ -1,19 +1,15 @@
 //! What a flush says of the notice that it asks for.
 ghost use Rattle.std.specs.Prelude.{◌≡◌, ◌≤◌, ◌↔◌, length, IsTrue, IsSome, IfOk, IfErr, OnOk, Some, None, unwrap_or};
 ghost use Rattle.dsn_outcome.specs.Draft.{first_draft_fault};
-ghost use Rattle.dsn_outcome.specs.Outcome.{is_none_or, unless_empty};
-ghost use Rattle.dsn_outcome.specs.Text.{is_address, is_envelope_id};
+ghost use Rattle.dsn_text.specs.Optional.{is_none_or, unless_empty};
+ghost use Rattle.dsn_text.specs.Text.{is_address, is_envelope_id};
 
-use crate::address::Address;
 use crate::cell::{Cell, Terms};
 use crate::draft_fault::DraftFault;
-use crate::envelope_id::EnvelopeId;
-use crate::no_memory::NoMemory;
 use crate::optional::{
     is_optional_address, is_optional_envelope_id, optional_address, optional_envelope_id,
 };
-use crate::raw_header::{LONGEST_HEADER, RawHeader};
-use crate::stamp::Stamp;
+use dsn_text::{Address, EnvelopeId, LONGEST_HEADER, NoMemory, RawHeader, Stamp, TextFault};
 use std::alloc::Global;
 use std::marker::Model;
 
@@ -90,7 +86,7 @@ impl Draft {
         check(header, return_path, envelope_id)?;
         let return_path = optional_address(alloc, return_path)?;
         let envelope_id = optional_envelope_id(alloc, envelope_id)?;
-        let header = RawHeader::kept(alloc, header)?;
+        let header = tested_header(alloc, header)?;
         Ok(Draft::new(alloc, moment, arrival, return_path, envelope_id, header)?)
     }
 
@@ -155,4 +151,16 @@ fn check(header: &[u8], return_path: &[u8], envelope_id: &[u8]) -> Result<(), Dr
         return Err(DraftFault::EnvelopeId);
     }
     Ok(())
+}
+
+/// The header that a tested text is, in memory of its own.
+fn tested_header(alloc: Global, text: &[u8]) -> Result<RawHeader, NoMemory>
+    requires { length text.now ≤ LONGEST_HEADER }
+    ensures { IfOk result (λ header. header ≡ text.now) }
+{
+    match RawHeader::new(alloc, text) {
+        Ok(header) => Ok(header),
+        Err(TextFault::NoMemory) => Err(NoMemory),
+        Err(TextFault::Bad) => unreachable!(),
+    }
 }

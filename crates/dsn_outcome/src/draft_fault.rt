@@ -1,7 +1,7 @@
 //! Why the texts of a draft are refused.
 ghost use Rattle.std.specs.Prelude.{◌≡◌};
 
-use crate::no_memory::NoMemory;
+use dsn_text::NoMemory;
 use thiserror::Error;
 
 /// Why the texts of a draft are refused; the first reason in this order is given.

@@ -1,13 +1,11 @@
-//! Laws of keys and of the history of requests, as the contracts of functions that do nothing.
+//! Laws of the history of requests, as the contracts of functions that do nothing.
 ghost use Rattle.std.specs.Prelude.{◌≡◌, ℕ, false, List, length, map};
 ghost use Rattle.dsn_outcome.specs.Agents.{from_agent};
 ghost use Rattle.dsn_outcome.specs.CloseRule.{StaysClosed, AnswersClosed, TakesNoOutcome, TakesNoOutcomeUntilForgotten, LeavesEveryLog, LeavesHeldKeys, LeavesSealedLetters};
 ghost use Rattle.dsn_outcome.specs.Forgetting.{AreNumbered, ForgetsIt, KeepsIt};
 ghost use Rattle.dsn_outcome.specs.History.{Limits, Exchange, IsClosed, is_closed, answers_to, history_of};
-ghost use Rattle.dsn_outcome.specs.Key.{key_cmp};
 ghost use Rattle.dsn_outcome.specs.Request.{Request};
-ghost use Rattle.dsn_outcome.specs.contracts.key.KeyOrd.TheImpl as key_order;
-ghost use Rattle.dsn_outcome.specs.declared.key.Key.{Key as HistoryKey};
+ghost use Rattle.dsn_text.specs.declared.key.Key.{Key as HistoryKey};
 
 /// The close rule: until it is forgotten a closed key stays closed, and its log takes no outcome,
 /// whatever is asked. Each other request about it is answered Closed, and leaves every log, the
@@ -39,9 +37,4 @@ pub fn letters_are_numbered()
 pub fn histories_answer_each_request()
     ensures requests { (limits : Limits) (requests : List Request) → map (λ exchange. exchange.request) (history_of limits requests) ≡ requests }
     ensures answers { (limits : Limits) (agent : ℕ) (requests : List Request) → length (answers_to agent (history_of limits requests)) ≡ length (from_agent (λ request. request.agent) agent requests) }
-{}
-
-/// Keys are in the order of their services' bytes, then of their queue ids' bytes.
-pub fn keys_are_ordered()
-    ensures { (first second : HistoryKey) → key_order.ghosts.cmp first second ≡ key_cmp first second }
 {}

@@ -2,15 +2,11 @@
 ghost use Rattle.std.specs.Prelude.{◌≡◌, ◌≢◌, [], IsSome, All, Some};
 ghost use Rattle.std.specs.Option.{option_copied};
 
-use crate::address::Address;
 use crate::cell::{Cell, Sealed};
 use crate::chain::Chain;
 use crate::draft::Draft;
-use crate::envelope_id::EnvelopeId;
-use crate::key::Key;
 use crate::links::Outcomes;
-use crate::raw_header::RawHeader;
-use crate::stamp::Stamp;
+use dsn_text::{Address, EnvelopeId, Key, RawHeader, Stamp};
 use std::marker::Model;
 
 /// A sealed log: what a notice is made of. It has at least one outcome, each of them of its key's

@@ -1,15 +1,11 @@
 //! Texts and moments that may be missing: an empty text means that there is none.
 ghost use Rattle.std.specs.Prelude.{◌≡◌, ◌↔◌, IsTrue, IfOk};
 ghost use Rattle.std.specs.Option.{option_copied};
-ghost use Rattle.dsn_outcome.specs.Outcome.{unless_empty, is_none_or};
-ghost use Rattle.dsn_outcome.specs.Stamp.{is_moment};
-ghost use Rattle.dsn_outcome.specs.Text.{is_address, is_envelope_id, is_mta_name};
+ghost use Rattle.dsn_text.specs.Optional.{unless_empty, is_none_or};
+ghost use Rattle.dsn_text.specs.Stamp.{is_moment};
+ghost use Rattle.dsn_text.specs.Text.{is_address, is_envelope_id, is_mta_name};
 
-use crate::address::Address;
-use crate::envelope_id::EnvelopeId;
-use crate::mta_name::MtaName;
-use crate::no_memory::NoMemory;
-use crate::stamp::Stamp;
+use dsn_text::{Address, EnvelopeId, MtaName, NoMemory, Stamp, TextFault};
 use std::alloc::Global;
 
 /// Whether a text is empty or can be an address.
@@ -41,7 +37,11 @@ pub(crate) fn optional_address(alloc: Global, text: &[u8]) -> Result<Option<Addr
     if text.is_empty() {
         return Ok(None);
     }
-    Ok(Some(Address::kept(alloc, text)?))
+    match Address::new(alloc, text) {
+        Ok(address) => Ok(Some(address)),
+        Err(TextFault::NoMemory) => Err(NoMemory),
+        Err(TextFault::Bad) => unreachable!(),
+    }
 }
 
 /// The envelope id that a tested text is, or `None` for an empty text.
@@ -55,7 +55,11 @@ pub(crate) fn optional_envelope_id(
     if text.is_empty() {
         return Ok(None);
     }
-    Ok(Some(EnvelopeId::kept(alloc, text)?))
+    match EnvelopeId::new(alloc, text) {
+        Ok(id) => Ok(Some(id)),
+        Err(TextFault::NoMemory) => Err(NoMemory),
+        Err(TextFault::Bad) => unreachable!(),
+    }
 }
 
 /// A text, or `None` for an empty one.

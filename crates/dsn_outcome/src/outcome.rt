@@ -1,19 +1,13 @@
 //! What became of one recipient (RFC 3464 section 2.3).
 ghost use Rattle.std.specs.Prelude.{◌≡◌, IsTrue, IfOk, IfErr, unwrap_or};
-ghost use Rattle.dsn_outcome.specs.Action.{action_of_byte};
+ghost use Rattle.dsn_text.specs.Action.{action_of_byte};
 
-use crate::action::Action;
-use crate::address::Address;
-use crate::clean::Clean;
-use crate::mta_name::MtaName;
 use crate::node::Node;
 use crate::optional::{is_optional_address, is_optional_mta_name, optional_stamp, unless_empty};
 use crate::outcome_fault::OutcomeFault;
 use crate::parts::Parts;
-use crate::service::Service;
-use crate::stamp::Stamp;
-use crate::status::Status;
 use crate::texts::Texts;
+use dsn_text::{Action, Address, Clean, Service, Stamp, Status};
 use std::alloc::Global;
 use std::marker::Model;
 
@@ -42,9 +36,10 @@ impl Model for Outcome {
 
 impl Outcome {
     ghost use Rattle.std.specs.Option.{option_copied};
-    ghost use Rattle.dsn_outcome.specs.Outcome.{IsLegalOutcome, IsOutcomeOf, first_outcome_fault, is_none_or};
+    ghost use Rattle.dsn_outcome.specs.Outcome.{IsLegalOutcome, IsOutcomeOf, first_outcome_fault};
+    ghost use Rattle.dsn_text.specs.Optional.{is_none_or};
     ghost use Rattle.dsn_outcome.specs.Parts.{fields_of};
-    ghost use Rattle.dsn_outcome.specs.Text.{IsAddress, is_address, is_mta_name, is_remark};
+    ghost use Rattle.dsn_text.specs.Text.{IsAddress, is_address, is_mta_name, is_remark};
 
     /// The outcome of a service's log that these fields describe, ready to be linked into its
     /// log. The fields are tested, in the order of `OutcomeFault`'s variants, before memory is

@@ -1,5 +1,5 @@
 //! The fields of an outcome as a delivery agent hands them in.
-use crate::stamp::Stamp;
+use dsn_text::Stamp;
 
 /// What a delivery agent says of one recipient. An empty original, remote system, diagnostic or
 /// reason means that there is none.

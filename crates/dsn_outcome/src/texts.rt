@@ -1,10 +1,10 @@
 //! The texts of an outcome, which share one piece of memory.
 ghost use Rattle.std.specs.Prelude.{◌≡◌, ◌+◌, ◌≤◌, ◌++◌, length, IfOk, IfErr};
 ghost use Rattle.std.specs.Vec.{vec_len, vec_capacity};
-ghost use Rattle.dsn_outcome.specs.Text.{clean_text};
+ghost use Rattle.dsn_text.specs.Text.{clean_text};
 
-use crate::clean::replace_unprintable;
 use crate::outcome_fault::OutcomeFault;
+use dsn_text::replace_unprintable;
 use std::alloc::Global;
 use std::marker::Model;
 

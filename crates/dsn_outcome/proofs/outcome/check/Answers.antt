@@ -1,9 +1,10 @@
 use Rattle.std.proofs.Common.{◌≡◌, ◌∙◌, ap, sym, refl, true, false}
 use Rattle.std.specs.Prelude.{is_some}
-use Rattle.dsn_outcome.specs.Outcome.{first_outcome_fault, fits_class}
-use Rattle.dsn_outcome.specs.Status.{status_class}
+use Rattle.dsn_outcome.specs.Outcome.{first_outcome_fault}
+use Rattle.dsn_text.specs.Action.{fits_class}
+use Rattle.dsn_text.specs.Status.{status_class}
 use Rattle.dsn_outcome.proofs.Checks.{test-is, test-agrees, bound-is}
-use Rattle.dsn_outcome.proofs.StatusLemmas.{is_status_code-IsStatusCode}
+use Rattle.dsn_text.proofs.StatusLemmas.{is_status_code-IsStatusCode}
 use Rattle.dsn_outcome.proofs.outcome.check.Goals as goal
 
 pub returns-then-not-is_valid-clause-first : goal.returns-then-not-is_valid-clause-first

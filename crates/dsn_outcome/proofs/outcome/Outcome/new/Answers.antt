@@ -1,5 +1,5 @@
 use Rattle.std.proofs.Common.{refl, ap}
-use Rattle.dsn_outcome.specs.Outcome.{unless_empty}
+use Rattle.dsn_text.specs.Optional.{unless_empty}
 use Rattle.dsn_outcome.specs.Parts.{fields_of}
 use Rattle.dsn_outcome.proofs.OutcomeLemmas.{passes-none, legal-IsOutcomeOf, short-none}
 use Rattle.dsn_outcome.proofs.outcome.Outcome.new.Goals as goal

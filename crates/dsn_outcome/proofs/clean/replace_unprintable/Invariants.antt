@@ -1,7 +1,0 @@
--- The bytes so far are cleaned, and the rest are as they were.
-use Rattle.std.proofs.Common.{◌≡◌, ◌++◌, take, drop}
-use Rattle.dsn_outcome.specs.Text.{clean_text}
-use Rattle.dsn_outcome.proofs.clean.replace_unprintable.Given as goal
-
-abbrev pub invariant-loop-byte : goal.invariant-loop-byte
-invariant-loop-byte l = l.text ≡ clean_text (take l.byte-index l.fn.text) ++ drop l.byte-index l.fn.text

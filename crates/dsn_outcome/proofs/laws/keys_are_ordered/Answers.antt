@@ -1,5 +1,0 @@
-use Rattle.dsn_outcome.proofs.KeyOrderLemmas.{key_ord-key_cmp}
-use Rattle.dsn_outcome.proofs.laws.keys_are_ordered.Goals as goal
-
-pub returns : goal.returns
-returns c first second = key_ord-key_cmp first second

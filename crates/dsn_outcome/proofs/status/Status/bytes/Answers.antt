@@ -1,5 +1,0 @@
-use Rattle.dsn_outcome.proofs.StatusLemmas.{IsStatusCode-test}
-use Rattle.dsn_outcome.proofs.status.Status.bytes.Goals as goal
-
-pub returns-clause-legal : goal.returns-clause-legal
-returns-clause-legal c = rw (← c.self.view_is) (IsStatusCode-test _ c.self.invariant.0)

@@ -1,8 +1,0 @@
--- The bytes so far are tested.
-use Rattle.std.proofs.Common.{◌≡◌, take}
-use Rattle.std.specs.List.{list_all}
-use Rattle.dsn_outcome.specs.Text.{allows}
-use Rattle.dsn_outcome.proofs.text.Alphabet.allows_all.Given as goal
-
-abbrev pub invariant-loop-byte : goal.invariant-loop-byte
-invariant-loop-byte l = l.all ≡ list_all (allows l.self) (take l.byte-index l.text)

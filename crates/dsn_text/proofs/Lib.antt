@@ -1,0 +1,8 @@
+mod Dates
+pub mod KeyLemmas
+pub mod KeyOrderLemmas
+pub mod StampLemmas
+mod StatusExamples
+pub mod StatusLemmas
+pub mod TextLemmas
+pub mod WordLemmas

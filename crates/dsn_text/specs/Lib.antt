@@ -1,0 +1,7 @@
+pub mod Action
+pub mod Key
+pub mod Optional
+pub mod Service
+pub mod Stamp
+pub mod Status
+pub mod Text

@@ -1,0 +1,92 @@
+-- The texts that requests carry: which bytes each may hold, and how many.
+use Rattle.std.specs.Prelude.{◌≡◌, ℕ, Bool, ◌&&◌, ◌||◌, not, ◌==◌, nat_le, List, ◌++◌, ◌-◌, length, take, replicate, map, IsTrue, if◌then◌else◌}
+use Rattle.std.specs.List.{list_all}
+use Rattle.dsn_text.specs.declared.text.Alphabet.{Alphabet}
+use Rattle.dsn_text.specs.declared.text.Alphabet.TheVariants.{Digits, LettersAndDigits, AddressBytes, Visible, Printable}
+
+-- whether a byte is between two others, both included
+abbrev pub is_between : ℕ → ℕ → ℕ → Bool
+is_between low high byte = nat_le low byte && nat_le byte high
+
+-- ASCII digits and letters
+abbrev pub is_digit : ℕ → Bool
+is_digit byte = is_between 48 57 byte
+
+abbrev pub is_letter_or_digit : ℕ → Bool
+is_letter_or_digit byte = is_digit byte || (is_between 65 90 byte || is_between 97 122 byte)
+
+-- printable ASCII with the space, and without it (RFC 5234 appendix B.1, VCHAR)
+abbrev pub is_printable : ℕ → Bool
+is_printable byte = is_between 32 126 byte
+
+abbrev pub is_visible : ℕ → Bool
+is_visible byte = is_between 33 126 byte
+
+-- what an address may hold: it stands between angle brackets in a command (RFC 5321 section 4.1.2)
+abbrev pub is_address_byte : ℕ → Bool
+is_address_byte byte = is_visible byte && (not (byte == 60) && not (byte == 62))
+
+-- whether a text of this alphabet may hold the byte
+abbrev pub allows : Alphabet → ℕ → Bool
+allows Digits = is_digit
+allows LettersAndDigits = is_letter_or_digit
+allows AddressBytes = is_address_byte
+allows Visible = is_visible
+allows Printable = is_printable
+
+-- a text of at least so many and at most so many bytes, all of them allowed
+abbrev pub is_text : (ℕ → Bool) → ℕ → ℕ → List ℕ → Bool
+is_text allowed least most text = (nat_le least (length text) && nat_le (length text) most) && list_all allowed text
+
+-- a queue id, the name of a message's log (this project's profile)
+abbrev pub is_queue_id : List ℕ → Bool
+is_queue_id = is_text is_letter_or_digit 1 32
+
+-- an envelope address, without its angle brackets
+abbrev pub is_address : List ℕ → Bool
+is_address = is_text is_address_byte 1 256
+
+-- a host's name as a remote mail system gave it (RFC 3464 section 2.3.5)
+abbrev pub is_mta_name : List ℕ → Bool
+is_mta_name = is_text is_visible 1 255
+
+-- a decoded envelope id (RFC 3464 section 2.2.1, RFC 3461 section 4.4)
+abbrev pub is_envelope_id : List ℕ → Bool
+is_envelope_id = is_text is_printable 1 100
+
+-- a diagnostic or a reason, as it is kept: printable bytes alone (this project's profile)
+abbrev pub is_clean : List ℕ → Bool
+is_clean = is_text is_printable 0 800
+
+-- one that is there says something: an empty one means that there is none
+abbrev pub is_remark : List ℕ → Bool
+is_remark = is_text is_printable 1 800
+
+-- the bytes of a diagnostic or a reason are kept, but that `?` stands for each that is not printable
+abbrev pub clean_byte : ℕ → ℕ
+clean_byte byte = if is_printable byte then byte else 63
+
+abbrev pub clean_text : List ℕ → List ℕ
+clean_text = map clean_byte
+
+-- the same tests as facts
+abbrev pub IsQueueId : List ℕ → Type 0
+IsQueueId text = IsTrue (is_queue_id text)
+
+abbrev pub IsAddress : List ℕ → Type 0
+IsAddress text = IsTrue (is_address text)
+
+abbrev pub IsMtaName : List ℕ → Type 0
+IsMtaName text = IsTrue (is_mta_name text)
+
+abbrev pub IsEnvelopeId : List ℕ → Type 0
+IsEnvelopeId text = IsTrue (is_envelope_id text)
+
+abbrev pub IsClean : List ℕ → Type 0
+IsClean text = IsTrue (is_clean text)
+
+-- a text held in place: a buffer of so much room begins with a text of this length, and the rest
+-- of the buffer is zero
+pub record IsPadded (room : ℕ) (buffer : List ℕ) (len : ℕ) : Type 0 where
+  pub counted : length (take len buffer) ≡ len
+  pub padded : take len buffer ++ replicate (room - len) 0 ≡ buffer

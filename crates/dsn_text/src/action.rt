@@ -1,0 +1,88 @@
+//! What a delivery agent did with a recipient (RFC 3464 section 2.3.3).
+ghost use Rattle.std.specs.Prelude.{◌≡◌};
+ghost use Rattle.dsn_text.specs.Action.{action_byte, action_word, action_of_byte};
+ghost use Rattle.dsn_text.specs.Action.{fits_class, fits_retry};
+
+use crate::stamp::Stamp;
+
+/// The action of RFC 3464 section 2.3.3.
+#[derive(Clone, Copy, Debug, PartialEq, Eq, PartialOrd, Ord, Hash)]
+pub enum Action {
+    /// The message could not be delivered to the recipient.
+    Failed,
+    /// Delivery was not possible so far and is tried again.
+    Delayed,
+    /// The message was delivered to the recipient.
+    Delivered,
+    /// The message was handed to a system that makes no notifications.
+    Relayed,
+    /// The message was delivered and forwarded to several recipients.
+    Expanded,
+}
+
+impl Action {
+    /// The action that a request's byte stands for, 1 to 5 in the order of the variants.
+    pub fn from_byte(byte: u8) -> Option<Action>
+        ensures { result ≡ action_of_byte byte }
+    {
+        match byte {
+            1 => Some(Action::Failed),
+            2 => Some(Action::Delayed),
+            3 => Some(Action::Delivered),
+            4 => Some(Action::Relayed),
+            5 => Some(Action::Expanded),
+            _ => None,
+        }
+    }
+
+    /// The byte that stands for the action in a request.
+    pub fn byte(self) -> u8
+        ensures { result ≡ action_byte self }
+    {
+        match self {
+            Action::Failed => 1,
+            Action::Delayed => 2,
+            Action::Delivered => 3,
+            Action::Relayed => 4,
+            Action::Expanded => 5,
+        }
+    }
+
+    /// The action's word in a notice.
+    pub fn word(self) -> &'static [u8]
+        ensures { result.now ≡ action_word self }
+    {
+        match self {
+            Action::Failed => b"failed",
+            Action::Delayed => b"delayed",
+            Action::Delivered => b"delivered",
+            Action::Relayed => b"relayed",
+            Action::Expanded => b"expanded",
+        }
+    }
+
+    /// Whether a status of this class, `2`, `4` or `5`, stands with the action (this project's
+    /// profile).
+    pub fn fits_class(self, class: u8) -> bool
+        ensures { result ≡ fits_class self class }
+    {
+        match self {
+            Action::Failed => class == b'4' || class == b'5',
+            Action::Delayed => class == b'4',
+            Action::Delivered | Action::Relayed | Action::Expanded => class == b'2',
+        }
+    }
+
+    /// Whether the action stands with what is said of until when delivery is tried again: only
+    /// a delayed recipient's is (RFC 3464 section 2.3.9).
+    pub fn fits_retry(self, retry_until: Option<Stamp>) -> bool
+        ensures { result ≡ fits_retry self retry_until }
+    {
+        match self {
+            Action::Delayed => true,
+            Action::Failed | Action::Delivered | Action::Relayed | Action::Expanded => {
+                retry_until.is_none()
+            }
+        }
+    }
+}

@@ -1,0 +1,58 @@
+//! Envelope ids.
+ghost use Rattle.std.specs.Prelude.{◌≡◌, ◌↔◌, IsTrue, IfOk, IsOk, IsErrOf};
+ghost use Rattle.dsn_text.specs.Text.{IsEnvelopeId};
+
+use crate::text::{Alphabet, TextFault, copied, has_form};
+use std::alloc::Global;
+use std::marker::Model;
+
+/// The longest envelope id, in bytes (RFC 3461 section 4.4).
+pub const LONGEST_ENVELOPE_ID: usize = 100;
+
+/// An envelope id that the sender gave, decoded (RFC 3464 section 2.2.1): 1 to 100 bytes of
+/// printable ASCII, the space included.
+#[derive(Debug, Drop)]
+pub struct EnvelopeId {
+    bytes: Vec<u8>,
+}
+
+impl Model for EnvelopeId {
+    ghost use Rattle.std.specs.Prelude.{ℕ, List};
+    ghost use Rattle.dsn_text.specs.Text.{IsEnvelopeId};
+
+    ghost Value = { List ℕ };
+
+    ghost view = { λ a. a.bytes.items };
+
+    ghost invariant = { λ a. IsEnvelopeId a.bytes.items };
+}
+
+impl EnvelopeId {
+    /// Whether a text can be an envelope id. It takes no memory.
+    pub fn is_valid(text: &[u8]) -> bool
+        ensures { IsTrue result ↔ IsEnvelopeId text.now }
+    {
+        has_form(text, 1, LONGEST_ENVELOPE_ID, Alphabet::Printable)
+    }
+
+    /// Keeps a text that can be an envelope id, and takes memory only for such a text.
+    pub fn new(alloc: Global, text: &[u8]) -> Result<EnvelopeId, TextFault>
+        ensures kept { IfOk result (λ kept. kept ≡ text.now) }
+        ensures legal { IsOk result → IsEnvelopeId text.now }
+        ensures bad { IsErrOf result TextFault.Bad ↔ ¬ IsEnvelopeId text.now }
+    {
+        if !EnvelopeId::is_valid(text) {
+            return Err(TextFault::Bad);
+        }
+        let bytes = copied(alloc, text)?;
+        Ok(EnvelopeId { bytes })
+    }
+
+    /// The envelope id.
+    pub fn bytes(&self) -> &[u8]
+        ensures same { result.now ≡ self.now }
+        ensures legal { IsEnvelopeId self.now }
+    {
+        self.bytes.as_slice()
+    }
+}

@@ -1,0 +1,35 @@
+//! What outcomes and requests of a bounce daemon are made of: texts, codes, keys and moments.
+#![tactic(auto)]
+
+mod action;
+mod address;
+mod clean;
+mod envelope_id;
+mod key;
+mod laws;
+mod mta_name;
+mod no_memory;
+mod queue_id;
+mod raw_header;
+mod service;
+mod short_text;
+mod stamp;
+mod status;
+mod text;
+mod words;
+
+pub use action::Action;
+pub use address::{Address, LONGEST_ADDRESS};
+pub use clean::{Clean, LONGEST_CLEAN, replace_unprintable};
+pub use envelope_id::{EnvelopeId, LONGEST_ENVELOPE_ID};
+pub use key::Key;
+pub use laws::keys_are_ordered;
+pub use mta_name::{LONGEST_MTA_NAME, MtaName};
+pub use no_memory::NoMemory;
+pub use queue_id::{LONGEST_QUEUE_ID, QueueId};
+pub use raw_header::{LONGEST_HEADER, RawHeader};
+pub use service::Service;
+pub use short_text::{SHORT_ROOM, ShortText};
+pub use stamp::{LAST_MOMENT, Stamp};
+pub use status::{LONGEST_STATUS, Status};
+pub use text::TextFault;

@@ -1,0 +1,111 @@
+//! The name of a message's queue file, which names its log.
+ghost use Rattle.std.specs.Prelude.{◌≡◌, ◌↔◌, ◌==◌, IsTrue, IsSome, IfSome};
+ghost use Rattle.std.proofs.Common.{rules};
+ghost use Rattle.std.specs.Cmp.{partial_order_from_own_ties};
+ghost use Rattle.std.specs.Cmp.Rules.{comparing};
+ghost use Rattle.std.specs.Cmp.Lexicographic.{pointwise, slice_cmp};
+ghost use Rattle.std.specs.Ordering.{nat_cmp, as_partial_cmp};
+ghost use Rattle.dsn_text.specs.Text.{IsQueueId};
+
+use crate::text::{Alphabet, has_form};
+use crate::words;
+use std::cmp::Ordering;
+use std::marker::Model;
+
+/// The longest queue id, in bytes.
+pub const LONGEST_QUEUE_ID: usize = 32;
+
+/// A queue id: 1 to 32 ASCII letters and digits, held in place and compared as bytes.
+#[derive(Clone, Copy, Debug)]
+pub struct QueueId {
+    buffer: [u8; 32],
+    len: u8,
+}
+
+impl Model for QueueId {
+    ghost use Rattle.std.specs.Prelude.{ℕ, List, ◌++◌, ◌-◌, take, length, replicate};
+    ghost use Rattle.std.proofs.Common.{arith};
+    ghost use Rattle.dsn_text.specs.Text.{IsQueueId, IsPadded};
+
+    ghost Value = { List ℕ };
+
+    ghost view = { λ q. take q.len q.buffer };
+
+    ghost invariant = { λ q. IsQueueId (take q.len q.buffer) × IsPadded 32 q.buffer q.len };
+
+    ghost inverse = { λ t. record { buffer = t ++ replicate (32 - length t) 0; len = length t } };
+
+    ghost inverse_ok = { λ a h. Prim.grind arith };
+}
+
+impl QueueId {
+    /// Whether a text can be a queue id.
+    pub fn is_valid(text: &[u8]) -> bool
+        ensures { IsTrue result ↔ IsQueueId text.now }
+    {
+        has_form(text, 1, LONGEST_QUEUE_ID, Alphabet::LettersAndDigits)
+    }
+
+    /// The queue id that a text is, if it is one. It takes no memory.
+    pub fn new(text: &[u8]) -> Option<QueueId>
+        ensures some { IsSome result ↔ IsQueueId text.now }
+        ensures kept { IfSome result (λ id. id ≡ text.now) }
+    {
+        if !QueueId::is_valid(text) {
+            return None;
+        }
+        let mut buffer = [0; 32];
+        buffer[..text.len()].copy_from_slice(text);
+        Some(QueueId {
+            buffer,
+            len: text.len() as u8,
+        })
+    }
+
+    /// The queue id.
+    pub fn bytes(&self) -> &[u8]
+        ensures same { result.now ≡ self.now }
+        ensures legal { IsQueueId self.now }
+    {
+        &self.buffer[..self.len as usize]
+    }
+}
+
+impl PartialEq for QueueId {
+    ghost eq = { pointwise ◌==◌ };
+
+    ghost laws = { Prim.search (comparing, rules) };
+
+    #[tactic(auto, using(crate::proofs::WordLemmas::tied_where_equal))]
+    fn eq(&self, other: &QueueId) -> bool {
+        self.cmp(other).is_eq()
+    }
+}
+
+impl Eq for QueueId {
+    ghost laws = { Prim.search (comparing, rules) };
+}
+
+impl PartialOrd for QueueId {
+    ghost partial_cmp = { as_partial_cmp (slice_cmp nat_cmp) };
+
+    ghost laws = { partial_order_from_own_ties (Prim.search (comparing, rules)) (Prim.search (comparing, rules)) };
+
+    fn partial_cmp(&self, other: &QueueId) -> Option<Ordering> {
+        Some(self.cmp(other))
+    }
+}
+
+impl Ord for QueueId {
+    ghost cmp = { slice_cmp nat_cmp };
+
+    ghost total = { Prim.search (comparing, rules) };
+
+    ghost matches_partial_cmp = { Prim.search (comparing, rules) };
+
+    ghost matches_eq = { Prim.search (comparing, rules) };
+
+    fn cmp(&self, other: &QueueId) -> Ordering {
+        words::compare(&self.buffer, &other.buffer)
+    }
+}

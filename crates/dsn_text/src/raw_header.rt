@@ -1,0 +1,55 @@
+//! Headers of messages that could not be delivered.
+ghost use Rattle.std.specs.Prelude.{◌≡◌, ◌↔◌, ◌<◌, ◌≤◌, length, IsTrue, IfOk, IsOk, IsErrOf};
+
+use crate::text::{TextFault, copied};
+use std::alloc::Global;
+use std::marker::Model;
+
+/// The longest header, in bytes (this project's profile).
+pub const LONGEST_HEADER: usize = 32768;
+
+/// A message's header as a request carries it: at most 32,768 bytes, whatever they are.
+#[derive(Debug, Drop)]
+pub struct RawHeader {
+    bytes: Vec<u8>,
+}
+
+impl Model for RawHeader {
+    ghost use Rattle.std.specs.Prelude.{ℕ, List, ◌≤◌, length};
+
+    ghost Value = { List ℕ };
+
+    ghost view = { λ a. a.bytes.items };
+
+    ghost invariant = { λ a. length a.bytes.items ≤ 32768 };
+}
+
+impl RawHeader {
+    /// Whether a text is short enough to be kept. It takes no memory.
+    pub fn is_valid(text: &[u8]) -> bool
+        ensures { IsTrue result ↔ (length text.now ≤ LONGEST_HEADER) }
+    {
+        text.len() <= LONGEST_HEADER
+    }
+
+    /// Keeps a text that is short enough, byte for byte. It takes memory only for such a text.
+    pub fn new(alloc: Global, text: &[u8]) -> Result<RawHeader, TextFault>
+        ensures kept { IfOk result (λ kept. kept ≡ text.now) }
+        ensures legal { IsOk result → length text.now ≤ LONGEST_HEADER }
+        ensures bad { IsErrOf result TextFault.Bad ↔ (LONGEST_HEADER < length text.now) }
+    {
+        if !RawHeader::is_valid(text) {
+            return Err(TextFault::Bad);
+        }
+        let bytes = copied(alloc, text)?;
+        Ok(RawHeader { bytes })
+    }
+
+    /// The header.
+    pub fn bytes(&self) -> &[u8]
+        ensures same { result.now ≡ self.now }
+        ensures legal { length self.now ≤ LONGEST_HEADER }
+    {
+        self.bytes.as_slice()
+    }
+}

@@ -9,7 +9,7 @@ use Rattle.dsn_outcome.specs.Request.{Request, Body, Discard}
 use Rattle.dsn_outcome.specs.declared.answer.Answer.{Answer}
 use Rattle.dsn_outcome.specs.declared.answer.Reply.{Reply as ReplyOf}
 use Rattle.dsn_outcome.specs.declared.answer.Reply.TheVariants.{Discarded}
-use Rattle.dsn_outcome.specs.declared.service.Service.TheVariants.{Bounce}
+use Rattle.dsn_text.specs.declared.service.Service.TheVariants.{Bounce}
 use Rattle.dsn_frame.specs.Frame.{frame}
 use Rattle.dsn_frame.specs.Request.{first_own_fault, StandsFor, Encodes}
 use Rattle.dsn_frame.specs.Session.{asked, given_up, written, begun, taken, stopped, well}

@@ -4,8 +4,8 @@ use Rattle.std.specs.Prelude.{Option, Some, None, codes, replicate}
 use Rattle.std.specs.Option.{option_map}
 use Rattle.dsn_outcome.specs.Outcome.{first_outcome_fault}
 use Rattle.dsn_outcome.specs.Request.{Body, Append, Flush, Forget}
-use Rattle.dsn_outcome.specs.declared.action.Action.TheVariants.{Failed, Delayed}
-use Rattle.dsn_outcome.specs.declared.service.Service.TheVariants.{Bounce, Defer}
+use Rattle.dsn_text.specs.declared.action.Action.TheVariants.{Failed, Delayed}
+use Rattle.dsn_text.specs.declared.service.Service.TheVariants.{Bounce, Defer}
 use Rattle.dsn_frame.specs.BodyFault.{body_fault_code}
 use Rattle.dsn_frame.specs.Frame.{frame, AreFramesOf}
 use Rattle.dsn_frame.specs.Request.{first_body_fault, has_kind, first_own_fault, append_written_as, StandsFor, Encodes, fields_written, request_body}

@@ -8,13 +8,14 @@ use Rattle.std.proofs.lemmas.List.Concat.{flat_map-cons}
 use Rattle.std.proofs.lemmas.Nat.{be_bytes_4}
 use Rattle.std.specs.Int.{w32, to_be_bytes}
 use Rattle.std.specs.List.{flat_map}
-use Rattle.dsn_outcome.specs.Action.{action_of_byte}
-use Rattle.dsn_outcome.specs.Outcome.{Outcome, Fields, first_outcome_fault, first_failed, takes, unless_empty}
+use Rattle.dsn_text.specs.Action.{action_of_byte}
+use Rattle.dsn_outcome.specs.Outcome.{Outcome, Fields, first_outcome_fault, first_failed}
+use Rattle.dsn_text.specs.Optional.{unless_empty}
+use Rattle.dsn_text.specs.Service.{takes, service_of_byte}
 use Rattle.dsn_outcome.specs.Request.{Body, Append, Flush, Discard, Forget}
-use Rattle.dsn_outcome.specs.Service.{service_of_byte}
-use Rattle.dsn_outcome.specs.Text.{clean_text}
-use Rattle.dsn_outcome.specs.declared.action.Action.{Action}
-use Rattle.dsn_outcome.specs.declared.service.Service.{Service}
+use Rattle.dsn_text.specs.Text.{clean_text}
+use Rattle.dsn_text.specs.declared.action.Action.{Action}
+use Rattle.dsn_text.specs.declared.service.Service.{Service}
 use Rattle.dsn_frame.specs.BodyFault.{outcome_refusal}
 use Rattle.dsn_frame.specs.Request.{layout_checks, head_checks, first_append_fault, undated_fields, dated_fields, IsAppendOf, first_own_fault, first_field_fault, first_body_fault, or_else, IsWhole, draft_of, StandsFor, Encodes}
 use Rattle.dsn_frame.specs.Wire.{Head, WireBody, AppendFields, DatedAppendFields, FlushFieldsOf, DiscardFields, ForgetFields, head_of, body_at}

@@ -5,8 +5,8 @@ use Rattle.std.proofs.Math.Seq.{take-append_seam}
 use Rattle.std.specs.Prelude.{◌==◌}
 use Rattle.std.proofs.lemmas.Bool.{or_from}
 use Rattle.std.specs.List.{list_any}
-use Rattle.dsn_outcome.specs.declared.service.Service.{Service}
-use Rattle.dsn_outcome.specs.declared.service.Service.TheVariants.{Bounce, Defer, Trace}
+use Rattle.dsn_text.specs.declared.service.Service.{Service}
+use Rattle.dsn_text.specs.declared.service.Service.TheVariants.{Bounce, Defer, Trace}
 use Rattle.dsn_report.specs.LineWriter.{IsBlock, begins_plainly}
 use Rattle.dsn_report.specs.Lines.{begins_with_dot, text_of_lines}
 use Rattle.dsn_report.specs.Notice.{opening_of}

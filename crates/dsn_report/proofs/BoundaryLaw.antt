@@ -6,7 +6,7 @@ use Rattle.std.specs.Prelude.{decimal}
 use Rattle.std.proofs.lemmas.Bool.{false_from_ne_true, false≢true}
 use Rattle.std.proofs.lemmas.Bool.Decides.{leb_tells}
 use Rattle.dsn_outcome.specs.Letter.{Letter}
-use Rattle.dsn_outcome.specs.Service.{service_letter}
+use Rattle.dsn_text.specs.Service.{service_letter}
 use Rattle.dsn_report.proofs.BoundaryLemmas.{delimiter-begins, delimiter-once}
 use Rattle.dsn_report.proofs.CountLemmas.{count_below, count_below-none, count_below-all, count_below-once, count_below-or}
 use Rattle.dsn_report.proofs.RoomLemmas.{room, room-returned}

@@ -11,7 +11,7 @@ use Rattle.std.proofs.lemmas.List.Quantifiers.{position-Some}
 use Rattle.std.proofs.lemmas.List.Sums.{fails_before_first}
 use Rattle.std.proofs.lemmas.Slice.Eq.{starts_is}
 use Rattle.dsn_outcome.specs.Letter.{Letter}
-use Rattle.dsn_outcome.specs.Text.{is_printable}
+use Rattle.dsn_text.specs.Text.{is_printable}
 use Rattle.dsn_report.specs.Boundary.{IsBoundaryNumber, boundary_front, boundary_text, four_digits, header_lines, is_dashed, is_delimiter, is_ruled_out, returned_lines, rules_out, shown_byte, shown_line}
 
 -- a text that begins with another

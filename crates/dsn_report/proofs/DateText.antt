@@ -5,8 +5,8 @@ use Rattle.std.specs.List.{list_all}
 use Rattle.std.proofs.lemmas.Bool.Decides.{leb_tells}
 use Rattle.std.proofs.lemmas.Bool.{le-leb, false≢true}
 use Rattle.std.proofs.lemmas.List.Folds.{list_all-append}
-use Rattle.dsn_outcome.specs.Stamp.{CivilDate, civil_after, next_day, days_in_month, is_leap_year, date_text, day_text, day_name, day_names, month_name, month_names, weekday_after, time_text, two_digits, last_moment}
-use Rattle.dsn_outcome.specs.Text.{is_printable}
+use Rattle.dsn_text.specs.Stamp.{CivilDate, civil_after, next_day, days_in_month, is_leap_year, date_text, day_text, day_name, day_names, month_name, month_names, weekday_after, time_text, two_digits, last_moment}
+use Rattle.dsn_text.specs.Text.{is_printable}
 
 pub printable-between : (byte : ℕ) → 32 ≤ byte → byte ≤ 126 → is_printable byte ≡ true
 printable-between byte low high = rw (le-leb 32 byte low, le-leb byte 126 high) refl

@@ -7,12 +7,12 @@ use Rattle.std.proofs.lemmas.Bool.{or_from, or_parts}
 use Rattle.std.proofs.lemmas.Bool.Decides.{Decides-eqb}
 use Rattle.std.proofs.lemmas.List.{length-take}
 use Rattle.std.proofs.lemmas.Slice.Eq.{starts_is}
-use Rattle.dsn_outcome.specs.Action.{action_word}
+use Rattle.dsn_text.specs.Action.{action_word}
 use Rattle.dsn_outcome.specs.Letter.{Letter}
 use Rattle.dsn_outcome.specs.Outcome.{Outcome}
-use Rattle.dsn_outcome.specs.Stamp.{date_text}
-use Rattle.dsn_outcome.specs.declared.service.Service.{Service}
-use Rattle.dsn_outcome.specs.declared.service.Service.TheVariants.{Bounce, Defer, Trace}
+use Rattle.dsn_text.specs.Stamp.{date_text}
+use Rattle.dsn_text.specs.declared.service.Service.{Service}
+use Rattle.dsn_text.specs.declared.service.Service.TheVariants.{Bounce, Defer, Trace}
 use Rattle.dsn_report.proofs.BoundaryLaw.{boundary_number-is}
 use Rattle.dsn_report.specs.Boundary.{boundary_of, is_delimiter, is_ruled_out, returned_lines}
 use Rattle.dsn_report.specs.DeliveryStatus.{line_if_any, per_message_fields, per_recipient_fields, recipient_group, delivery_status}

@@ -5,9 +5,9 @@ use Rattle.std.specs.Prelude.{codes, Option, Some, None, replicate}
 use Rattle.dsn_outcome.specs.Draft.{Draft}
 use Rattle.dsn_outcome.specs.Letter.{Letter}
 use Rattle.dsn_outcome.specs.Outcome.{Outcome}
-use Rattle.dsn_outcome.specs.Stamp.{date_text, civil_after}
-use Rattle.dsn_outcome.specs.declared.action.Action.TheVariants.{Failed, Delayed}
-use Rattle.dsn_outcome.specs.declared.service.Service.TheVariants.{Bounce, Defer}
+use Rattle.dsn_text.specs.Stamp.{date_text, civil_after}
+use Rattle.dsn_text.specs.declared.action.Action.TheVariants.{Failed, Delayed}
+use Rattle.dsn_text.specs.declared.service.Service.TheVariants.{Bounce, Defer}
 use Rattle.dsn_report.specs.Boundary.{returned_lines, header_lines, boundary_text, boundary_number, is_ruled_out, first_failing}
 use Rattle.dsn_report.specs.DeliveryStatus.{line_if_any, per_message_fields, per_recipient_fields, delivery_status}
 use Rattle.dsn_report.specs.Lines.{text_of_lines, dot_stuffed}

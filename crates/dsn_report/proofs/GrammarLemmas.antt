@@ -6,19 +6,20 @@ use Rattle.std.proofs.lemmas.List.Folds.{list_all-append, list_any-append}
 use Rattle.std.proofs.lemmas.Bool.{false≢true, leb-true}
 use Rattle.std.proofs.Math.Bool.{or-true}
 use Rattle.std.specs.List.{AllZip, list_all, list_any, flat_map}
-use Rattle.dsn_outcome.specs.Action.{action_word}
-use Rattle.dsn_outcome.specs.declared.action.Action.{Action}
-use Rattle.dsn_outcome.specs.declared.action.Action.TheVariants.{Failed, Delayed, Delivered, Relayed, Expanded}
+use Rattle.dsn_text.specs.Action.{action_word, fits_retry}
+use Rattle.dsn_text.specs.declared.action.Action.{Action}
+use Rattle.dsn_text.specs.declared.action.Action.TheVariants.{Failed, Delayed, Delivered, Relayed, Expanded}
 use Rattle.dsn_outcome.specs.Letter.{Letter}
-use Rattle.dsn_outcome.specs.Outcome.{Outcome, IsLegalOutcome, fits_retry, is_none_or}
-use Rattle.dsn_outcome.specs.Status.{is_status_code}
-use Rattle.dsn_outcome.specs.Text.{is_printable, is_address, is_mta_name, is_remark, is_envelope_id}
+use Rattle.dsn_outcome.specs.Outcome.{Outcome, IsLegalOutcome}
+use Rattle.dsn_text.specs.Optional.{is_none_or}
+use Rattle.dsn_text.specs.Status.{is_status_code}
+use Rattle.dsn_text.specs.Text.{is_printable, is_address, is_mta_name, is_remark, is_envelope_id}
 use Rattle.dsn_report.proofs.DateText.{shown-append, shown-date}
 use Rattle.dsn_report.proofs.DivisionLemmas.{division_law}
 use Rattle.dsn_report.proofs.LinesLemmas.{delivery_status-legal}
 use Rattle.dsn_report.proofs.PieceLemmas.{has_line_bytes-legal, pieces-lines}
 use Rattle.dsn_report.proofs.PlainLemmas.{address-plain, mta-plain, remark-plain, envelope_id-plain, status-plain, host-plain}
-use Rattle.dsn_outcome.specs.Stamp.{date_text, is_moment, last_moment}
+use Rattle.dsn_text.specs.Stamp.{date_text, is_moment, last_moment}
 use Rattle.dsn_report.specs.DeliveryStatus.{line_if_any, per_message_fields, per_recipient_fields, recipient_group, delivery_status}
 use Rattle.dsn_report.specs.Grammar.{Field, field_line, same_text, value_of, is_choice_of, IsMessageGroup, IsRecipientGroup, TellsOutcome, TellsMessage, EmptyLogLaw, ReportsOutcomes, delivery_status_in, per_message_names, per_recipient_names, has_plain_values, is_action_word}
 use Rattle.dsn_report.specs.Boundary.{boundary_of}

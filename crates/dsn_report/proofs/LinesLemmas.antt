@@ -9,16 +9,17 @@ use Rattle.std.proofs.lemmas.Fmt.{decimal_is_IsNumeral, length-decimal-le}
 use Rattle.std.proofs.lemmas.Str.Parse.{digit_at}
 use Rattle.std.proofs.lemmas.List.{get_or_default}
 use Rattle.std.proofs.lemmas.List.Sums.{list_all-from_AllPass}
-use Rattle.dsn_outcome.specs.Action.{action_word}
-use Rattle.dsn_outcome.specs.declared.action.Action.{Action}
-use Rattle.dsn_outcome.specs.declared.action.Action.TheVariants.{Failed, Delayed, Delivered, Relayed, Expanded}
-use Rattle.dsn_outcome.specs.declared.service.Service.{Service}
-use Rattle.dsn_outcome.specs.declared.service.Service.TheVariants.{Bounce, Defer, Trace}
+use Rattle.dsn_text.specs.Action.{action_word}
+use Rattle.dsn_text.specs.declared.action.Action.{Action}
+use Rattle.dsn_text.specs.declared.action.Action.TheVariants.{Failed, Delayed, Delivered, Relayed, Expanded}
+use Rattle.dsn_text.specs.declared.service.Service.{Service}
+use Rattle.dsn_text.specs.declared.service.Service.TheVariants.{Bounce, Defer, Trace}
 use Rattle.dsn_outcome.specs.Letter.{Letter}
-use Rattle.dsn_outcome.specs.Outcome.{Outcome, IsLegalOutcome, is_none_or}
-use Rattle.dsn_outcome.specs.Service.{service_letter}
-use Rattle.dsn_outcome.specs.Stamp.{date_text, civil_after, weekday_after, day_names, month_names, last_moment, is_moment}
-use Rattle.dsn_outcome.specs.Text.{is_printable, is_address, is_queue_id, is_mta_name, is_remark, is_envelope_id}
+use Rattle.dsn_outcome.specs.Outcome.{Outcome, IsLegalOutcome}
+use Rattle.dsn_text.specs.Optional.{is_none_or}
+use Rattle.dsn_text.specs.Service.{service_letter}
+use Rattle.dsn_text.specs.Stamp.{date_text, civil_after, weekday_after, day_names, month_names, last_moment, is_moment}
+use Rattle.dsn_text.specs.Text.{is_printable, is_address, is_queue_id, is_mta_name, is_remark, is_envelope_id}
 use Rattle.dsn_report.proofs.DateText.{printable-between, shown-date}
 use Rattle.dsn_report.specs.WellFormed.{IsWellFormed}
 use Rattle.dsn_report.specs.Notice.{subject_of, opening_of, notice_header, part_header, part_of, outcome_lines, notification, returned_part, lines_with_boundary, notice_lines, notice_of}

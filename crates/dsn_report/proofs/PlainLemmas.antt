@@ -4,9 +4,9 @@ use Rattle.std.specs.Prelude.{nat_le, ◌==◌}
 use Rattle.std.specs.List.{list_all}
 use Rattle.std.proofs.lemmas.Bool.{false≢true, leb-true}
 use Rattle.std.proofs.lemmas.Bool.Decides.{eqb_tells}
-use Rattle.dsn_outcome.proofs.StatusLemmas.{IsStatusCode-test, length-IsStatusCode}
-use Rattle.dsn_outcome.specs.Status.{is_status_code, is_class}
-use Rattle.dsn_outcome.specs.Text.{is_printable, is_visible, is_address_byte, is_letter_or_digit, is_digit, is_text, is_address, is_mta_name, is_envelope_id, is_remark, is_queue_id}
+use Rattle.dsn_text.proofs.StatusLemmas.{IsStatusCode-test, length-IsStatusCode}
+use Rattle.dsn_text.specs.Status.{is_status_code, is_class}
+use Rattle.dsn_text.specs.Text.{is_printable, is_visible, is_address_byte, is_letter_or_digit, is_digit, is_text, is_address, is_mta_name, is_envelope_id, is_remark, is_queue_id}
 use Rattle.dsn_report.proofs.DateText.{printable-between, shown-append}
 use Rattle.dsn_report.specs.Site.{is_host, is_host_byte}
 

@@ -4,8 +4,8 @@ use Rattle.std.specs.Prelude.{ℕ, zero, suc, ◌+◌, ◌/◌, ◌%◌, ◌<◌
 use Rattle.std.specs.List.{list_any, starts_with, before_first}
 use Rattle.std.specs.Str.Lines.{lines}
 use Rattle.dsn_outcome.specs.Letter.{Letter}
-use Rattle.dsn_outcome.specs.Service.{service_letter}
-use Rattle.dsn_outcome.specs.Text.{is_printable}
+use Rattle.dsn_text.specs.Service.{service_letter}
+use Rattle.dsn_text.specs.Text.{is_printable}
 
 -- a byte of a returned line: `?` stands for one that is neither printable nor a tab, since a notice is
 -- 7bit text (RFC 2045 section 2.7)

@@ -1,10 +1,10 @@
 -- The machine-readable part of a notice (RFC 3464 section 2).
 use Rattle.std.specs.Prelude.{ℕ, List, [], ◌∷◌, ◌++◌, Option, Some, None, codes, option_map}
 use Rattle.std.specs.List.{flat_map}
-use Rattle.dsn_outcome.specs.Action.{action_word}
+use Rattle.dsn_text.specs.Action.{action_word}
 use Rattle.dsn_outcome.specs.Letter.{Letter}
 use Rattle.dsn_outcome.specs.Outcome.{Outcome}
-use Rattle.dsn_outcome.specs.Stamp.{date_text}
+use Rattle.dsn_text.specs.Stamp.{date_text}
 
 -- the line of a value that may be missing: its name and the value
 unfoldable pub line_if_any : List ℕ → Option (List ℕ) → List (List ℕ)

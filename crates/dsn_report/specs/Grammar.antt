@@ -2,12 +2,12 @@
 use Rattle.std.specs.Prelude.{◌≡◌, ◌≢◌, ℕ, Bool, true, false, List, [], ◌∷◌, ◌++◌, map, All, Option, Some, None, IsTrue, IsSome, IsSomeAnd, codes, if◌then◌else◌, nat_eq, option_map}
 use Rattle.std.specs.List.{AllZip, list_all, list_any, flat_map}
 use lib.Pointwise.{pointwise}
-use Rattle.dsn_outcome.specs.Action.{action_word}
+use Rattle.dsn_text.specs.Action.{action_word}
 use Rattle.dsn_outcome.specs.Letter.{Letter}
 use Rattle.dsn_outcome.specs.Outcome.{Outcome}
-use Rattle.dsn_outcome.specs.Stamp.{date_text}
-use Rattle.dsn_outcome.specs.Status.{is_status_code}
-use Rattle.dsn_outcome.specs.Text.{is_printable}
+use Rattle.dsn_text.specs.Stamp.{date_text}
+use Rattle.dsn_text.specs.Status.{is_status_code}
+use Rattle.dsn_text.specs.Text.{is_printable}
 use Rattle.dsn_report.specs.Boundary.{boundary_of}
 use Rattle.dsn_report.specs.DeliveryStatus.{delivery_status}
 use Rattle.dsn_report.specs.Lines.{pieces_of_text}

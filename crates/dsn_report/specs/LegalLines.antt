@@ -1,7 +1,7 @@
 -- The lines of a notice fit into a mail (RFC 5322 section 2.1.1, RFC 2045 section 2.7).
 use Rattle.std.specs.Prelude.{◌≡◌, ℕ, Bool, ◌||◌, ◌&&◌, ◌==◌, List, length, IsTrue, nat_le}
 use Rattle.std.specs.List.{list_all}
-use Rattle.dsn_outcome.specs.Text.{is_printable}
+use Rattle.dsn_text.specs.Text.{is_printable}
 use Rattle.dsn_report.specs.Lines.{text_of_lines}
 
 -- a tab, or a printable byte

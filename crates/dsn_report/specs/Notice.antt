@@ -2,12 +2,12 @@
 -- of lines.
 use Rattle.std.specs.Prelude.{ℕ, List, [], ◌∷◌, ◌++◌, codes, decimal, unwrap_or}
 use Rattle.std.specs.List.{flat_map}
-use Rattle.dsn_outcome.specs.Action.{action_word}
+use Rattle.dsn_text.specs.Action.{action_word}
 use Rattle.dsn_outcome.specs.Letter.{Letter}
 use Rattle.dsn_outcome.specs.Outcome.{Outcome}
-use Rattle.dsn_outcome.specs.Stamp.{date_text}
-use Rattle.dsn_outcome.specs.declared.service.Service.{Service}
-use Rattle.dsn_outcome.specs.declared.service.Service.TheVariants.{Bounce, Defer, Trace}
+use Rattle.dsn_text.specs.Stamp.{date_text}
+use Rattle.dsn_text.specs.declared.service.Service.{Service}
+use Rattle.dsn_text.specs.declared.service.Service.TheVariants.{Bounce, Defer, Trace}
 use Rattle.dsn_report.specs.Boundary.{letter_name, boundary_of, returned_lines}
 use Rattle.dsn_report.specs.DeliveryStatus.{line_if_any, delivery_status}
 use Rattle.dsn_report.specs.Lines.{text_of_lines}

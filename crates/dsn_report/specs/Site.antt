@@ -1,6 +1,6 @@
 -- Sites: host names, and the numbers of their refusals.
 use Rattle.std.specs.Prelude.{ℕ, Bool, ◌||◌, ◌==◌, List, IsTrue}
-use Rattle.dsn_outcome.specs.Text.{is_text, is_letter_or_digit}
+use Rattle.dsn_text.specs.Text.{is_text, is_letter_or_digit}
 use Rattle.dsn_report.specs.declared.site.SiteFault.{SiteFault}
 use Rattle.dsn_report.specs.declared.site.SiteFault.TheVariants.{BadHost, NoMemory}
 

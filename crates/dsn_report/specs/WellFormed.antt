@@ -1,9 +1,10 @@
 -- What the types of a site and of a letter keep: each text is legal, and each moment has a date.
 use Rattle.std.specs.Prelude.{ℕ, ◌<◌, ◌≤◌, ◌^◌, List, length, All, IsTrue}
 use Rattle.dsn_outcome.specs.Letter.{Letter, IsLetter}
-use Rattle.dsn_outcome.specs.Outcome.{IsLegalOutcome, is_none_or}
-use Rattle.dsn_outcome.specs.Stamp.{last_moment}
-use Rattle.dsn_outcome.specs.Text.{is_address, is_envelope_id, is_queue_id}
+use Rattle.dsn_outcome.specs.Outcome.{IsLegalOutcome}
+use Rattle.dsn_text.specs.Optional.{is_none_or}
+use Rattle.dsn_text.specs.Stamp.{last_moment}
+use Rattle.dsn_text.specs.Text.{is_address, is_envelope_id, is_queue_id}
 use Rattle.dsn_report.specs.Site.{IsHost}
 
 pub record IsWellFormed (host : List ℕ) (letter : Letter) : Type 0 where

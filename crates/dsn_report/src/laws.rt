@@ -1,8 +1,9 @@
 //! What holds of the notice of every letter. These functions change nothing: their contracts are the
 //! laws. They read their arguments, since what a type keeps is known of a value that is read.
 ghost use Rattle.std.specs.Prelude.{All, IsTrue};
-ghost use Rattle.dsn_outcome.specs.Outcome.{IsLegalOutcome, is_none_or};
-ghost use Rattle.dsn_outcome.specs.Text.{is_envelope_id};
+ghost use Rattle.dsn_outcome.specs.Outcome.{IsLegalOutcome};
+ghost use Rattle.dsn_text.specs.Optional.{is_none_or};
+ghost use Rattle.dsn_text.specs.Text.{is_envelope_id};
 ghost use Rattle.dsn_report.specs.Data.{ReceivesNotice, ReceivesNotices};
 ghost use Rattle.dsn_report.specs.Grammar.{EmptyLogLaw, ReportsOutcomes};
 ghost use Rattle.dsn_report.specs.LegalLines.{HasLegalLines};

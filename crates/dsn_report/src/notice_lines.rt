@@ -2,8 +2,8 @@
 ghost use Rattle.std.specs.Prelude.{◌≡◌, [], ◌∷◌, ◌++◌, codes, IsTrue};
 ghost use Rattle.std.specs.List.{flat_map};
 ghost use Rattle.std.specs.Option.{option_copied, option_map};
-ghost use Rattle.dsn_outcome.specs.Action.{action_word};
-ghost use Rattle.dsn_outcome.specs.Stamp.{date_text};
+ghost use Rattle.dsn_text.specs.Action.{action_word};
+ghost use Rattle.dsn_text.specs.Stamp.{date_text};
 ghost use Rattle.dsn_report.specs.Boundary.{boundary_front, returned_lines};
 ghost use Rattle.dsn_report.specs.DeliveryStatus.{delivery_status, line_if_any, per_message_fields, per_recipient_fields, recipient_group};
 ghost use Rattle.dsn_report.specs.LineWriter.{Wrote, begins_plainly};

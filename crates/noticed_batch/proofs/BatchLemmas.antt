@@ -4,7 +4,7 @@ use Rattle.std.specs.Prelude.{Option, Some}
 use Rattle.std.specs.List.Sorted.{IsSortedByKey}
 use Rattle.std.proofs.KnownBytes.{Appends-nil, Appends-trans, Appends-kept}
 use Rattle.std.proofs.lemmas.List.Sorted.{IsPermutation-refl}
-use Rattle.dsn_outcome.specs.Key.{key_cmp}
+use Rattle.dsn_text.specs.Key.{key_cmp}
 use Rattle.dsn_book.specs.OpenLine.{open_lines_after}
 use Rattle.dsn_book.specs.declared.line.OpenLine.{OpenLine}
 use Rattle.dsn_device.specs.Failures.{counted}

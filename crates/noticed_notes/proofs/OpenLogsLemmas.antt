@@ -7,7 +7,7 @@ use Rattle.std.specs.Result.{result_ok}
 use Rattle.dsn_book.specs.OpenLine.{open_lines_after}
 use Rattle.dsn_book.specs.declared.line.OpenLine.{OpenLine}
 use Rattle.dsn_outcome.specs.History.{Exchange}
-use Rattle.dsn_outcome.specs.Key.{key_cmp}
+use Rattle.dsn_text.specs.Key.{key_cmp}
 use Rattle.noticed_notes.specs.OpenLogs.{AreOpenLines}
 
 -- a list that was made is there

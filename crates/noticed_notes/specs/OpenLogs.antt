@@ -4,7 +4,7 @@ use Rattle.std.specs.List.Sorted.{IsSortedByKey}
 use Rattle.dsn_book.specs.OpenLine.{open_lines_after}
 use Rattle.dsn_book.specs.declared.line.OpenLine.{OpenLine}
 use Rattle.dsn_outcome.specs.History.{Exchange}
-use Rattle.dsn_outcome.specs.Key.{key_cmp}
+use Rattle.dsn_text.specs.Key.{key_cmp}
 
 -- the lines of the logs that a history leaves open, in key order; none where their list found no memory
 abbrev pub AreOpenLines : List Exchange → Option (List OpenLine) → Type 0

@@ -1,6 +1,6 @@
 use Rattle.std.proofs.Common.{refl, rules, [], ◌∷◌, ◌≡◌, ◌∙◌, codes, sym, ap}
 use Rattle.std.specs.Prelude.{decimal, unwrap_or}
-use Rattle.dsn_outcome.specs.Stamp.{date_text}
+use Rattle.dsn_text.specs.Stamp.{date_text}
 use Rattle.dsn_report.proofs.BlockLemmas.{block-line, block-none}
 use Rattle.dsn_report.proofs.LineWriterLemmas.{Wrote-as}
 use Rattle.dsn_report.specs.Boundary.{boundary_front}

@@ -1,6 +1,6 @@
 use Rattle.std.proofs.Common.{◌≡◌, [], ◌∷◌, codes, rules, refl}
 use Rattle.std.specs.Option.{option_copied}
-use Rattle.dsn_outcome.specs.Stamp.{date_text}
+use Rattle.dsn_text.specs.Stamp.{date_text}
 use Rattle.dsn_report.proofs.BlockLemmas.{block-line, block-none}
 use Rattle.dsn_report.proofs.LineWriterLemmas.{Wrote-as, Wrote-then}
 use Rattle.dsn_report.specs.DeliveryStatus.{per_message_fields}

@@ -1,6 +1,6 @@
 use Rattle.std.proofs.Common.{◌≡◌, [], ◌∷◌, codes, rules, refl, append_assoc}
 use Rattle.std.specs.Option.{option_copied}
-use Rattle.dsn_outcome.specs.Action.{action_word}
+use Rattle.dsn_text.specs.Action.{action_word}
 use Rattle.dsn_report.proofs.BlockLemmas.{block-line, block-none}
 use Rattle.dsn_report.proofs.LineWriterLemmas.{Wrote-as, Wrote-then}
 use Rattle.dsn_report.specs.DeliveryStatus.{per_recipient_fields}

@@ -1,6 +1,6 @@
 -- As many outcomes as turns, each of the bounce service.
 use Rattle.std.proofs.Common.{◌≡◌, length, All}
-use Rattle.dsn_outcome.specs.declared.service.Service.TheVariants.{Bounce}
+use Rattle.dsn_text.specs.declared.service.Service.TheVariants.{Bounce}
 use Rattle.dsn_report_tests.proofs.longest.outcomes.Given as goal
 
 abbrev pub invariant-loop : goal.invariant-loop

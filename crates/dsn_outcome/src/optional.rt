@@ -1,11 +1,10 @@
-//! Texts and moments that may be missing: an empty text means that there is none.
+//! Texts that may be missing: an empty text means that there is none.
 ghost use Rattle.std.specs.Prelude.{◌≡◌, ◌↔◌, IsTrue, IfOk};
 ghost use Rattle.std.specs.Option.{option_copied};
 ghost use Rattle.dsn_text.specs.Optional.{unless_empty, is_none_or};
-ghost use Rattle.dsn_text.specs.Stamp.{is_moment};
 ghost use Rattle.dsn_text.specs.Text.{is_address, is_envelope_id, is_mta_name};
 
-use dsn_text::{Address, EnvelopeId, MtaName, NoMemory, Stamp, TextFault};
+use dsn_text::{Address, EnvelopeId, MtaName, NoMemory, TextFault};
 use std::alloc::Global;
 
 /// Whether a text is empty or can be an address.
@@ -70,12 +69,4 @@ pub(crate) fn unless_empty(text: &[u8]) -> Option<&[u8]>
         return None;
     }
     Some(text)
-}
-
-/// A moment as it is, which has a date where it is there.
-pub(crate) fn optional_stamp(stamp: Option<Stamp>) -> Option<Stamp>
-    ensures same { result ≡ stamp }
-    ensures dated { IsTrue (is_none_or is_moment stamp) }
-{
-    Stamp::new(stamp?.seconds())
 }

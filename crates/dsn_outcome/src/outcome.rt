@@ -3,11 +3,11 @@ ghost use Rattle.std.specs.Prelude.{◌≡◌, IsTrue, IfOk, IfErr, unwrap_or};
 ghost use Rattle.dsn_text.specs.Action.{action_of_byte};
 
 use crate::node::Node;
-use crate::optional::{is_optional_address, is_optional_mta_name, optional_stamp, unless_empty};
+use crate::optional::{is_optional_address, is_optional_mta_name, unless_empty};
 use crate::outcome_fault::OutcomeFault;
 use crate::parts::Parts;
 use crate::texts::Texts;
-use dsn_text::{Action, Address, Clean, Service, Stamp, Status};
+use dsn_text::{Action, Address, Clean, KeptStamp, Service, Stamp, Status};
 use std::alloc::Global;
 use std::marker::Model;
 
@@ -16,8 +16,8 @@ use std::marker::Model;
 #[derive(Drop)]
 pub struct Outcome {
     texts: Texts,
-    last_attempt: Option<Stamp>,
-    retry_until: Option<Stamp>,
+    last_attempt: KeptStamp,
+    retry_until: KeptStamp,
     service: Service,
     action: Action,
     status: Status,
@@ -78,8 +78,8 @@ impl Outcome {
         )?;
         let outcome = Outcome {
             texts: Texts::new(alloc, recipient, original, mta, diagnostic, reason)?,
-            last_attempt: optional_stamp(last_attempt),
-            retry_until: optional_stamp(retry_until),
+            last_attempt: KeptStamp::new(last_attempt),
+            retry_until: KeptStamp::new(retry_until),
             service,
             action,
             status,
@@ -153,14 +153,14 @@ impl Outcome {
     pub fn last_attempt(&self) -> Option<Stamp>
         ensures { result ≡ self.now.last_attempt }
     {
-        self.last_attempt
+        self.last_attempt.get()
     }
 
     /// Until when delivery is tried again (RFC 3464 section 2.3.9), if that is known.
     pub fn retry_until(&self) -> Option<Stamp>
         ensures { result ≡ self.now.retry_until }
     {
-        self.retry_until
+        self.retry_until.get()
     }
 }
 

@@ -1,5 +1,5 @@
 -- Dates: the civil date of a day number, and the text of a moment (RFC 5322 section 3.3).
-use Rattle.std.specs.Prelude.{ℕ, zero, suc, ◌+◌, ◌-◌, ◌/◌, ◌%◌, Bool, not, ◌&&◌, ◌||◌, ◌==◌, nat_le, nat_lt, if◌then◌else◌, List, [], ◌∷◌, ◌++◌, slice_index_or, codes, pos, ◌≡◌}
+use Rattle.std.specs.Prelude.{ℕ, zero, suc, ◌+◌, ◌-◌, ◌/◌, ◌%◌, Bool, not, ◌&&◌, ◌||◌, ◌==◌, nat_le, nat_lt, if◌then◌else◌, List, [], ◌∷◌, ◌++◌, slice_index_or, codes, pos, ◌≡◌, Option, Some, None}
 use Rattle.jiff_core.specs.declared.civil.date.Date.{Date}
 
 -- the last second of the year 9999: a later year has more than four digits
@@ -9,6 +9,10 @@ last_moment = 253_402_300_799
 -- a moment has a date of four digits of years
 abbrev pub is_moment : ℕ → Bool
 is_moment moment = nat_le moment last_moment
+
+-- the moment of a number; one after the last moment means that there is none
+abbrev pub moment_within : ℕ → Option ℕ
+moment_within number = if is_moment number then Some number else None
 
 -- a day of the calendar; months and days count from 1
 pub record CivilDate : Type 0 where

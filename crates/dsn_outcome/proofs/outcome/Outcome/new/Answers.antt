@@ -21,7 +21,7 @@ new-requires-clause-reason c = (short-none c.args.service (fields_of c.args.part
 
 pub invariant_of-outcome : goal.invariant_of-outcome
 invariant_of-outcome c =
-    legal-IsOutcomeOf c.args.service (fields_of c.args.parts) _ (passes-none c.args.service (fields_of c.args.parts) c.in_ok-action.ensures.none) (record { last_attempt = c.optional_stamp.ensures.dated; retry_until = c.optional_stamp-2.ensures.dated }) (record {
+    legal-IsOutcomeOf c.args.service (fields_of c.args.parts) _ (passes-none c.args.service (fields_of c.args.parts) c.in_ok-action.ensures.none) (record { last_attempt = rw c.new-2.ensures.same at c.new-2.ensures.dated; retry_until = rw c.new-3.ensures.same at c.new-3.ensures.dated }) (record {
       service_is = refl;
       recipient_is = c.in_ok-new.ensures.recipient;
       original_is = ap unless_empty c.in_ok-new.ensures.original;
@@ -30,8 +30,8 @@ invariant_of-outcome c =
       mta_is = ap unless_empty c.in_ok-new.ensures.mta;
       diagnostic_is = ap unless_empty c.in_ok-new.ensures.diagnostic;
       reason_is = ap unless_empty c.in_ok-new.ensures.reason;
-      last_attempt_is = c.optional_stamp.ensures.same;
-      retry_until_is = c.optional_stamp-2.ensures.same;
+      last_attempt_is = c.new-2.ensures.same;
+      retry_until_is = c.new-3.ensures.same;
     })
 
 pub linked-requires : goal.linked-requires

@@ -1,0 +1,45 @@
+//! Moments that may be missing, as they are kept.
+ghost use Rattle.std.specs.Prelude.{◌≡◌, IsTrue};
+ghost use Rattle.dsn_text.specs.Optional.{is_none_or};
+ghost use Rattle.dsn_text.specs.Stamp.{is_moment};
+
+use crate::stamp::Stamp;
+use std::marker::Model;
+
+/// A moment that may be missing, in eight bytes, where an `Option<Stamp>` has sixteen.
+#[derive(Debug, Drop)]
+pub struct KeptStamp {
+    // The seconds since 1970 began; a number after the last moment means that there is none.
+    seconds: u64,
+}
+
+impl Model for KeptStamp {
+    ghost use Rattle.std.specs.Prelude.{ℕ, Option};
+    ghost use Rattle.dsn_text.specs.Stamp.{moment_within};
+
+    ghost Value = { Option ℕ };
+
+    ghost view = { λ kept. moment_within kept.seconds };
+}
+
+impl KeptStamp {
+    /// Keeps a moment, or that there is none.
+    pub fn new(stamp: Option<Stamp>) -> KeptStamp
+        ensures same { result ≡ stamp }
+        ensures dated { IsTrue (is_none_or is_moment result) }
+    {
+        let seconds = match stamp {
+            Some(stamp) => stamp.seconds(),
+            None => u64::MAX,
+        };
+        KeptStamp { seconds }
+    }
+
+    /// The moment, if there is one.
+    pub fn get(&self) -> Option<Stamp>
+        ensures same { result ≡ self.now }
+        ensures dated { IsTrue (is_none_or is_moment self.now) }
+    {
+        Stamp::new(self.seconds)
+    }
+}

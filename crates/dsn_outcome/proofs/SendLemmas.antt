@@ -20,14 +20,11 @@ use Rattle.dsn_outcome.specs.contracts.request.Request as Request
 id : IsSend QueueId.the_row
 id = search sendable depth 20
 
-key : IsSend Key.the_row
-key = search (id, sendable) depth 20
-
 key_field : IsSend (Key.the_field).row
-key_field = search (key, sendable) depth 20
+key_field = search sendable depth 20
 
 outcome : IsSend Outcome.the_row
-outcome = search (crosses, option.the_send, option.the_field_send, sendable) depth 20
+outcome = search (crosses, sendable) depth 20
 
 node_field : IsSend (Node.the_field).row
 node_field = search (crosses, option.the_send, option.the_field_send, outcome, nodes.crosses, sendable) depth 20
@@ -42,7 +39,7 @@ sealed : IsSend (Sealed.the_field).row
 sealed = search (links, key_field, sendable) depth 20
 
 terms : IsSend Terms.the_row
-terms = search (crosses, option.the_send, option.the_field_send, sendable) depth 20
+terms = search (crosses, option.the_field_send, sendable) depth 20
 
 cell_field : IsSend (Cell.the_field).row
 cell_field = search (crosses, sealed, terms, option.the_send, option.the_field_send, cells.crosses, sendable) depth 20

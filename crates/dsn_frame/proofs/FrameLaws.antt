@@ -5,8 +5,8 @@ use Rattle.std.specs.Io.KnownBytes.{Consumes}
 use Rattle.std.proofs.KnownBytes.{Consumes-trans}
 use Rattle.std.proofs.lemmas.List.{length-append, take_all}
 use Rattle.std.proofs.lemmas.Nat.{from_be_bytes-to_be_bytes_4}
+use Rattle.dsn_body.specs.FrameBody.{IsFrameLength, IsFrameBody}
 use Rattle.dsn_frame.specs.Frame.{declared_length, IsPartOfFrame, StopsAt, ReadsNext, ReadsNone, ConsumesLength, MissesBody, BodyMissing}
-use Rattle.dsn_frame.specs.FrameBody.{IsFrameLength, IsFrameBody}
 use Rattle.dsn_frame.specs.declared.frame_fault.FrameFault.{FrameFault}
 use Rattle.dsn_frame.specs.declared.frame_fault.FrameFault.TheVariants.{NoMemory, TooLong, Empty, CutShort, Read}
 

@@ -8,21 +8,21 @@ use Rattle.std.proofs.lemmas.List.{append-nil, append_cancel_left, length-append
 use Rattle.std.proofs.lemmas.List.Prefix.{front_rest}
 use Rattle.dsn_outcome.specs.Request.{Body}
 use Rattle.dsn_outcome.specs.declared.answer.Reply.{Reply}
-use Rattle.dsn_frame.specs.BodyFault.{body_fault_code}
-use Rattle.dsn_frame.specs.Frame.{frame, declared_length, ReadsNone}
-use Rattle.dsn_frame.specs.FrameBody.{IsFrameBody}
+use Rattle.dsn_body.specs.BodyFault.{body_fault_code}
+use Rattle.dsn_body.specs.FrameBody.{frame, IsFrameBody}
+use Rattle.dsn_body.specs.Request.{Encodes, first_body_fault}
+use Rattle.dsn_body.specs.declared.body_fault.BodyFault.{BodyFault}
+use Rattle.dsn_body.specs.declared.spoken.Spoken.{Spoken}
+use Rattle.dsn_body.specs.declared.spoken.Spoken.TheVariants as spoken
+use Rattle.dsn_body.proofs.FieldLaws.{some_is}
+use Rattle.dsn_body.proofs.RequestLaws.{encodes_one, encoded_is_accepted}
+use Rattle.dsn_frame.specs.Frame.{declared_length, ReadsNone}
 use Rattle.dsn_frame.specs.FrameFault.{frame_fault_code}
-use Rattle.dsn_frame.specs.Request.{Encodes, first_body_fault}
 use Rattle.dsn_frame.specs.Session.{Medium, Input, Connection, Takes, faulty, out_of_memory, out_of_turn, used_up, asked, given_up, given_up_after, GoesOn, written, unwritten, SessionSoFar, begun, taken, Ends, stopped, well, cut, too_many, no_memory_for_book, IsSession}
 use Rattle.dsn_frame.specs.SessionLaws.{is_from_outside, IsDecided, IsOfBytesAlone, AnswerAlike, AreSame, HasOneSession, LeavesOneRest}
-use Rattle.dsn_frame.specs.declared.body_fault.BodyFault.{BodyFault}
 use Rattle.dsn_frame.specs.declared.frame_fault.FrameFault.{FrameFault}
 use Rattle.dsn_frame.specs.declared.frame_fault.FrameFault.TheVariants.{NoMemory, TooLong, Empty, CutShort, Read}
-use Rattle.dsn_frame.specs.declared.spoken.Spoken.{Spoken}
-use Rattle.dsn_frame.specs.declared.spoken.Spoken.TheVariants as spoken
-use Rattle.dsn_frame.proofs.FieldLaws.{some_is}
 use Rattle.dsn_frame.proofs.InputLaws.{ends_with_no_frame, front_declares, same_end}
-use Rattle.dsn_frame.proofs.RequestLaws.{encodes_one, encoded_is_accepted}
 use Rattle.dsn_frame.proofs.SessionFrames.{all_parts, opposite, frames_cons, Compared, first, beyond, compare, session_legal, EndsAt, at_frame, no_frame, one_more, from_outside, ends_at, known_left, Reading, session_reads}
 
 abbrev is_outside_end : Option ℕ → Bool

@@ -3,15 +3,16 @@ use Rattle.std.proofs.Common.{ℕ, List, [], ◌∷◌, ◌++◌, refl, lit<, li
 use Rattle.std.specs.Prelude.{◌≢◌, Some, None}
 use Rattle.dsn_outcome.specs.declared.answer.Reply.TheVariants.{Closed, Logged, Sealed}
 use Rattle.dsn_outcome.specs.declared.answer.Reply.{Reply as ReplyOf}
-use Rattle.dsn_frame.specs.Frame.{frame}
-use Rattle.dsn_frame.specs.Request.{first_body_fault}
+use Rattle.dsn_body.specs.FrameBody.{frame}
+use Rattle.dsn_body.specs.Request.{first_body_fault}
+use Rattle.dsn_body.specs.declared.body_fault.BodyFault.TheVariants.{Version}
+use Rattle.dsn_body.specs.declared.spoken.Spoken.TheVariants.{Reply, Refused}
+use Rattle.dsn_body.proofs.Examples.{append_body, flush_body, append_asked, flush_asked, append_is_encoded, flush_is_encoded}
+use Rattle.dsn_body.proofs.RequestLaws.{encoded_is_accepted}
 use Rattle.dsn_frame.specs.Session.{Input, Connection, faulty, out_of_memory, out_of_turn, used_up, asked, given_up_after, written, unwritten, begun, taken, stopped, well, too_many, IsSession}
-use Rattle.dsn_frame.specs.declared.body_fault.BodyFault.TheVariants.{Version}
-use Rattle.dsn_frame.specs.declared.spoken.Spoken.TheVariants.{Reply, Refused}
 use Rattle.dsn_frame.specs.SessionLaws.{IsOfBytesAlone, AreSame, AreFirstFrames, RepliesAre}
-use Rattle.dsn_frame.proofs.Examples.{append_body, flush_body, append_asked, flush_asked, append_is_encoded, flush_is_encoded, agent_input, two_frames}
+use Rattle.dsn_frame.proofs.Examples.{agent_input, two_frames}
 use Rattle.dsn_frame.proofs.OneSession.{one_session}
-use Rattle.dsn_frame.proofs.RequestLaws.{encoded_is_accepted}
 use Rattle.dsn_frame.proofs.SessionFrames.{takes_its_frames}
 use Rattle.dsn_frame.proofs.WholeInputLemmas.{taken_whole}
 use Rattle.dsn_frame.specs.WholeInput.{IsWholeInput, TakesAll}

@@ -7,15 +7,15 @@ use Rattle.std.specs.Option.{option_map}
 use Rattle.std.proofs.lemmas.List.{append-nil}
 use Rattle.std.proofs.lemmas.List.Concat.{flat_map-cons}
 use Rattle.dsn_outcome.specs.Request.{Body}
-use Rattle.dsn_frame.specs.Frame.{frame, FramesEnd, AreFramesOf, ReadsNone}
-use Rattle.dsn_frame.specs.FrameBody.{IsFrameBody}
+use Rattle.dsn_body.specs.FrameBody.{frame, IsFrameBody}
+use Rattle.dsn_body.specs.declared.spoken.Spoken.{Spoken}
+use Rattle.dsn_frame.specs.Frame.{FramesEnd, AreFramesOf, ReadsNone}
 use Rattle.dsn_frame.specs.FrameFault.{frame_fault_code}
 use Rattle.dsn_frame.specs.Session.{Medium, Input, Connection, Takes, faulty, out_of_memory, out_of_turn, used_up, asked, given_up, given_up_after, GoesOn, written, unwritten, SessionSoFar, begun, taken, Ends, stopped, well, cut, too_many, no_memory_for_book, IsSession}
 use Rattle.dsn_frame.specs.SessionLaws.{is_from_outside, is_end_of_frames, AreFirstFrames, TakesItsFrames}
 use Rattle.dsn_frame.specs.WholeInput.{IsOutside, no_memory, read_failed}
 use Rattle.dsn_frame.specs.declared.frame_fault.FrameFault.{FrameFault}
 use Rattle.dsn_frame.specs.declared.frame_fault.FrameFault.TheVariants.{NoMemory, TooLong, Empty, CutShort, Read}
-use Rattle.dsn_frame.specs.declared.spoken.Spoken.{Spoken}
 use Rattle.dsn_frame.proofs.InputLaws.{ends_with_no_frame, none_ends, same_end, same_front}
 
 -- ---- what holds of each element

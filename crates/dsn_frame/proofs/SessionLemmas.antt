@@ -8,19 +8,20 @@ use Rattle.std.proofs.lemmas.Grind.{flat_map-append}
 use Rattle.std.proofs.lemmas.List.{append-nil}
 use Rattle.dsn_outcome.specs.Request.{Body}
 use Rattle.dsn_outcome.specs.declared.answer.Reply.{Reply}
-use Rattle.dsn_frame.specs.BodyFault.{body_fault_code}
-use Rattle.dsn_frame.specs.Frame.{frame, ReadsNext, ReadsNone}
+use Rattle.dsn_body.specs.BodyFault.{body_fault_code}
+use Rattle.dsn_body.specs.FrameBody.{frame}
+use Rattle.dsn_body.specs.Request.{Encodes, first_body_fault}
+use Rattle.dsn_body.specs.declared.body_fault.BodyFault.{BodyFault}
+use Rattle.dsn_body.specs.declared.body_fault.BodyFault.TheVariants as faults
+use Rattle.dsn_body.specs.declared.spoken.Spoken.{Spoken}
+use Rattle.dsn_body.specs.declared.spoken.Spoken.TheVariants as spoken
+use Rattle.dsn_frame.specs.Frame.{ReadsNext, ReadsNone}
 use Rattle.dsn_frame.specs.FrameFault.{frame_fault_code}
 use Rattle.dsn_frame.specs.Refusal.{refusal_code, refusal_end, IsRefused}
-use Rattle.dsn_frame.specs.Request.{Encodes, first_body_fault}
 use Rattle.dsn_frame.specs.Session.{Medium, Input, Connection, unwritten_code, Takes, faulty, out_of_memory, out_of_turn, used_up, asked, given_up, given_up_after, GoesOn, written, unwritten, begun, taken, stopped, well, cut, too_many, no_memory_for_book, IsSession, IsOpenSession}
-use Rattle.dsn_frame.specs.declared.body_fault.BodyFault.{BodyFault}
-use Rattle.dsn_frame.specs.declared.body_fault.BodyFault.TheVariants as faults
 use Rattle.dsn_frame.specs.declared.frame_fault.FrameFault.{FrameFault}
 use Rattle.dsn_frame.specs.declared.refusal.Refusal.{Refusal}
 use Rattle.dsn_frame.specs.declared.refusal.Refusal.TheVariants as refusals
-use Rattle.dsn_frame.specs.declared.spoken.Spoken.{Spoken}
-use Rattle.dsn_frame.specs.declared.spoken.Spoken.TheVariants as spoken
 
 -- ---- what one frame comes to
 

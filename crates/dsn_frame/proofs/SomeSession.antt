@@ -9,24 +9,25 @@ use Rattle.std.proofs.lemmas.Bool.{cases_lt}
 use Rattle.std.proofs.lemmas.List.{append-nil, length-append, length-take, take-take, take-append-drop}
 use Rattle.dsn_outcome.specs.Outcome.{Fields, outcome_checks, first_outcome_fault, first_failed}
 use Rattle.dsn_outcome.specs.Request.{Body}
-use Rattle.dsn_text.specs.Service.{service_of_byte}
+use Rattle.dsn_outcome.specs.Service.{service_of_byte}
 use Rattle.dsn_outcome.specs.declared.answer.Reply.{Reply}
 use Rattle.dsn_outcome.specs.declared.outcome_fault.OutcomeFault.{OutcomeFault}
-use Rattle.dsn_text.specs.declared.service.Service.{Service}
-use Rattle.dsn_frame.specs.BodyFault.{body_fault_code, outcome_refusal}
-use Rattle.dsn_frame.specs.Frame.{frame, FramesEnd, ReadsNext}
-use Rattle.dsn_frame.specs.FrameBody.{IsFrameBody}
-use Rattle.dsn_frame.specs.Request.{Encodes, layout_checks, head_checks, flush_checks, retry_checks, undated_fields, dated_fields, or_else, first_append_fault, first_own_fault, first_field_fault, first_body_fault}
+use Rattle.dsn_outcome.specs.declared.service.Service.{Service}
+use Rattle.dsn_body.specs.BodyFault.{body_fault_code, outcome_refusal}
+use Rattle.dsn_body.specs.FrameBody.{frame, IsFrameBody}
+use Rattle.dsn_body.specs.Request.{Encodes, layout_checks, head_checks, flush_checks, retry_checks, undated_fields, dated_fields, or_else, first_append_fault, first_own_fault, first_field_fault, first_body_fault}
+use Rattle.dsn_body.specs.Wire.{WireBody, AppendFields, DatedAppendFields, FlushFieldsOf, DiscardFields, ForgetFields, head_of, body_at}
+use Rattle.dsn_body.specs.declared.body_fault.BodyFault.{BodyFault}
+use Rattle.dsn_body.specs.declared.spoken.Spoken.{Spoken}
+use Rattle.dsn_body.specs.declared.spoken.Spoken.TheVariants as spoken
+use Rattle.dsn_body.proofs.Existence.{accepted_is_encoded}
+use Rattle.dsn_body.proofs.FieldLaws.{IsBytes, IsBytes-take, IsBytes-after}
+use Rattle.dsn_frame.specs.Frame.{FramesEnd, ReadsNext}
 use Rattle.dsn_frame.specs.Session.{Medium, faulty, out_of_turn, used_up, asked, written, IsSession, IsOpenSession}
 use Rattle.dsn_frame.specs.SessionLaws.{is_from_outside, IsDecided, RepliesAre, SessionWith, HasSomeSession}
-use Rattle.dsn_frame.specs.Wire.{WireBody, AppendFields, DatedAppendFields, FlushFieldsOf, DiscardFields, ForgetFields, head_of, body_at}
-use Rattle.dsn_frame.specs.declared.body_fault.BodyFault.{BodyFault}
 use Rattle.dsn_frame.specs.declared.frame_fault.FrameFault.{FrameFault}
 use Rattle.dsn_frame.specs.declared.frame_fault.FrameFault.TheVariants.{NoMemory, TooLong, Empty, CutShort, Read}
-use Rattle.dsn_frame.specs.declared.spoken.Spoken.{Spoken}
-use Rattle.dsn_frame.specs.declared.spoken.Spoken.TheVariants as spoken
-use Rattle.dsn_frame.proofs.Existence.{accepted_is_encoded, frames_exist}
-use Rattle.dsn_frame.proofs.FieldLaws.{IsBytes, IsBytes-take, IsBytes-after}
+use Rattle.dsn_frame.proofs.Existence.{frames_exist}
 use Rattle.dsn_frame.proofs.SessionFrames.{all_both, frames_cons}
 use Rattle.dsn_frame.proofs.SessionLemmas.{session_begun, session_more, session_stopped, session_well, session_cut, session_too_many}
 

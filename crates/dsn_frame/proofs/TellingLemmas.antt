@@ -4,8 +4,8 @@ use Rattle.std.specs.Prelude.{Option, Result, Ok, Err, OnOk, OnErr, is_err}
 use Rattle.std.specs.Io.KnownBytes.{Appends}
 use Rattle.std.proofs.KnownBytes.{Appends-trans}
 use Rattle.dsn_device.specs.Transfer.{AppendsPart}
+use Rattle.dsn_body.specs.declared.spoken.Spoken.{Spoken}
 use Rattle.dsn_frame.specs.Telling.{AnswersSent}
-use Rattle.dsn_frame.specs.declared.spoken.Spoken.{Spoken}
 
 -- what holds of a result that is an error, and of one that is none
 pub OnErr-is_err : {T E : Type 0} (result : Result T E) (P : Type 0) → is_err result ≡ true → OnErr result P → P

@@ -6,19 +6,20 @@ use Rattle.std.specs.Option.{option_map}
 use Rattle.std.proofs.lemmas.Grind.{flat_map-append}
 use Rattle.std.proofs.lemmas.List.{append-nil, append_cancel_left, length-append}
 use Rattle.dsn_outcome.specs.Request.{Body}
-use Rattle.dsn_frame.specs.Frame.{frame, AreFramesOf, FramesEnd}
+use Rattle.dsn_body.specs.FrameBody.{frame}
+use Rattle.dsn_body.specs.Request.{Encodes}
+use Rattle.dsn_body.specs.declared.spoken.Spoken.{Spoken}
+use Rattle.dsn_body.proofs.FieldLaws.{some_is}
+use Rattle.dsn_body.proofs.RequestLaws.{encodes_one, encoded_is_accepted}
+use Rattle.dsn_frame.specs.Frame.{AreFramesOf, FramesEnd}
 use Rattle.dsn_frame.specs.FrameFault.{frame_fault_code}
-use Rattle.dsn_frame.specs.Request.{Encodes}
 use Rattle.dsn_frame.specs.Session.{Medium, Takes, faulty, out_of_memory, out_of_turn, used_up, asked, given_up, given_up_after, GoesOn, written, unwritten, SessionSoFar, begun, taken}
 use Rattle.dsn_frame.specs.SessionLaws.{is_end_of_frames}
 use Rattle.dsn_frame.specs.WholeInput.{EncodeInTurn, IsWholeInput, IsReply, IsReplyOrNoMemory, IsOutside, TakesAll, IsTakenWhole}
 use Rattle.dsn_frame.specs.WholeInput as end
 use Rattle.dsn_frame.specs.declared.frame_fault.FrameFault.{FrameFault}
 use Rattle.dsn_frame.specs.declared.frame_fault.FrameFault.TheVariants.{NoMemory, TooLong, Empty, CutShort, Read}
-use Rattle.dsn_frame.specs.declared.spoken.Spoken.{Spoken}
-use Rattle.dsn_frame.proofs.FieldLaws.{some_is}
 use Rattle.dsn_frame.proofs.InputLaws.{front_length}
-use Rattle.dsn_frame.proofs.RequestLaws.{encodes_one, encoded_is_accepted}
 use Rattle.dsn_frame.proofs.SessionFrames.{all_both, all_parts, EndsAt, at_frame, no_frame, one_more, from_outside, session_reads, takes_its_frames}
 
 -- ---- bodies in turn

@@ -3,13 +3,9 @@ use Rattle.std.specs.Prelude.{◌≡◌, ℕ, ◌+◌, ◌<◌, ◌≤◌, List,
 use Rattle.std.specs.Io.KnownBytes.{Consumes, IsAtEnd}
 use Rattle.std.specs.Int.{w32, to_be_bytes, from_be_bytes}
 use Rattle.std.specs.List.{flat_map, AllByRecursion}
-use Rattle.dsn_frame.specs.FrameBody.{IsFrameLength, IsFrameBody}
+use Rattle.dsn_body.specs.FrameBody.{frame, IsFrameLength, IsFrameBody}
 use Rattle.dsn_frame.specs.declared.frame_fault.FrameFault.{FrameFault}
 use Rattle.dsn_frame.specs.declared.frame_fault.FrameFault.TheVariants.{NoMemory, TooLong, Empty, CutShort, Read}
-
--- a frame: its body's length in four bytes, the highest first, and then the body
-abbrev pub frame : List ℕ → List ℕ
-frame body = to_be_bytes w32 (length body) ++ body
 
 -- bytes that are a frame, whose body stands after the first four
 pub record IsHeld (bytes : List ℕ) : Type 0 where

@@ -1,15 +1,8 @@
-pub mod AnswerFault
-pub mod BodyFault
-pub mod BodyParts
 pub mod Frame
-pub mod FrameBody
 pub mod FrameFault
 pub mod Laws
 pub mod Refusal
-pub mod Request
 pub mod Session
 pub mod SessionLaws
-pub mod Spoken
 pub mod Telling
 pub mod WholeInput
-pub mod Wire

@@ -2,9 +2,9 @@
 -- project's profile).
 use Rattle.std.specs.Prelude.{◌≡◌, ◌≢◌, ℕ, List, Option, Some, None, unwrap_or}
 use Rattle.dsn_outcome.specs.Request.{Body}
-use Rattle.dsn_frame.specs.BodyFault.{body_fault_code}
-use Rattle.dsn_frame.specs.Request.{Encodes, first_body_fault}
-use Rattle.dsn_frame.specs.declared.body_fault.BodyFault.TheVariants as faults
+use Rattle.dsn_body.specs.BodyFault.{body_fault_code}
+use Rattle.dsn_body.specs.Request.{Encodes, first_body_fault}
+use Rattle.dsn_body.specs.declared.body_fault.BodyFault.TheVariants as faults
 use Rattle.dsn_frame.specs.declared.refusal.Refusal.{Refusal}
 use Rattle.dsn_frame.specs.declared.refusal.Refusal.TheVariants as refusal
 

@@ -5,15 +5,15 @@ use Rattle.std.specs.Io.KnownBytes.{Consumes, IsAtEnd}
 use Rattle.std.specs.List.{flat_map}
 use Rattle.dsn_outcome.specs.Request.{Body}
 use Rattle.dsn_outcome.specs.declared.answer.Reply.{Reply}
-use Rattle.dsn_frame.specs.BodyFault.{body_fault_code}
-use Rattle.dsn_frame.specs.Frame.{frame, ReadsNone}
-use Rattle.dsn_frame.specs.FrameBody.{IsFrameBody}
+use Rattle.dsn_body.specs.BodyFault.{body_fault_code}
+use Rattle.dsn_body.specs.FrameBody.{frame, IsFrameBody}
+use Rattle.dsn_body.specs.Request.{Encodes, first_body_fault}
+use Rattle.dsn_body.specs.declared.body_fault.BodyFault.{BodyFault}
+use Rattle.dsn_body.specs.declared.spoken.Spoken.{Spoken}
+use Rattle.dsn_body.specs.declared.spoken.Spoken.TheVariants as spoken
+use Rattle.dsn_frame.specs.Frame.{ReadsNone}
 use Rattle.dsn_frame.specs.FrameFault.{frame_fault_code}
-use Rattle.dsn_frame.specs.Request.{Encodes, first_body_fault}
-use Rattle.dsn_frame.specs.declared.body_fault.BodyFault.{BodyFault}
 use Rattle.dsn_frame.specs.declared.frame_fault.FrameFault.{FrameFault}
-use Rattle.dsn_frame.specs.declared.spoken.Spoken.{Spoken}
-use Rattle.dsn_frame.specs.declared.spoken.Spoken.TheVariants as spoken
 
 -- where a session takes place: in an input that is read alone, or on a connection to a daemon, which may give up
 pub data Medium : Type 0 where

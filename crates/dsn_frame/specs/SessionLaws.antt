@@ -5,12 +5,12 @@ use Rattle.std.specs.List.{AllByRecursion}
 use Rattle.std.specs.Option.{option_map, option_map_or}
 use Rattle.dsn_outcome.specs.Request.{Body}
 use Rattle.dsn_outcome.specs.declared.answer.Reply.{Reply as Given}
+use Rattle.dsn_body.specs.declared.spoken.Spoken.{Spoken}
+use Rattle.dsn_body.specs.declared.spoken.Spoken.TheVariants.{Reply, Refused}
 use Rattle.dsn_frame.specs.Frame.{AreFramesOf}
 use Rattle.dsn_frame.specs.FrameFault.{frame_fault_code}
 use Rattle.dsn_frame.specs.Session.{Medium, IsSession}
 use Rattle.dsn_frame.specs.declared.frame_fault.FrameFault.{FrameFault}
-use Rattle.dsn_frame.specs.declared.spoken.Spoken.{Spoken}
-use Rattle.dsn_frame.specs.declared.spoken.Spoken.TheVariants.{Reply, Refused}
 
 -- the numbers of what comes from outside the bytes: want of memory, a read that failed, an answer that could not be
 -- written (to notes, to a connection), and a daemon that gave up

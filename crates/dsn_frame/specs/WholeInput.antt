@@ -2,12 +2,11 @@
 use Rattle.std.specs.Prelude.{◌≡◌, ◌≢◌, ℕ, ◌+◌, ◌≤◌, List, [], ◌∷◌, ◌++◌, length, take, Option, Some, None}
 use Rattle.std.specs.List.{flat_map, AllByRecursion}
 use Rattle.dsn_outcome.specs.Request.{Body}
-use Rattle.dsn_frame.specs.Frame.{frame}
-use Rattle.dsn_frame.specs.FrameBody.{IsFrameBody}
-use Rattle.dsn_frame.specs.Request.{Encodes}
+use Rattle.dsn_body.specs.FrameBody.{frame, IsFrameBody}
+use Rattle.dsn_body.specs.Request.{Encodes}
+use Rattle.dsn_body.specs.declared.spoken.Spoken.{Spoken}
+use Rattle.dsn_body.specs.declared.spoken.Spoken.TheVariants.{Reply, Refused}
 use Rattle.dsn_frame.specs.Session.{Medium, Connection, unwritten_code, IsSession}
-use Rattle.dsn_frame.specs.declared.spoken.Spoken.{Spoken}
-use Rattle.dsn_frame.specs.declared.spoken.Spoken.TheVariants.{Reply, Refused}
 
 -- these frames encode these bodies, each the one at its place; the first has this number, and each other the next one
 abbrev pub EncodeInTurn : ℕ → List (List ℕ) → List Body → Type 0

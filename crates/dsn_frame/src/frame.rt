@@ -3,8 +3,8 @@ ghost use Rattle.std.specs.Prelude.{◌≡◌, ◌≢◌, ℕ, ◌+◌, length, 
 ghost use Rattle.std.specs.Int.{w32, from_be_bytes, to_be_bytes};
 ghost use Rattle.std.specs.Io.KnownBytes.{Consumes, IsAtEnd, Keeps};
 ghost use Rattle.dsn_device.specs.Failures.{counted};
-ghost use Rattle.dsn_frame.specs.FrameBody.{IsFrameLength, IsFrameBody};
-ghost use Rattle.dsn_frame.specs.Frame.{BodyMissing, IsHeld, ReadsLength, ReadsNext, ReadsNone, frame};
+ghost use Rattle.dsn_body.specs.FrameBody.{IsFrameLength, IsFrameBody, frame};
+ghost use Rattle.dsn_frame.specs.Frame.{BodyMissing, IsHeld, ReadsLength, ReadsNext, ReadsNone};
 ghost use Rattle.dsn_frame.specs.FrameFault.{source_failed};
 
 use crate::frame_fault::FrameFault;
@@ -154,7 +154,7 @@ pub(crate) fn fill_frame<S: Source>(
 }
 
 /// The number that four bytes are, the highest first.
-pub(crate) fn number_in(bytes: &[u8]) -> u32
+fn number_in(bytes: &[u8]) -> u32
     requires { length bytes.now ≡ 4 }
     ensures value { result ≡ from_be_bytes w32 bytes.now }
     ensures written { bytes.now ≡ to_be_bytes w32 result }

@@ -2,7 +2,7 @@
 ghost use Rattle.std.specs.Prelude.{◌≡◌, is_some};
 ghost use Rattle.dsn_frame.specs.Refusal.{refusal_code, refusal_end};
 
-use crate::body_fault::BodyFault;
+use dsn_body::BodyFault;
 use thiserror::Error;
 
 /// Why a frame asks nothing.

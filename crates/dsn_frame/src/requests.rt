@@ -2,13 +2,13 @@
 ghost use Rattle.std.specs.Prelude.{◌≢◌, ℕ, [], ◌∷◌, IfOk, IfErr};
 ghost use Rattle.dsn_outcome.specs.Body.{body_of};
 ghost use Rattle.dsn_outcome.specs.Request.{Bye};
+ghost use Rattle.dsn_body.specs.Request.{Encodes};
+ghost use Rattle.dsn_body.specs.declared.spoken.Spoken.TheVariants.{Refused};
 ghost use Rattle.dsn_frame.specs.Refusal.{IsRefused, refusal_code, refusal_end};
-ghost use Rattle.dsn_frame.specs.Request.{Encodes};
 ghost use Rattle.dsn_frame.specs.Session.{Medium, Takes};
-ghost use Rattle.dsn_frame.specs.declared.spoken.Spoken.TheVariants.{Refused};
 
-use crate::decode::decode_request;
 use crate::refusal::Refusal;
+use dsn_body::decode_request;
 use dsn_outcome::Body;
 use std::alloc::Global;
 

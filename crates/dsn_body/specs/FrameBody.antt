@@ -1,0 +1,14 @@
+-- The bodies that frames carry, and the frame of each (this project's profile).
+use Rattle.std.specs.Prelude.{ℕ, ◌≤◌, List, ◌++◌, length}
+use Rattle.std.specs.Int.{w32, to_be_bytes}
+
+-- how many bytes a frame's body has
+abbrev pub IsFrameLength : ℕ → Type 0
+IsFrameLength size = (1 ≤ size) × (size ≤ 65536)
+
+abbrev pub IsFrameBody : List ℕ → Type 0
+IsFrameBody body = IsFrameLength (length body)
+
+-- a frame: its body's length in four bytes, the highest first, and then the body
+abbrev pub frame : List ℕ → List ℕ
+frame body = to_be_bytes w32 (length body) ++ body

@@ -1,0 +1,8 @@
+pub mod AnswerFault
+pub mod BodyFault
+pub mod BodyParts
+pub mod FrameBody
+pub mod Laws
+pub mod Request
+pub mod Spoken
+pub mod Wire

@@ -1,0 +1,28 @@
+//! Requests and answers in bytes: the bodies of frames to requests and back, answers to frames and
+//! back, and why bytes are neither. How frames follow one another is `dsn_frame`'s.
+#![tactic(auto)]
+
+mod answer;
+mod answer_fault;
+mod body_fault;
+mod decode;
+mod encode;
+mod laws;
+mod parts;
+mod reading;
+mod spoken;
+mod writing;
+
+pub use answer::{decode_answer, encode_answer};
+pub use answer_fault::AnswerFault;
+pub use body_fault::BodyFault;
+pub use decode::decode_request;
+pub use encode::encode_request;
+pub use laws::bodies_are_requests_or_refused;
+pub use spoken::Spoken;
+
+/// The first version of the format: the first byte of each answer's body, and of most requests'.
+const VERSION: u8 = 1;
+
+/// The second version: the first byte of a Forget's body, and of an append's with moments.
+const SECOND_VERSION: u8 = 2;

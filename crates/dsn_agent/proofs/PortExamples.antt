@@ -8,10 +8,10 @@ use Rattle.dsn_outcome.specs.Request.{Request, Body, Bye}
 use Rattle.dsn_outcome.specs.declared.answer.Answer.{Answer}
 use Rattle.dsn_outcome.specs.declared.answer.Reply.TheVariants.{Closed, Discarded, Gone}
 use Rattle.dsn_outcome.specs.declared.answer.Reply.{Reply as ReplyOf}
-use Rattle.dsn_frame.specs.Frame.{frame}
+use Rattle.dsn_body.specs.FrameBody.{frame}
+use Rattle.dsn_body.specs.declared.spoken.Spoken.TheVariants.{Reply}
 use Rattle.dsn_frame.specs.Session.{asked, written, begun, taken, well, cut}
 use Rattle.dsn_frame.specs.declared.frame_fault.FrameFault.TheVariants.{Empty, CutShort}
-use Rattle.dsn_frame.specs.declared.spoken.Spoken.TheVariants.{Reply}
 use Rattle.dsn_agent.specs.Agent.{Agent}
 use Rattle.dsn_agent.specs.Port.{Conn, IsPortServed, Session}
 use Rattle.dsn_agent.specs.Serve.{numbered_from}

@@ -10,13 +10,13 @@ use Rattle.dsn_outcome.specs.declared.answer.Answer.{Answer}
 use Rattle.dsn_outcome.specs.declared.answer.Reply.{Reply as ReplyOf}
 use Rattle.dsn_outcome.specs.declared.answer.Reply.TheVariants.{Discarded}
 use Rattle.dsn_text.specs.declared.service.Service.TheVariants.{Bounce}
-use Rattle.dsn_frame.specs.Frame.{frame}
-use Rattle.dsn_frame.specs.Request.{first_own_fault, StandsFor, Encodes}
+use Rattle.dsn_body.specs.FrameBody.{frame}
+use Rattle.dsn_body.specs.Request.{first_own_fault, StandsFor, Encodes}
+use Rattle.dsn_body.specs.Spoken.{answer_body, answer_bytes, answer_frames_from}
+use Rattle.dsn_body.specs.Wire.{DiscardFields, body_bytes, own_bytes, head_bytes, text_bytes, number_bytes, FitsOwn}
+use Rattle.dsn_body.specs.declared.spoken.Spoken.{Spoken}
+use Rattle.dsn_body.specs.declared.spoken.Spoken.TheVariants.{Refused, Reply}
 use Rattle.dsn_frame.specs.Session.{asked, given_up, written, begun, taken, stopped, well}
-use Rattle.dsn_frame.specs.Spoken.{answer_body, answer_bytes, answer_frames_from}
-use Rattle.dsn_frame.specs.Wire.{DiscardFields, body_bytes, own_bytes, head_bytes, text_bytes, number_bytes, FitsOwn}
-use Rattle.dsn_frame.specs.declared.spoken.Spoken.{Spoken}
-use Rattle.dsn_frame.specs.declared.spoken.Spoken.TheVariants.{Refused, Reply}
 use Rattle.dsn_agent.specs.Agent.{Agent}
 use Rattle.dsn_agent.specs.Serve.{IsServed, numbered_from}
 use Rattle.dsn_agent.specs.declared.serve_fault.ServeFault.TheVariants.{Lost}

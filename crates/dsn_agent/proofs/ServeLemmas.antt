@@ -10,17 +10,17 @@ use Rattle.dsn_outcome.specs.declared.answer.Answer.{Answer}
 use Rattle.dsn_outcome.specs.OutcomeFault.{outcome_fault_code}
 use Rattle.dsn_outcome.specs.declared.outcome_fault.OutcomeFault.{OutcomeFault}
 use Rattle.dsn_outcome.specs.declared.outcome_fault.OutcomeFault.TheVariants as outcome
-use Rattle.dsn_frame.specs.BodyFault.{body_fault_code}
-use Rattle.dsn_frame.specs.declared.body_fault.BodyFault.{BodyFault}
-use Rattle.dsn_frame.specs.declared.body_fault.BodyFault.TheVariants as faults
+use Rattle.dsn_body.specs.BodyFault.{body_fault_code}
+use Rattle.dsn_body.specs.declared.body_fault.BodyFault.{BodyFault}
+use Rattle.dsn_body.specs.declared.body_fault.BodyFault.TheVariants as faults
+use Rattle.dsn_body.specs.Request.{Encodes}
+use Rattle.dsn_body.specs.Spoken.{reply_of}
+use Rattle.dsn_body.specs.declared.spoken.Spoken.{Spoken}
+use Rattle.dsn_body.specs.declared.spoken.Spoken.TheVariants as spoken
 use Rattle.dsn_frame.specs.Refusal.{refusal_code, refusal_end}
-use Rattle.dsn_frame.specs.Request.{Encodes}
 use Rattle.dsn_frame.specs.Session.{Connection, Takes, asked, used_up, given_up, given_up_after}
-use Rattle.dsn_frame.specs.Spoken.{reply_of}
 use Rattle.dsn_frame.specs.declared.refusal.Refusal.{Refusal}
 use Rattle.dsn_frame.specs.declared.refusal.Refusal.TheVariants as refusals
-use Rattle.dsn_frame.specs.declared.spoken.Spoken.{Spoken}
-use Rattle.dsn_frame.specs.declared.spoken.Spoken.TheVariants as spoken
 use Rattle.dsn_agent.specs.Agent.{Agent, IsAsk}
 use Rattle.dsn_agent.specs.Serve.{numbered_answer, numbered_from, numbered_request, requests_from, answers_from, after_requests, asked_turn, AreReplied, HasAsked, IsTurn}
 use Rattle.dsn_agent.specs.declared.ask_fault.AskFault.{AskFault}

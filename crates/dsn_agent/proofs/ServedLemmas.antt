@@ -9,11 +9,12 @@ use Rattle.dsn_device.specs.declared.source.Source.{Ghosts as Source}
 use Rattle.dsn_device.specs.Failures.{counted}
 use Rattle.dsn_device.specs.Transfer.{AppendsPart}
 use Rattle.dsn_outcome.specs.Request.{Body}
-use Rattle.dsn_frame.specs.Frame.{ReadsNext, frame}
+use Rattle.dsn_body.specs.FrameBody.{frame}
+use Rattle.dsn_body.specs.Spoken.{answer_bytes, answer_frames_from}
+use Rattle.dsn_body.specs.declared.spoken.Spoken.{Spoken}
+use Rattle.dsn_body.proofs.AnswerLemmas.{answer_frames_from-more}
+use Rattle.dsn_frame.specs.Frame.{ReadsNext}
 use Rattle.dsn_frame.specs.Session.{Connection, IsOpenSession, IsSession, Takes, written}
-use Rattle.dsn_frame.specs.Spoken.{answer_bytes, answer_frames_from}
-use Rattle.dsn_frame.specs.declared.spoken.Spoken.{Spoken}
-use Rattle.dsn_frame.proofs.AnswerLemmas.{answer_frames_from-more}
 use Rattle.dsn_frame.proofs.TellingLemmas.{length-more, sent-more, sent-lost}
 use Rattle.dsn_frame.proofs.SessionLemmas.{session_begun, session_more, session_stopped, session_unwritten}
 use Rattle.dsn_agent.specs.Agent.{Agent}

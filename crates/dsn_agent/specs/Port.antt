@@ -5,8 +5,8 @@ use Rattle.dsn_device.specs.Failures.{most_failures}
 use Rattle.dsn_device.specs.declared.source.Source.{Ghosts as Source}
 use Rattle.dsn_outcome.specs.Request.{Body, Bye}
 use Rattle.dsn_outcome.specs.declared.answer.Reply.TheVariants.{Gone}
+use Rattle.dsn_body.specs.declared.spoken.Spoken.{Spoken}
 use Rattle.dsn_frame.specs.Session.{Connection, IsSession}
-use Rattle.dsn_frame.specs.declared.spoken.Spoken.{Spoken}
 use Rattle.dsn_agent.specs.Agent.{Agent, Ends, after_reply}
 use Rattle.dsn_agent.specs.Serve.{HasAsked}
 use Rattle.dsn_agent.specs.declared.agent_line.AgentLine.{AgentLine}

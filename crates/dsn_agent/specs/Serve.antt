@@ -7,12 +7,12 @@ use Rattle.dsn_device.specs.declared.source.Source.{Ghosts as Source}
 use Rattle.dsn_outcome.specs.Request.{Request, Body}
 use Rattle.dsn_outcome.specs.declared.answer.Answer.{Answer}
 use Rattle.dsn_outcome.specs.declared.answer.Reply.{Reply}
+use Rattle.dsn_body.specs.Spoken.{answer_bytes, answer_frames_from, reply_of}
+use Rattle.dsn_body.specs.declared.spoken.Spoken.{Spoken}
+use Rattle.dsn_body.specs.declared.spoken.Spoken.TheVariants as spoken
 use Rattle.dsn_frame.specs.FrameFault.{frame_fault_code, source_failed}
 use Rattle.dsn_frame.specs.Session.{Connection, IsSession, Takes}
-use Rattle.dsn_frame.specs.Spoken.{answer_bytes, answer_frames_from, reply_of}
 use Rattle.dsn_frame.specs.Telling.{AnswersSent}
-use Rattle.dsn_frame.specs.declared.spoken.Spoken.{Spoken}
-use Rattle.dsn_frame.specs.declared.spoken.Spoken.TheVariants as spoken
 use Rattle.dsn_agent.specs.Agent.{Agent}
 use Rattle.dsn_agent.specs.declared.ask_fault.AskFault.{AskFault}
 use Rattle.dsn_agent.specs.declared.ask_fault.AskFault.TheVariants as asks

@@ -2,7 +2,7 @@
 ghost use Rattle.std.specs.Prelude.{◌≢◌, ℕ, List};
 ghost use Rattle.dsn_outcome.specs.Body.{body_of};
 ghost use Rattle.dsn_outcome.specs.Request.{Bye as Goodbye};
-ghost use Rattle.dsn_frame.specs.Request.{Encodes};
+ghost use Rattle.dsn_body.specs.Request.{Encodes};
 ghost use Rattle.dsn_agent.specs.Agent.{IsAgent};
 ghost use Rattle.dsn_agent.specs.Serve.{IsServed, IsTurn};
 

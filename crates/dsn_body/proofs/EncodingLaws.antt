@@ -6,20 +6,21 @@ use Rattle.std.specs.List.{list_all}
 use Rattle.std.proofs.lemmas.Bool.Decides.{nat_tests}
 use Rattle.std.proofs.lemmas.Bool.{and_parts, leb-true, le-leb}
 use Rattle.std.proofs.lemmas.List.{length-append}
-use Rattle.dsn_outcome.specs.Action.{action_byte, action_of_byte}
+use Rattle.dsn_text.specs.Action.{action_byte, action_of_byte}
 use Rattle.dsn_outcome.specs.Draft.{Draft, IsLegalDraft}
-use Rattle.dsn_outcome.specs.Outcome.{Outcome, Fields, IsLegalOutcome, IsOutcomeOf, first_failed, first_outcome_fault, is_none_or, unless_empty}
+use Rattle.dsn_outcome.specs.Outcome.{Outcome, Fields, IsLegalOutcome, IsOutcomeOf, first_failed, first_outcome_fault}
+use Rattle.dsn_text.specs.Optional.{is_none_or, unless_empty}
 use Rattle.dsn_outcome.specs.Request.{Body, Append, Flush, Discard, Forget}
-use Rattle.dsn_outcome.specs.Service.{service_byte, service_of_byte}
-use Rattle.dsn_outcome.specs.Stamp.{is_moment, last_moment}
-use Rattle.dsn_outcome.specs.Status.{is_status_code}
-use Rattle.dsn_outcome.specs.Text.{is_text, is_printable, is_queue_id, is_address, is_mta_name, is_envelope_id, is_remark, clean_text, is_letter_or_digit, is_address_byte, is_visible}
-use Rattle.dsn_outcome.specs.declared.action.Action.{Action}
-use Rattle.dsn_outcome.specs.declared.action.Action.TheVariants.{Failed, Delayed, Delivered, Relayed, Expanded}
-use Rattle.dsn_outcome.specs.declared.key.Key.{Key}
-use Rattle.dsn_outcome.specs.declared.service.Service.{Service}
-use Rattle.dsn_outcome.specs.declared.service.Service.TheVariants.{Bounce, Defer, Trace}
-use Rattle.dsn_outcome.proofs.StatusLemmas.{IsStatusCode-test, length-IsStatusCode}
+use Rattle.dsn_text.specs.Service.{service_byte, service_of_byte}
+use Rattle.dsn_text.specs.Stamp.{is_moment, last_moment}
+use Rattle.dsn_text.specs.Status.{is_status_code}
+use Rattle.dsn_text.specs.Text.{is_text, is_printable, is_queue_id, is_address, is_mta_name, is_envelope_id, is_remark, clean_text, is_letter_or_digit, is_address_byte, is_visible}
+use Rattle.dsn_text.specs.declared.action.Action.{Action}
+use Rattle.dsn_text.specs.declared.action.Action.TheVariants.{Failed, Delayed, Delivered, Relayed, Expanded}
+use Rattle.dsn_text.specs.declared.key.Key.{Key}
+use Rattle.dsn_text.specs.declared.service.Service.{Service}
+use Rattle.dsn_text.specs.declared.service.Service.TheVariants.{Bounce, Defer, Trace}
+use Rattle.dsn_text.proofs.StatusLemmas.{IsStatusCode-test, length-IsStatusCode}
 use Rattle.dsn_body.specs.FrameBody.{IsFrameBody}
 use Rattle.dsn_body.specs.Request.{text_or_empty, head_for, fields_for, no_moment, moment_if_any, moment_or_none, outcome_fields, undated_fields, dated_fields, retry_fields_for, append_written_as, flush_fields_for, draft_of, flush_checks, first_own_fault, StandsFor, Encodes, IsWritten}
 use Rattle.dsn_body.specs.Wire.{Head, RecipientFields, RetryFields, FlushFields, WireBody, AppendFields, DatedAppendFields, FlushFieldsOf, DiscardFields, ForgetFields, head_of, own_bytes, body_bytes, number_bytes, text_bytes, head_bytes, append_bytes, retry_bytes, flush_bytes, FitsAppend, FitsOwn}

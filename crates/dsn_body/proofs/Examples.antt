@@ -4,8 +4,8 @@ use Rattle.std.specs.Prelude.{Option, Some, None, codes, replicate}
 use Rattle.std.specs.Option.{option_map}
 use Rattle.dsn_outcome.specs.Outcome.{first_outcome_fault}
 use Rattle.dsn_outcome.specs.Request.{Body, Append, Flush, Forget}
-use Rattle.dsn_outcome.specs.declared.action.Action.TheVariants.{Failed, Delayed}
-use Rattle.dsn_outcome.specs.declared.service.Service.TheVariants.{Bounce, Defer}
+use Rattle.dsn_text.specs.declared.action.Action.TheVariants.{Failed, Delayed}
+use Rattle.dsn_text.specs.declared.service.Service.TheVariants.{Bounce, Defer}
 use Rattle.dsn_body.specs.BodyFault.{body_fault_code}
 use Rattle.dsn_body.specs.Request.{first_body_fault, has_kind, first_own_fault, append_written_as, StandsFor, Encodes, fields_written, request_body}
 use Rattle.dsn_body.specs.Wire.{AppendFields, FlushFieldsOf, number_at, number_bytes, text_at, text_bytes, head_at, head_bytes, append_at, append_body_at, append_bytes, retry_at, retry_bytes, flush_at, flush_bytes, own_at, body_at, body_bytes, own_bytes, FitsOwn}

@@ -4,13 +4,14 @@ use Rattle.std.specs.Prelude.{is_some}
 use Rattle.std.specs.Option.{option_map, option_map_or}
 use Rattle.std.proofs.lemmas.Bool.{eqb-true}
 use Rattle.std.proofs.lemmas.List.{nil_from_length}
-use Rattle.dsn_outcome.specs.Action.{action_of_byte}
-use Rattle.dsn_outcome.specs.Outcome.{Outcome, Fields, first_outcome_fault, first_failed, takes, unless_empty}
+use Rattle.dsn_text.specs.Action.{action_of_byte}
+use Rattle.dsn_outcome.specs.Outcome.{Outcome, Fields, first_outcome_fault, first_failed}
+use Rattle.dsn_text.specs.Optional.{unless_empty}
+use Rattle.dsn_text.specs.Service.{takes, service_of_byte}
 use Rattle.dsn_outcome.specs.Request.{Body, Append, Flush, Discard, Forget}
-use Rattle.dsn_outcome.specs.Service.{service_of_byte}
-use Rattle.dsn_outcome.specs.Text.{clean_text}
-use Rattle.dsn_outcome.specs.declared.action.Action.{Action}
-use Rattle.dsn_outcome.specs.declared.service.Service.{Service}
+use Rattle.dsn_text.specs.Text.{clean_text}
+use Rattle.dsn_text.specs.declared.action.Action.{Action}
+use Rattle.dsn_text.specs.declared.service.Service.{Service}
 use Rattle.dsn_body.specs.BodyFault.{outcome_refusal}
 use Rattle.dsn_body.specs.Request.{layout_checks, head_checks, first_append_fault, undated_fields, dated_fields, IsAppendOf, first_own_fault, first_field_fault, first_body_fault, or_else, IsWhole, draft_of, StandsFor, Encodes}
 use Rattle.dsn_body.specs.Wire.{Head, WireBody, AppendFields, DatedAppendFields, FlushFieldsOf, DiscardFields, ForgetFields, head_of, body_at}

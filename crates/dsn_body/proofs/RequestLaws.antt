@@ -7,9 +7,9 @@ use Rattle.std.proofs.lemmas.List.{append-nil}
 use Rattle.dsn_outcome.specs.Draft.{Draft}
 use Rattle.dsn_outcome.specs.Outcome.{Outcome, Fields, first_failed}
 use Rattle.dsn_outcome.specs.Request.{Body, Append, Flush, Discard, Forget, Bye}
-use Rattle.dsn_outcome.specs.declared.action.Action.{Action}
-use Rattle.dsn_outcome.specs.declared.key.Key.{Key}
-use Rattle.dsn_outcome.specs.declared.service.Service.{Service}
+use Rattle.dsn_text.specs.declared.action.Action.{Action}
+use Rattle.dsn_text.specs.declared.key.Key.{Key}
+use Rattle.dsn_text.specs.declared.service.Service.{Service}
 use Rattle.dsn_body.specs.Request.{has_kind, layout_checks, first_field_fault, first_body_fault, undated_fields, dated_fields, IsWhole, IsKeyOf, IsAppendOf, StandsFor, Encodes}
 use Rattle.dsn_body.specs.Wire.{Head, WireBody, AppendFields, DatedAppendFields, FlushFieldsOf, DiscardFields, ForgetFields, is_version, is_kind, is_known, head_of, kind_of, body_bytes, Fits, body_at}
 use Rattle.dsn_body.specs.declared.body_fault.BodyFault.TheVariants as faults

@@ -2,15 +2,16 @@
 -- project's profile, versions 1 and 2).
 use Rattle.std.specs.Prelude.{◌≡◌, ℕ, Bool, true, false, ◌&&◌, ◌==◌, nat_le, List, [], ◌∷◌, length, ◌≤◌, Option, Some, None, is_none, is_some, if◌then◌else◌, slice_get, option_and_then}
 use Rattle.std.specs.Option.{option_map, option_map_or}
-use Rattle.dsn_outcome.specs.Action.{action_byte}
+use Rattle.dsn_text.specs.Action.{action_byte}
 use Rattle.dsn_outcome.specs.Draft.{Draft}
-use Rattle.dsn_outcome.specs.Outcome.{Outcome, Fields, IsOutcomeOf, first_outcome_fault, first_failed, is_none_or, unless_empty}
+use Rattle.dsn_outcome.specs.Outcome.{Outcome, Fields, IsOutcomeOf, first_outcome_fault, first_failed}
+use Rattle.dsn_text.specs.Optional.{is_none_or, unless_empty}
 use Rattle.dsn_outcome.specs.Request.{Body, Append, Flush, Discard, Forget, Bye}
-use Rattle.dsn_outcome.specs.Service.{service_byte, service_of_byte}
-use Rattle.dsn_outcome.specs.Stamp.{last_moment, is_moment}
-use Rattle.dsn_outcome.specs.Text.{is_queue_id, is_address, is_envelope_id}
-use Rattle.dsn_outcome.specs.declared.key.Key.{Key}
-use Rattle.dsn_outcome.specs.declared.service.Service.{Service}
+use Rattle.dsn_text.specs.Service.{service_byte, service_of_byte}
+use Rattle.dsn_text.specs.Stamp.{last_moment, is_moment}
+use Rattle.dsn_text.specs.Text.{is_queue_id, is_address, is_envelope_id}
+use Rattle.dsn_text.specs.declared.key.Key.{Key}
+use Rattle.dsn_text.specs.declared.service.Service.{Service}
 use Rattle.dsn_body.specs.BodyFault.{outcome_refusal}
 use Rattle.dsn_body.specs.FrameBody.{frame}
 use Rattle.dsn_body.specs.Wire.{Head, RecipientFields, RetryFields, FlushFields, WireBody, AppendFields, DatedAppendFields, FlushFieldsOf, DiscardFields, ForgetFields, is_version, is_kind, is_known, head_of, own_bytes, body_bytes, Fits, body_at}

@@ -2,9 +2,10 @@
 ghost use Rattle.std.specs.Prelude.{◌≡◌, ◌≢◌, ◌&&◌, nat_le, [], true, false, IfOk, IfErr, OnOk, Some, None, unwrap_or};
 ghost use Rattle.std.specs.Option.{option_map};
 ghost use Rattle.dsn_outcome.specs.Body.{body_of};
-ghost use Rattle.dsn_outcome.specs.Outcome.{IsOutcomeOf, first_failed, first_outcome_fault, is_none_or};
+ghost use Rattle.dsn_outcome.specs.Outcome.{IsOutcomeOf, first_failed, first_outcome_fault};
+ghost use Rattle.dsn_text.specs.Optional.{is_none_or};
 ghost use Rattle.dsn_outcome.specs.Request.{Bye};
-ghost use Rattle.dsn_outcome.specs.Stamp.{is_moment, last_moment};
+ghost use Rattle.dsn_text.specs.Stamp.{is_moment, last_moment};
 ghost use Rattle.dsn_body.specs.BodyFault.{outcome_refusal};
 ghost use Rattle.dsn_body.specs.BodyParts.{head_in, recipient_fields_in, retry_fields_in, flush_fields_in, wire_body_in};
 ghost use Rattle.dsn_body.specs.Wire.{body_at, head_of};

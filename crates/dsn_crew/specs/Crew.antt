@@ -3,7 +3,7 @@ use Rattle.std.specs.Prelude.{◌≡◌, ◌≢◌, ℕ, suc, ◌+◌, ◌<◌, 
 use Rattle.std.specs.List.{flat_map}
 use Rattle.dsn_book.specs.Book.{Book, Represents}
 use Rattle.dsn_device.specs.declared.drain.Drain.{Ghosts as Drain}
-use Rattle.dsn_frame.specs.Spoken.{reply_of}
+use Rattle.dsn_body.specs.Spoken.{reply_of}
 use Rattle.dsn_lane.specs.Lane.{IsNumbered}
 use Rattle.dsn_outcome.specs.Agents.{from_agent}
 use Rattle.dsn_outcome.specs.History.{Limits, answers_to, history_of, sealed_letters}

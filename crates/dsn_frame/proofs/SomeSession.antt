@@ -9,10 +9,10 @@ use Rattle.std.proofs.lemmas.Bool.{cases_lt}
 use Rattle.std.proofs.lemmas.List.{append-nil, length-append, length-take, take-take, take-append-drop}
 use Rattle.dsn_outcome.specs.Outcome.{Fields, outcome_checks, first_outcome_fault, first_failed}
 use Rattle.dsn_outcome.specs.Request.{Body}
-use Rattle.dsn_outcome.specs.Service.{service_of_byte}
+use Rattle.dsn_text.specs.Service.{service_of_byte}
 use Rattle.dsn_outcome.specs.declared.answer.Reply.{Reply}
 use Rattle.dsn_outcome.specs.declared.outcome_fault.OutcomeFault.{OutcomeFault}
-use Rattle.dsn_outcome.specs.declared.service.Service.{Service}
+use Rattle.dsn_text.specs.declared.service.Service.{Service}
 use Rattle.dsn_body.specs.BodyFault.{body_fault_code, outcome_refusal}
 use Rattle.dsn_body.specs.FrameBody.{frame, IsFrameBody}
 use Rattle.dsn_body.specs.Request.{Encodes, layout_checks, head_checks, flush_checks, retry_checks, undated_fields, dated_fields, or_else, first_append_fault, first_own_fault, first_field_fault, first_body_fault}

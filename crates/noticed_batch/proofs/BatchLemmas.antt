@@ -10,8 +10,8 @@ use Rattle.dsn_book.specs.declared.line.OpenLine.{OpenLine}
 use Rattle.dsn_device.specs.Failures.{counted}
 use Rattle.dsn_device.specs.declared.drain.Drain.{Ghosts as Drain}
 use Rattle.dsn_device.specs.declared.source.Source.{Ghosts as Source}
+use Rattle.dsn_body.specs.declared.spoken.Spoken.{Spoken}
 use Rattle.dsn_frame.specs.declared.frame_fault.FrameFault.TheVariants as faults
-use Rattle.dsn_frame.specs.declared.spoken.Spoken.{Spoken}
 use Rattle.dsn_frame.proofs.SessionLemmas.{session_no_memory}
 use Rattle.dsn_outcome.specs.History.{Limits, held_after, history_after, history_of, sealed_letters}
 use Rattle.dsn_device.specs.UntilFailure.{Sent, counts_failure}

@@ -4,7 +4,7 @@ use Rattle.std.specs.Prelude.{Option, Some}
 use Rattle.std.specs.Io.KnownBytes.{Appends}
 use Rattle.dsn_device.specs.declared.drain.Drain.{Ghosts as Drain}
 use Rattle.dsn_device.specs.declared.source.Source.{Ghosts as Source}
-use Rattle.dsn_frame.specs.declared.spoken.Spoken.{Spoken}
+use Rattle.dsn_body.specs.declared.spoken.Spoken.{Spoken}
 use Rattle.dsn_outcome.specs.History.{Limits}
 use Rattle.noticed_batch.specs.Batch.{NotesSent, IsBatch}
 use Rattle.noticed_batch.specs.MemoryRun.{Memory, memory_source, memory_drain, no_bytes}

@@ -9,9 +9,9 @@ use Rattle.dsn_device.specs.Failures.{counted}
 use Rattle.dsn_device.specs.Transfer.{AppendsPart}
 use Rattle.dsn_outcome.specs.History.{Limits}
 use Rattle.dsn_outcome.specs.Request.{Body}
+use Rattle.dsn_body.specs.declared.spoken.Spoken.{Spoken}
 use Rattle.dsn_frame.specs.Frame.{ReadsNext}
 use Rattle.dsn_frame.specs.Session.{Input, Takes, written, IsSession}
-use Rattle.dsn_frame.specs.declared.spoken.Spoken.{Spoken}
 use Rattle.dsn_frame.proofs.TellingLemmas.{length-more, sent-more, sent-lost}
 use Rattle.dsn_frame.proofs.SessionLemmas.{session_begun, session_more, session_stopped, session_unwritten}
 use Rattle.dsn_report.specs.Outgoing.{StaysSteady}

@@ -3,9 +3,9 @@ use Rattle.std.proofs.Common.{◌≡◌, ℕ, suc, ◌+◌, ◌<◌, true, false
 use Rattle.std.specs.Prelude.{Option, ◌==◌, map, is_some}
 use Rattle.std.specs.List.{flat_map}
 use Rattle.dsn_device.specs.declared.drain.Drain.{Ghosts as Drain}
+use Rattle.dsn_body.specs.Request.{Encodes}
+use Rattle.dsn_body.specs.Spoken.{reply_of}
 use Rattle.dsn_frame.specs.Refusal.{refusal_end}
-use Rattle.dsn_frame.specs.Request.{Encodes}
-use Rattle.dsn_frame.specs.Spoken.{reply_of}
 use Rattle.dsn_frame.specs.declared.refusal.Refusal.{Refusal}
 use Rattle.dsn_frame.specs.declared.refusal.Refusal.TheVariants as refusals
 use Rattle.std.specs.Option.{option_to_list}
@@ -19,14 +19,14 @@ use Rattle.dsn_outcome.specs.Request.{Request, Body}
 use Rattle.dsn_outcome.specs.declared.answer.Answer.{Answer}
 use Rattle.dsn_outcome.specs.declared.answer.Reply.{Reply}
 use Rattle.dsn_outcome.proofs.HistoryLaws.{history_more, letters_more, answers_mine}
+use Rattle.dsn_body.specs.declared.spoken.Spoken.{Spoken}
 use Rattle.dsn_frame.specs.Session.{Input, Takes, asked}
-use Rattle.dsn_frame.specs.declared.spoken.Spoken.{Spoken}
 use Rattle.noticed_batch.specs.Requests.{requests_from, requests_of, next_request, AreReplies}
 use Rattle.dsn_report.specs.Outgoing.{Delivered, Outgoing}
 use Rattle.noticed_batch.specs.Run.{Stands, Asks, Answered, end_after}
 use Rattle.noticed_batch.specs.declared.turn.Turn.{Turn}
 use Rattle.noticed_batch.specs.declared.run.Run.{Run}
-use Rattle.dsn_frame.specs.declared.spoken.Spoken.TheVariants as spoken
+use Rattle.dsn_body.specs.declared.spoken.Spoken.TheVariants as spoken
 
 abbrev pub request_numbered : ℕ → Body → Request
 request_numbered number body = record { agent = 0; number = number; body = body }

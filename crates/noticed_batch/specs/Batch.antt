@@ -15,7 +15,7 @@ use Rattle.dsn_report.specs.Outgoing.{StaysSteady, IsOutbox}
 use Rattle.noticed_batch.specs.Requests.{AreReplies, requests_of}
 use Rattle.dsn_frame.specs.Telling.{LosesLast}
 use Rattle.noticed_batch.specs.declared.batch_end.BatchEnd.{BatchEnd}
-use Rattle.dsn_frame.specs.declared.spoken.Spoken.{Spoken}
+use Rattle.dsn_body.specs.declared.spoken.Spoken.{Spoken}
 
 -- the exit status
 abbrev pub status_of : Option ℕ → Bool → Option (List OpenLine) → ℕ

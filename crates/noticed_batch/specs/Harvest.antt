@@ -18,7 +18,7 @@ use Rattle.noticed_notes.specs.Telling.{AnswersTold}
 use Rattle.noticed_batch.specs.ReadingEnd.{reading_code, is_notes_lost, is_read_failed}
 use Rattle.noticed_batch.specs.declared.batch_end.BatchEnd.{BatchEnd}
 use Rattle.noticed_batch.specs.declared.reading_end.ReadingEnd.{ReadingEnd}
-use Rattle.dsn_frame.specs.declared.spoken.Spoken.{Spoken}
+use Rattle.dsn_body.specs.declared.spoken.Spoken.{Spoken}
 
 module _ {R W N : Type 0} (input_device : Source R) (outbox_device : Drain W) (notes_device : Drain N) where
   -- what came of the reading

@@ -12,7 +12,7 @@ use Rattle.noticed_batch.specs.Run.{Stands}
 use Rattle.noticed_notes.specs.Telling.{AnswersTold}
 use Rattle.noticed_batch.specs.declared.reading_end.ReadingEnd.{ReadingEnd}
 use Rattle.noticed_batch.specs.declared.run.Run.{Run}
-use Rattle.dsn_frame.specs.declared.spoken.Spoken.{Spoken}
+use Rattle.dsn_body.specs.declared.spoken.Spoken.{Spoken}
 
 module _ {R W N : Type 0} (input_device : Source R) (outbox_device : Drain W) (notes_device : Drain N) where
   -- so many frames were read and answered, and nothing failed

@@ -1,8 +1,8 @@
 -- The requests of an input that is read alone: which they are, and what they are answered (this project's profile).
 use Rattle.std.specs.Prelude.{◌≡◌, ℕ, ◌+◌, List, [], ◌∷◌, length, map}
 use Rattle.std.specs.List.{flat_map}
-use Rattle.dsn_frame.specs.Spoken.{reply_of}
-use Rattle.dsn_frame.specs.declared.spoken.Spoken.{Spoken}
+use Rattle.dsn_body.specs.Spoken.{reply_of}
+use Rattle.dsn_body.specs.declared.spoken.Spoken.{Spoken}
 use Rattle.dsn_outcome.specs.History.{Limits, history_of, answers_to}
 use Rattle.dsn_outcome.specs.Request.{Request, Body}
 

@@ -4,9 +4,9 @@ use Rattle.dsn_device.specs.declared.drain.Drain.{Ghosts as Drain}
 use Rattle.dsn_book.specs.Book.{Represents}
 use Rattle.dsn_outcome.specs.History.{Limits, history_of, reply_to, sealed_letters}
 use Rattle.dsn_outcome.specs.Request.{Request, Body}
+use Rattle.dsn_body.specs.declared.spoken.Spoken.{Spoken}
+use Rattle.dsn_body.specs.declared.spoken.Spoken.TheVariants as spoken
 use Rattle.dsn_frame.specs.Session.{Input, Takes}
-use Rattle.dsn_frame.specs.declared.spoken.Spoken.{Spoken}
-use Rattle.dsn_frame.specs.declared.spoken.Spoken.TheVariants as spoken
 use Rattle.dsn_report.specs.Outgoing.{Delivered}
 use Rattle.noticed_batch.specs.Requests.{AreReplies, next_request, requests_from}
 use Rattle.noticed_batch.specs.declared.run.Run.{Run}

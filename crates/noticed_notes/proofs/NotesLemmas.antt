@@ -2,7 +2,7 @@
 use Rattle.std.proofs.Common.{◌≡◌, ℕ, suc, ◌+◌, List, [], ◌∷◌, ◌++◌, length, append_assoc, arith}
 use Rattle.std.proofs.lemmas.List.{append-nil}
 use Rattle.noticed_notes.specs.Notes.{answer_line, answer_lines_from}
-use Rattle.dsn_frame.specs.declared.spoken.Spoken.{Spoken}
+use Rattle.dsn_body.specs.declared.spoken.Spoken.{Spoken}
 
 -- one more answer is one more line, at the end
 pub answer_lines_from-more : (position : ℕ) (answers : List Spoken) (answer : Spoken) → answer_lines_from position (answers ++ answer ∷ []) ≡ answer_lines_from position answers ++ answer_line (position + length answers) answer

@@ -7,8 +7,8 @@ use Rattle.dsn_outcome.specs.declared.answer.Reply.{Reply}
 use Rattle.dsn_outcome.specs.declared.answer.Reply.TheVariants.{Logged, Closed, TableFull, LogFull, Nothing, NoReturn, Sealed, Discarded, Gone, Forgotten, NotClosed}
 use Rattle.dsn_text.specs.declared.key.Key.{Key}
 use Rattle.dsn_book.specs.declared.line.OpenLine.{OpenLine}
-use Rattle.dsn_frame.specs.declared.spoken.Spoken.{Spoken}
-use Rattle.dsn_frame.specs.declared.spoken.Spoken.TheVariants as spoken
+use Rattle.dsn_body.specs.declared.spoken.Spoken.{Spoken}
+use Rattle.dsn_body.specs.declared.spoken.Spoken.TheVariants as spoken
 
 -- a reply in words; the number is a place or a count
 unfoldable pub reply_words : Reply → List ℕ

@@ -2,8 +2,8 @@
 use Rattle.std.specs.Prelude.{◌≡◌, Bool, List}
 use Rattle.dsn_device.specs.Failures.{counted}
 use Rattle.dsn_device.specs.declared.drain.Drain.{Ghosts as Drain}
+use Rattle.dsn_body.specs.declared.spoken.Spoken.{Spoken}
 use Rattle.dsn_frame.specs.Telling.{AnswersSent}
-use Rattle.dsn_frame.specs.declared.spoken.Spoken.{Spoken}
 use Rattle.dsn_report.specs.Outgoing.{StaysSteady}
 use Rattle.noticed_notes.specs.Notes.{answer_line, answer_lines_from}
 

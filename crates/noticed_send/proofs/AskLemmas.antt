@@ -6,11 +6,12 @@ use Rattle.std.proofs.KnownBytes.{Appends-kept, Consumes-kept, Consumes-nil, Con
 use Rattle.dsn_device.specs.Transfer.{AppendsPart}
 use Rattle.dsn_device.specs.declared.drain.Drain.{Ghosts as Drain}
 use Rattle.dsn_device.specs.declared.source.Source.{Ghosts as Source}
-use Rattle.dsn_frame.specs.Frame.{frame, ReadsNext, ReadsNone}
-use Rattle.dsn_frame.specs.Spoken.{FitsAnswer, answer_body, answer_bytes, first_answer_fault}
-use Rattle.dsn_frame.specs.declared.answer_fault.AnswerFault.{AnswerFault}
+use Rattle.dsn_body.specs.FrameBody.{frame}
+use Rattle.dsn_body.specs.Spoken.{FitsAnswer, answer_body, answer_bytes, first_answer_fault}
+use Rattle.dsn_body.specs.declared.answer_fault.AnswerFault.{AnswerFault}
+use Rattle.dsn_body.specs.declared.spoken.Spoken.{Spoken}
+use Rattle.dsn_frame.specs.Frame.{ReadsNext, ReadsNone}
 use Rattle.dsn_frame.specs.declared.frame_fault.FrameFault.{FrameFault}
-use Rattle.dsn_frame.specs.declared.spoken.Spoken.{Spoken}
 use Rattle.noticed_send.specs.Ask.{IsAnswer, IsAsked}
 use Rattle.noticed_send.specs.declared.send_fault.SendFault.TheVariants as faults
 

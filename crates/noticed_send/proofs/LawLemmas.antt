@@ -8,14 +8,14 @@ use Rattle.std.proofs.lemmas.List.{append-nil, append_cancel_left, length-append
 use Rattle.std.proofs.lemmas.Nat.{from_be_bytes-to_be_bytes_4}
 use Rattle.dsn_outcome.specs.Request.{Body}
 use Rattle.dsn_outcome.specs.declared.answer.Reply.TheVariants.{Logged, Closed, TableFull, LogFull, Nothing, NoReturn, Sealed, Discarded, Gone, Forgotten, NotClosed}
-use Rattle.dsn_frame.specs.Frame.{frame, AreFramesOf, ReadsNone}
-use Rattle.dsn_frame.specs.FrameBody.{IsFrameBody}
+use Rattle.dsn_body.specs.FrameBody.{frame, IsFrameBody}
+use Rattle.dsn_body.specs.Spoken.{FitsAnswer, answer_body, answer_bytes, answer_frames_from, first_answer_fault, spoken_kind, spoken_value}
+use Rattle.dsn_body.specs.declared.spoken.Spoken.{Spoken}
+use Rattle.dsn_body.specs.declared.spoken.Spoken.TheVariants as spoken
+use Rattle.dsn_frame.specs.Frame.{AreFramesOf, ReadsNone}
 use Rattle.dsn_frame.specs.Session.{Medium, Takes, faulty, out_of_memory, out_of_turn, used_up, asked, given_up, given_up_after, Connection, SessionSoFar, begun, taken}
-use Rattle.dsn_frame.specs.Spoken.{FitsAnswer, answer_body, answer_bytes, answer_frames_from, first_answer_fault, spoken_kind, spoken_value}
 use Rattle.dsn_frame.specs.declared.frame_fault.FrameFault.{FrameFault}
 use Rattle.dsn_frame.specs.declared.frame_fault.FrameFault.TheVariants as cuts
-use Rattle.dsn_frame.specs.declared.spoken.Spoken.{Spoken}
-use Rattle.dsn_frame.specs.declared.spoken.Spoken.TheVariants as spoken
 use Rattle.dsn_frame.proofs.InputLaws.{ends_with_no_frame, front_length, none_ends, same_front}
 use Rattle.dsn_frame.proofs.SessionFrames.{takes_its_frames}
 use Rattle.noticed_send.specs.Ask.{IsAsked}

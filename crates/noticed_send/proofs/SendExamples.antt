@@ -2,8 +2,8 @@
 use Rattle.std.proofs.Common.{ℕ, List, [], ◌∷◌, ◌++◌, refl, lit<, lit≤}
 use Rattle.std.specs.Prelude.{Some, None, codes, decimal}
 use Rattle.dsn_outcome.specs.declared.answer.Reply.TheVariants.{Logged}
-use Rattle.dsn_frame.specs.Spoken.{answer_body, answer_bytes, answer_frames_from}
-use Rattle.dsn_frame.specs.declared.spoken.Spoken.TheVariants.{Refused, Reply}
+use Rattle.dsn_body.specs.Spoken.{answer_body, answer_bytes, answer_frames_from}
+use Rattle.dsn_body.specs.declared.spoken.Spoken.TheVariants.{Refused, Reply}
 use Rattle.noticed_notes.specs.Notes.{answer_line, answer_lines_from, spoken_words}
 use Rattle.noticed_send.specs.Send.{Known, Sends}
 use Rattle.noticed_send.specs.declared.send_fault.SendFault.TheVariants.{OutOfTurn, TooMany}

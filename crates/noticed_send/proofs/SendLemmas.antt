@@ -10,12 +10,12 @@ use Rattle.dsn_device.specs.Failures.{counted}
 use Rattle.dsn_device.specs.Transfer.{AppendsPart}
 use Rattle.dsn_device.specs.declared.drain.Drain.{Ghosts as Drain}
 use Rattle.dsn_device.specs.declared.source.Source.{Ghosts as Source}
-use Rattle.dsn_frame.specs.Frame.{frame, ReadsNext, ReadsNone}
-use Rattle.dsn_frame.specs.FrameBody.{IsFrameBody}
-use Rattle.dsn_frame.specs.Spoken.{FitsAnswer, answer_bytes, answer_frames_from}
+use Rattle.dsn_body.specs.FrameBody.{frame, IsFrameBody}
+use Rattle.dsn_body.specs.Spoken.{FitsAnswer, answer_bytes, answer_frames_from}
+use Rattle.dsn_body.specs.declared.spoken.Spoken.{Spoken}
+use Rattle.dsn_body.proofs.AnswerLemmas.{answer_frames_from-more}
+use Rattle.dsn_frame.specs.Frame.{ReadsNext, ReadsNone}
 use Rattle.dsn_frame.specs.declared.frame_fault.FrameFault.{FrameFault}
-use Rattle.dsn_frame.specs.declared.spoken.Spoken.{Spoken}
-use Rattle.dsn_frame.proofs.AnswerLemmas.{answer_frames_from-more}
 use Rattle.dsn_frame.proofs.SessionFrames.{all_both}
 use Rattle.dsn_frame.proofs.TellingLemmas.{length-more}
 use Rattle.noticed_notes.proofs.NotesLemmas.{answer_lines_from-more}

@@ -2,10 +2,11 @@
 use Rattle.std.specs.Prelude.{◌≡◌, ◌≢◌, ℕ, List, Option, Some, None, Result, Ok, Err}
 use Rattle.std.specs.Io.KnownBytes.{Appends, Consumes, Keeps}
 use Rattle.dsn_device.specs.Transfer.{AppendsPart}
-use Rattle.dsn_frame.specs.Frame.{frame, ReadsNext, ReadsNone}
-use Rattle.dsn_frame.specs.Spoken.{FitsAnswer, answer_bytes, first_answer_fault}
-use Rattle.dsn_frame.specs.declared.answer_fault.AnswerFault.{AnswerFault}
-use Rattle.dsn_frame.specs.declared.spoken.Spoken.{Spoken}
+use Rattle.dsn_body.specs.FrameBody.{frame}
+use Rattle.dsn_body.specs.Spoken.{FitsAnswer, answer_bytes, first_answer_fault}
+use Rattle.dsn_body.specs.declared.answer_fault.AnswerFault.{AnswerFault}
+use Rattle.dsn_body.specs.declared.spoken.Spoken.{Spoken}
+use Rattle.dsn_frame.specs.Frame.{ReadsNext, ReadsNone}
 use Rattle.noticed_send.specs.declared.send_fault.SendFault.{SendFault}
 use Rattle.noticed_send.specs.declared.send_fault.SendFault.TheVariants.{Input, TooMany, NotSent, Unanswered, AnswerFrame, Answer, OutOfTurn, NotesLost}
 

@@ -7,10 +7,10 @@ use Rattle.std.specs.Option.{option_map}
 use Rattle.dsn_device.specs.Transfer.{AppendsPart}
 use Rattle.dsn_device.specs.declared.drain.Drain.{Ghosts as Drain}
 use Rattle.dsn_device.specs.declared.source.Source.{Ghosts as Source}
-use Rattle.dsn_frame.specs.Frame.{frame, ReadsNext, ReadsNone}
-use Rattle.dsn_frame.specs.FrameBody.{IsFrameBody}
-use Rattle.dsn_frame.specs.Spoken.{FitsAnswer, answer_frames_from}
-use Rattle.dsn_frame.specs.declared.spoken.Spoken.{Spoken}
+use Rattle.dsn_body.specs.FrameBody.{frame, IsFrameBody}
+use Rattle.dsn_body.specs.Spoken.{FitsAnswer, answer_frames_from}
+use Rattle.dsn_body.specs.declared.spoken.Spoken.{Spoken}
+use Rattle.dsn_frame.specs.Frame.{ReadsNext, ReadsNone}
 use Rattle.noticed_notes.specs.Notes.{answer_line, answer_lines_from}
 use Rattle.noticed_send.specs.Ask.{IsAsked}
 use Rattle.noticed_send.specs.Counts.{Counts}

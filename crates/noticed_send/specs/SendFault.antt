@@ -1,6 +1,6 @@
 -- Faults of a send: their numbers, and which device failed (this project's profile).
 use Rattle.std.specs.Prelude.{ℕ, Bool, true, false, List, Option, Some, None, Err}
-use Rattle.dsn_frame.specs.AnswerFault.{answer_fault_code}
+use Rattle.dsn_body.specs.AnswerFault.{answer_fault_code}
 use Rattle.dsn_frame.specs.FrameFault.{frame_fault_code, source_failed}
 use Rattle.noticed_send.specs.declared.send_fault.SendFault.{SendFault}
 use Rattle.noticed_send.specs.declared.send_fault.SendFault.TheVariants.{Input, TooMany, NotSent, Unanswered, AnswerFrame, Answer, OutOfTurn, NotesLost}

@@ -1,10 +1,10 @@
 -- What holds of all sends: a send is a session, seen from the client's side (this project's profile).
 use Rattle.std.specs.Prelude.{◌≡◌, ℕ, List, ◌++◌, Option, Some, None}
 use Rattle.dsn_outcome.specs.Request.{Body}
+use Rattle.dsn_body.specs.Spoken.{answer_frames_from}
+use Rattle.dsn_body.specs.declared.spoken.Spoken.{Spoken}
 use Rattle.dsn_frame.specs.Session.{Connection, IsSession}
-use Rattle.dsn_frame.specs.Spoken.{answer_frames_from}
 use Rattle.dsn_frame.specs.declared.frame_fault.FrameFault.TheVariants.{NoMemory, TooLong, Empty, CutShort, Read}
-use Rattle.dsn_frame.specs.declared.spoken.Spoken.{Spoken}
 use Rattle.noticed_send.specs.Send.{FitFrom, Known, Sends}
 use Rattle.noticed_send.specs.declared.send_fault.SendFault.{SendFault}
 use Rattle.noticed_send.specs.declared.send_fault.SendFault.TheVariants.{Input, TooMany, NotSent, Unanswered, AnswerFrame, Answer, OutOfTurn, NotesLost}

@@ -1,6 +1,6 @@
 //! A law of sends, the contract of a function that does nothing.
 ghost use Rattle.std.specs.Prelude.{List};
-ghost use Rattle.dsn_frame.specs.declared.spoken.Spoken.{Spoken};
+ghost use Rattle.dsn_body.specs.declared.spoken.Spoken.{Spoken};
 ghost use Rattle.noticed_send.specs.SendLaws.{SeesAnswers, SeesSession};
 
 /// A send is a session, seen from the client's side. Where the daemon has the answers of a session

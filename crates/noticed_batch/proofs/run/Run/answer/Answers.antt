@@ -1,6 +1,6 @@
 use Rattle.std.proofs.Common.{ap}
+use Rattle.dsn_body.specs.declared.spoken.Spoken.TheVariants.{Refused}
 use Rattle.dsn_frame.specs.Session.{Input}
-use Rattle.dsn_frame.specs.declared.spoken.Spoken.TheVariants.{Refused}
 use Rattle.noticed_batch.proofs.RunLemmas.{answered-asked, answered-refused, end-after-refusal}
 use Rattle.noticed_batch.proofs.run.Run.answer.Goals as goal
 

@@ -2,6 +2,7 @@ pub mod BlockLemmas
 mod BoundaryLemmas
 mod BoundaryLaw
 mod CountLemmas
+mod DashLemmas
 mod DateText
 mod DivisionLemmas
 mod DotsLemmas

@@ -27,6 +27,10 @@ pub fn boundary(letter: &Letter) -> u16
 fn has_dashed_line(header: &[u8]) -> bool
     ensures { result ≡ list_any is_dashed (header_lines header.now) }
 {
+    // Without a dash there is no such line, and the header needn't be cut into lines.
+    if !header.contains(&b'-') {
+        return false;
+    }
     for line in (HeaderLines { rest: header }) {
         if line.starts_with(b"--") {
             return true;

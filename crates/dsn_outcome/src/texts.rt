@@ -113,14 +113,17 @@ impl Texts {
     }
 }
 
-/// Puts a text after the others, where there is room for it. It takes no memory.
+/// Puts a text after the others, where there is room for it. It takes no memory. Most texts of an
+/// outcome are empty, and cost one test.
 fn append(bytes: &mut Vec<u8>, text: &[u8])
     requires { vec_len bytes.old + length text.now ≤ vec_capacity bytes.old }
     ensures items { bytes.new.items ≡ bytes.old.items ++ text.now }
     ensures len { vec_len bytes.new ≡ vec_len bytes.old + length text.now }
     ensures room { vec_capacity bytes.old ≤ vec_capacity bytes.new }
 {
-    bytes.extend_from_slice(text).unwrap();
+    if !text.is_empty() {
+        bytes.extend_from_slice(text).unwrap();
+    }
 }
 
 /// Puts a text after the others with `?` for each byte that isn't printable, where there is room
@@ -131,6 +134,9 @@ fn append_cleaned(bytes: &mut Vec<u8>, text: &[u8])
     ensures len { vec_len bytes.new ≡ vec_len bytes.old + length text.now }
     ensures room { vec_capacity bytes.old ≤ vec_capacity bytes.new }
 {
+    if text.is_empty() {
+        return;
+    }
     let end = bytes.len();
     append(bytes, text);
     replace_unprintable(&mut bytes[end..]);

@@ -18,7 +18,8 @@ NAMES = re.compile(r"pub use (?:\w+::)+(?:\{([^}]*)\}|(\w+))")
 
 # Types and calls for which another's edit stands, since they are of one shape.
 STAND_FOR = {
-    ("dsn_outcome", "NoMemory"): "refusals-share-a-number",
+    ("dsn_text", "NoMemory"): "refusals-share-a-number",
+    ("dsn_text", "keys_are_ordered"): "keys-by-id-before-service",
     ("dsn_agent", "AskFault"): "refusals-share-a-number",
     ("dsn_desk", "CrewOpenFault"): "refusals-share-a-number",
     ("dsn_frame", "FrameRef"): "frame-lent-from-the-wrong-place",
@@ -34,12 +35,13 @@ def exported(crate: str) -> set:
 
 
 def stood_on(item, by_name: dict) -> set:
-    """A call with the private functions and the constants of its crate that it says, and that these say."""
+    """A call with the functions and constants of its crate that it says, and that these say, but for public methods, which
+    are calls of their own."""
     seen, waiting = {item}, [item]
     while waiting:
         body = waiting.pop().body
         for name in set(CALL.findall(body)) | {f"const {it}" for it in CONSTANT.findall(body)}:
-            more = {it for it in by_name.get(name, []) if not it.public} - seen
+            more = {it for it in by_name.get(name, []) if not it.public or "::" not in it.name} - seen
             seen |= more
             waiting += more
     return seen

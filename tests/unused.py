@@ -1,8 +1,7 @@
 #!/usr/bin/env python3
 """Nothing in specs/ and proofs/ of a crate is there for nobody: each definition and each lemma is used outside its own
-text, by a contract, by another definition or by a proof. The worked examples, which nothing cites, stand in modules of
-proofs/ that the crate keeps to itself (`mod`, not `pub mod`, in proofs/Lib.antt); the answers to the prover's goals
-(Answers.antt, Invariants.antt) are used by the prover."""
+text, by a contract, by another definition or by a proof. The worked examples, which nothing cites, stand in modules named
+after them; the answers to the prover's goals (Answers.antt, Invariants.antt) are used by the prover."""
 import re
 import sys
 from pathlib import Path
@@ -16,6 +15,7 @@ COMMENT = re.compile(r"^\s*(?:--|//).*$|\s-- (?=[^\"]*$).*$", re.M)
 PATH = re.compile(r"crate::(specs|proofs)::([\w:]+)::([^\s:,()]+)")
 HEAD = re.compile(r"^(?:(?:abbrev|unfoldable|opaque|pub|record|data|mutual) )*([^\s(){}\[\];:,]+)")
 WORD = re.compile(r"[^\s(){}\[\],;.λ\"]+")
+NOT_CITED = {"Lib", "Answers", "Invariants", "Dates"}
 NO_NAME = {"use", "unfolding", "infixl", "infixr", "infix", "mutual", "where", "mod", "module", "pub"}
 
 
@@ -69,10 +69,7 @@ def main():
     elsewhere = set().union(*(used_from_elsewhere(file, text) for file, text in texts.items()))
     for file, text in sorted(texts.items()):
         way = file.relative_to(ROOT / "crates").parts
-        if file.suffix != ".antt" or way[1] not in ("specs", "proofs") or file.name in ("Lib.antt", "Answers.antt", "Invariants.antt"):
-            continue
-        library = ROOT / "crates" / way[0] / "proofs" / "Lib.antt"
-        if way[1] == "proofs" and re.search(rf"^mod {file.stem}$", library.read_text(), re.M):
+        if file.suffix != ".antt" or way[1] not in ("specs", "proofs") or file.stem in NOT_CITED or file.stem.endswith("Examples"):
             continue
         for name, lines in definitions(text).items():
             used = name in names_used(text, lines) or (module_of(file), name) in elsewhere

@@ -19,6 +19,7 @@ NAMES = re.compile(r"pub use (?:\w+::)+(?:\{([^}]*)\}|(\w+))")
 # Types and calls for which another's edit stands, since they are of one shape.
 STAND_FOR = {
     ("dsn_text", "NoMemory"): "refusals-share-a-number",
+    ("dsn_text", "EnvelopeId"): "address-too-long-accepted",
     ("dsn_text", "keys_are_ordered"): "keys-by-id-before-service",
     ("dsn_agent", "AskFault"): "refusals-share-a-number",
     ("dsn_desk", "CrewOpenFault"): "refusals-share-a-number",

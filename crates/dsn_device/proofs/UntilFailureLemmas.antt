@@ -30,13 +30,6 @@ pub Sent-whole : (a : Bool) (x y : Option (List ℕ)) (text : List ℕ) → Sent
 Sent-whole false x y text p = p
 Sent-whole true x y text p = absurd p
 
--- whatever became of a text, a front of it was appended
-pub Sent-front : (a b : Bool) (x y : Option (List ℕ)) (text : List ℕ) → Sent a b x y text → AppendsFront x y text
-Sent-front false false x y text p = AppendsFront-all x y text p
-Sent-front false true x y text p = AppendsFront-part x y text p
-Sent-front true false x y text p = absurd p
-Sent-front true true x y text p = AppendsFront-none x y text p
-
 pub counts-none : (a : Bool) (n : ℕ) → n ≡ counts_failure a a n
 counts-none false n = refl
 counts-none true n = refl

@@ -13,7 +13,3 @@ counted failed count = if failed && nat_lt count most_failures then count + 1 el
 abbrev pub write_failed : {E : Type 0} → Result ℕ E → List ℕ → Bool
 write_failed (Ok taken) text = taken == 0 && nat_lt 0 (length text)
 write_failed (Err e) text = true
-
--- the device failed: the count rose, unless it stood at its end
-abbrev pub Failed : ℕ → ℕ → Type 0
-Failed old new = old < most_failures → old < new

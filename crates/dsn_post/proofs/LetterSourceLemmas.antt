@@ -52,7 +52,3 @@ module _ (old new : Out Parcel) (item : Parcel) (letters : List Letter) (kept : 
 
     pub none_kept : new ≡ taken_parcels (source new.lane (letters_of new.taken) true)
     none_kept = at _ none_taken ∙ ap (λ (ls : List Letter). out new.lane 0 1 (parcels_of ls true)) (sym none_letters)
-
--- one that took nothing
-pub unchanged : (new old : Out Parcel) → new.lane ≡ old.lane → new.first ≡ old.first → new.past ≡ old.past → new.taken ≡ old.taken → new ≡ old
-unchanged new old lane first past taken = λ i. out (lane i) (first i) (past i) (taken i)

@@ -22,28 +22,38 @@ pub record Ends : Type 0 where
 
 -- the request of an agent that has this body, and the answer to it with this reply
 abbrev pub request_with : Ends → Body → Request
-request_with ends body = record { agent = ends.requests.agent; number = length ends.requests.sent; body = body }
+request_with ends body =
+    record { agent = ends.requests.agent; number = length ends.requests.sent; body = body }
 
 abbrev pub answer_with : Ends → Reply → Answer
-answer_with ends reply = record { agent = ends.requests.agent; number = length ends.requests.sent; reply = reply }
+answer_with ends reply =
+    record { agent = ends.requests.agent; number = length ends.requests.sent; reply = reply }
 
 abbrev pub sent_more : End Request → Request → End Request
-sent_more end request = record { lane = end.lane; agent = end.agent; sent = end.sent ++ request ∷ [] }
+sent_more end request =
+    record { lane = end.lane; agent = end.agent; sent = end.sent ++ request ∷ [] }
 
 abbrev pub taken_more : Out Answer → Answer → Out Answer
-taken_more out answer = record { lane = out.lane; first = out.first; past = out.past; taken = out.taken ++ answer ∷ [] }
+taken_more out answer =
+    record { lane = out.lane; first = out.first; past = out.past; taken = out.taken ++ answer ∷ [] }
 
 -- the ends once a body is sent, and once its reply has come
 abbrev pub after_send : Ends → Body → Ends
-after_send ends body = record { requests = sent_more ends.requests (request_with ends body); answers = ends.answers }
+after_send ends body =
+    record { requests = sent_more ends.requests (request_with ends body); answers = ends.answers }
 
 abbrev pub after_reply : Ends → Body → Reply → Ends
 after_reply ends body reply =
-    record { requests = sent_more ends.requests (request_with ends body); answers = taken_more ends.answers (answer_with ends reply) }
+    record {
+      requests = sent_more ends.requests (request_with ends body);
+      answers = taken_more ends.answers (answer_with ends reply);
+    }
 
--- what a body that is sent comes to: the answer to it; or it is not sent, and handed back; or it is sent, and not answered
+-- what a body that is sent comes to: the answer to it; or it is not sent, and handed back; or it is
+-- sent, and not answered
 abbrev pub IsExchange : Ends → Body → Ends → Result Answer (Option Asked) → Type 0
-IsExchange old body new (Ok answer) = (answer ≡ answer_with old answer.reply) × (new ≡ after_reply old body answer.reply)
+IsExchange old body new (Ok answer) =
+    (answer ≡ answer_with old answer.reply) × (new ≡ after_reply old body answer.reply)
 IsExchange old body new (Err (Some back)) = (body_of back ≡ body) × (new ≡ old)
 IsExchange old body new (Err None) = new ≡ after_send old body
 
@@ -51,7 +61,8 @@ IsExchange old body new (Err None) = new ≡ after_send old body
 pub record AreEnds (ends : Ends) : Type 0 where
   pub first : ends.answers.first ≡ ends.requests.agent
   pub past : ends.answers.past ≡ ends.requests.agent + 1
-  pub mine : from_agent (λ (answer : Answer). answer.agent) ends.requests.agent ends.answers.taken ≡ ends.answers.taken
+  pub mine : from_agent (λ (answer : Answer). answer.agent) ends.requests.agent ends.answers.taken
+      ≡ ends.answers.taken
 
 -- an agent: its ends, how many requests it may make, and whether a lane was lost
 pub record Agent : Type 0 where
@@ -70,41 +81,49 @@ with_ends agent ends = record { ends = ends; limit = agent.limit; lost = agent.l
 abbrev pub losing : Agent → Ends → Agent
 losing agent ends = record { ends = ends; limit = agent.limit; lost = true }
 
--- what an ask comes to: once a lane was lost, every ask is lost with its body; at the limit the agent stays as it is
+-- what an ask comes to: once a lane was lost, every ask is lost with its body; at the limit the
+-- agent stays as it is
 abbrev pub IsAsk : Agent → Body → Agent → Result Answer AskFault → Type 0
 IsAsk old body new (Ok answer) =
-    MayAsk old × (answer ≡ answer_with old.ends answer.reply) × (new ≡ with_ends old (after_reply old.ends body answer.reply))
+    MayAsk old × (answer ≡ answer_with old.ends answer.reply)
+    × (new ≡ with_ends old (after_reply old.ends body answer.reply))
 IsAsk old body new (Err (Lost (Some back))) =
-    (old.lost ≡ false → length old.ends.requests.sent < old.limit) × (body_of back ≡ body) × (new ≡ losing old old.ends)
+    (old.lost ≡ false → length old.ends.requests.sent < old.limit) × (body_of back ≡ body)
+    × (new ≡ losing old old.ends)
 IsAsk old body new (Err (Lost None)) = MayAsk old × (new ≡ losing old (after_send old.ends body))
 IsAsk old body new (Err (Limit back)) =
-    (old.lost ≡ false) × (length old.ends.requests.sent ≡ old.limit) × (body_of back ≡ body) × (new ≡ old)
+    (old.lost ≡ false) × (length old.ends.requests.sent ≡ old.limit) × (body_of back ≡ body)
+    × (new ≡ old)
 
 -- no request is a goodbye
 abbrev pub Stays : List Request → Type 0
 Stays requests = All (λ (request : Request). request.body ≢ Bye) requests
 
--- what every agent keeps: it makes no more requests than it may, and a million at most; it has not said goodbye; and while
--- no lane was lost it has an answer to each request
+-- what every agent keeps: it makes no more requests than it may, and a million at most; it has not
+-- said goodbye; and while no lane was lost it has an answer to each request
 pub record IsAgent (agent : Agent) : Type 0 where
   pub limited : length agent.ends.requests.sent ≤ agent.limit
   pub few : agent.limit ≤ 1000000
   pub stays : Stays agent.ends.requests.sent
-  pub answered : agent.lost ≡ false → length agent.ends.answers.taken ≡ length agent.ends.requests.sent
+  pub answered : agent.lost ≡ false
+      → length agent.ends.answers.taken ≡ length agent.ends.requests.sent
 
--- what a goodbye comes to: it is the agent's last request, and Gone is the answer to it; or a lane is lost
+-- what a goodbye comes to: it is the agent's last request, and Gone is the answer to it; or a lane
+-- is lost
 abbrev pub IsGoodbye : Agent → Result Ends AskFault → Type 0
 IsGoodbye old (Ok finished) = (old.lost ≡ false) × (finished ≡ after_reply old.ends Bye Gone)
 IsGoodbye old (Err (Lost (Some back))) = body_of back ≡ Bye
 IsGoodbye old (Err (Lost None)) = old.lost ≡ false
 IsGoodbye old (Err (Limit back)) = ⊥
 
--- what the ends of an agent that said goodbye keep: what it sent ends with its only goodbye, what it was answered ends with
--- Gone, and it has an answer to each request
+-- what the ends of an agent that said goodbye keep: what it sent ends with its only goodbye, what
+-- it was answered ends with Gone, and it has an answer to each request
 pub record IsFinished (ends : Ends) : Type 0 where
   pub answered : length ends.answers.taken ≡ length ends.requests.sent
   pub before : List Request
   pub stays : Stays before
-  pub bye : ends.requests.sent ≡ before ++ record { agent = ends.requests.agent; number = length before; body = Bye } ∷ []
+  pub bye : ends.requests.sent
+      ≡ before ++ record { agent = ends.requests.agent; number = length before; body = Bye } ∷ []
   pub got : List Answer
-  pub gone : ends.answers.taken ≡ got ++ record { agent = ends.requests.agent; number = length before; reply = Gone } ∷ []
+  pub gone : ends.answers.taken
+      ≡ got ++ record { agent = ends.requests.agent; number = length before; reply = Gone } ∷ []

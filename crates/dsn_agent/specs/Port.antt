@@ -1,4 +1,5 @@
--- Ports: the connections that a port tells, the sessions of the agent that serves them, and what the agent comes to.
+-- Ports: the connections that a port tells, the sessions of the agent that serves them, and what
+-- the agent comes to.
 use Rattle.std.specs.Prelude.{◌≡◌, ◌≢◌, ℕ, ◌+◌, ◌<◌, ◌≤◌, ◌⊎◌, Bool, false, List, [], ◌∷◌, ◌++◌, All, length, filter, Option, Some, None, is_some, IfSome}
 use Rattle.std.specs.List.{AllZip, flat_map}
 use Rattle.dsn_device.specs.Failures.{most_failures}
@@ -16,32 +17,38 @@ use Rattle.dsn_agent.specs.declared.port_end.PortEnd.{PortEnd}
 
 -- ---- what a port tells
 
--- a connection that a port tells before it gives it: the bytes that its stream will give, and whether the stream may fail
+-- a connection that a port tells before it gives it: the bytes that its stream will give, and
+-- whether the stream may fail
 pub record Conn : Type 0 where
   pub bytes : List ℕ
   pub may_fail : Bool
 
--- the stream of this connection. One that may not fail is steady, and its count of failures isn't at its end, so that a
--- failure would show
+-- the stream of this connection. One that may not fail is steady, and its count of failures isn't
+-- at its end, so that a failure would show
 pub record IsStream {S : Type 0} (source : Source S) (conn : Conn) (stream : S) : Type 0 where
   pub bytes : source.remaining stream ≡ Some conn.bytes
-  pub steady : conn.may_fail ≡ false → source.steady stream × (source.failures stream < most_failures)
+  pub steady : conn.may_fail ≡ false
+      → source.steady stream × (source.failures stream < most_failures)
 
--- what a port gives, from the connections that it told before to those that it tells then: the first of them while there
--- is one, and then it is done. One that doesn't tell claims nothing, and doesn't begin to tell
-abbrev pub Gives : {S : Type 0} → Source S → Option (List Conn) → Option (List Conn) → Next S → Type 0
+-- what a port gives, from the connections that it told before to those that it tells then: the
+-- first of them while there is one, and then it is done. One that doesn't tell claims nothing, and
+-- doesn't begin to tell
+abbrev pub Gives : {S : Type 0} → Source S → Option (List Conn) → Option (List Conn) → Next S
+    → Type 0
 Gives source None new given = new ≡ None
 Gives source (Some []) new (next.Conn stream) = ⊥
 Gives source (Some []) new next.Done = new ≡ Some []
 Gives source (Some []) new next.Failed = ⊥
-Gives source (Some (conn ∷ rest)) new (next.Conn stream) = IsStream source conn stream × (new ≡ Some rest)
+Gives source (Some (conn ∷ rest)) new (next.Conn stream) =
+    IsStream source conn stream × (new ≡ Some rest)
 Gives source (Some (conn ∷ rest)) new next.Done = ⊥
 Gives source (Some (conn ∷ rest)) new next.Failed = ⊥
 
 -- ---- the sessions over a port's connections
 
--- one session: what its stream had still to give at its start and at its end, the bodies of the frames that were taken,
--- those that were asked, the answers, and the number of the session's end, if it didn't end well
+-- one session: what its stream had still to give at its start and at its end, the bodies of the
+-- frames that were taken, those that were asked, the answers, and the number of the session's end,
+-- if it didn't end well
 pub record Session : Type 0 where
   pub start : Option (List ℕ)
   pub left : Option (List ℕ)
@@ -61,25 +68,30 @@ answers_of sessions = flat_map (λ (session : Session). session.answers) session
 abbrev pub faults_of : List Session → ℕ
 faults_of sessions = length (filter (λ (session : Session). is_some session.end) sessions)
 
--- the session of an agent with this limit, after so many accepted requests: it is what its stream's bytes make it
+-- the session of an agent with this limit, after so many accepted requests: it is what its stream's
+-- bytes make it
 abbrev pub IsSessionAt : ℕ → ℕ → Session → Type 0
 IsSessionAt limit accepted session =
-    IsSession Connection limit accepted session.start session.left session.frames session.bodies session.answers session.end
+    IsSession Connection limit accepted session.start session.left session.frames session.bodies
+    session.answers session.end
 
 -- sessions of an agent, one after another
 abbrev pub AreSessions : ℕ → ℕ → List Session → Type 0
 AreSessions limit accepted [] = Unit {0}
-AreSessions limit accepted (session ∷ rest) = IsSessionAt limit accepted session × AreSessions limit (accepted + length session.bodies) rest
+AreSessions limit accepted (session ∷ rest) =
+    IsSessionAt limit accepted session × AreSessions limit (accepted + length session.bodies) rest
 
--- a session over this connection: over its bytes; and where its stream may not fail it doesn't end with a read or a write
--- that failed
+-- a session over this connection: over its bytes; and where its stream may not fail it doesn't end
+-- with a read or a write that failed
 pub record IsOver (conn : Conn) (session : Session) : Type 0 where
   pub bytes : session.start ≡ Some conn.bytes
   pub steady : conn.may_fail ≡ false → (session.end ≢ Some 14) × (session.end ≢ Some 35)
 
--- the sessions over the connections of a port that tells them: one over each, in order, from the first on. None is left but
--- those beyond the 1,000,000 that an agent serves, unless a lane was lost; and the port is not told to have failed
-pub record AreOverConns (conns : List Conn) (sessions : List Session) (lost port_failed : Bool) : Type 0 where
+-- the sessions over the connections of a port that tells them: one over each, in order, from the
+-- first on. None is left but those beyond the 1,000,000 that an agent serves, unless a lane was
+-- lost; and the port is not told to have failed
+pub record AreOverConns (conns : List Conn) (sessions : List Session)
+    (lost port_failed : Bool) : Type 0 where
   pub served : List Conn
   pub left : List Conn
   pub conns_are : conns ≡ served ++ left
@@ -94,10 +106,11 @@ AreOverPort (Some conns) sessions lost port_failed = AreOverConns conns sessions
 
 -- ---- an agent that serves a port
 
--- what serving the connections of a port comes to, up to the goodbye: these sessions, one over each connection; what they
--- asked, and the replies among their answers, are what the agent asked and got, in order; its line counts them. Where it
--- lost no lane, none of them ended so
-pub record HasServed (conns : Option (List Conn)) (old new : Agent) (line : AgentLine) : Type 0 where
+-- what serving the connections of a port comes to, up to the goodbye: these sessions, one over each
+-- connection; what they asked, and the replies among their answers, are what the agent asked and
+-- got, in order; its line counts them. Where it lost no lane, none of them ended so
+pub record HasServed (conns : Option (List Conn)) (old new : Agent)
+    (line : AgentLine) : Type 0 where
   pub sessions : List Session
   pub lost : Bool
   pub follow : AreSessions old.limit (length old.ends.requests.sent) sessions
@@ -109,9 +122,10 @@ pub record HasServed (conns : Option (List Conn)) (old new : Agent) (line : Agen
   pub connections : line.connections ≡ length sessions
   pub faults : line.faults ≡ faults_of sessions
 
--- what serving a port comes to: its connections were served, and then the agent said goodbye and was heard; else a lane
--- was lost, and the line tells what was served before
+-- what serving a port comes to: its connections were served, and then the agent said goodbye and
+-- was heard; else a lane was lost, and the line tells what was served before
 pub record IsPortServed (conns : Option (List Conn)) (agent : Agent) (end : PortEnd) : Type 0 where
   pub last : Agent
   pub served : HasServed conns agent last end.line
-  pub goodbye : IfSome end.finished (λ (finished : Ends). (served.lost ≡ false) × (finished ≡ after_reply last.ends Bye Gone))
+  pub goodbye : IfSome end.finished
+      (λ (finished : Ends). (served.lost ≡ false) × (finished ≡ after_reply last.ends Bye Gone))

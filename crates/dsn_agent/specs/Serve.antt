@@ -1,4 +1,5 @@
--- Sessions of an agent: what became of one connection, of the agent that served it, and of the answers' frames.
+-- Sessions of an agent: what became of one connection, of the agent that served it, and of the
+-- answers' frames.
 use Rattle.std.specs.Prelude.{◌≡◌, ◌≢◌, ℕ, suc, Bool, true, false, ◌||◌, ◌⊎◌, List, [], ◌∷◌, ◌++◌, All, length, Option, Some, None, Result, Ok, Err, IfOk, if◌then◌else◌}
 use Rattle.std.specs.List.{flat_map}
 use Rattle.dsn_device.specs.Failures.{counted}
@@ -82,55 +83,68 @@ requests_from agent = numbered_from (numbered_request agent)
 abbrev pub answers_from : ℕ → ℕ → List Reply → List Answer
 answers_from agent = numbered_from (numbered_answer agent)
 
--- an agent that sent requests with these bodies, and got these replies to them, in order; and then lost a lane, or not
+-- an agent that sent requests with these bodies, and got these replies to them, in order; and then
+-- lost a lane, or not
 abbrev pub after_requests : Agent → List Body → List Reply → Bool → Agent
 after_requests agent bodies replies lost = record {
   ends = record {
     requests = record {
       lane = agent.ends.requests.lane;
       agent = agent.ends.requests.agent;
-      sent = agent.ends.requests.sent ++ requests_from agent.ends.requests.agent (length agent.ends.requests.sent) bodies;
+      sent = agent.ends.requests.sent
+          ++ requests_from agent.ends.requests.agent (length agent.ends.requests.sent) bodies;
     };
     answers = record {
       lane = agent.ends.answers.lane;
       first = agent.ends.answers.first;
       past = agent.ends.answers.past;
-      taken = agent.ends.answers.taken ++ answers_from agent.ends.requests.agent (length agent.ends.requests.sent) replies;
+      taken = agent.ends.answers.taken
+          ++ answers_from agent.ends.requests.agent (length agent.ends.requests.sent) replies;
     };
   };
   limit = agent.limit;
   lost = agent.lost || lost;
 }
 
--- each body that was sent has a reply, but for the last one where the collector was found gone after that
+-- each body that was sent has a reply, but for the last one where the collector was found gone
+-- after that
 abbrev pub AreReplied : Bool → ℕ → ℕ → Type 0
 AreReplied false bodies replies = bodies ≡ replies
 AreReplied true bodies replies = (bodies ≡ replies) ⊎ (bodies ≡ suc replies)
 
--- what an agent that serves comes to: it sent requests with these bodies, and got the replies among these answers; where
--- a lane was lost before, it sent none, and told nobody that its requests are used up
-pub record HasAsked (old new : Agent) (bodies : List Body) (answers : List Spoken) (lost : Bool) : Type 0 where
+-- what an agent that serves comes to: it sent requests with these bodies, and got the replies among
+-- these answers; where a lane was lost before, it sent none, and told nobody that its requests are
+-- used up
+pub record HasAsked (old new : Agent) (bodies : List Body) (answers : List Spoken)
+    (lost : Bool) : Type 0 where
   pub agent_is : new ≡ after_requests old bodies (flat_map reply_of answers) lost
-  pub idle : old.lost ≡ true → (bodies ≡ []) × All (λ (answer : Spoken). answer ≢ spoken.Refused 44) answers
+  pub idle : old.lost ≡ true
+      → (bodies ≡ []) × All (λ (answer : Spoken). answer ≢ spoken.Refused 44) answers
   pub replied : AreReplied lost (length bodies) (length (flat_map reply_of answers))
 
 -- ---- a session
 
--- a stream that failed once, or not, and was not flushed; one that is steady stays so, and didn't fail
-pub record Counts {S : Type 0} (source : Source S) (drain : Drain S) (failed : Bool) (old new : S) : Type 0 where
+-- a stream that failed once, or not, and was not flushed; one that is steady stays so, and didn't
+-- fail
+pub record Counts {S : Type 0} (source : Source S) (drain : Drain S) (failed : Bool)
+    (old new : S) : Type 0 where
   pub failures : source.failures new ≡ counted failed (source.failures old)
   pub no_flush : drain.flushes new ≡ drain.flushes old
   pub steady : source.steady old → source.steady new × (source.failures new ≡ source.failures old)
 
--- what serving one connection came to: a session over what the stream had to read; the requests of its bodies, and their
--- answers, at the agent; the frames of its answers, in the stream, which failed once where that ended the session
-pub record IsServed {S : Type 0} (source : Source S) (drain : Drain S) (old new : Agent) (before after : S) (result : Result Served ServeFault) : Type 0 where
+-- what serving one connection came to: a session over what the stream had to read; the requests of
+-- its bodies, and their answers, at the agent; the frames of its answers, in the stream, which
+-- failed once where that ended the session
+pub record IsServed {S : Type 0} (source : Source S) (drain : Drain S) (old new : Agent)
+    (before after : S) (result : Result Served ServeFault) : Type 0 where
   pub frames : List (List ℕ)
   pub bodies : List Body
   pub answers : List Spoken
-  pub session : IsSession Connection old.limit (length old.ends.requests.sent) (source.remaining before) (source.remaining after) frames bodies answers (served_end result)
+  pub session : IsSession Connection old.limit (length old.ends.requests.sent)
+      (source.remaining before) (source.remaining after) frames bodies answers (served_end result)
   pub asked : HasAsked old new bodies answers (is_lost result)
-  pub written : AnswersSent answer_bytes answer_frames_from (is_unwritten result) (drain.contents before) (drain.contents after) answers
+  pub written : AnswersSent answer_bytes answer_frames_from (is_unwritten result)
+      (drain.contents before) (drain.contents after) answers
   pub answered : IfOk result (λ served. served.frames ≡ length answers)
   pub counts : Counts source drain (is_stream_failed result) before after
 
@@ -159,5 +173,6 @@ has_lost (Some turn) = false
 -- what a frame at its place came to, and what it left of the agent
 pub record IsTurn (old new : Agent) (place : ℕ) (bytes : List ℕ) (turn : Option Turn) : Type 0 where
   pub bodies : List Body
-  pub takes : Takes Connection old.limit (length old.ends.requests.sent) place bytes bodies (told turn) (turn_end turn)
+  pub takes : Takes Connection old.limit (length old.ends.requests.sent) place bytes bodies
+      (told turn) (turn_end turn)
   pub asked : HasAsked old new bodies (told turn) (has_lost turn)

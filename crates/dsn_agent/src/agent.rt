@@ -34,10 +34,15 @@ impl Agent {
     /// The agent of this number, which has asked nothing and may make so many requests: by the end
     /// by which it asks, and that of an answer lane of its own.
     pub fn new(agent: u32, requests: LaneIn<Request>, answers: LaneOut<Answer>, limit: u32) -> Agent
-        requires own { (requests.agent ≡ agent) × (answers.first ≡ agent) × (answers.past ≡ agent + 1) }
+        requires own { (requests.agent ≡ agent) × (answers.first ≡ agent)
+            × (answers.past ≡ agent + 1) }
         requires unused { (requests.sent ≡ []) × (answers.taken ≡ []) }
         requires limit { limit ≤ 1000000 }
-        ensures { result ≡ record { ends = record { requests = requests; answers = answers }; limit = limit; lost = false } }
+        ensures { result ≡ record {
+          ends = record { requests = requests; answers = answers };
+          limit = limit;
+          lost = false;
+        } }
     {
         Agent {
             ends: Ends::new(agent, requests, answers),

@@ -25,13 +25,15 @@ impl Model for Ends {
 
     ghost view = { λ e. record { requests = e.requests; answers = e.answers } };
 
-    ghost invariant = { λ e. (e.agent ≡ e.requests.agent) × AreEnds (record { requests = e.requests; answers = e.answers }) };
+    ghost invariant = { λ e. (e.agent ≡ e.requests.agent)
+        × AreEnds (record { requests = e.requests; answers = e.answers }) };
 }
 
 impl Ends {
     /// The ends of an agent that has asked nothing.
     pub(crate) fn new(agent: u32, requests: LaneIn<Request>, answers: LaneOut<Answer>) -> Ends
-        requires own { (requests.agent ≡ agent) × (answers.first ≡ agent) × (answers.past ≡ agent + 1) }
+        requires own { (requests.agent ≡ agent) × (answers.first ≡ agent)
+            × (answers.past ≡ agent + 1) }
         requires unused { answers.taken ≡ [] }
         ensures { result ≡ record { requests = requests; answers = answers } }
     {

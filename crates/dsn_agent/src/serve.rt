@@ -91,7 +91,8 @@ impl Agent {
     /// Asks a body, between the calls of the gate.
     fn ask_at<G: Gate>(&mut self, rt: &impl Wait, gate: &G, body: Body) -> Option<Turn>
         requires stays { body_of body ≢ Goodbye }
-        ensures turn { (place : ℕ) (bytes : List ℕ) → Encodes bytes place (body_of body) → IsTurn self.old self.new place bytes result }
+        ensures turn { (place : ℕ) (bytes : List ℕ) → Encodes bytes place (body_of body)
+            → IsTurn self.old self.new place bytes result }
         ensures kept { IsAgent self.new }
     {
         gate.before_ask(self.ends.agent(), self.ends.requests.count());

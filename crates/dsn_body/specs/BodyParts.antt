@@ -9,7 +9,13 @@ use Rattle.dsn_body.specs.declared.parts.RetryParts.{RetryParts}
 
 -- the texts that the references point to
 abbrev pub head_in : HeadParts → Head
-head_in parts = record { version = parts.version; number = parts.number; service = parts.service; id = parts.id.now }
+head_in parts =
+    record {
+      version = parts.version;
+      number = parts.number;
+      service = parts.service;
+      id = parts.id.now;
+    }
 
 abbrev pub recipient_fields_in : RecipientParts → RecipientFields
 recipient_fields_in parts = record {
@@ -23,7 +29,8 @@ recipient_fields_in parts = record {
 }
 
 abbrev pub retry_fields_in : RetryParts → RetryFields
-retry_fields_in parts = record { last_attempt = parts.last_attempt; retry_until = parts.retry_until }
+retry_fields_in parts =
+    record { last_attempt = parts.last_attempt; retry_until = parts.retry_until }
 
 abbrev pub flush_fields_in : FlushParts → FlushFields
 flush_fields_in parts = record {
@@ -36,7 +43,8 @@ flush_fields_in parts = record {
 
 abbrev pub wire_body_in : BodyParts → WireBody
 wire_body_in (parts.Append head fields) = AppendFields (head_in head) (recipient_fields_in fields)
-wire_body_in (parts.DatedAppend head fields dates) = DatedAppendFields (head_in head) (recipient_fields_in fields) (retry_fields_in dates)
+wire_body_in (parts.DatedAppend head fields dates) =
+    DatedAppendFields (head_in head) (recipient_fields_in fields) (retry_fields_in dates)
 wire_body_in (parts.Flush head fields) = FlushFieldsOf (head_in head) (flush_fields_in fields)
 wire_body_in (parts.Discard head) = DiscardFields (head_in head)
 wire_body_in (parts.Forget head) = ForgetFields (head_in head)

@@ -1,5 +1,5 @@
--- Requests in bytes: which body some bytes stand for, and why they are refused where they stand for none (this
--- project's profile, versions 1 and 2).
+-- Requests in bytes: which body some bytes stand for, and why they are refused where they stand for
+-- none (this project's profile, versions 1 and 2).
 use Rattle.std.specs.Prelude.{◌≡◌, ℕ, Bool, true, false, ◌&&◌, ◌==◌, nat_le, List, [], ◌∷◌, length, ◌≤◌, Option, Some, None, is_none, is_some, if◌then◌else◌, slice_get, option_and_then}
 use Rattle.std.specs.Option.{option_map, option_map_or}
 use Rattle.dsn_text.specs.Action.{action_byte}
@@ -23,9 +23,11 @@ use Rattle.dsn_body.specs.declared.body_fault.BodyFault.TheVariants as faults
 -- the second byte, if there is one, is a kind of the version that the first byte is
 unfoldable pub has_kind : List ℕ → Bool
 has_kind bytes =
-    option_map_or (λ version. option_map_or (is_kind version) (slice_get bytes 1) true) (slice_get bytes 0) true
+    option_map_or (λ version. option_map_or (is_kind version) (slice_get bytes 1) true)
+    (slice_get bytes 0) true
 
--- a first and a second byte that there are must be right; then the fields must end where the body does
+-- a first and a second byte that there are must be right; then the fields must end where the body
+-- does
 abbrev pub layout_checks : List ℕ → List (Bool × BodyFault)
 layout_checks bytes =
     (option_map_or is_version (slice_get bytes 0) true, faults.Version)
@@ -61,8 +63,11 @@ abbrev pub moment_if_any : ℕ → Option ℕ
 moment_if_any seconds = if seconds == no_moment then None else Some seconds
 
 abbrev pub retry_checks : RetryFields → List (Bool × BodyFault)
-retry_checks dates =
-    (is_none_or is_moment (moment_if_any dates.last_attempt) && is_none_or is_moment (moment_if_any dates.retry_until), faults.Moment)
+retry_checks dates = (
+  is_none_or is_moment (moment_if_any dates.last_attempt)
+      && is_none_or is_moment (moment_if_any dates.retry_until),
+  faults.Moment,
+)
     ∷ []
 
 -- the outcome's fields of an append with these moments
@@ -84,18 +89,21 @@ abbrev pub undated_fields : RecipientFields → Fields
 undated_fields fields = outcome_fields fields None None
 
 abbrev pub dated_fields : RecipientFields → RetryFields → Fields
-dated_fields fields dates = outcome_fields fields (moment_if_any dates.last_attempt) (moment_if_any dates.retry_until)
+dated_fields fields dates =
+    outcome_fields fields (moment_if_any dates.last_attempt) (moment_if_any dates.retry_until)
 
 -- the first fault of an append's outcome, which is one of its service
 abbrev pub first_append_fault : Head → Fields → Option BodyFault
 first_append_fault head fields =
-    option_and_then (λ service. option_map outcome_refusal (first_outcome_fault service fields)) (service_of_byte head.service)
+    option_and_then (λ service. option_map outcome_refusal (first_outcome_fault service fields))
+    (service_of_byte head.service)
 
 -- the first fault of the fields of a body's kind; an append's moments are judged before its outcome
 unfoldable pub first_own_fault : WireBody → Option BodyFault
 first_own_fault (AppendFields head fields) = first_append_fault head (undated_fields fields)
 first_own_fault (DatedAppendFields head fields dates) =
-    or_else (first_failed (retry_checks dates)) (first_append_fault head (dated_fields fields dates))
+    or_else (first_failed (retry_checks dates))
+    (first_append_fault head (dated_fields fields dates))
 first_own_fault (FlushFieldsOf head fields) = first_failed (flush_checks fields)
 first_own_fault (DiscardFields head) = None
 first_own_fault (ForgetFields head) = None
@@ -107,7 +115,8 @@ first_field_fault wire = or_else (first_failed (head_checks (head_of wire))) (fi
 -- the first fault of a body, if it has one: its layout is judged before its fields
 unfoldable pub first_body_fault : List ℕ → Option BodyFault
 first_body_fault bytes =
-    or_else (first_failed (layout_checks bytes)) (option_and_then (λ read. first_field_fault read.0) (body_at bytes))
+    or_else (first_failed (layout_checks bytes))
+    (option_and_then (λ read. first_field_fault read.0) (body_at bytes))
 
 -- bytes that hold exactly the fields of one body
 pub record IsWhole (bytes : List ℕ) (wire : WireBody) : Type 0 where
@@ -130,22 +139,27 @@ pub record IsKeyOf (head : Head) (key : Key) : Type 0 where
   pub service_is : service_of_byte head.service ≡ Some key.service
   pub id_is : key.id ≡ head.id
 
-pub record IsAppendOf (head : Head) (fields : Fields) (id : List ℕ) (outcome : Outcome) : Type 0 where
+pub record IsAppendOf (head : Head) (fields : Fields) (id : List ℕ)
+    (outcome : Outcome) : Type 0 where
   pub service_is : service_of_byte head.service ≡ Some outcome.service
   pub id_is : id ≡ head.id
   pub outcome_is : IsOutcomeOf outcome.service fields outcome
 
--- the request that fields stand for; the values are theirs, but that an outcome's diagnostic and reason are cleaned
+-- the request that fields stand for; the values are theirs, but that an outcome's diagnostic and
+-- reason are cleaned
 unfoldable pub StandsFor : WireBody → Body → Type 0
-StandsFor (AppendFields head fields) (Append id outcome) = IsAppendOf head (undated_fields fields) id outcome
-StandsFor (DatedAppendFields head fields dates) (Append id outcome) = IsAppendOf head (dated_fields fields dates) id outcome
-StandsFor (FlushFieldsOf head fields) (Flush key draft) = IsKeyOf head key × (draft ≡ draft_of fields)
+StandsFor (AppendFields head fields) (Append id outcome) =
+    IsAppendOf head (undated_fields fields) id outcome
+StandsFor (DatedAppendFields head fields dates) (Append id outcome) =
+    IsAppendOf head (dated_fields fields dates) id outcome
+StandsFor (FlushFieldsOf head fields) (Flush key draft) =
+    IsKeyOf head key × (draft ≡ draft_of fields)
 StandsFor (DiscardFields head) (Discard key) = IsKeyOf head key
 StandsFor (ForgetFields head) (Forget key) = IsKeyOf head key
 StandsFor wire body = ⊥
 
--- bytes that are laid out as a request with this number and body, in a version that has its kind; a goodbye has no
--- bytes
+-- bytes that are laid out as a request with this number and body, in a version that has its kind; a
+-- goodbye has no bytes
 pub record Encodes (bytes : List ℕ) (number : ℕ) (body : Body) : Type 0 where
   pub wire : WireBody
   pub laid_out : bytes ≡ body_bytes wire
@@ -163,7 +177,8 @@ text_or_empty None = []
 text_or_empty (Some text) = text
 
 abbrev pub head_for : ℕ → ℕ → Service → List ℕ → Head
-head_for version number service id = record { version = version; number = number; service = service_byte service; id = id }
+head_for version number service id =
+    record { version = version; number = number; service = service_byte service; id = id }
 
 -- an outcome's texts are written as it keeps them, so its diagnostic and its reason clean
 abbrev pub fields_for : Outcome → RecipientFields
@@ -193,7 +208,8 @@ unfoldable pub append_written_as : ℕ → List ℕ → Outcome → WireBody
 append_written_as number id outcome =
     if is_none outcome.last_attempt && is_none outcome.retry_until
     then AppendFields (head_for 1 number outcome.service id) (fields_for outcome)
-    else DatedAppendFields (head_for 2 number outcome.service id) (fields_for outcome) (retry_fields_for outcome)
+    else DatedAppendFields (head_for 2 number outcome.service id) (fields_for outcome)
+    (retry_fields_for outcome)
 
 abbrev pub flush_fields_for : Draft → FlushFields
 flush_fields_for draft = record {
@@ -204,16 +220,19 @@ flush_fields_for draft = record {
   header = draft.header;
 }
 
--- the fields that are written of a body with this number, in the lowest version that can say it; a goodbye has none
+-- the fields that are written of a body with this number, in the lowest version that can say it; a
+-- goodbye has none
 unfoldable pub fields_written : ℕ → Body → Option WireBody
 fields_written number (Append id outcome) = Some (append_written_as number id outcome)
-fields_written number (Flush key draft) = Some (FlushFieldsOf (head_for 1 number key.service key.id) (flush_fields_for draft))
+fields_written number (Flush key draft) =
+    Some (FlushFieldsOf (head_for 1 number key.service key.id) (flush_fields_for draft))
 fields_written number (Discard key) = Some (DiscardFields (head_for 1 number key.service key.id))
 fields_written number (Forget key) = Some (ForgetFields (head_for 2 number key.service key.id))
 fields_written number Bye = None
 
--- fields that are written of a body: no check fails, they stand for the body, and a frame holds them: a queue id has at
--- most 32 bytes, and what follows it far less than the 65,536 of a frame (a returned header alone has at most 32,768)
+-- fields that are written of a body: no check fails, they stand for the body, and a frame holds
+-- them: a queue id has at most 32 bytes, and what follows it far less than the 65,536 of a frame (a
+-- returned header alone has at most 32,768)
 pub record IsWritten (number : ℕ) (body : Body) (wire : WireBody) : Type 0 where
   pub number_is : (head_of wire).number ≡ number
   pub known : is_known wire ≡ true

@@ -1,5 +1,5 @@
--- Answers in bytes: which bytes stand for an answer, and why some bytes stand for none (this project's profile,
--- version 1).
+-- Answers in bytes: which bytes stand for an answer, and why some bytes stand for none (this
+-- project's profile, version 1).
 use Rattle.std.specs.Prelude.{ℕ, suc, ◌<◌, ◌^◌, Bool, true, ◌&&◌, ◌||◌, not, ◌==◌, nat_le, List, [], ◌∷◌, ◌++◌, length, drop, Option, slice_get}
 use Rattle.std.specs.Int.{w32, to_be_bytes, from_be_bytes}
 use Rattle.std.specs.Option.{option_map_or}
@@ -51,9 +51,11 @@ abbrev pub spoken_value : Spoken → ℕ
 spoken_value (spoken.Reply reply) = reply_value reply
 spoken_value (spoken.Refused code) = code
 
--- an answer's body: version 1, the byte of what is said, the place of the frame that is answered, and the value
+-- an answer's body: version 1, the byte of what is said, the place of the frame that is answered,
+-- and the value
 unfoldable pub answer_body : ℕ → Spoken → List ℕ
-answer_body number said = 1 ∷ spoken_kind said ∷ (to_be_bytes w32 number ++ to_be_bytes w32 (spoken_value said))
+answer_body number said =
+    1 ∷ spoken_kind said ∷ (to_be_bytes w32 number ++ to_be_bytes w32 (spoken_value said))
 
 -- an answer's frame
 unfoldable pub answer_bytes : ℕ → Spoken → List ℕ
@@ -62,7 +64,8 @@ answer_bytes number said = frame (answer_body number said)
 -- the frames of answers to the frames from this place on
 unfoldable pub answer_frames_from : ℕ → List Spoken → List ℕ
 answer_frames_from place [] = []
-answer_frames_from place (answer ∷ rest) = answer_bytes place answer ++ answer_frames_from (suc place) rest
+answer_frames_from place (answer ∷ rest) =
+    answer_bytes place answer ++ answer_frames_from (suc place) rest
 
 -- both numbers fit four bytes
 pub record FitsAnswer (number : ℕ) (said : Spoken) : Type 0 where
@@ -82,23 +85,29 @@ reply_of (spoken.Refused code) = []
 abbrev pub is_spoken_kind : ℕ → Bool
 is_spoken_kind kind = nat_le 1 kind && nat_le kind 12
 
--- the bytes of replies that have no value: closed, table full, log full, nothing, gone, forgotten, and not closed
+-- the bytes of replies that have no value: closed, table full, log full, nothing, gone, forgotten,
+-- and not closed
 abbrev pub is_without_value : ℕ → Bool
-is_without_value kind = (nat_le 2 kind && nat_le kind 5) || ((kind == 9) || (nat_le 11 kind && nat_le kind 12))
+is_without_value kind =
+    (nat_le 2 kind && nat_le kind 5) || ((kind == 9) || (nat_le 11 kind && nat_le kind 12))
 
 -- the value, which is the last four of ten bytes
 abbrev pub value_at : List ℕ → ℕ
 value_at bytes = from_be_bytes w32 (drop 6 bytes)
 
--- a first and a second byte that there are must be right; then there must be ten bytes; then a reply without a value
--- must have none
+-- a first and a second byte that there are must be right; then there must be ten bytes; then a
+-- reply without a value must have none
 abbrev pub answer_checks : List ℕ → List (Bool × AnswerFault)
 answer_checks bytes =
     (option_map_or (λ version. version == 1) (slice_get bytes 0) true, faults.Version)
     ∷ (option_map_or is_spoken_kind (slice_get bytes 1) true, faults.Kind)
     ∷ (nat_le 10 (length bytes), faults.Short)
     ∷ (nat_le (length bytes) 10, faults.Extra)
-    ∷ (option_map_or (λ kind. not (is_without_value kind) || (value_at bytes == 0)) (slice_get bytes 1) true, faults.Value)
+    ∷ (
+      option_map_or (λ kind. not (is_without_value kind) || (value_at bytes == 0))
+          (slice_get bytes 1) true,
+      faults.Value,
+    )
     ∷ []
 
 -- the first fault of an answer's body, if it has one

@@ -1,10 +1,10 @@
--- The fields of a request's body as they stand in it, from left to right, before any is judged (this project's
--- profile, versions 1 and 2).
+-- The fields of a request's body as they stand in it, from left to right, before any is judged
+-- (this project's profile, versions 1 and 2).
 use Rattle.std.specs.Prelude.{◌≡◌, ℕ, ◌<◌, ◌^◌, List, [], ◌∷◌, ◌++◌, length, take, drop, Option, Some, None, Bool, true, false, ◌&&◌, nat_lt, nat_le, ◌==◌, if◌then◌else◌}
 use Rattle.std.specs.Int.{Width, w16, w32, w64, byte_len, to_be_bytes, from_be_bytes}
 
--- what every body begins with: its version, and after its kind its number on the connection, the byte of its
--- service, and the queue id of its message
+-- what every body begins with: its version, and after its kind its number on the connection, the
+-- byte of its service, and the queue id of its message
 pub record Head : Type 0 where
   pub version : ℕ
   pub number : ℕ
@@ -21,14 +21,14 @@ pub record RecipientFields : Type 0 where
   pub diagnostic : List ℕ
   pub reason : List ℕ
 
--- what an append of version 2 goes on with: when delivery was last tried, and until when it is tried again, in seconds
--- since 1970; all ones mean that it isn't said
+-- what an append of version 2 goes on with: when delivery was last tried, and until when it is
+-- tried again, in seconds since 1970; all ones mean that it isn't said
 pub record RetryFields : Type 0 where
   pub last_attempt : ℕ
   pub retry_until : ℕ
 
--- what a flush goes on with: moment and arrival in seconds since 1970, the return path, the envelope id and the
--- returned header; an empty text means that there is none
+-- what a flush goes on with: moment and arrival in seconds since 1970, the return path, the
+-- envelope id and the returned header; an empty text means that there is none
 pub record FlushFields : Type 0 where
   pub moment : ℕ
   pub arrival : ℕ
@@ -36,7 +36,8 @@ pub record FlushFields : Type 0 where
   pub envelope_id : List ℕ
   pub header : List ℕ
 
--- a body's fields: of an append those of its recipient, after version 1 with its two moments, of a flush its own, of a discard and of a Forget no more
+-- a body's fields: of an append those of its recipient, after version 1 with its two moments, of a
+-- flush its own, of a discard and of a Forget no more
 pub data WireBody : Type 0 where
   AppendFields : Head → RecipientFields → WireBody
   DatedAppendFields : Head → RecipientFields → RetryFields → WireBody
@@ -66,7 +67,8 @@ head_bytes head = number_bytes w32 head.number ++ (head.service ∷ text_bytes h
 
 unfoldable pub append_bytes : RecipientFields → List ℕ
 append_bytes fields =
-    text_bytes fields.original ++ (text_bytes fields.recipient ++ (fields.action ∷ (text_bytes fields.status
+    text_bytes fields.original
+    ++ (text_bytes fields.recipient ++ (fields.action ∷ (text_bytes fields.status
     ++ (text_bytes fields.mta ++ (text_bytes fields.diagnostic ++ text_bytes fields.reason)))))
 
 unfoldable pub retry_bytes : RetryFields → List ℕ
@@ -75,7 +77,8 @@ retry_bytes dates = number_bytes w64 dates.last_attempt ++ number_bytes w64 date
 unfoldable pub flush_bytes : FlushFields → List ℕ
 flush_bytes fields =
     number_bytes w64 fields.moment ++ (number_bytes w64 fields.arrival
-    ++ (text_bytes fields.return_path ++ (text_bytes fields.envelope_id ++ text_bytes fields.header)))
+    ++ (text_bytes fields.return_path
+    ++ (text_bytes fields.envelope_id ++ text_bytes fields.header)))
 
 -- the byte of a body's kind
 abbrev pub kind_of : WireBody → ℕ
@@ -89,9 +92,11 @@ kind_of (ForgetFields head) = 4
 abbrev pub is_version : ℕ → Bool
 is_version version = nat_le 1 version && nat_le version 2
 
--- the kinds of a version: a Forget is of version 2 alone, whose flushes and discards are those of version 1
+-- the kinds of a version: a Forget is of version 2 alone, whose flushes and discards are those of
+-- version 1
 abbrev pub is_kind : ℕ → ℕ → Bool
-is_kind version kind = if version == 1 then nat_le 1 kind && nat_le kind 3 else nat_le 1 kind && nat_le kind 4
+is_kind version kind =
+    if version == 1 then nat_le 1 kind && nat_le kind 3 else nat_le 1 kind && nat_le kind 4
 
 -- a body's version is one, and its kind one of it
 abbrev pub is_known : WireBody → Bool
@@ -107,7 +112,8 @@ own_bytes (ForgetFields head) = []
 
 -- a body: its version, its kind, and its fields
 unfoldable pub body_bytes : WireBody → List ℕ
-body_bytes wire = (head_of wire).version ∷ kind_of wire ∷ (head_bytes (head_of wire) ++ own_bytes wire)
+body_bytes wire =
+    (head_of wire).version ∷ kind_of wire ∷ (head_bytes (head_of wire) ++ own_bytes wire)
 
 -- ---- which fields can be written
 
@@ -140,7 +146,8 @@ pub record FitsFlush (fields : FlushFields) : Type 0 where
 
 unfoldable pub FitsOwn : WireBody → Type 0
 FitsOwn (AppendFields head fields) = ((head.version == 1) ≡ true) × FitsAppend fields
-FitsOwn (DatedAppendFields head fields dates) = ((head.version == 1) ≡ false) × (FitsAppend fields × FitsRetry dates)
+FitsOwn (DatedAppendFields head fields dates) =
+    ((head.version == 1) ≡ false) × (FitsAppend fields × FitsRetry dates)
 FitsOwn (FlushFieldsOf head fields) = FitsFlush fields
 FitsOwn (DiscardFields head) = Unit {0}
 FitsOwn (ForgetFields head) = Unit {0}
@@ -187,7 +194,18 @@ append_at bytes = do
   mta ← text_at status.1
   diagnostic ← text_at mta.1
   reason ← text_at diagnostic.1
-  Some (record { recipient = recipient.0; original = original.0; action = action.0; status = status.0; mta = mta.0; diagnostic = diagnostic.0; reason = reason.0 }, reason.1)
+  Some (
+    record {
+      recipient = recipient.0;
+      original = original.0;
+      action = action.0;
+      status = status.0;
+      mta = mta.0;
+      diagnostic = diagnostic.0;
+      reason = reason.0;
+    },
+    reason.1,
+  )
 
 unfoldable pub retry_at : List ℕ → Option (RetryFields × List ℕ)
 retry_at bytes = do
@@ -198,8 +216,10 @@ retry_at bytes = do
 -- an append that begins with this head: after version 1 its two moments follow
 unfoldable pub append_body_at : Head → List ℕ → Option (WireBody × List ℕ)
 append_body_at head bytes =
-    if head.version == 1 then (append_at bytes >>= λ fields. Some (AppendFields head fields.0, fields.1))
-    else (append_at bytes >>= λ fields. retry_at fields.1 >>= λ dates. Some (DatedAppendFields head fields.0 dates.0, dates.1))
+    if head.version == 1
+    then (append_at bytes >>= λ fields. Some (AppendFields head fields.0, fields.1))
+    else (append_at bytes >>= λ fields. retry_at fields.1 >>= λ dates. Some
+    (DatedAppendFields head fields.0 dates.0, dates.1))
 
 unfoldable pub flush_at : List ℕ → Option (FlushFields × List ℕ)
 flush_at bytes = do
@@ -208,13 +228,23 @@ flush_at bytes = do
   return_path ← text_at arrival.1
   envelope_id ← text_at return_path.1
   header ← text_at envelope_id.1
-  Some (record { moment = moment.0; arrival = arrival.0; return_path = return_path.0; envelope_id = envelope_id.0; header = header.0 }, header.1)
+  Some (
+    record {
+      moment = moment.0;
+      arrival = arrival.0;
+      return_path = return_path.0;
+      envelope_id = envelope_id.0;
+      header = header.0;
+    },
+    header.1,
+  )
 
 -- the body of this kind that begins with this head
 unfoldable pub own_at : ℕ → Head → List ℕ → Option (WireBody × List ℕ)
 own_at kind head bytes =
     if kind == 1 then append_body_at head bytes
-    else (if kind == 2 then (flush_at bytes >>= λ fields. Some (FlushFieldsOf head fields.0, fields.1))
+    else (if kind == 2
+    then (flush_at bytes >>= λ fields. Some (FlushFieldsOf head fields.0, fields.1))
     else (if kind == 3 then Some (DiscardFields head, bytes)
     else (if kind == 4 then Some (ForgetFields head, bytes) else None)))
 

@@ -18,7 +18,8 @@ const REFUSED: u8 = 10;
 /// The last byte of a reply.
 const LAST: u8 = 12;
 
-/// The frame of an answer to the frame at this place: a length of 10, and the ten bytes of its body.
+/// The frame of an answer to the frame at this place: a length of 10, and the ten bytes of its
+/// body.
 #[tactic(auto, unfolding(crate::specs::Spoken::answer_bytes, crate::specs::Spoken::answer_body))]
 pub fn encode_answer(number: u32, answer: &Spoken) -> [u8; 14]
     ensures { result ≡ answer_bytes number answer.now }
@@ -31,13 +32,14 @@ pub fn encode_answer(number: u32, answer: &Spoken) -> [u8; 14]
     ]
 }
 
-/// The place of the frame that is answered, and the answer. A fault is the first one in the order of
-/// `AnswerFault`'s variants. It takes no memory.
+/// The place of the frame that is answered, and the answer. A fault is the first one in the order
+/// of `AnswerFault`'s variants. It takes no memory.
 #[tactic(auto, unfolding(crate::specs::Spoken::first_answer_fault, crate::specs::Spoken::answer_body))]
 pub fn decode_answer(bytes: &[u8]) -> Result<(u32, Spoken), AnswerFault>
     ensures encoded { IfOk result (λ read. bytes.now ≡ answer_body read.0 read.1) }
     ensures fits { IfOk result (λ read. FitsAnswer read.0 read.1) }
-    ensures exact { (number : ℕ) (said : Said) → FitsAnswer number said → bytes.now ≡ answer_body number said → result ≡ Ok (number, said) }
+    ensures exact { (number : ℕ) (said : Said) → FitsAnswer number said
+        → bytes.now ≡ answer_body number said → result ≡ Ok (number, said) }
     ensures accepted { OnOk result (first_answer_fault bytes.now ≡ None) }
     ensures refused { IfErr result (λ fault. first_answer_fault bytes.now ≡ Some fault) }
 {

@@ -25,7 +25,8 @@ pub fn decode_request(alloc: Global, bytes: &[u8]) -> Result<(u32, Body), BodyFa
     ensures encoded { IfOk result (λ read. Encodes bytes.now read.0 (body_of read.1)) }
     ensures no_goodbye { IfOk result (λ read. body_of read.1 ≢ Bye) }
     ensures accepted { OnOk result (first_body_fault bytes.now ≡ None) }
-    ensures refused { IfErr result (λ fault. fault ≡ unwrap_or (first_body_fault bytes.now) BodyFault.NoMemory) }
+    ensures refused { IfErr result
+        (λ fault. fault ≡ unwrap_or (first_body_fault bytes.now) BodyFault.NoMemory) }
 {
     let parts = whole_body(bytes)?;
     let head = parts.head();
@@ -72,7 +73,8 @@ fn has_kind(bytes: &[u8]) -> bool
 fn key_of(head: HeadParts<'_>) -> Result<Key, BodyFault>
     ensures key { IfOk result (λ key. IsKeyOf (head_in head.entry) key) }
     ensures accepted { OnOk result (first_failed (head_checks (head_in head.entry)) ≡ None) }
-    ensures refused { IfErr result (λ fault. first_failed (head_checks (head_in head.entry)) ≡ Some fault) }
+    ensures refused { IfErr result
+        (λ fault. first_failed (head_checks (head_in head.entry)) ≡ Some fault) }
 {
     let service = Service::from_byte(head.service).ok_or(BodyFault::Service)?;
     let id = QueueId::new(head.id).ok_or(BodyFault::QueueId)?;
@@ -85,7 +87,9 @@ fn body_about(alloc: Global, key: Key, parts: BodyParts<'_>) -> Result<Body, Bod
     requires { IsKeyOf (head_of (wire_body_in parts)) key }
     ensures body { IfOk result (λ body. StandsFor (wire_body_in parts.entry) (body_of body)) }
     ensures accepted { OnOk result (first_own_fault (wire_body_in parts.entry) ≡ None) }
-    ensures refused { IfErr result (λ fault. fault ≡ unwrap_or (first_own_fault (wire_body_in parts.entry)) BodyFault.NoMemory) }
+    ensures refused { IfErr result
+        (λ fault. fault
+        ≡ unwrap_or (first_own_fault (wire_body_in parts.entry)) BodyFault.NoMemory) }
 {
     match parts {
         BodyParts::Append(_, fields) => {
@@ -111,9 +115,20 @@ fn outcome_from(
     last_attempt: Option<Stamp>,
     retry_until: Option<Stamp>,
 ) -> Result<Box<Node>, BodyFault>
-    ensures kept { IfOk result (λ node. IsOutcomeOf service (outcome_fields (recipient_fields_in fields.entry) last_attempt retry_until) node.value.outcome) }
-    ensures accepted { OnOk result (first_outcome_fault service (outcome_fields (recipient_fields_in fields.entry) last_attempt retry_until) ≡ None) }
-    ensures refused { IfErr result (λ fault. fault ≡ unwrap_or (option_map outcome_refusal (first_outcome_fault service (outcome_fields (recipient_fields_in fields.entry) last_attempt retry_until))) BodyFault.NoMemory) }
+    ensures kept { IfOk result
+        (λ node. IsOutcomeOf service
+        (outcome_fields (recipient_fields_in fields.entry) last_attempt retry_until)
+        node.value.outcome) }
+    ensures accepted { OnOk result
+        (first_outcome_fault service
+        (outcome_fields (recipient_fields_in fields.entry) last_attempt retry_until) ≡ None) }
+    ensures refused { IfErr result
+        (λ fault. fault
+        ≡ unwrap_or
+        (option_map outcome_refusal
+        (first_outcome_fault service
+        (outcome_fields (recipient_fields_in fields.entry) last_attempt retry_until)))
+        BodyFault.NoMemory) }
 {
     let parts = Parts {
         recipient: fields.recipient,
@@ -134,7 +149,8 @@ fn checked_dates(dates: RetryParts) -> Result<(Option<Stamp>, Option<Stamp>), Bo
     ensures last_attempt { IfOk result (λ moments. moments.0 ≡ moment_if_any dates.last_attempt) }
     ensures retry_until { IfOk result (λ moments. moments.1 ≡ moment_if_any dates.retry_until) }
     ensures accepted { OnOk result (first_failed (retry_checks (retry_fields_in dates)) ≡ None) }
-    ensures refused { IfErr result (λ fault. first_failed (retry_checks (retry_fields_in dates)) ≡ Some fault) }
+    ensures refused { IfErr result
+        (λ fault. first_failed (retry_checks (retry_fields_in dates)) ≡ Some fault) }
 {
     let last_attempt = checked_date(dates.last_attempt)?;
     let retry_until = checked_date(dates.retry_until)?;
@@ -160,8 +176,12 @@ fn checked_date(seconds: u64) -> Result<Option<Stamp>, BodyFault>
 /// The draft that a flush's fields stand for.
 fn draft_from(alloc: Global, fields: FlushParts<'_>) -> Result<Draft, BodyFault>
     ensures draft { IfOk result (λ draft. draft ≡ draft_of (flush_fields_in fields.entry)) }
-    ensures accepted { OnOk result (first_failed (flush_checks (flush_fields_in fields.entry)) ≡ None) }
-    ensures refused { IfErr result (λ fault. fault ≡ unwrap_or (first_failed (flush_checks (flush_fields_in fields.entry))) BodyFault.NoMemory) }
+    ensures accepted { OnOk result
+        (first_failed (flush_checks (flush_fields_in fields.entry)) ≡ None) }
+    ensures refused { IfErr result
+        (λ fault. fault
+        ≡ unwrap_or
+        (first_failed (flush_checks (flush_fields_in fields.entry))) BodyFault.NoMemory) }
 {
     let (moment, arrival) = checked_moments(fields.moment, fields.arrival)?;
     Ok(Draft::read(
@@ -178,9 +198,11 @@ fn draft_from(alloc: Global, fields: FlushParts<'_>) -> Result<Draft, BodyFault>
 fn checked_moments(moment: u64, arrival: u64) -> Result<(Stamp, Stamp), BodyFault>
     ensures moment { IfOk result (λ moments. moments.0 ≡ moment) }
     ensures arrival { IfOk result (λ moments. moments.1 ≡ arrival) }
-    ensures accepted { OnOk result (nat_le moment last_moment && nat_le arrival last_moment ≡ true) }
+    ensures accepted { OnOk result
+        (nat_le moment last_moment && nat_le arrival last_moment ≡ true) }
     ensures refused { IfErr result (λ fault. fault ≡ BodyFault.Moment) }
-    ensures after { IfErr result (λ fault. nat_le moment last_moment && nat_le arrival last_moment ≡ false) }
+    ensures after { IfErr result
+        (λ fault. nat_le moment last_moment && nat_le arrival last_moment ≡ false) }
 {
     let moment = Stamp::new(moment).ok_or(BodyFault::Moment)?;
     let arrival = Stamp::new(arrival).ok_or(BodyFault::Moment)?;

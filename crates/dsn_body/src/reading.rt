@@ -85,7 +85,8 @@ fn head_of(version: u8, bytes: &[u8]) -> Option<(HeadParts<'_>, &[u8])>
 
 #[tactic(auto, unfolding(crate::specs::Wire::append_at))]
 fn append_of(bytes: &[u8]) -> Option<(RecipientParts<'_>, &[u8])>
-    ensures { option_map (λ read. (recipient_fields_in read.0, read.1.now)) result ≡ append_at bytes.now }
+    ensures { option_map (λ read. (recipient_fields_in read.0, read.1.now)) result
+        ≡ append_at bytes.now }
 {
     let (original, rest) = text_of(bytes)?;
     let (recipient, rest) = text_of(rest)?;
@@ -108,7 +109,8 @@ fn append_of(bytes: &[u8]) -> Option<(RecipientParts<'_>, &[u8])>
 
 #[tactic(auto, unfolding(crate::specs::Wire::retry_at))]
 fn retry_of(bytes: &[u8]) -> Option<(RetryParts, &[u8])>
-    ensures { option_map (λ read. (retry_fields_in read.0, read.1.now)) result ≡ retry_at bytes.now }
+    ensures { option_map (λ read. (retry_fields_in read.0, read.1.now)) result
+        ≡ retry_at bytes.now }
 {
     let (last_attempt, rest) = u64_of(bytes)?;
     let (retry_until, rest) = u64_of(rest)?;
@@ -121,7 +123,8 @@ fn retry_of(bytes: &[u8]) -> Option<(RetryParts, &[u8])>
 
 #[tactic(auto, unfolding(crate::specs::Wire::append_body_at))]
 fn append_body_of<'a>(head: HeadParts<'a>, bytes: &'a [u8]) -> Option<(BodyParts<'a>, &'a [u8])>
-    ensures { option_map (λ read. (wire_body_in read.0, read.1.now)) result ≡ append_body_at (head_in head.entry) bytes.now }
+    ensures { option_map (λ read. (wire_body_in read.0, read.1.now)) result
+        ≡ append_body_at (head_in head.entry) bytes.now }
 {
     let (parts, rest) = append_of(bytes)?;
     if head.version == VERSION {
@@ -133,7 +136,8 @@ fn append_body_of<'a>(head: HeadParts<'a>, bytes: &'a [u8]) -> Option<(BodyParts
 
 #[tactic(auto, unfolding(crate::specs::Wire::flush_at))]
 fn flush_of(bytes: &[u8]) -> Option<(FlushParts<'_>, &[u8])>
-    ensures { option_map (λ read. (flush_fields_in read.0, read.1.now)) result ≡ flush_at bytes.now }
+    ensures { option_map (λ read. (flush_fields_in read.0, read.1.now)) result
+        ≡ flush_at bytes.now }
 {
     let (moment, rest) = u64_of(bytes)?;
     let (arrival, rest) = u64_of(rest)?;
@@ -152,7 +156,8 @@ fn flush_of(bytes: &[u8]) -> Option<(FlushParts<'_>, &[u8])>
 
 #[tactic(auto, unfolding(crate::specs::Wire::own_at))]
 fn own_of<'a>(kind: u8, head: HeadParts<'a>, bytes: &'a [u8]) -> Option<(BodyParts<'a>, &'a [u8])>
-    ensures { option_map (λ read. (wire_body_in read.0, read.1.now)) result ≡ own_at kind (head_in head.entry) bytes.now }
+    ensures { option_map (λ read. (wire_body_in read.0, read.1.now)) result
+        ≡ own_at kind (head_in head.entry) bytes.now }
 {
     match kind {
         1 => append_body_of(head, bytes),

@@ -35,7 +35,8 @@ fn push_text(out: &mut Vec<u8>, text: &[u8])
 #[tactic(auto, using(crate::proofs::EncodingLaws::head_length, crate::proofs::EncodingLaws::text_length), unfolding(crate::specs::Wire::head_bytes, crate::specs::Wire::number_bytes))]
 fn push_head(out: &mut Vec<u8>, head: HeadParts<'_>)
     requires fits { FitsHead (head_in head) }
-    requires room { length out.old.items + length (head_bytes (head_in head)) ≤ vec_capacity out.old }
+    requires room { length out.old.items + length
+        (head_bytes (head_in head)) ≤ vec_capacity out.old }
     ensures added { out.new.items ≡ out.old.items ++ head_bytes (head_in head.entry) }
     ensures capacity { vec_capacity out.old ≤ vec_capacity out.new }
 {
@@ -48,8 +49,10 @@ fn push_head(out: &mut Vec<u8>, head: HeadParts<'_>)
 #[tactic(auto, using(crate::proofs::EncodingLaws::append_length, crate::proofs::EncodingLaws::text_length), unfolding(crate::specs::Wire::append_bytes))]
 fn push_append(out: &mut Vec<u8>, parts: RecipientParts<'_>)
     requires fits { FitsAppend (recipient_fields_in parts) }
-    requires room { length out.old.items + length (append_bytes (recipient_fields_in parts)) ≤ vec_capacity out.old }
-    ensures added { out.new.items ≡ out.old.items ++ append_bytes (recipient_fields_in parts.entry) }
+    requires room { length out.old.items + length
+        (append_bytes (recipient_fields_in parts)) ≤ vec_capacity out.old }
+    ensures added { out.new.items
+        ≡ out.old.items ++ append_bytes (recipient_fields_in parts.entry) }
     ensures capacity { vec_capacity out.old ≤ vec_capacity out.new }
 {
     push_text(out, parts.original);
@@ -87,8 +90,13 @@ fn push_retry(out: &mut Vec<u8>, parts: RetryParts)
 #[tactic(auto, using(crate::proofs::EncodingLaws::dated_length))]
 fn push_dated_append(out: &mut Vec<u8>, fields: RecipientParts<'_>, dates: RetryParts)
     requires fits { FitsAppend (recipient_fields_in fields) }
-    requires room { length out.old.items + length (append_bytes (recipient_fields_in fields) ++ retry_bytes (retry_fields_in dates)) ≤ vec_capacity out.old }
-    ensures added { out.new.items ≡ out.old.items ++ (append_bytes (recipient_fields_in fields.entry) ++ retry_bytes (retry_fields_in dates)) }
+    requires room { length out.old.items + length
+        (append_bytes (recipient_fields_in fields) ++ retry_bytes (retry_fields_in dates)) ≤
+        vec_capacity out.old }
+    ensures added { out.new.items
+        ≡ out.old.items
+        ++ (append_bytes (recipient_fields_in fields.entry)
+        ++ retry_bytes (retry_fields_in dates)) }
     ensures capacity { vec_capacity out.old ≤ vec_capacity out.new }
 {
     push_append(out, fields);
@@ -99,7 +107,8 @@ fn push_dated_append(out: &mut Vec<u8>, fields: RecipientParts<'_>, dates: Retry
 #[tactic(auto, using(crate::proofs::EncodingLaws::flush_length, crate::proofs::EncodingLaws::text_length), unfolding(crate::specs::Wire::flush_bytes))]
 fn push_flush(out: &mut Vec<u8>, parts: FlushParts<'_>)
     requires fits { FitsFlush (flush_fields_in parts) }
-    requires room { length out.old.items + length (flush_bytes (flush_fields_in parts)) ≤ vec_capacity out.old }
+    requires room { length out.old.items + length
+        (flush_bytes (flush_fields_in parts)) ≤ vec_capacity out.old }
     ensures added { out.new.items ≡ out.old.items ++ flush_bytes (flush_fields_in parts.entry) }
     ensures capacity { vec_capacity out.old ≤ vec_capacity out.new }
 {
@@ -114,7 +123,8 @@ fn push_flush(out: &mut Vec<u8>, parts: FlushParts<'_>)
 #[tactic(auto, unfolding(crate::specs::Wire::own_bytes, crate::specs::Wire::FitsOwn))]
 fn push_own(out: &mut Vec<u8>, parts: BodyParts<'_>)
     requires fits { FitsOwn (wire_body_in parts) }
-    requires room { length out.old.items + length (own_bytes (wire_body_in parts)) ≤ vec_capacity out.old }
+    requires room { length out.old.items + length
+        (own_bytes (wire_body_in parts)) ≤ vec_capacity out.old }
     ensures added { out.new.items ≡ out.old.items ++ own_bytes (wire_body_in parts.entry) }
     ensures capacity { vec_capacity out.old ≤ vec_capacity out.new }
 {
@@ -130,7 +140,8 @@ fn push_own(out: &mut Vec<u8>, parts: BodyParts<'_>)
 pub(crate) fn push_frame(out: &mut Vec<u8>, parts: BodyParts<'_>)
     requires fits { FitsWire (wire_body_in parts) }
     requires small { length (body_bytes (wire_body_in parts)) ≤ 65536 }
-    requires room { length out.old.items + (4 + length (body_bytes (wire_body_in parts))) ≤ vec_capacity out.old }
+    requires room { length out.old.items +
+        (4 + length (body_bytes (wire_body_in parts))) ≤ vec_capacity out.old }
     ensures { out.new.items ≡ out.old.items ++ frame (body_bytes (wire_body_in parts.entry)) }
 {
     let size = body_len(parts) as u32;
@@ -142,7 +153,8 @@ pub(crate) fn push_frame(out: &mut Vec<u8>, parts: BodyParts<'_>)
 #[tactic(auto, using(crate::proofs::EncodingLaws::body_length, crate::proofs::EncodingLaws::head_length), unfolding(crate::specs::Wire::body_bytes))]
 fn push_body(out: &mut Vec<u8>, parts: BodyParts<'_>)
     requires fits { FitsWire (wire_body_in parts) }
-    requires room { length out.old.items + length (body_bytes (wire_body_in parts)) ≤ vec_capacity out.old }
+    requires room { length out.old.items + length
+        (body_bytes (wire_body_in parts)) ≤ vec_capacity out.old }
     ensures added { out.new.items ≡ out.old.items ++ body_bytes (wire_body_in parts.entry) }
     ensures capacity { vec_capacity out.old ≤ vec_capacity out.new }
 {

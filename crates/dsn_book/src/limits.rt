@@ -31,7 +31,8 @@ impl Model for Limits {
 
     ghost view = { λ l. record { logs = l.logs; entries = l.entries; requests = l.requests } };
 
-    ghost invariant = { λ l. IsInRange 1 65536 l.logs × IsInRange 1 1000 l.entries × IsInRange 1 1000000 l.requests };
+    ghost invariant = { λ l. IsInRange 1 65536 l.logs × IsInRange 1 1000 l.entries
+        × IsInRange 1 1000000 l.requests };
 
     ghost inverse = { λ v. record { logs = v.logs; entries = v.entries; requests = v.requests } };
 }

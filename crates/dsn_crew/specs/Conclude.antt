@@ -1,4 +1,5 @@
--- Of private parts: how a run is concluded, from how it was collected, what came of its agents, and what was posted.
+-- Of private parts: how a run is concluded, from how it was collected, what came of its agents, and
+-- what was posted.
 use Rattle.std.specs.Prelude.{◌≡◌, Bool, true, false, List, [], ◌++◌, All as Each, Result, Ok, Err}
 use Rattle.dsn_book.specs.Book.{Represents}
 use Rattle.dsn_book.specs.Step.{letters_in}
@@ -39,10 +40,16 @@ account_of lines agents desk posted = record {
 -- what is left of one that isn't, with the letter that the collector held
 abbrev pub fault_of : {W : Type 0} → CrewCause → List Letter → Desk → Posted W → CrewFault W
 fault_of cause held desk posted =
-    record { cause = cause; outbox = posted.outbox; unsent = posted.unsent ++ held; taken = desk.requests.taken }
+    record {
+      cause = cause;
+      outbox = posted.outbox;
+      unsent = posted.unsent ++ held;
+      taken = desk.requests.taken;
+    }
 
 -- a crew that was closed
-pub record HasClosed {W : Type 0} (lines : List AgentLine) (agents : List Ends) (desk : Desk) (posted : Posted W)
+pub record HasClosed {W : Type 0} (lines : List AgentLine) (agents : List Ends) (desk : Desk)
+    (posted : Posted W)
     (account : Account W) : Type 0 where
   pub all : posted.all ≡ true
   pub account_is : account ≡ account_of lines agents desk posted
@@ -57,12 +64,15 @@ missing_cause true = causes.Refused
 missing_cause false = causes.Lost
 
 -- where all went well the crew is closed; else this is its fault
-abbrev pub Concludes : {W : Type 0} → Collected → Gathered → Posted W → Result (Account W) (CrewFault W) → Type 0
-Concludes (Whole desk) (All lines agents) posted (Ok account) = HasClosed lines.items agents.items desk posted account
+abbrev pub Concludes : {W : Type 0} → Collected → Gathered → Posted W
+    → Result (Account W) (CrewFault W) → Type 0
+Concludes (Whole desk) (All lines agents) posted (Ok account) =
+    HasClosed lines.items agents.items desk posted account
 Concludes (Whole desk) (All lines agents) posted (Err fault) =
     (posted.all ≡ false) × (fault ≡ fault_of causes.Lost [] desk posted)
 Concludes (Whole desk) Missing posted (Ok account) = ⊥
-Concludes (Whole desk) Missing posted (Err fault) = fault ≡ fault_of (missing_cause posted.all) [] desk posted
+Concludes (Whole desk) Missing posted (Err fault) =
+    fault ≡ fault_of (missing_cause posted.all) [] desk posted
 Concludes (Whole desk) Lost posted (Ok account) = ⊥
 Concludes (Whole desk) Lost posted (Err fault) = fault ≡ fault_of causes.Lost [] desk posted
 Concludes (Failed held desk) gathered posted (Ok account) = ⊥

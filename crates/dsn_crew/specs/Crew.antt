@@ -25,9 +25,9 @@ crew_cause_code Lost = 41
 crew_cause_code Refused = 42
 crew_cause_code PortCount = 43
 
--- a run that ended well: what each agent did; how many letters were posted, and those that were not, in order; the
--- outbox, and whether nothing failed in it; the book at the end; the requests that the collector took, in order; and
--- each agent's two ends, with all that it sent and got
+-- a run that ended well: what each agent did; how many letters were posted, and those that were
+-- not, in order; the outbox, and whether nothing failed in it; the book at the end; the requests
+-- that the collector took, in order; and each agent's two ends, with all that it sent and got
 pub record Account (W : Type 0) : Type 0 where
   pub agents : List AgentLine
   pub letters : ℕ
@@ -38,12 +38,14 @@ pub record Account (W : Type 0) : Type 0 where
   pub taken : List Request
   pub ends : List Ends
 
--- what is true of one agent whose port told these connections, where the collector took these requests. All that the
--- agent sent was taken, in that order, and what it got are the answers of the history. What it sent is what the
--- sessions over its connections ask, one after another, and then its only goodbye; what it got are their replies, and
--- then Gone. Its line counts its requests, its connections, and the sessions among them that ended with a fault, none
--- of them for a lost lane
-pub record IsAgentAccount (conns : Option (List Conn)) (limits : Limits) (taken : List Request) (agent : ℕ)
+-- what is true of one agent whose port told these connections, where the collector took these
+-- requests. All that the agent sent was taken, in that order, and what it got are the answers of
+-- the history. What it sent is what the sessions over its connections ask, one after another, and
+-- then its only goodbye; what it got are their replies, and then Gone. Its line counts its
+-- requests, its connections, and the sessions among them that ended with a fault, none of them for
+-- a lost lane
+pub record IsAgentAccount (conns : Option (List Conn)) (limits : Limits) (taken : List Request)
+    (agent : ℕ)
     (line : AgentLine) (ends : Ends) : Type 0 where
   pub number : ends.requests.agent ≡ agent
   pub taken_all : from_agent (λ (request : Request). request.agent) agent taken ≡ ends.requests.sent
@@ -53,10 +55,13 @@ pub record IsAgentAccount (conns : Option (List Conn)) (limits : Limits) (taken 
   pub over : AreOverPort conns sessions false line.port_failed
   pub heard : All (λ (session : Session). session.end ≢ Some 41) sessions
   pub sent :
-      ends.requests.sent ≡ requests_from agent 0 (bodies_of sessions) ++ numbered_request agent line.requests Bye ∷ []
+      ends.requests.sent
+      ≡ requests_from agent 0 (bodies_of sessions)
+      ++ numbered_request agent line.requests Bye ∷ []
   pub got :
       ends.answers.taken
-      ≡ answers_from agent 0 (flat_map reply_of (answers_of sessions)) ++ numbered_answer agent line.requests Gone ∷ []
+      ≡ answers_from agent 0 (flat_map reply_of (answers_of sessions))
+      ++ numbered_answer agent line.requests Gone ∷ []
   pub requests : line.requests ≡ length (bodies_of sessions)
   pub connections : line.connections ≡ length sessions
   pub faults : line.faults ≡ faults_of sessions
@@ -64,29 +69,32 @@ pub record IsAgentAccount (conns : Option (List Conn)) (limits : Limits) (taken 
 
 -- what is true of each agent, from one on, with the port in its place
 abbrev pub AreAgentAccounts :
-    {P S : Type 0} → Port P S → Limits → List Request → ℕ → List P → List AgentLine → List Ends → Type 0
+    {P S : Type 0} → Port P S → Limits → List Request → ℕ → List P → List AgentLine → List Ends
+    → Type 0
 AreAgentAccounts port limits taken agent [] [] [] = Unit {0}
 AreAgentAccounts port limits taken agent (one ∷ ports) (line ∷ lines) (ends ∷ crew) =
     IsAgentAccount (port.conns one) limits taken agent line ends
     × AreAgentAccounts port limits taken (suc agent) ports lines crew
 AreAgentAccounts port limits taken agent ports lines crew = ⊥
 
--- what a run that ended well comes to: each agent's part; nothing else was taken; the book stands for the history of
--- what was taken, and the outbox is that of the letters which this history sealed, in order, each of them posted or
--- unsent
-pub record IsAccount {P S W : Type 0} (port : Port P S) (drain : Drain W) (host : List ℕ) (limits : Limits)
+-- what a run that ended well comes to: each agent's part; nothing else was taken; the book stands
+-- for the history of what was taken, and the outbox is that of the letters which this history
+-- sealed, in order, each of them posted or unsent
+pub record IsAccount {P S W : Type 0} (port : Port P S) (drain : Drain W) (host : List ℕ)
+    (limits : Limits)
     (ports : List P) (start : W) (account : Account W) : Type 0 where
   pub agents : AreAgentAccounts port limits account.taken 0 ports account.agents account.ends
   pub only : All (λ (request : Request). request.agent < length ports) account.taken
   pub book_limits : account.book.limits ≡ limits
   pub book : Represents account.book (history_of limits account.taken)
-  pub count : account.letters + length account.unsent ≡ length (sealed_letters (history_of limits account.taken))
+  pub count : account.letters + length account.unsent
+      ≡ length (sealed_letters (history_of limits account.taken))
   pub outbox :
       IsOutbox drain host start account.outbox account.whole account.unsent
       (sealed_letters (history_of limits account.taken))
 
--- a run that ended with a fault: its cause, the outbox, the letters that are not in it, and the requests that were
--- taken
+-- a run that ended with a fault: its cause, the outbox, the letters that are not in it, and the
+-- requests that were taken
 pub record CrewFault (W : Type 0) : Type 0 where
   pub cause : CrewCause
   pub outbox : W
@@ -99,10 +107,11 @@ pub record IsUnbegun {W : Type 0} (drain : Drain W) (start : W) (fault : CrewFau
   pub unsent : fault.unsent ≡ []
   pub outbox : IsUntouched drain start fault.outbox
 
--- what is left of a run of so many agents that was broken off. The requests taken are of these agents, and numbered
--- from 0 agent by agent. The letters that came to the poster are the first of those which their history sealed; those
--- that are not in the outbox are unsent, in order. Up to 16 later ones waited for the poster, and are dropped. After
--- them comes at most one more, which the collector still held
+-- what is left of a run of so many agents that was broken off. The requests taken are of these
+-- agents, and numbered from 0 agent by agent. The letters that came to the poster are the first of
+-- those which their history sealed; those that are not in the outbox are unsent, in order. Up to 16
+-- later ones waited for the poster, and are dropped. After them comes at most one more, which the
+-- collector still held
 pub record IsBrokenOff {W : Type 0} (drain : Drain W) (host : List ℕ) (limits : Limits) (agents : ℕ)
     (start : W) (fault : CrewFault W) : Type 0 where
   pub only : All (λ (request : Request). request.agent < agents) fault.taken
@@ -121,14 +130,16 @@ pub record IsBrokenOff {W : Type 0} (drain : Drain W) (host : List ℕ) (limits 
   pub unsent_are : fault.unsent ≡ unsent ++ held
   pub outbox : IsOutbox drain host start fault.outbox whole unsent letters
 
--- what a run for so many agents that ended with a fault comes to. 43: there are not 1 to 16 ports, and the outbox comes
--- back as it was. 42: it never began; or the thread of an agent could not be made, and all letters came to the poster.
--- 41: a lane was lost
-abbrev pub IsCrewFault : {W : Type 0} → Drain W → List ℕ → Limits → ℕ → W → CrewFault W → CrewCause → Type 0
+-- what a run for so many agents that ended with a fault comes to. 43: there are not 1 to 16 ports,
+-- and the outbox comes back as it was. 42: it never began; or the thread of an agent could not be
+-- made, and all letters came to the poster. 41: a lane was lost
+abbrev pub IsCrewFault : {W : Type 0} → Drain W → List ℕ → Limits → ℕ → W → CrewFault W → CrewCause
+    → Type 0
 IsCrewFault drain host limits agents start fault PortCount =
     (fault.outbox ≡ start) × (fault.unsent ≡ []) × (fault.taken ≡ [])
 IsCrewFault drain host limits agents start fault Refused =
     IsUnbegun drain start fault
     ⊎ ((broken : IsBrokenOff drain host limits agents start fault)
     × (broken.letters ≡ sealed_letters (history_of limits fault.taken)))
-IsCrewFault drain host limits agents start fault Lost = IsBrokenOff drain host limits agents start fault
+IsCrewFault drain host limits agents start fault Lost =
+    IsBrokenOff drain host limits agents start fault

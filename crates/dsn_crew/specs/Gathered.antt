@@ -19,8 +19,8 @@ abbrev pub has_lost : Option PortEnd → Bool
 has_lost None = false
 has_lost (Some end) = is_none end.finished
 
--- an agent that lost a lane comes first; then one that was not started; where there is neither, these are all lines and
--- ends
+-- an agent that lost a lane comes first; then one that was not started; where there is neither,
+-- these are all lines and ends
 abbrev pub IsGathered : List (Option PortEnd) → Gathered → Type 0
 IsGathered ends (All lines agents) = AreEnded ends lines.items agents.items
 IsGathered ends Missing = (list_any is_none ends ≡ true) × (list_any has_lost ends ≡ false)

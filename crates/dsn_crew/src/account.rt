@@ -32,7 +32,16 @@ impl<W> Model for Account<W> {
 
     ghost Value = { Account W };
 
-    ghost view = { λ a. record { agents = a.agents.items; letters = a.letters; unsent = a.unsent; whole = a.whole; outbox = a.outbox; book = a.book; taken = a.shut.value.desk.requests.taken; ends = a.shut.value.crew } };
+    ghost view = { λ a. record {
+      agents = a.agents.items;
+      letters = a.letters;
+      unsent = a.unsent;
+      whole = a.whole;
+      outbox = a.outbox;
+      book = a.book;
+      taken = a.shut.value.desk.requests.taken;
+      ends = a.shut.value.crew;
+    } };
 }
 
 impl<W> Account<W> {
@@ -45,7 +54,16 @@ impl<W> Account<W> {
         unsent: Letters,
         letters: u32,
     ) -> Account<W>
-        ensures { result ≡ record { agents = agents.items; letters = letters; unsent = unsent; whole = whole; outbox = outbox; book = shut.book; taken = shut.desk.requests.taken; ends = shut.crew } }
+        ensures { result ≡ record {
+          agents = agents.items;
+          letters = letters;
+          unsent = unsent;
+          whole = whole;
+          outbox = outbox;
+          book = shut.book;
+          taken = shut.desk.requests.taken;
+          ends = shut.crew;
+        } }
     {
         let closed = Snapshot::of(&shut);
         Account {

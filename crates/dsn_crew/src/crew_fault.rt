@@ -29,7 +29,12 @@ impl<W> Model for CrewFault<W> {
 
     ghost Value = { CrewFault W };
 
-    ghost view = { λ f. record { cause = f.cause; outbox = f.outbox; unsent = f.unsent; taken = taken_by f.desk } };
+    ghost view = { λ f. record {
+      cause = f.cause;
+      outbox = f.outbox;
+      unsent = f.unsent;
+      taken = taken_by f.desk;
+    } };
 }
 
 impl<W> CrewFault<W> {
@@ -61,7 +66,12 @@ impl<W> CrewFault<W> {
         held: Option<Letter>,
         desk: Snapshot<Desk>,
     ) -> CrewFault<W>
-        ensures { result ≡ record { cause = cause; outbox = outbox; unsent = unsent ++ letters_in held; taken = desk.value.requests.taken } }
+        ensures { result ≡ record {
+          cause = cause;
+          outbox = outbox;
+          unsent = unsent ++ letters_in held;
+          taken = desk.value.requests.taken;
+        } }
     {
         let mut unsent = unsent;
         if let Some(letter) = held {

@@ -1,5 +1,5 @@
-//! A crew: delivery agents, the one collector that answers them, and a poster, each on a thread of its
-//! own.
+//! A crew: delivery agents, the one collector that answers them, and a poster, each on a thread of
+//! its own.
 #![tactic(auto)]
 
 mod account;

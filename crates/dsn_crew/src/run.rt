@@ -49,8 +49,11 @@ pub fn run_crew<
 ) -> Result<Account<W>, CrewFault<W>>
     ensures account { IfOk result (IsAccount P.Port W.Drain site limits ports.items outbox) }
     ensures count { IfOk result (λ _. (1 ≤ length ports.items) × (length ports.items ≤ 16)) }
-    ensures fault { IfErr result (λ fault. IsCrewFault W.Drain site limits (length ports.items) outbox fault fault.cause) }
-    ensures refused { IfErr result (λ fault. (fault.cause ≡ CrewCause.PortCount) ↔ ((length ports.items ≡ 0) ⊎ (16 < length ports.items))) }
+    ensures fault { IfErr result
+        (λ fault. IsCrewFault W.Drain site limits (length ports.items) outbox fault fault.cause) }
+    ensures refused { IfErr result
+        (λ fault. (fault.cause ≡ CrewCause.PortCount)
+        ↔ ((length ports.items ≡ 0) ⊎ (16 < length ports.items))) }
 {
     let agents = ports.len();
     if agents == 0 || agents > MOST_PORTS {
@@ -85,7 +88,8 @@ fn run_in<
 ) -> Result<Account<W>, CrewFault<W>>
     requires few { (1 ≤ length ports.items) × (length ports.items ≤ 16) }
     ensures account { IfOk result (IsAccount P.Port W.Drain site limits ports.items outbox) }
-    ensures fault { IfErr result (λ fault. IsCrewFault W.Drain site limits (length ports.items) outbox fault fault.cause) }
+    ensures fault { IfErr result
+        (λ fault. IsCrewFault W.Drain site limits (length ports.items) outbox fault fault.cause) }
     ensures counted { IfErr result (λ fault. fault.cause ≢ CrewCause.PortCount) }
 {
     let Ok(room) = Room::take(rt, alloc, limits, ports.len() as u32) else {

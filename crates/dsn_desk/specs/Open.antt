@@ -35,8 +35,9 @@ pub record IsLine (agent : ℕ) (end : End Answer) : Type 0 where
 abbrev pub AreLines : List (End Answer) → Type 0
 AreLines ends = (a : ℕ) (d : End Answer) → a < length ends → IsLine a (slice_index_or ends a d)
 
--- a crew of so many agents, before the first request: each agent has the lane on which it asks, and the one on which the
--- collector answers it; requests wait up to 64, and answers to an agent up to 1
+-- a crew of so many agents, before the first request: each agent has the lane on which it asks, and
+-- the one on which the collector answers it; requests wait up to 64, and answers to an agent up to
+-- 1
 pub record IsOpened (limits : Limits) (agents : ℕ) (crew : List Agent) (desk : Desk) : Type 0 where
   pub limits_are : desk.book.limits ≡ limits
   pub taken : desk.requests.taken ≡ []

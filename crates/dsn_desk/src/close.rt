@@ -15,10 +15,10 @@ use dsn_outcome::Request;
 use std::snapshot::Snapshot;
 use std::sync::Wait;
 
-/// Closes a crew, of which it takes all agents, in their order, and the collector. Each of its lanes
-/// is closed, in room that was taken when the crew was opened. It asks that all agents said goodbye
-/// and the collector has not failed (`Desk::all_gone`); an agent that never started has no end to
-/// give back, so its crew is dropped instead.
+/// Closes a crew, of which it takes all agents, in their order, and the collector. Each of its
+/// lanes is closed, in room that was taken when the crew was opened. It asks that all agents said
+/// goodbye and the collector has not failed (`Desk::all_gone`); an agent that never started has no
+/// end to give back, so its crew is dropped instead.
 pub fn close_crew(rt: &impl Wait, crew: Vec<Finished>, desk: Desk) -> CrewShut
     requires crew { AreCrew crew.items desk }
     requires gone { all_gone desk ≡ true }

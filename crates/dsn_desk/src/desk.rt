@@ -39,7 +39,9 @@ impl Model for Desk {
 
     ghost view = { λ d. desk_of d.book d.requests d.lines.items d.missed d.failed };
 
-    ghost invariant = { λ d. IsDesk (desk_of d.book d.requests d.lines.items d.missed d.failed) × AreCounted d.requests.taken d.taken d.gone × HasRoom d.lines.items d.room.items (vec_capacity d.room) };
+    ghost invariant = { λ d. IsDesk (desk_of d.book d.requests d.lines.items d.missed d.failed)
+        × AreCounted d.requests.taken d.taken d.gone
+        × HasRoom d.lines.items d.room.items (vec_capacity d.room) };
 }
 
 impl Desk {
@@ -51,7 +53,8 @@ impl Desk {
         room: Vec<LaneIn<Request>>,
     ) -> Desk
         requires book { Represents book [] }
-        requires requests { (requests.first ≡ 0) × (requests.past ≡ length lines.items) × (requests.taken ≡ []) }
+        requires requests { (requests.first ≡ 0) × (requests.past ≡ length lines.items)
+            × (requests.taken ≡ []) }
         requires lines { AreLines lines.items × (length lines.items ≤ 16) }
         requires room { HasRoom lines.items room.items (vec_capacity room) }
         ensures new { result ≡ desk_of book requests lines.items 0 false }
@@ -80,7 +83,8 @@ impl Desk {
     /// Counts so many agents more as gone: agents whose threads could not be started, so that they
     /// will never say goodbye. It asks that they are among those that haven't.
     pub fn miss(&mut self, agents: u32)
-        requires left { goodbyes self.old.requests.taken + self.old.missed + agents ≤ length self.old.answers }
+        requires left { goodbyes self.old.requests.taken + self.old.missed + agents ≤ length
+            self.old.answers }
         ensures missed { self.new ≡ missing self.old agents }
         ensures kept { IsDesk self.new }
     {
@@ -89,9 +93,9 @@ impl Desk {
 
     /// Takes one request and answers it: the letter that it sealed, if it did.
     ///
-    /// It asks that not all agents said goodbye. `Requests` comes where no agent is left to ask, once
-    /// 4,294,967,295 requests were taken, and once the collector has failed; `Answers` where the
-    /// agent that asked is gone. From then on the collector has failed.
+    /// It asks that not all agents said goodbye. `Requests` comes where no agent is left to ask,
+    /// once 4,294,967,295 requests were taken, and once the collector has failed; `Answers` where
+    /// the agent that asked is gone. From then on the collector has failed.
     pub fn take_one(&mut self, rt: &impl Wait) -> Result<Option<Letter>, DeskFault>
         requires some_left { all_gone self.old ≡ false }
         ensures taken { IsTaken self.old self.new result }
@@ -169,8 +173,10 @@ impl Desk {
 /// Sends an answer over the lane of its agent; false where the agent is gone.
 fn tell(rt: &impl Wait, lines: &mut Vec<Line>, answer: Answer) -> bool
     requires within { answer.agent < length lines.old.items }
-    requires agent { (d : End Answer) → (slice_index_or lines.old.items answer.agent d).agent ≡ answer.agent }
-    requires number { (d : End Answer) → length (slice_index_or lines.old.items answer.agent d).sent ≡ answer.number }
+    requires agent { (d : End Answer)
+        → (slice_index_or lines.old.items answer.agent d).agent ≡ answer.agent }
+    requires number { (d : End Answer)
+        → length (slice_index_or lines.old.items answer.agent d).sent ≡ answer.number }
     requires room { answer.number < 4294967295 }
     ensures { AreTold result lines.old.items answer lines.new.items }
 {

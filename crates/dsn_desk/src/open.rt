@@ -27,7 +27,8 @@ pub fn open_crew(
 ) -> Result<(Vec<Agent>, Desk), CrewOpenFault>
     ensures opened { IfOk result (λ crew. IsOpened limits agents crew.0.items crew.1) }
     ensures count { IfOk result (λ _. (1 ≤ agents) × (agents ≤ 16)) }
-    ensures refused { IfErr result (λ fault. (fault ≡ CrewOpenFault.AgentCount) ↔ ((agents ≡ 0) ⊎ (16 < agents))) }
+    ensures refused { IfErr result
+        (λ fault. (fault ≡ CrewOpenFault.AgentCount) ↔ ((agents ≡ 0) ⊎ (16 < agents))) }
 {
     if agents == 0 || agents > 16 {
         return Err(CrewOpenFault::AgentCount);
@@ -85,7 +86,8 @@ pub(crate) fn open_agent(
 ) -> Result<(Agent, Line), NoMemory>
     requires agent { (requests.agent ≡ agent) × (agent < 16) }
     requires unused { requests.sent ≡ [] }
-    ensures agent { IfOk result (λ pair. pair.0 ≡ opened_agent limits.requests requests.lane pair.1) }
+    ensures agent { IfOk result
+        (λ pair. pair.0 ≡ opened_agent limits.requests requests.lane pair.1) }
     ensures line { IfOk result (λ pair. IsLine agent pair.1) }
 {
     let (mut ends, answers) = open_lane(rt, alloc, agent, 1, 1)?;

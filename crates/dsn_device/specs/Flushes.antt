@@ -1,8 +1,10 @@
--- The count that a device keeps of its flushes, and whether it has taken bytes since the last of them.
+-- The count that a device keeps of its flushes, and whether it has taken bytes since the last of
+-- them.
 use Rattle.std.specs.Prelude.{ℕ, zero, suc, Bool, true, false, nat_lt, Result, Ok, Err}
 use Rattle.dsn_device.specs.Failures.{counted}
 
--- the count after one flush more, whether that failed or not; it stands still where a count of failures does
+-- the count after one flush more, whether that failed or not; it stands still where a count of
+-- failures does
 abbrev pub flushed : ℕ → ℕ
 flushed count = counted true count
 

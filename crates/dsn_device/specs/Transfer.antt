@@ -1,5 +1,6 @@
--- What became of a text that was sent, and of bytes that were asked for, where the device failed on the way.
--- For a device that doesn't tell its bytes nothing is said, as with the words of std's readers and writers.
+-- What became of a text that was sent, and of bytes that were asked for, where the device failed on
+-- the way. For a device that doesn't tell its bytes nothing is said, as with the words of std's
+-- readers and writers.
 use Rattle.std.specs.Prelude.{◌≡◌, ℕ, ◌<◌, List, ◌++◌, length, Option}
 use Rattle.std.specs.Io.KnownBytes.{Appends, Consumes}
 

@@ -1,4 +1,5 @@
--- Texts that are written one after another until the drain's first failure, and its flushes: after it nothing is done.
+-- Texts that are written one after another until the drain's first failure, and its flushes: after
+-- it nothing is done.
 use Rattle.std.specs.Prelude.{◌≡◌, ℕ, Bool, true, false, not, List, Option}
 use Rattle.std.specs.Io.KnownBytes.{Appends, Keeps}
 use Rattle.dsn_device.specs.Failures.{counted}
@@ -6,8 +7,8 @@ use Rattle.dsn_device.specs.Flushes.{flushed}
 use Rattle.dsn_device.specs.Transfer.{AppendsPart}
 use Rattle.dsn_device.specs.declared.drain.Drain.{Ghosts as Drain}
 
--- what became of a text, by whether the drain had failed before and whether it has failed now: all of it is there, a
--- part and not all, or nothing is done
+-- what became of a text, by whether the drain had failed before and whether it has failed now: all
+-- of it is there, a part and not all, or nothing is done
 abbrev pub Sent : Bool → Bool → Option (List ℕ) → Option (List ℕ) → List ℕ → Type 0
 Sent false false old new text = Appends old new text
 Sent false true old new text = AppendsPart old new text
@@ -20,7 +21,8 @@ counts_failure false failed count = counted failed count
 counts_failure true failed count = count
 
 -- a text was written to a drain, unless it had failed before
-pub record WritesUntilFailure {W : Type 0} (drain : Drain W) (before after : Bool) (old new : W) (text : List ℕ) : Type 0 where
+pub record WritesUntilFailure {W : Type 0} (drain : Drain W) (before after : Bool) (old new : W)
+    (text : List ℕ) : Type 0 where
   pub sent : Sent before after (drain.contents old) (drain.contents new) text
   pub idle : before ≡ true → (after ≡ true) × (new ≡ old)
   pub count : drain.failures new ≡ counts_failure before after (drain.failures old)
@@ -28,7 +30,8 @@ pub record WritesUntilFailure {W : Type 0} (drain : Drain W) (before after : Boo
   pub stays_steady : drain.steady old → drain.steady new × (drain.failures new ≡ drain.failures old)
 
 -- a drain was flushed once, unless it had failed before
-pub record FlushesUntilFailure {W : Type 0} (drain : Drain W) (before after : Bool) (old new : W) : Type 0 where
+pub record FlushesUntilFailure {W : Type 0} (drain : Drain W) (before after : Bool)
+    (old new : W) : Type 0 where
   pub kept : Keeps (drain.contents old) (drain.contents new)
   pub idle : before ≡ true → (after ≡ true) × (new ≡ old)
   pub count : drain.failures new ≡ counts_failure before after (drain.failures old)
@@ -37,18 +40,22 @@ pub record FlushesUntilFailure {W : Type 0} (drain : Drain W) (before after : Bo
   pub stays_steady : drain.steady old → drain.steady new × (drain.failures new ≡ drain.failures old)
 
 -- the whole text was taken, and one flush was made, after all of it
-pub record TakenAndFlushed {W : Type 0} (drain : Drain W) (old new : W) (text : List ℕ) : Type 0 where
+pub record TakenAndFlushed {W : Type 0} (drain : Drain W) (old new : W)
+    (text : List ℕ) : Type 0 where
   pub taken : Appends (drain.contents old) (drain.contents new) text
   pub once : drain.flushes new ≡ flushed (drain.flushes old)
   pub passed_on : drain.unflushed new ≡ false
 
--- the drain failed: within the text, and then it was not flushed; or at the one flush after the whole text
+-- the drain failed: within the text, and then it was not flushed; or at the one flush after the
+-- whole text
 pub data Lost {W : Type 0} (drain : Drain W) (old new : W) (text : List ℕ) : Type 0 where
-  in_text : AppendsPart (drain.contents old) (drain.contents new) text → drain.flushes new ≡ drain.flushes old → Lost drain old new text
-  at_flush : Appends (drain.contents old) (drain.contents new) text → drain.flushes new ≡ flushed (drain.flushes old) → Lost drain old new text
+  in_text : AppendsPart (drain.contents old) (drain.contents new) text
+      → drain.flushes new ≡ drain.flushes old → Lost drain old new text
+  at_flush : Appends (drain.contents old) (drain.contents new) text
+      → drain.flushes new ≡ flushed (drain.flushes old) → Lost drain old new text
 
--- what became of a text that was to be written and then flushed once, by whether the drain had failed before and
--- whether it has failed now
+-- what became of a text that was to be written and then flushed once, by whether the drain had
+-- failed before and whether it has failed now
 abbrev pub WrittenAndFlushed : {W : Type 0} → Drain W → Bool → Bool → W → W → List ℕ → Type 0
 WrittenAndFlushed drain false false old new text = TakenAndFlushed drain old new text
 WrittenAndFlushed drain false true old new text = Lost drain old new text

@@ -7,8 +7,8 @@ ghost use Rattle.dsn_device.specs.Flushes.{flushed, took_bytes};
 
 use crate::broken::Broken;
 
-/// A writer that counts its failures and its flushes. A write that takes no byte of a text that has some is one,
-/// and so is an interrupted call.
+/// A writer that counts its failures and its flushes. A write that takes no byte of a text that has
+/// some is one, and so is an interrupted call.
 pub trait Drain {
     // The bytes that the device holds, where they are known.
     ghost contents: { Self → Option (List ℕ) };
@@ -33,10 +33,12 @@ pub trait Drain {
         ensures bound { WritesAtMost result text.now }
         ensures bytes { WriteAppends (contents self.old) (contents self.new) result text.now }
         ensures unread { Keeps (left self.old) (left self.new) }
-        ensures count { failures self.new ≡ counted (write_failed result text.now) (failures self.old) }
+        ensures count { failures self.new
+            ≡ counted (write_failed result text.now) (failures self.old) }
         ensures no_flush { flushes self.new ≡ flushes self.old }
         ensures unflushed { unflushed self.new ≡ (unflushed self.old || took_bytes result) }
-        ensures steady { steady self.old → steady self.new × (failures self.new ≡ failures self.old) };
+        ensures steady { steady self.old
+            → steady self.new × (failures self.new ≡ failures self.old) };
 
     /// Passes on what the device holds in a buffer of its own, if it has one.
     fn flush(&mut self) -> Result<(), Broken>
@@ -45,5 +47,6 @@ pub trait Drain {
         ensures count { failures self.new ≡ counted (is_err result) (failures self.old) }
         ensures once { flushes self.new ≡ flushed (flushes self.old) }
         ensures passed_on { unflushed self.new ≡ (unflushed self.old && is_err result) }
-        ensures steady { steady self.old → steady self.new × (failures self.new ≡ failures self.old) };
+        ensures steady { steady self.old
+            → steady self.new × (failures self.new ≡ failures self.old) };
 }

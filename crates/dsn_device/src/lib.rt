@@ -1,5 +1,5 @@
-//! The devices that the daemon reads from and writes to: what a device is, std's readers and writers
-//! as devices, whole texts over them, and a writer that is quiet after the first failure.
+//! The devices that the daemon reads from and writes to: what a device is, std's readers and
+//! writers as devices, whole texts over them, and a writer that is quiet after the first failure.
 #![tactic(auto)]
 
 mod broken;

@@ -26,11 +26,17 @@ impl<T> Model for Plain<T> {
 
     ghost Value = { Plain T };
 
-    ghost view = { λ p. record { inner = p.inner; failures = p.failures; flushes = p.flushes; unflushed = p.unflushed } };
+    ghost view = { λ p. record {
+      inner = p.inner;
+      failures = p.failures;
+      flushes = p.flushes;
+      unflushed = p.unflushed;
+    } };
 }
 
 impl<T> Plain<T> {
-    /// The device that reads from or writes to `inner`, and has not failed and was not flushed so far.
+    /// The device that reads from or writes to `inner`, and has not failed and was not flushed so
+    /// far.
     pub fn new(inner: T) -> Plain<T>
         ensures { result ≡ record { inner = inner; failures = 0; flushes = 0; unflushed = false } }
     {
@@ -181,7 +187,8 @@ mod tests {
         assert_eq!(rt; source.into_inner().rest.len(), 0);
     }
 
-    /// A device over a writer that takes so many bytes a write, and fails once it has taken so many.
+    /// A device over a writer that takes so many bytes a write, and fails once it has taken so
+    /// many.
     fn drain(alloc: Global, most: usize, room: usize) -> Plain<PieceWriter> {
         Plain::new(PieceWriter {
             held: Vec::new(alloc),

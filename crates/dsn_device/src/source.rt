@@ -36,5 +36,6 @@ pub trait Source {
         ensures no_flush { flushes self.new ≡ flushes self.old }
         ensures unflushed { unflushed self.new ≡ unflushed self.old }
         ensures count { failures self.new ≡ counted (is_err result) (failures self.old) }
-        ensures steady { steady self.old → steady self.new × (failures self.new ≡ failures self.old) };
+        ensures steady { steady self.old
+            → steady self.new × (failures self.new ≡ failures self.old) };
 }

@@ -13,12 +13,15 @@ use crate::source::Source;
 /// written, and not all of it. An empty text makes no write.
 pub fn send<D: Drain>(drain: &mut D, text: &[u8]) -> Result<(), Broken>
     ensures sent { OnOk result (Appends (D.contents drain.old) (D.contents drain.new) text.now) }
-    ensures front { OnErr result (AppendsFront (D.contents drain.old) (D.contents drain.new) text.now) }
-    ensures part { OnErr result (AppendsPart (D.contents drain.old) (D.contents drain.new) text.now) }
+    ensures front { OnErr result
+        (AppendsFront (D.contents drain.old) (D.contents drain.new) text.now) }
+    ensures part { OnErr result
+        (AppendsPart (D.contents drain.old) (D.contents drain.new) text.now) }
     ensures unread { Keeps (D.left drain.old) (D.left drain.new) }
     ensures count { D.failures drain.new ≡ counted (is_err result) (D.failures drain.old) }
     ensures no_flush { D.flushes drain.new ≡ D.flushes drain.old }
-    ensures steady { D.steady drain.old → D.steady drain.new × (D.failures drain.new ≡ D.failures drain.old) }
+    ensures steady { D.steady drain.old
+        → D.steady drain.new × (D.failures drain.new ≡ D.failures drain.old) }
 {
     let mut unsent = text;
     while !unsent.is_empty() {
@@ -46,7 +49,8 @@ pub fn fill<S: Source>(source: &mut S, buffer: &mut [u8]) -> Result<usize, Broke
     ensures no_flush { S.flushes source.new ≡ S.flushes source.old }
     ensures unflushed { S.unflushed source.new ≡ S.unflushed source.old }
     ensures count { S.failures source.new ≡ counted (is_err result) (S.failures source.old) }
-    ensures steady { S.steady source.old → S.steady source.new × (S.failures source.new ≡ S.failures source.old) }
+    ensures steady { S.steady source.old
+        → S.steady source.new × (S.failures source.new ≡ S.failures source.old) }
 {
     let mut filled = 0;
     while filled < buffer.len() {

@@ -24,7 +24,8 @@ impl UntilFailure {
 
     /// Writes the text, unless the drain has failed.
     pub fn write<D: Drain>(&mut self, drain: &mut D, text: &[u8])
-        ensures { WritesUntilFailure D.Drain self.old.failed self.new.failed drain.old drain.new text.now }
+        ensures { WritesUntilFailure D.Drain self.old.failed self.new.failed drain.old drain.new
+            text.now }
     {
         self.failed = self.failed || send(drain, text).is_err();
     }

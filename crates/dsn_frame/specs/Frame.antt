@@ -1,4 +1,5 @@
--- Frames: how bodies follow one another in an input, and how an input ends (this project's profile).
+-- Frames: how bodies follow one another in an input, and how an input ends (this project's
+-- profile).
 use Rattle.std.specs.Prelude.{◌≡◌, ℕ, ◌+◌, ◌<◌, ◌≤◌, List, [], ◌++◌, length, take, drop, Option, Some, None}
 use Rattle.std.specs.Io.KnownBytes.{Consumes, IsAtEnd}
 use Rattle.std.specs.Int.{w32, to_be_bytes, from_be_bytes}
@@ -18,11 +19,14 @@ declared_length bytes = from_be_bytes w32 (take 4 bytes)
 
 -- less than a whole frame, as far as its bytes tell
 abbrev pub IsPartOfFrame : List ℕ → Type 0
-IsPartOfFrame part = 4 ≤ length part → IsFrameLength (declared_length part) × (length part < 4 + declared_length part)
+IsPartOfFrame part =
+    4 ≤ length part
+    → IsFrameLength (declared_length part) × (length part < 4 + declared_length part)
 
 -- ---- the frames of a whole input
 
--- how what follows the last whole frame ends an input: well, where nothing does, or with a fault of its own
+-- how what follows the last whole frame ends an input: well, where nothing does, or with a fault of
+-- its own
 abbrev pub FramesEnd : List ℕ → Option FrameFault → Type 0
 FramesEnd rest None = rest ≡ []
 FramesEnd rest (Some TooLong) = (4 ≤ length rest) × (65536 < declared_length rest)
@@ -37,7 +41,8 @@ pub record BeginsWithFrames (input : List ℕ) (bodies : List (List ℕ)) (rest 
   pub whole : AllByRecursion IsFrameBody bodies
 
 -- the frames of an input: as many whole ones as it begins with, and how the rest ends it
-pub record AreFramesOf (input : List ℕ) (bodies : List (List ℕ)) (end : Option FrameFault) : Type 0 where
+pub record AreFramesOf (input : List ℕ) (bodies : List (List ℕ))
+    (end : Option FrameFault) : Type 0 where
   pub rest : List ℕ
   pub begins : BeginsWithFrames input bodies rest
   pub ends : FramesEnd rest end
@@ -57,7 +62,8 @@ StopsAt CutShort part = (0 < length part) × IsPartOfFrame part
 StopsAt Read part = IsPartOfFrame part
 StopsAt NoMemory part = (length part ≡ 4) × IsFrameLength (declared_length part)
 
--- no frame could be read: these bytes were, and a frame that is cut short is cut by the end of the input
+-- no frame could be read: these bytes were, and a frame that is cut short is cut by the end of the
+-- input
 pub record ReadsNone (old new : Option (List ℕ)) (fault : FrameFault) : Type 0 where
   pub part : List ℕ
   pub consumed : Consumes old new part

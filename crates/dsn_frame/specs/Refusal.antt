@@ -1,5 +1,5 @@
--- Refusals: why a frame of a session asks nothing, what it is answered, and whether the session goes on (this
--- project's profile).
+-- Refusals: why a frame of a session asks nothing, what it is answered, and whether the session
+-- goes on (this project's profile).
 use Rattle.std.specs.Prelude.{◌≡◌, ◌≢◌, ℕ, List, Option, Some, None, unwrap_or}
 use Rattle.dsn_outcome.specs.Request.{Body}
 use Rattle.dsn_body.specs.BodyFault.{body_fault_code}
@@ -24,8 +24,9 @@ pub record IsOutOfTurn (place : ℕ) (bytes : List ℕ) : Type 0 where
   pub encoded : Encodes bytes number body
   pub apart : number ≢ place
 
--- the frame of this body is refused so at its place: by the body's first fault, by want of memory where it has none, or
--- because of its number
+-- the frame of this body is refused so at its place: by the body's first fault, by want of memory
+-- where it has none, or because of its number
 abbrev pub IsRefused : ℕ → List ℕ → Refusal → Type 0
-IsRefused place bytes (refusal.Body fault) = fault ≡ unwrap_or (first_body_fault bytes) faults.NoMemory
+IsRefused place bytes (refusal.Body fault) =
+    fault ≡ unwrap_or (first_body_fault bytes) faults.NoMemory
 IsRefused place bytes refusal.OutOfTurn = IsOutOfTurn place bytes

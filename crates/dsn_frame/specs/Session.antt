@@ -1,5 +1,5 @@
--- Sessions: what the frames of one connection, or of an input that is read alone, ask in turn, what each is answered,
--- and how the session ends (this project's profile).
+-- Sessions: what the frames of one connection, or of an input that is read alone, ask in turn, what
+-- each is answered, and how the session ends (this project's profile).
 use Rattle.std.specs.Prelude.{◌≡◌, ◌≢◌, ℕ, ◌+◌, ◌<◌, List, [], ◌∷◌, ◌++◌, length, Option, Some, None}
 use Rattle.std.specs.Io.KnownBytes.{Consumes, IsAtEnd}
 use Rattle.std.specs.List.{flat_map}
@@ -15,68 +15,99 @@ use Rattle.dsn_frame.specs.Frame.{ReadsNone}
 use Rattle.dsn_frame.specs.FrameFault.{frame_fault_code}
 use Rattle.dsn_frame.specs.declared.frame_fault.FrameFault.{FrameFault}
 
--- where a session takes place: in an input that is read alone, or on a connection to a daemon, which may give up
+-- where a session takes place: in an input that is read alone, or on a connection to a daemon,
+-- which may give up
 pub data Medium : Type 0 where
   Input : Medium
   Connection : Medium
 
--- the number of the end at an answer that could not be written: to the notes of a run, or back to a connection
+-- the number of the end at an answer that could not be written: to the notes of a run, or back to a
+-- connection
 abbrev pub unwritten_code : Medium → ℕ
 unwritten_code Input = 33
 unwritten_code Connection = 35
 
--- what one frame comes to at its place, after so many accepted requests of at most `limit`: the body that is asked, if
--- one is, the answer, if there is one, and the number of the session's end, if it ends there
-pub data Takes (medium : Medium) (limit accepted place : ℕ) (bytes : List ℕ) : List Body → List Spoken → Option ℕ → Type 0 where
+-- what one frame comes to at its place, after so many accepted requests of at most `limit`: the
+-- body that is asked, if one is, the answer, if there is one, and the number of the session's end,
+-- if it ends there
+pub data Takes (medium : Medium) (limit accepted place : ℕ) (bytes : List ℕ) : List Body
+    → List Spoken → Option ℕ → Type 0 where
   -- a body with a fault is refused by the number of the first one
-  faulty : (fault : BodyFault) → first_body_fault bytes ≡ Some fault → Takes medium limit accepted place bytes [] (spoken.Refused (body_fault_code fault) ∷ []) None
+  faulty : (fault : BodyFault) → first_body_fault bytes ≡ Some fault
+      → Takes medium limit accepted place bytes []
+      (spoken.Refused (body_fault_code fault) ∷ []) None
   -- a body without a fault may meet want of memory
-  out_of_memory : first_body_fault bytes ≡ None → Takes medium limit accepted place bytes [] (spoken.Refused 9 ∷ []) None
+  out_of_memory : first_body_fault bytes ≡ None
+      → Takes medium limit accepted place bytes [] (spoken.Refused 9 ∷ []) None
   -- a body whose number isn't the frame's place is refused, and ends the session
-  out_of_turn : (number : ℕ) (body : Body) → Encodes bytes number body → number ≢ place → Takes medium limit accepted place bytes [] (spoken.Refused 46 ∷ []) (Some 46)
+  out_of_turn : (number : ℕ) (body : Body) → Encodes bytes number body → number ≢ place
+      → Takes medium limit accepted place bytes [] (spoken.Refused 46 ∷ []) (Some 46)
   -- a body beyond the accepted requests that there may be is refused
-  used_up : (body : Body) → Encodes bytes place body → accepted ≡ limit → Takes medium limit accepted place bytes [] (spoken.Refused 44 ∷ []) None
+  used_up : (body : Body) → Encodes bytes place body → accepted ≡ limit
+      → Takes medium limit accepted place bytes [] (spoken.Refused 44 ∷ []) None
   -- any other body is asked, and gets a reply
-  asked : (body : Body) (reply : Reply) → Encodes bytes place body → accepted < limit → Takes medium limit accepted place bytes (body ∷ []) (spoken.Reply reply ∷ []) None
+  asked : (body : Body) (reply : Reply) → Encodes bytes place body → accepted < limit
+      → Takes medium limit accepted place bytes (body ∷ []) (spoken.Reply reply ∷ []) None
   -- on a connection the daemon may have given up before the body is asked
-  given_up : (body : Body) → Encodes bytes place body → medium ≡ Connection → Takes medium limit accepted place bytes [] [] (Some 41)
+  given_up : (body : Body) → Encodes bytes place body → medium ≡ Connection
+      → Takes medium limit accepted place bytes [] [] (Some 41)
   -- or it gives up after that, and no reply comes
-  given_up_after : (body : Body) → Encodes bytes place body → accepted < limit → medium ≡ Connection → Takes medium limit accepted place bytes (body ∷ []) [] (Some 41)
+  given_up_after : (body : Body) → Encodes bytes place body → accepted < limit
+      → medium ≡ Connection → Takes medium limit accepted place bytes (body ∷ []) [] (Some 41)
 
 -- how a session goes on after a frame: as the frame has it, unless its answer could not be written
 pub data GoesOn (medium : Medium) : List Spoken → Option ℕ → Option ℕ → Type 0 where
   written : (answers : List Spoken) (end : Option ℕ) → GoesOn medium answers end end
-  unwritten : (answer : Spoken) (end : Option ℕ) → GoesOn medium (answer ∷ []) end (Some (unwritten_code medium))
+  unwritten : (answer : Spoken) (end : Option ℕ)
+      → GoesOn medium (answer ∷ []) end (Some (unwritten_code medium))
 
--- the bodies of the frames taken so far, in order; the bodies asked among them; the answers; and the number of the end
--- that the last frame made, if it made one. `before` is how many requests were accepted before the session
-pub data SessionSoFar (medium : Medium) (limit before : ℕ) : List (List ℕ) → List Body → List Spoken → Option ℕ → Type 0 where
+-- the bodies of the frames taken so far, in order; the bodies asked among them; the answers; and
+-- the number of the end that the last frame made, if it made one. `before` is how many requests
+-- were accepted before the session
+pub data SessionSoFar (medium : Medium) (limit before : ℕ) : List (List ℕ) → List Body
+    → List Spoken → Option ℕ → Type 0 where
   begun : SessionSoFar medium limit before [] [] [] None
   taken :
-      (frames : List (List ℕ)) (bodies more : List Body) (answers told : List Spoken) (bytes : List ℕ) (end last : Option ℕ) → SessionSoFar medium limit before frames bodies answers None
-      → length frames < limit → IsFrameBody bytes → Takes medium limit (before + length bodies) (length frames) bytes more told end
-      → GoesOn medium told end last → SessionSoFar medium limit before (frames ++ bytes ∷ []) (bodies ++ more) (answers ++ told) last
+      (frames : List (List ℕ)) (bodies more : List Body) (answers told : List Spoken)
+      (bytes : List ℕ) (end last : Option ℕ)
+      → SessionSoFar medium limit before frames bodies answers None
+      → length frames < limit → IsFrameBody bytes
+      → Takes medium limit (before + length bodies) (length frames) bytes more told end
+      → GoesOn medium told end last
+      → SessionSoFar medium limit before (frames ++ bytes ∷ []) (bodies ++ more)
+      (answers ++ told) last
 
--- a session that hasn't ended: these frames were read from a source, from `start` to what it has left, and taken
-pub record IsOpenSession (medium : Medium) (limit before : ℕ) (start left : Option (List ℕ)) (frames : List (List ℕ)) (bodies : List Body) (answers : List Spoken) : Type 0 where
+-- a session that hasn't ended: these frames were read from a source, from `start` to what it has
+-- left, and taken
+pub record IsOpenSession (medium : Medium) (limit before : ℕ) (start left : Option (List ℕ))
+    (frames : List (List ℕ)) (bodies : List Body) (answers : List Spoken) : Type 0 where
   pub takes : SessionSoFar medium limit before frames bodies answers None
   pub read : Consumes start left (flat_map frame frames)
 
--- how a session ends after so many frames, from what was then to be read and what is at last: with the end that the
--- last frame made; well at the input's end; or with the number of a fault
-pub data Ends (medium : Medium) (limit count : ℕ) (made : Option ℕ) (left now : Option (List ℕ)) : Option ℕ → Type 0 where
-  stopped : (code : ℕ) → made ≡ Some code → left ≡ now → Ends medium limit count made left now (Some code)
+-- how a session ends after so many frames, from what was then to be read and what is at last: with
+-- the end that the last frame made; well at the input's end; or with the number of a fault
+pub data Ends (medium : Medium) (limit count : ℕ) (made : Option ℕ)
+    (left now : Option (List ℕ)) : Option ℕ → Type 0 where
+  stopped : (code : ℕ) → made ≡ Some code → left ≡ now
+      → Ends medium limit count made left now (Some code)
   well : made ≡ None → IsAtEnd left → IsAtEnd now → Ends medium limit count made left now None
-  -- the next frame can't be read: its length is none, it is cut short, a read fails, or memory for it is refused
-  cut : made ≡ None → (fault : FrameFault) → ReadsNone left now fault → Ends medium limit count made left now (Some (frame_fault_code fault))
+  -- the next frame can't be read: its length is none, it is cut short, a read fails, or memory for
+  -- it is refused
+  cut : made ≡ None → (fault : FrameFault) → ReadsNone left now fault
+      → Ends medium limit count made left now (Some (frame_fault_code fault))
   -- as many frames as there may be were taken, and one more is read
-  too_many : made ≡ None → (bytes : List ℕ) → count ≡ limit → IsFrameBody bytes → Consumes left now (frame bytes) → Ends medium limit count made left now (Some 47)
+  too_many : made ≡ None → (bytes : List ℕ) → count ≡ limit → IsFrameBody bytes
+      → Consumes left now (frame bytes) → Ends medium limit count made left now (Some 47)
   -- memory for the logs of an input that is read alone is refused before anything is read
-  no_memory_for_book : medium ≡ Input → made ≡ None → count ≡ 0 → left ≡ now → Ends medium limit count made left now (Some 9)
+  no_memory_for_book : medium ≡ Input → made ≡ None → count ≡ 0 → left ≡ now
+      → Ends medium limit count made left now (Some 9)
 
--- a session over the bytes of a source, from `start` to what is at last still to be read, `now`: these are the bodies
--- of the frames that were taken, these bodies were asked, these answers given, and so it ended
-pub record IsSession (medium : Medium) (limit before : ℕ) (start now : Option (List ℕ)) (frames : List (List ℕ)) (bodies : List Body) (answers : List Spoken) (end : Option ℕ) : Type 0 where
+-- a session over the bytes of a source, from `start` to what is at last still to be read, `now`:
+-- these are the bodies of the frames that were taken, these bodies were asked, these answers given,
+-- and so it ended
+pub record IsSession (medium : Medium) (limit before : ℕ) (start now : Option (List ℕ))
+    (frames : List (List ℕ)) (bodies : List Body) (answers : List Spoken)
+    (end : Option ℕ) : Type 0 where
   pub made : Option ℕ
   pub takes : SessionSoFar medium limit before frames bodies answers made
   pub left : Option (List ℕ)

@@ -1,5 +1,5 @@
--- What holds of all sessions: they are a function of the bytes of their source, but for what the bytes don't decide,
--- and their frames are those of the bytes (this project's profile).
+-- What holds of all sessions: they are a function of the bytes of their source, but for what the
+-- bytes don't decide, and their frames are those of the bytes (this project's profile).
 use Rattle.std.specs.Prelude.{◌≡◌, ℕ, ◌+◌, ◌≤◌, Bool, true, false, ◌||◌, ◌==◌, List, [], ◌∷◌, ◌++◌, Option, Some, None}
 use Rattle.std.specs.List.{AllByRecursion}
 use Rattle.std.specs.Option.{option_map, option_map_or}
@@ -12,10 +12,11 @@ use Rattle.dsn_frame.specs.FrameFault.{frame_fault_code}
 use Rattle.dsn_frame.specs.Session.{Medium, IsSession}
 use Rattle.dsn_frame.specs.declared.frame_fault.FrameFault.{FrameFault}
 
--- the numbers of what comes from outside the bytes: want of memory, a read that failed, an answer that could not be
--- written (to notes, to a connection), and a daemon that gave up
+-- the numbers of what comes from outside the bytes: want of memory, a read that failed, an answer
+-- that could not be written (to notes, to a connection), and a daemon that gave up
 abbrev pub is_from_outside : ℕ → Bool
-is_from_outside code = (code == 9) || ((code == 14) || ((code == 33) || ((code == 35) || (code == 41))))
+is_from_outside code =
+    (code == 9) || ((code == 14) || ((code == 33) || ((code == 35) || (code == 41))))
 
 -- an answer that the bytes decide, but for which reply it is
 abbrev pub IsDecided : Spoken → Type 0
@@ -42,7 +43,8 @@ AnswerAlike (answer ∷ rest) [] = ⊥
 AnswerAlike (answer ∷ rest) (other ∷ others) = AreAlike answer other × AnswerAlike rest others
 
 -- two sessions that are the same but for their replies
-pub record AreSame (frames other_frames : List (List ℕ)) (bodies other_bodies : List Body) (answers other_answers : List Spoken) (end other_end : Option ℕ) : Type 0 where
+pub record AreSame (frames other_frames : List (List ℕ)) (bodies other_bodies : List Body)
+    (answers other_answers : List Spoken) (end other_end : Option ℕ) : Type 0 where
   pub frames_same : frames ≡ other_frames
   pub bodies_same : bodies ≡ other_bodies
   pub answers_alike : AnswerAlike answers other_answers
@@ -51,31 +53,39 @@ pub record AreSame (frames other_frames : List (List ℕ)) (bodies other_bodies 
 -- the sessions over these bytes that met nothing from outside are one session, but for its replies
 abbrev pub HasOneSession : Medium → ℕ → ℕ → List ℕ → Type 0
 HasOneSession medium limit before bytes =
-    (left other_left : Option (List ℕ)) (frames other_frames : List (List ℕ)) (bodies other_bodies : List Body)
+    (left other_left : Option (List ℕ)) (frames other_frames : List (List ℕ))
+    (bodies other_bodies : List Body)
     (answers other_answers : List Spoken) (end other_end : Option ℕ)
-    → IsSession medium limit before (Some bytes) left frames bodies answers end → IsOfBytesAlone answers end
-    → IsSession medium limit before (Some bytes) other_left other_frames other_bodies other_answers other_end
+    → IsSession medium limit before (Some bytes) left frames bodies answers end
+    → IsOfBytesAlone answers end
+    → IsSession medium limit before
+    (Some bytes) other_left other_frames other_bodies other_answers other_end
     → IsOfBytesAlone other_answers other_end
     → AreSame frames other_frames bodies other_bodies answers other_answers end other_end
 
 -- and what they leave of the bytes is the same, where both tell it
 abbrev pub LeavesOneRest : Medium → ℕ → ℕ → List ℕ → Type 0
 LeavesOneRest medium limit before bytes =
-    (left other_left : List ℕ) (frames other_frames : List (List ℕ)) (bodies other_bodies : List Body)
+    (left other_left : List ℕ) (frames other_frames : List (List ℕ))
+    (bodies other_bodies : List Body)
     (answers other_answers : List Spoken) (end other_end : Option ℕ)
-    → IsSession medium limit before (Some bytes) (Some left) frames bodies answers end → IsOfBytesAlone answers end
-    → IsSession medium limit before (Some bytes) (Some other_left) other_frames other_bodies other_answers other_end
+    → IsSession medium limit before (Some bytes) (Some left) frames bodies answers end
+    → IsOfBytesAlone answers end
+    → IsSession medium limit before (Some bytes)
+    (Some other_left) other_frames other_bodies other_answers other_end
     → IsOfBytesAlone other_answers other_end
     → left ≡ other_left
 
 -- the replies among the answers from a place on are those that are given for their places
 abbrev pub RepliesAre : (ℕ → Given) → ℕ → List Spoken → Type 0
 RepliesAre replies place [] = Unit {0}
-RepliesAre replies place (Reply reply ∷ rest) = (reply ≡ replies place) × RepliesAre replies (place + 1) rest
+RepliesAre replies place (Reply reply ∷ rest) =
+    (reply ≡ replies place) × RepliesAre replies (place + 1) rest
 RepliesAre replies place (Refused code ∷ rest) = RepliesAre replies (place + 1) rest
 
 -- a session over these bytes that met nothing from outside, with these replies
-pub record SessionWith (medium : Medium) (limit before : ℕ) (bytes : List ℕ) (replies : ℕ → Given) : Type 0 where
+pub record SessionWith (medium : Medium) (limit before : ℕ) (bytes : List ℕ)
+    (replies : ℕ → Given) : Type 0 where
   pub left : Option (List ℕ)
   pub frames : List (List ℕ)
   pub bodies : List Body
@@ -87,16 +97,19 @@ pub record SessionWith (medium : Medium) (limit before : ℕ) (bytes : List ℕ)
 
 -- there is one, whatever the replies are, where no more requests came before it than there may be
 abbrev pub HasSomeSession : Medium → ℕ → ℕ → List ℕ → Type 0
-HasSomeSession medium limit before bytes = before ≤ limit → (replies : ℕ → Given) → SessionWith medium limit before bytes replies
+HasSomeSession medium limit before bytes =
+    before ≤ limit → (replies : ℕ → Given) → SessionWith medium limit before bytes replies
 
--- the ends that the frames of an input make: none at all, a length that is none, and a frame that is cut short
+-- the ends that the frames of an input make: none at all, a length that is none, and a frame that
+-- is cut short
 abbrev pub is_end_of_frames : Option ℕ → Bool
 is_end_of_frames None = true
 is_end_of_frames (Some code) = (code == 11) || ((code == 12) || (code == 13))
 
--- what a session took of an input with these frames and this end: the first frames, and all of them where it ended as
--- frames do
-pub record AreFirstFrames (frames whole : List (List ℕ)) (end : Option ℕ) (fault : Option FrameFault) : Type 0 where
+-- what a session took of an input with these frames and this end: the first frames, and all of them
+-- where it ended as frames do
+pub record AreFirstFrames (frames whole : List (List ℕ)) (end : Option ℕ)
+    (fault : Option FrameFault) : Type 0 where
   pub first : (more : List (List ℕ)) × (whole ≡ frames ++ more)
   pub all : is_end_of_frames end ≡ true → frames ≡ whole
   pub end_is : is_end_of_frames end ≡ true → end ≡ option_map frame_fault_code fault
@@ -104,7 +117,9 @@ pub record AreFirstFrames (frames whole : List (List ℕ)) (end : Option ℕ) (f
 -- the frames of each session over these bytes are those of the bytes
 abbrev pub TakesItsFrames : List ℕ → Type 0
 TakesItsFrames bytes =
-    (medium : Medium) (limit before : ℕ) (left : Option (List ℕ)) (frames whole : List (List ℕ)) (bodies : List Body)
+    (medium : Medium) (limit before : ℕ) (left : Option (List ℕ)) (frames whole : List (List ℕ))
+    (bodies : List Body)
     (answers : List Spoken) (end : Option ℕ) (fault : Option FrameFault)
-    → IsSession medium limit before (Some bytes) left frames bodies answers end → AreFramesOf bytes whole fault
+    → IsSession medium limit before (Some bytes) left frames bodies answers end
+    → AreFramesOf bytes whole fault
     → AreFirstFrames frames whole end fault

@@ -1,10 +1,11 @@
--- Telling: what became of the texts of answers, written one after another, where the last one may have been lost. A text is a
--- line of notes, or an answer's frame.
+-- Telling: what became of the texts of answers, written one after another, where the last one may
+-- have been lost. A text is a line of notes, or an answer's frame.
 use Rattle.std.specs.Prelude.{◌≡◌, ℕ, ◌<◌, Bool, true, false, List, [], ◌∷◌, ◌++◌, length, Option}
 use Rattle.std.specs.Io.KnownBytes.{Appends}
 use Rattle.dsn_body.specs.declared.spoken.Spoken.{Spoken}
 
--- `text` is the text of the answer to the frame at a place, and `texts` those of the answers from a place on
+-- `text` is the text of the answer to the frame at a place, and `texts` those of the answers from a
+-- place on
 module _ (text : ℕ → Spoken → List ℕ) (texts : ℕ → List Spoken → List ℕ) where
   -- the texts of answers were written, but for a part of the last one's, which isn't empty
   pub record LosesLast (old new : Option (List ℕ)) (answers : List Spoken) : Type 0 where

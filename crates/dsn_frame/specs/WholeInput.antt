@@ -1,4 +1,5 @@
--- Whole inputs: what a session takes from bytes that are requests in turn and nothing else (this project's profile).
+-- Whole inputs: what a session takes from bytes that are requests in turn and nothing else (this
+-- project's profile).
 use Rattle.std.specs.Prelude.{◌≡◌, ◌≢◌, ℕ, ◌+◌, ◌≤◌, List, [], ◌∷◌, ◌++◌, length, take, Option, Some, None}
 use Rattle.std.specs.List.{flat_map, AllByRecursion}
 use Rattle.dsn_outcome.specs.Request.{Body}
@@ -8,15 +9,19 @@ use Rattle.dsn_body.specs.declared.spoken.Spoken.{Spoken}
 use Rattle.dsn_body.specs.declared.spoken.Spoken.TheVariants.{Reply, Refused}
 use Rattle.dsn_frame.specs.Session.{Medium, Connection, unwritten_code, IsSession}
 
--- these frames encode these bodies, each the one at its place; the first has this number, and each other the next one
+-- these frames encode these bodies, each the one at its place; the first has this number, and each
+-- other the next one
 abbrev pub EncodeInTurn : ℕ → List (List ℕ) → List Body → Type 0
 EncodeInTurn number [] [] = Unit {0}
 EncodeInTurn number [] (body ∷ later) = ⊥
 EncodeInTurn number (bytes ∷ rest) [] = ⊥
-EncodeInTurn number (bytes ∷ rest) (body ∷ later) = Encodes bytes number body × EncodeInTurn (number + 1) rest later
+EncodeInTurn number (bytes ∷ rest) (body ∷ later) =
+    Encodes bytes number body × EncodeInTurn (number + 1) rest later
 
--- known bytes that are these frames, which encode these bodies in turn, and no more of them than may still be asked
-pub record IsWholeInput (limit before : ℕ) (known : Option (List ℕ)) (frames : List (List ℕ)) (bodies : List Body) : Type 0 where
+-- known bytes that are these frames, which encode these bodies in turn, and no more of them than
+-- may still be asked
+pub record IsWholeInput (limit before : ℕ) (known : Option (List ℕ)) (frames : List (List ℕ))
+    (bodies : List Body) : Type 0 where
   pub bytes : known ≡ Some (flat_map frame frames)
   pub legal : AllByRecursion IsFrameBody frames
   pub few : before + length frames ≤ limit
@@ -31,8 +36,8 @@ abbrev pub IsReplyOrNoMemory : Spoken → Type 0
 IsReplyOrNoMemory (Reply reply) = Unit {0}
 IsReplyOrNoMemory (Refused number) = number ≡ 9
 
--- no fault, or one that is none of the bytes: want of memory, a read that failed, an answer that was not written, or a
--- daemon that gave up, which happens on a connection alone
+-- no fault, or one that is none of the bytes: want of memory, a read that failed, an answer that
+-- was not written, or a daemon that gave up, which happens on a connection alone
 pub data IsOutside (medium : Medium) : Option ℕ → Type 0 where
   none : IsOutside medium None
   no_memory : IsOutside medium (Some 9)
@@ -40,20 +45,26 @@ pub data IsOutside (medium : Medium) : Option ℕ → Type 0 where
   unwritten : IsOutside medium (Some (unwritten_code medium))
   given_up : medium ≡ Connection → IsOutside medium (Some 41)
 
--- what a session that took these frames made of a whole input: no frame is at fault and none is refused but for want of
--- memory, the first frames are taken, and all of them where the session had no fault; and where each answer is a reply,
--- the bodies asked are the first ones of the input, one for each frame that was taken, unless the daemon gave up
-pub record TakesAll (medium : Medium) (frames : List (List ℕ)) (bodies : List Body) (taken : List (List ℕ)) (asked : List Body) (answers : List Spoken) (end : Option ℕ) : Type 0 where
+-- what a session that took these frames made of a whole input: no frame is at fault and none is
+-- refused but for want of memory, the first frames are taken, and all of them where the session had
+-- no fault; and where each answer is a reply, the bodies asked are the first ones of the input, one
+-- for each frame that was taken, unless the daemon gave up
+pub record TakesAll (medium : Medium) (frames : List (List ℕ)) (bodies : List Body)
+    (taken : List (List ℕ)) (asked : List Body) (answers : List Spoken)
+    (end : Option ℕ) : Type 0 where
   pub outside : IsOutside medium end
   pub replies : AllByRecursion IsReplyOrNoMemory answers
   pub first : (more : List (List ℕ)) × (frames ≡ taken ++ more)
   pub all_taken : end ≡ None → taken ≡ frames
-  pub all_asked : end ≢ Some 41 → AllByRecursion IsReply answers → asked ≡ take (length taken) bodies
+  pub all_asked : end ≢ Some 41 → AllByRecursion IsReply answers
+      → asked ≡ take (length taken) bodies
 
 -- nothing of an input that is requests in turn is refused without cause
 abbrev pub IsTakenWhole : List ℕ → Type 0
 IsTakenWhole bytes =
-    (medium : Medium) (limit before : ℕ) (left : Option (List ℕ)) (frames taken : List (List ℕ)) (bodies asked : List Body)
+    (medium : Medium) (limit before : ℕ) (left : Option (List ℕ)) (frames taken : List (List ℕ))
+    (bodies asked : List Body)
     (answers : List Spoken) (end : Option ℕ)
-    → IsWholeInput limit before (Some bytes) frames bodies → IsSession medium limit before (Some bytes) left taken asked answers end
+    → IsWholeInput limit before (Some bytes) frames bodies
+    → IsSession medium limit before (Some bytes) left taken asked answers end
     → TakesAll medium frames bodies taken asked answers end

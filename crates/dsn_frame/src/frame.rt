@@ -59,12 +59,15 @@ impl Frame {
 /// most 65,540 reads.
 #[tactic(auto, using(crate::proofs::FrameLaws::frame_read, crate::proofs::FrameLaws::frame_missed))]
 pub fn read_frame<S: Source>(alloc: Global, source: &mut S) -> Result<Option<Frame>, FrameFault>
-    ensures next { IfOk result (λ next. ReadsNext (S.remaining source.old) (S.remaining source.new) next) }
-    ensures refused { IfErr result (λ fault. ReadsNone (S.remaining source.old) (S.remaining source.new) fault) }
+    ensures next { IfOk result
+        (λ next. ReadsNext (S.remaining source.old) (S.remaining source.new) next) }
+    ensures refused { IfErr result
+        (λ fault. ReadsNone (S.remaining source.old) (S.remaining source.new) fault) }
     ensures held { Keeps (S.holds source.old) (S.holds source.new) }
     ensures no_flush { S.flushes source.new ≡ S.flushes source.old }
     ensures count { S.failures source.new ≡ counted (source_failed result) (S.failures source.old) }
-    ensures steady { S.steady source.old → S.steady source.new × (S.failures source.new ≡ S.failures source.old) }
+    ensures steady { S.steady source.old
+        → S.steady source.new × (S.failures source.new ≡ S.failures source.old) }
 {
     let Some(size) = read_length(source)? else {
         return Ok(None);
@@ -75,13 +78,16 @@ pub fn read_frame<S: Source>(alloc: Global, source: &mut S) -> Result<Option<Fra
 
 /// Reads the length of the next frame's body, or none where the input ends before its first byte.
 pub(crate) fn read_length<S: Source>(source: &mut S) -> Result<Option<usize>, FrameFault>
-    ensures next { IfOk result (λ size. ReadsLength (S.remaining source.old) (S.remaining source.new) size) }
-    ensures refused { IfErr result (λ fault. ReadsNone (S.remaining source.old) (S.remaining source.new) fault) }
+    ensures next { IfOk result
+        (λ size. ReadsLength (S.remaining source.old) (S.remaining source.new) size) }
+    ensures refused { IfErr result
+        (λ fault. ReadsNone (S.remaining source.old) (S.remaining source.new) fault) }
     ensures no_growth { IfErr result (λ fault. fault ≢ FrameFault.NoMemory) }
     ensures held { Keeps (S.holds source.old) (S.holds source.new) }
     ensures no_flush { S.flushes source.new ≡ S.flushes source.old }
     ensures count { S.failures source.new ≡ counted (source_failed result) (S.failures source.old) }
-    ensures steady { S.steady source.old → S.steady source.new × (S.failures source.new ≡ S.failures source.old) }
+    ensures steady { S.steady source.old
+        → S.steady source.new × (S.failures source.new ≡ S.failures source.old) }
 {
     let mut bytes = [0; 4];
     let Ok(count) = fill(source, &mut bytes) else {
@@ -111,12 +117,16 @@ fn read_after_length<S: Source>(
 ) -> Result<Vec<u8>, FrameFault>
     requires legal { IsFrameLength size }
     ensures whole { IfOk result (λ bytes. IsHeld bytes.items) }
-    ensures body { IfOk result (λ bytes. (length (drop 4 bytes.items) ≡ size) × Consumes (S.remaining source.old) (S.remaining source.new) (drop 4 bytes.items)) }
-    ensures refused { IfErr result (λ fault. BodyMissing (S.remaining source.old) (S.remaining source.new) size fault) }
+    ensures body { IfOk result
+        (λ bytes. (length (drop 4 bytes.items) ≡ size)
+        × Consumes (S.remaining source.old) (S.remaining source.new) (drop 4 bytes.items)) }
+    ensures refused { IfErr result
+        (λ fault. BodyMissing (S.remaining source.old) (S.remaining source.new) size fault) }
     ensures held { Keeps (S.holds source.old) (S.holds source.new) }
     ensures no_flush { S.flushes source.new ≡ S.flushes source.old }
     ensures count { S.failures source.new ≡ counted (source_failed result) (S.failures source.old) }
-    ensures steady { S.steady source.old → S.steady source.new × (S.failures source.new ≡ S.failures source.old) }
+    ensures steady { S.steady source.old
+        → S.steady source.new × (S.failures source.new ≡ S.failures source.old) }
 {
     let Ok(mut bytes) = vec![in alloc; 0; LENGTH + size] else {
         return Err(FrameFault::NoMemory);
@@ -135,13 +145,17 @@ pub(crate) fn fill_frame<S: Source>(
     requires room { length room.old ≡ 4 + size }
     ensures long { length room.new ≡ 4 + size }
     ensures whole { OnOk result (IsHeld room.new) }
-    ensures body { OnOk result ((length (drop 4 room.new) ≡ size) × Consumes (S.remaining source.old) (S.remaining source.new) (drop 4 room.new)) }
-    ensures refused { IfErr result (λ fault. BodyMissing (S.remaining source.old) (S.remaining source.new) size fault) }
+    ensures body { OnOk result
+        ((length (drop 4 room.new) ≡ size)
+        × Consumes (S.remaining source.old) (S.remaining source.new) (drop 4 room.new)) }
+    ensures refused { IfErr result
+        (λ fault. BodyMissing (S.remaining source.old) (S.remaining source.new) size fault) }
     ensures no_growth { IfErr result (λ fault. fault ≢ FrameFault.NoMemory) }
     ensures held { Keeps (S.holds source.old) (S.holds source.new) }
     ensures no_flush { S.flushes source.new ≡ S.flushes source.old }
     ensures count { S.failures source.new ≡ counted (source_failed result) (S.failures source.old) }
-    ensures steady { S.steady source.old → S.steady source.new × (S.failures source.new ≡ S.failures source.old) }
+    ensures steady { S.steady source.old
+        → S.steady source.new × (S.failures source.new ≡ S.failures source.old) }
 {
     room[..LENGTH].copy_from_slice(&(size as u32).to_be_bytes());
     let Ok(count) = fill(source, &mut room[LENGTH..]) else {

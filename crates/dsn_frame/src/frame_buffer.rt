@@ -54,13 +54,19 @@ impl FrameBuffer {
         &mut self,
         source: &mut S,
     ) -> Result<Option<FrameRef<'_>>, FrameFault>
-        ensures next { IfOk result (λ next. ReadsNext (S.remaining source.old) (S.remaining source.new) next) }
-        ensures refused { IfErr result (λ fault. ReadsNone (S.remaining source.old) (S.remaining source.new) fault) }
-        ensures wanting { IfErr result (λ fault. fault ≡ FrameFault.NoMemory → LacksRoom self.old (S.remaining source.old) (S.remaining source.new)) }
+        ensures next { IfOk result
+            (λ next. ReadsNext (S.remaining source.old) (S.remaining source.new) next) }
+        ensures refused { IfErr result
+            (λ fault. ReadsNone (S.remaining source.old) (S.remaining source.new) fault) }
+        ensures wanting { IfErr result
+            (λ fault. fault ≡ FrameFault.NoMemory
+            → LacksRoom self.old (S.remaining source.old) (S.remaining source.new)) }
         ensures held { Keeps (S.holds source.old) (S.holds source.new) }
         ensures no_flush { S.flushes source.new ≡ S.flushes source.old }
-        ensures count { S.failures source.new ≡ counted (source_failed result) (S.failures source.old) }
-        ensures steady { S.steady source.old → S.steady source.new × (S.failures source.new ≡ S.failures source.old) }
+        ensures count { S.failures source.new
+            ≡ counted (source_failed result) (S.failures source.old) }
+        ensures steady { S.steady source.old
+            → S.steady source.new × (S.failures source.new ≡ S.failures source.old) }
     {
         let Some(size) = read_length(source)? else {
             return Ok(None);

@@ -1,5 +1,5 @@
-//! Frames, what each of them comes to, and the sessions that they make. It re-exports the requests and
-//! answers that frames carry.
+//! Frames, what each of them comes to, and the sessions that they make. It re-exports the requests
+//! and answers that frames carry.
 #![tactic(auto)]
 
 mod frame;

@@ -19,7 +19,10 @@ pub fn next_request(alloc: Global, place: u32, bytes: &[u8]) -> Result<Body, Ref
     ensures encoded { IfOk result (λ body. Encodes bytes.now place (body_of body)) }
     ensures no_goodbye { IfOk result (λ body. body_of body ≢ Bye) }
     ensures refused { IfErr result (λ refusal. IsRefused place bytes.now refusal) }
-    ensures taken { (medium : Medium) (limit accepted : ℕ) → IfErr result (λ refusal. Takes medium limit accepted place bytes.now [] (Refused (refusal_code refusal) ∷ []) (refusal_end refusal)) }
+    ensures taken { (medium : Medium) (limit accepted : ℕ)
+        → IfErr result
+        (λ refusal. Takes medium limit accepted place bytes.now []
+        (Refused (refusal_code refusal) ∷ []) (refusal_end refusal)) }
 {
     let (number, body) = decode_request(alloc, bytes).map_err(Refusal::Body)?;
     if number != place {

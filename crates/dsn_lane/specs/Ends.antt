@@ -26,7 +26,8 @@ pub record End (T : Type 0) : Type 0 where
   pub agent : ℕ
   pub sent : List T
 
--- the receiving end: its lane, whose agents are those from `first` on that are below `past`, and what it has taken
+-- the receiving end: its lane, whose agents are those from `first` on that are below `past`, and
+-- what it has taken
 pub record Out (T : Type 0) : Type 0 where
   pub lane : Identity T
   pub first : ℕ
@@ -57,17 +58,37 @@ module _ {T : Type 0} where
 
   -- what contracts see of an end, by its pass; a channel's own passes are of its lane
   abbrev pub lane_of : Pass T (Token T) → Identity T
-  lane_of pass = record { table = pass.table_id; items = pass.me.0.of; capacity = capacity_of (view pass) }
+  lane_of
+      pass = record {
+        table = pass.table_id;
+        items = pass.me.0.of;
+        capacity = capacity_of (view pass);
+      }
 
-  abbrev pub lane_at : {M Q L A : Type 0} → Rows (Badge (Key T)) (Doing T (Token T)) Q M (Key T) L A → Identity T
-  lane_at channel = record { table = channel.stamps.shared.table_id; items = channel.stamps.shared.key; capacity = ruled_capacity channel }
+  abbrev pub lane_at : {M Q L A : Type 0}
+      → Rows (Badge (Key T)) (Doing T (Token T)) Q M (Key T) L A → Identity T
+  lane_at
+      channel = record {
+        table = channel.stamps.shared.table_id;
+        items = channel.stamps.shared.key;
+        capacity = ruled_capacity channel;
+      }
 
   abbrev pub end_of : Pass T (Token T) → End T
-  end_of pass = record { lane = lane_of pass; agent = (sending (view pass)).agent; sent = (sending (view pass)).sent }
+  end_of pass = record {
+    lane = lane_of pass;
+    agent = (sending (view pass)).agent;
+    sent = (sending (view pass)).sent;
+  }
 
   abbrev pub out_of : Pass T (Token T) → Out T
   out_of pass =
-      record { lane = lane_of pass; first = length (taking (view pass)).back; past = (taking (view pass)).made; taken = (taking (view pass)).taken }
+      record {
+        lane = lane_of pass;
+        first = length (taking (view pass)).back;
+        past = (taking (view pass)).made;
+        taken = (taking (view pass)).taken;
+      }
 
   -- what a sending end knows, by what contracts see of it
   abbrev pub sending_of : End T → Sending T
@@ -85,7 +106,8 @@ module _ {T : Type 0} where
   -- the ends of so many agents from one on, in their order, which have sent nothing
   abbrev pub fresh_ends : Identity T → ℕ → ℕ → List (End T)
   fresh_ends lane first zero = []
-  fresh_ends lane first (suc more) = record { lane = lane; agent = first; sent = [] } ∷ fresh_ends lane (suc first) more
+  fresh_ends lane first (suc more) = record { lane = lane; agent = first; sent = [] }
+      ∷ fresh_ends lane (suc first) more
 
   -- what a sending end keeps: its count, and that its items are its agent's, numbered from 0
   pub record IsSending (agent number : T → ℕ) (end : Sending T) (count : ℕ) : Type 0 where
@@ -93,18 +115,19 @@ module _ {T : Type 0} where
     pub mine : from_agent agent end.agent end.sent ≡ end.sent
     pub numbered : IsNumbered number end.sent
 
-  -- what the receiving end keeps while the lane is open: that it has up to sixteen agents; that the ends
-  -- that came back are those of the agents below the first, unused; its count, which wraps; and that what
-  -- it took of each agent is numbered from 0
+  -- what the receiving end keeps while the lane is open: that it has up to sixteen agents; that the
+  -- ends that came back are those of the agents below the first, unused; its count, which wraps;
+  -- and that what it took of each agent is numbered from 0
   pub record IsReceiving (agent number : T → ℕ) (known : Taking T) (count : ℕ) : Type 0 where
     pub agents : (length known.back < known.made) × (known.made ≤ 16)
     pub passed : known.back ≡ fresh 0 (length known.back)
     pub counted : count ≡ length known.taken % 2 ^ 64
     pub numbered : (a : ℕ) → IsNumbered number (from_agent agent a known.taken)
 
-  -- what a lane with these ends has accepted: of each end's agent, what that end has sent; of no other agent, anything;
-  -- of each agent, items that are numbered from 0
+  -- what a lane with these ends has accepted: of each end's agent, what that end has sent; of no
+  -- other agent, anything; of each agent, items that are numbered from 0
   pub record IsAccepted (agent number : T → ℕ) (ends : List (End T)) (items : List T) : Type 0 where
     pub each : All (λ (end : End T). from_agent agent end.agent items ≡ end.sent) ends
-    pub others : (a : ℕ) → from_agent (λ (end : End T). end.agent) a ends ≡ [] → from_agent agent a items ≡ []
+    pub others : (a : ℕ) → from_agent (λ (end : End T). end.agent) a ends ≡ []
+        → from_agent agent a items ≡ []
     pub numbered : (a : ℕ) → IsNumbered number (from_agent agent a items)

@@ -11,23 +11,28 @@ use Rattle.dsn_lane.specs.declared.token.Token.TheVariants.{Sends, Takes, Spent}
 
 -- each item's number is its place in the list, from 0
 abbrev pub IsNumbered : {T : Type 0} → (T → ℕ) → List T → Type 0
-IsNumbered {T} number items = (place : ℕ) (item : T) → slice_get items place ≡ Some item → number item ≡ place
+IsNumbered {T} number items =
+    (place : ℕ) (item : T) → slice_get items place ≡ Some item → number item ≡ place
 
 module _ {T : Type 0} where
   -- what the ends of one agent knew that the receiving end has taken back
   abbrev pub back_from : ℕ → Taking T → List (Sending T)
   back_from agent receiver = from_agent (λ (end : Sending T). end.agent) agent receiver.back
 
-  -- what a pass stands for is so: `capacity` is how many items the lane holds at most, `receiver` what the receiving end
-  -- knows, `reader` its pass, `sent` what each agent has sent, and `seat` the pass of its end
+  -- what a pass stands for is so: `capacity` is how many items the lane holds at most, `receiver`
+  -- what the receiving end knows, `reader` its pass, `sent` what each agent has sent, and `seat`
+  -- the pass of its end
   abbrev pub Knows : ℕ → Taking T → ℕ → (ℕ → List T) → (ℕ → ℕ) → ℕ → Token T → Type 0
   Knows capacity receiver reader sent seat pass (Sends most end) =
-      (most ≡ capacity) × (seat end.agent ≡ pass) × (sent end.agent ≡ end.sent) × (end.agent < receiver.made) × (back_from end.agent receiver ≡ [])
-  Knows capacity receiver reader sent seat pass (Takes most known) = (most ≡ capacity) × (reader ≡ pass) × (receiver ≡ known)
+      (most ≡ capacity) × (seat end.agent ≡ pass) × (sent end.agent ≡ end.sent)
+      × (end.agent < receiver.made) × (back_from end.agent receiver ≡ [])
+  Knows capacity receiver reader sent seat pass (Takes most known) = (most ≡ capacity)
+      × (reader ≡ pass) × (receiver ≡ known)
   Knows capacity receiver reader sent seat pass Spent = Unit {0}
 
   -- `waiting` is what the lane holds, oldest first, and `tokens` what its passes stand for
-  pub record IsLane (agent number : T → ℕ) (waiting : List T) (tokens : List (Token T)) : Type 0 where
+  pub record IsLane (agent number : T → ℕ) (waiting : List T)
+      (tokens : List (Token T)) : Type 0 where
     pub capacity : ℕ
     pub receiver : Taking T
     pub reader : ℕ
@@ -42,6 +47,9 @@ module _ {T : Type 0} where
     -- an agent with no end has sent nothing, and none of its came back
     pub others : (a : ℕ) → receiver.made ≤ a → (sent a ≡ []) × (back_from a receiver ≡ [])
     -- of each agent no end has come back, or one, that knew all that the agent sent
-    pub back : (a : ℕ) → (back_from a receiver ≡ []) ⊎ (back_from a receiver ≡ record { agent = a; sent = sent a } ∷ [])
+    pub back : (a : ℕ)
+        → (back_from a receiver ≡ [])
+        ⊎ (back_from a receiver ≡ record { agent = a; sent = sent a } ∷ [])
     -- what each pass stands for is so
-    pub passes : (pass : ℕ) (token : Token T) → get_elem? tokens pass ≡ some token → Knows capacity receiver reader sent seat pass token
+    pub passes : (pass : ℕ) (token : Token T) → get_elem? tokens pass ≡ some token
+        → Knows capacity receiver reader sent seat pass token

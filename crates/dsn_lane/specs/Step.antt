@@ -20,7 +20,8 @@ module _ {T : Type 0} where
 
   -- splitting off an agent's pass: the next agent gets an end, which has sent nothing
   abbrev pub after_split : Token T → Token T
-  after_split (Takes capacity known) = Takes capacity (record { made = suc known.made; taken = known.taken; back = known.back })
+  after_split (Takes capacity known) = Takes capacity
+      (record { made = suc known.made; taken = known.taken; back = known.back })
   after_split (Sends capacity end) = Sends capacity end
   after_split Spent = Spent
 
@@ -31,19 +32,22 @@ module _ {T : Type 0} where
 
   -- a send that adds
   abbrev pub after_send : Token T → T → Token T
-  after_send (Sends capacity end) item = Sends capacity (record { agent = end.agent; sent = end.sent ++ item ∷ [] })
+  after_send (Sends capacity end) item = Sends capacity
+      (record { agent = end.agent; sent = end.sent ++ item ∷ [] })
   after_send (Takes capacity known) item = Takes capacity known
   after_send Spent item = Spent
 
   -- a receive that takes
   abbrev pub after_take : Token T → T → Token T
-  after_take (Takes capacity known) item = Takes capacity (record { made = known.made; taken = known.taken ++ item ∷ []; back = known.back })
+  after_take (Takes capacity known) item = Takes capacity
+      (record { made = known.made; taken = known.taken ++ item ∷ []; back = known.back })
   after_take (Sends capacity end) item = Sends capacity end
   after_take Spent item = Spent
 
   -- what the receiving end knows with these ends taken back
   abbrev pub known_after : Taking T → List (Sending T) → Taking T
-  known_after known ends = record { made = known.made; taken = known.taken; back = known.back ++ ends }
+  known_after known
+      ends = record { made = known.made; taken = known.taken; back = known.back ++ ends }
 
   -- joining a pass: the receiving end takes a sending end back
   abbrev pub after_join : Token T → Token T → Token T
@@ -57,15 +61,22 @@ module _ {T : Type 0} where
     -- empty-handed; its number is how many items of its agent were taken before
     abbrev pub IsNext : Token T → T → Type 0
     IsNext (Takes capacity known) item =
-        (agent item < known.made) × (number item ≡ length (from_agent agent (agent item) known.taken)) × (back_from (agent item) known ≡ record { agent = agent item; sent = [] } ∷ [] → ⊥)
+        (agent item < known.made)
+        × (number item ≡ length (from_agent agent (agent item) known.taken))
+        × (back_from (agent item) known ≡ record { agent = agent item; sent = [] } ∷ [] → ⊥)
     IsNext (Sends capacity end) item = Unit {0}
     IsNext Spent item = Unit {0}
 
-    -- reading the joined pass: what the lane has accepted, where `waiting` is what it holds, which is within its capacity
+    -- reading the joined pass: what the lane has accepted, where `waiting` is what it holds, which
+    -- is within its capacity
     pub record Settles (capacity : ℕ) (known : Taking T) (waiting : List T) : Type 0 where
       pub within : length waiting ≤ capacity
-      pub others : (a : ℕ) → known.made ≤ a → (from_agent agent a (known.taken ++ waiting) ≡ []) × (back_from a known ≡ [])
-      pub back : (a : ℕ) → (back_from a known ≡ []) ⊎ (back_from a known ≡ record { agent = a; sent = from_agent agent a (known.taken ++ waiting) } ∷ [])
+      pub others : (a : ℕ) → known.made ≤ a
+          → (from_agent agent a (known.taken ++ waiting) ≡ []) × (back_from a known ≡ [])
+      pub back : (a : ℕ)
+          → (back_from a known ≡ [])
+          ⊎ (back_from a known
+          ≡ record { agent = a; sent = from_agent agent a (known.taken ++ waiting) } ∷ [])
       pub numbered : (a : ℕ) → IsNumbered number (from_agent agent a (known.taken ++ waiting))
 
     abbrev pub IsSettled : Token T → List T → Type 0

@@ -27,8 +27,10 @@ pub fn close_lane<T: Carried>(_rt: &impl Wait, ends: Vec<LaneIn<T>>, out: LaneOu
     ensures taken { result.taken ≡ length out.taken }
     ensures waiting { result.taken + result.waiting ≡ sum_by (λ end. length end.sent) ends.items }
     ensures capacity { result.waiting ≤ out.lane.capacity }
-    ensures prefix { All (λ end. IsPrefix (from_agent T.agent end.agent out.taken) end.sent) ends.items }
-    ensures accepted { (waiting : List T) × (length waiting ≡ result.waiting) × IsAccepted T.agent T.number ends.items (out.taken ++ waiting) }
+    ensures prefix { All (λ end. IsPrefix (from_agent T.agent end.agent out.taken) end.sent)
+        ends.items }
+    ensures accepted { (waiting : List T) × (length waiting ≡ result.waiting)
+        × IsAccepted T.agent T.number ends.items (out.taken ++ waiting) }
     ensures lists { result.lists ≡ record { ends = ends.items; out = out } }
 {
     let lists = LaneLists::of(&ends, &out);
@@ -48,11 +50,14 @@ pub fn close_lane<T: Carried>(_rt: &impl Wait, ends: Vec<LaneIn<T>>, out: LaneOu
 /// Takes all sending ends back, says how many items they had sent, and reads what waits.
 fn take_all_back<T: Carried>(pass: &mut Pass<T, Token<T>>, mut ends: Vec<LaneIn<T>>) -> u64
     requires channel { pass.old.me.1 ≡ [] }
-    requires receiver { view pass.old ≡ Takes (capacity_of (view pass.old)) (taking (view pass.old)) }
+    requires receiver { view pass.old
+        ≡ Takes (capacity_of (view pass.old)) (taking (view pass.old)) }
     requires lane { All (λ end. end.lane ≡ lane_of pass.old) ends.items }
     requires count { (0 < length ends.items) × (length ends.items ≤ 16) }
     ensures sent { result ≡ sum_by (λ end. length end.sent) ends.items }
-    ensures settled { (waiting : List T) × Settles T.agent T.number (capacity_of (view pass.old)) (known_after (taking (view pass.old)) (map sending_of ends.items)) waiting }
+    ensures settled { (waiting : List T)
+        × Settles T.agent T.number (capacity_of (view pass.old))
+        (known_after (taking (view pass.old)) (map sending_of ends.items)) waiting }
 {
     let Some(last) = ends.pop() else {
         unreachable!()
@@ -79,9 +84,11 @@ fn take_back<T: Carried>(
 ) -> u32
     requires channel { IsSeatAt (sends_on sender.now) pass.old }
     requires lane { end.lane ≡ lane_at (sends_on sender.now) }
-    requires receiver { view pass.old ≡ Takes (capacity_of (view pass.old)) (taking (view pass.old)) }
+    requires receiver { view pass.old
+        ≡ Takes (capacity_of (view pass.old)) (taking (view pass.old)) }
     ensures channel { IsSeatAt (sends_on sender.now) pass.new }
-    ensures receiver { view pass.new ≡ after_join (view pass.old) (Sends end.lane.capacity (sending_of end)) }
+    ensures receiver { view pass.new
+        ≡ after_join (view pass.old) (Sends end.lane.capacity (sending_of end)) }
     ensures count { result ≡ length end.sent }
 {
     let LaneIn {

@@ -39,7 +39,9 @@ impl<T: Carried> Model for LaneIn<T> {
 
     ghost view = { λ e. end_of e.pass };
 
-    ghost invariant = { λ e. IsSeatAt (sends_on e.sender) e.pass × (knows e.pass ≡ Sends (ruled_capacity (sends_on e.sender)) (sending (knows e.pass))) × IsSending T.agent T.number (sending (knows e.pass)) e.count };
+    ghost invariant = { λ e. IsSeatAt (sends_on e.sender) e.pass
+        × (knows e.pass ≡ Sends (ruled_capacity (sends_on e.sender)) (sending (knows e.pass)))
+        × IsSending T.agent T.number (sending (knows e.pass)) e.count };
 }
 
 impl<T: Carried> LaneIn<T> {
@@ -50,10 +52,17 @@ impl<T: Carried> LaneIn<T> {
         pass: &mut Pass<T, Token<T>>,
     ) -> Result<LaneIn<T>, NoMemory>
         requires channel { IsSeatAt (sends_on sender.now) pass.old }
-        requires receiver { view pass.old ≡ Takes (ruled_capacity (sends_on sender.now)) (taking (view pass.old)) }
+        requires receiver { view pass.old
+            ≡ Takes (ruled_capacity (sends_on sender.now)) (taking (view pass.old)) }
         ensures channel { IsSeatAt (sends_on sender.now) pass.new }
         ensures receiver { IfOk result (λ _. view pass.new ≡ after_split (view pass.old)) }
-        ensures end { IfOk result (λ end. end ≡ record { lane = lane_at (sends_on sender.now); agent = (taking (view pass.old)).made; sent = [] }) }
+        ensures end { IfOk result
+            (λ end. end
+            ≡ record {
+              lane = lane_at (sends_on sender.now);
+              agent = (taking (view pass.old)).made;
+              sent = [];
+            }) }
     {
         let Ok(own) = sender.try_clone() else {
             return Err(NoMemory);
@@ -81,7 +90,8 @@ impl<T: Carried> LaneIn<T> {
         requires room { length self.old.sent < 4294967295 }
         ensures ok { OnOk result (self.new.sent ≡ self.old.sent ++ item ∷ []) }
         ensures lost { IfErr result (λ lost. (lost.item ≡ item) × (self.new.sent ≡ self.old.sent)) }
-        ensures numbered { (from_agent T.agent self.new.agent self.new.sent ≡ self.new.sent) × IsNumbered T.number self.new.sent }
+        ensures numbered { (from_agent T.agent self.new.agent self.new.sent ≡ self.new.sent)
+            × IsNumbered T.number self.new.sent }
         ensures same { (self.new.lane ≡ self.old.lane) × (self.new.agent ≡ self.old.agent) }
     {
         match self.sender.send_as::<Adds, _>(rt, &mut self.pass, item) {

@@ -39,7 +39,9 @@ impl<T: Carried> Model for LaneOut<T> {
 
     ghost view = { λ o. out_of o.pass };
 
-    ghost invariant = { λ o. IsSeatAt (receives_on o.receiver) o.pass × (knows o.pass ≡ Takes (ruled_capacity (receives_on o.receiver)) (taking (knows o.pass))) × IsReceiving T.agent T.number (taking (knows o.pass)) o.count };
+    ghost invariant = { λ o. IsSeatAt (receives_on o.receiver) o.pass
+        × (knows o.pass ≡ Takes (ruled_capacity (receives_on o.receiver)) (taking (knows o.pass)))
+        × IsReceiving T.agent T.number (taking (knows o.pass)) o.count };
 }
 
 impl<T: Carried> LaneOut<T> {
@@ -49,7 +51,8 @@ impl<T: Carried> LaneOut<T> {
         pass: Pass<T, Token<T>>,
     ) -> LaneOut<T>
         requires channel { IsSeatAt (receives_on receiver) pass }
-        requires token { view pass ≡ Takes (ruled_capacity (receives_on receiver)) (taking (view pass)) }
+        requires token { view pass
+            ≡ Takes (ruled_capacity (receives_on receiver)) (taking (view pass)) }
         requires kept { IsReceiving T.agent T.number (taking (view pass)) 0 }
         ensures { result ≡ out_of pass }
     {
@@ -64,11 +67,14 @@ impl<T: Carried> LaneOut<T> {
     /// sending ends are gone and nothing waits; that it comes then, and not before, isn't proved.
     pub fn take(&mut self, rt: &impl Wait) -> Result<T, LaneEnd>
         ensures item { IfOk result (λ item. self.new.taken ≡ self.old.taken ++ item ∷ []) }
-        ensures agent { IfOk result (λ item. (self.old.first ≤ T.agent item) × (T.agent item < self.old.past)) }
-        ensures number { IfOk result (λ item. T.number item ≡ length (from_agent T.agent (T.agent item) self.old.taken)) }
+        ensures agent { IfOk result
+            (λ item. (self.old.first ≤ T.agent item) × (T.agent item < self.old.past)) }
+        ensures number { IfOk result
+            (λ item. T.number item ≡ length (from_agent T.agent (T.agent item) self.old.taken)) }
         ensures end { OnErr result (self.new.taken ≡ self.old.taken) }
         ensures numbered { (a : ℕ) → IsNumbered T.number (from_agent T.agent a self.new.taken) }
-        ensures same { (self.new.lane ≡ self.old.lane) × (self.new.first ≡ self.old.first) × (self.new.past ≡ self.old.past) }
+        ensures same { (self.new.lane ≡ self.old.lane) × (self.new.first ≡ self.old.first)
+            × (self.new.past ≡ self.old.past) }
     {
         match self.receiver.recv_as::<Removes, _>(rt, &mut self.pass) {
             Ok(item) => {

@@ -29,7 +29,9 @@ pub fn open_lane<T: Carried>(
     ensures capacity { IfOk result (λ lane. lane.1.lane.capacity ≡ capacity) }
     ensures ends { IfOk result (λ lane. lane.0.items ≡ fresh_ends lane.1.lane first agents) }
     ensures room { IfOk result (λ lane. agents ≤ vec_capacity lane.0) }
-    ensures out { IfOk result (λ lane. lane.1 ≡ record { lane = lane.1.lane; first = first; past = first + agents; taken = [] }) }
+    ensures out { IfOk result
+        (λ lane. lane.1
+        ≡ record { lane = lane.1.lane; first = first; past = first + agents; taken = [] }) }
 {
     let Ok(mut ends) = Vec::with_capacity(alloc, agents as usize) else {
         return Err(NoMemory);

@@ -76,7 +76,8 @@ impl<T: Carried> Outcome<T, Token<T>> for Removes {
     ghost use Rattle.std.specs.Prelude.{◌≡◌};
     ghost use Rattle.dsn_lane.specs.Step.{after_take, IsNext};
 
-    ghost then = { λ before item after. (after ≡ after_take before item) × IsNext T.agent T.number before item };
+    ghost then = { λ before item after. (after ≡ after_take before item)
+        × IsNext T.agent T.number before item };
 }
 
 impl<T> Lesson<T, Token<T>> for Removes {

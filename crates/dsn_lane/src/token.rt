@@ -1,4 +1,5 @@
-//! What each end of a lane knows of it. No value of these types is made: they stand in proofs alone.
+//! What each end of a lane knows of it. No value of these types is made: they stand in proofs
+//! alone.
 use std::collections::LinkedList;
 
 /// What a sending end knows: its agent, and the items that it has sent, in order.

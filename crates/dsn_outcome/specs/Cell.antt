@@ -9,8 +9,20 @@ use Rattle.dsn_text.specs.declared.service.Service.TheVariants.{Bounce}
 
 -- the letter of these terms; without a sealed log it reports nothing
 abbrev pub letter_from : Draft → Option Sealed → Letter
-letter_from terms None = record { key = record { service = Bounce; id = [] }; draft = terms; outcomes = []; serial = 0 }
-letter_from terms (Some sealed) = record { key = sealed.key; draft = terms; outcomes = sealed.outcomes; serial = sealed.serial }
+letter_from terms
+    None = record {
+      key = record { service = Bounce; id = [] };
+      draft = terms;
+      outcomes = [];
+      serial = 0;
+    }
+letter_from terms
+    (Some sealed) = record {
+      key = sealed.key;
+      draft = terms;
+      outcomes = sealed.outcomes;
+      serial = sealed.serial;
+    }
 
 -- the letter in a cell
 abbrev pub letter_in : Cell → Letter

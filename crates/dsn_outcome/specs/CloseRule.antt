@@ -1,4 +1,5 @@
--- The close rule: what holds of a key that is closed after a history, until it is forgotten (this project's profile).
+-- The close rule: what holds of a key that is closed after a history, until it is forgotten (this
+-- project's profile).
 use Rattle.std.specs.Prelude.{◌≡◌, ◌≢◌, false, List, [], ◌∷◌, ◌++◌, Some}
 use Rattle.std.specs.List.{list_any, AllByRecursion}
 use Rattle.dsn_outcome.specs.History.{Limits, Exchange, IsClosed, forgets, is_forget, log_of, held_keys, reply_to, exchange_of, history_after, sealed_letters}
@@ -8,7 +9,8 @@ use Rattle.dsn_text.specs.declared.key.Key.{Key}
 
 -- it is closed whatever follows, as long as nothing lets it go
 abbrev pub StaysClosed : Key → List Exchange → Type 0
-StaysClosed key history = (more : List Exchange) → list_any (forgets key) more ≡ false → IsClosed key (history ++ more)
+StaysClosed key history =
+    (more : List Exchange) → list_any (forgets key) more ≡ false → IsClosed key (history ++ more)
 
 -- a body about the key, other than a Forget
 pub record Uses (key : Key) (body : Body) : Type 0 where
@@ -17,7 +19,8 @@ pub record Uses (key : Key) (body : Body) : Type 0 where
 
 -- the next request, if it uses the key, is answered Closed
 abbrev pub AnswersClosed : Limits → Key → List Exchange → Type 0
-AnswersClosed limits key history = (request : Request) → Uses key request.body → reply_to limits history request ≡ Closed
+AnswersClosed limits key history =
+    (request : Request) → Uses key request.body → reply_to limits history request ≡ Closed
 
 -- the next request, whatever it is about, adds nothing to the key's log, unless it forgets the key
 abbrev pub TakesNoOutcome : Limits → Key → List Exchange → Type 0
@@ -35,7 +38,8 @@ TakesNoOutcomeUntilForgotten limits key history =
 abbrev pub LeavesEveryLog : Limits → Key → List Exchange → Type 0
 LeavesEveryLog limits key history =
     (request : Request) → Uses key request.body →
-    (other : Key) → log_of other (history ++ exchange_of limits history request ∷ []) ≡ log_of other history
+    (other : Key)
+    → log_of other (history ++ exchange_of limits history request ∷ []) ≡ log_of other history
 
 -- the next request, if it uses the key, leaves the held keys as they were
 abbrev pub LeavesHeldKeys : Limits → Key → List Exchange → Type 0

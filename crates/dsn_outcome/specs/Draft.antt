@@ -7,8 +7,8 @@ use Rattle.dsn_text.specs.Text.{is_address, is_envelope_id}
 use Rattle.dsn_outcome.specs.declared.draft_fault.DraftFault.{DraftFault}
 use Rattle.dsn_outcome.specs.declared.draft_fault.DraftFault.TheVariants.{Header, ReturnPath, EnvelopeId}
 
--- moment and arrival in whole seconds since 1970; no return path means the null path (RFC 5321 section 4.5.5);
--- the header is the returned header as it came
+-- moment and arrival in whole seconds since 1970; no return path means the null path (RFC 5321
+-- section 4.5.5); the header is the returned header as it came
 pub record Draft : Type 0 where
   pub moment : ℕ
   pub arrival : ℕ
@@ -33,4 +33,5 @@ draft_checks header return_path envelope_id =
     ∷ []
 
 abbrev pub first_draft_fault : List ℕ → List ℕ → List ℕ → Option DraftFault
-first_draft_fault header return_path envelope_id = first_failed (draft_checks header return_path envelope_id)
+first_draft_fault header return_path envelope_id =
+    first_failed (draft_checks header return_path envelope_id)

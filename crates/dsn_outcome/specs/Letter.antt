@@ -4,15 +4,16 @@ use Rattle.dsn_outcome.specs.Draft.{Draft}
 use Rattle.dsn_outcome.specs.Outcome.{Outcome}
 use Rattle.dsn_text.specs.declared.key.Key.{Key}
 
--- a log's key, what its flush said, its outcomes, oldest first, and how many letters were sealed before it, of all
--- keys
+-- a log's key, what its flush said, its outcomes, oldest first, and how many letters were sealed
+-- before it, of all keys
 pub record Letter : Type 0 where
   pub key : Key
   pub draft : Draft
   pub outcomes : List Outcome
   pub serial : ℕ
 
--- a letter can be sent: it reports some outcome (RFC 3464 section 2.1), all of its service, and somebody gets it
+-- a letter can be sent: it reports some outcome (RFC 3464 section 2.1), all of its service, and
+-- somebody gets it
 pub record IsLetter (letter : Letter) : Type 0 where
   pub reports : letter.outcomes ≢ []
   pub of_service : All (λ outcome. outcome.service ≡ letter.key.service) letter.outcomes

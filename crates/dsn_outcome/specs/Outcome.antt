@@ -49,11 +49,19 @@ outcome_checks service fields =
     ∷ (option_map_or is_address (unless_empty fields.original) true, BadOriginal)
     ∷ (option_map_or (takes service) (action_of_byte fields.action) false, BadAction)
     ∷ (is_status_code fields.status, BadStatus)
-    ∷ (option_map_or (λ action. fits_class action (status_class fields.status)) (action_of_byte fields.action) false, StatusClass)
+    ∷ (
+      option_map_or (λ action. fits_class action (status_class fields.status))
+          (action_of_byte fields.action) false,
+      StatusClass,
+    )
     ∷ (option_map_or is_mta_name (unless_empty fields.mta) true, BadMta)
     ∷ (nat_le (length fields.diagnostic) 800, LongDiagnostic)
     ∷ (nat_le (length fields.reason) 800, LongReason)
-    ∷ (option_map_or (λ action. fits_retry action fields.retry_until) (action_of_byte fields.action) false, RetryUntil)
+    ∷ (
+      option_map_or (λ action. fits_retry action fields.retry_until)
+          (action_of_byte fields.action) false,
+      RetryUntil,
+    )
     ∷ []
 
 -- the first fault of an outcome's fields, if they have one
@@ -78,9 +86,10 @@ pub record AreDated (fields : Fields) : Type 0 where
   pub last_attempt : IsTrue (is_none_or is_moment fields.last_attempt)
   pub retry_until : IsTrue (is_none_or is_moment fields.retry_until)
 
--- a legal outcome (RFC 3464 sections 2.3.1 to 2.3.9): the service takes the action, the status is a code
--- whose class fits the action, and each text is within its bounds; a diagnostic or a reason that is there says
--- something; the two moments have dates, and only a delayed recipient's delivery is tried again
+-- a legal outcome (RFC 3464 sections 2.3.1 to 2.3.9): the service takes the action, the status is a
+-- code whose class fits the action, and each text is within its bounds; a diagnostic or a reason
+-- that is there says something; the two moments have dates, and only a delayed recipient's delivery
+-- is tried again
 pub record IsLegalOutcome (outcome : Outcome) : Type 0 where
   pub recipient_legal : IsTrue (is_address outcome.recipient)
   pub original_legal : IsTrue (is_none_or is_address outcome.original)

@@ -4,7 +4,8 @@ use Rattle.dsn_outcome.specs.Draft.{Draft}
 use Rattle.dsn_outcome.specs.Outcome.{Outcome}
 use Rattle.dsn_text.specs.declared.key.Key.{Key}
 
--- log this outcome of the message; make a notice of this log; drop this log; let this key go; the agent leaves
+-- log this outcome of the message; make a notice of this log; drop this log; let this key go; the
+-- agent leaves
 pub data Body : Type 0 where
   Append : List ℕ → Outcome → Body
   Flush : Key → Draft → Body

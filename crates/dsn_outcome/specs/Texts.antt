@@ -1,5 +1,5 @@
--- The texts of an outcome as they are kept: one after another in the same bytes, where an empty one means that there is
--- none.
+-- The texts of an outcome as they are kept: one after another in the same bytes, where an empty one
+-- means that there is none.
 use Rattle.std.specs.Prelude.{ℕ, ◌≤◌, List, take, drop, length, slice_range, Option}
 use Rattle.dsn_outcome.specs.Outcome.{Outcome}
 use Rattle.dsn_text.specs.Optional.{unless_empty}
@@ -14,7 +14,8 @@ pub record Texts : Type 0 where
   pub diagnostic : List ℕ
   pub reason : List ℕ
 
--- the texts in these bytes, of which each but the last has its end told; it begins where the one before it ends
+-- the texts in these bytes, of which each but the last has its end told; it begins where the one
+-- before it ends
 abbrev pub texts_in : List ℕ → Ends → Texts
 texts_in bytes ends = record {
   recipient = take ends.recipient bytes;

@@ -19,7 +19,13 @@ impl Model for Terms {
 
     ghost Value = { Draft };
 
-    ghost view = { λ t. record { moment = t.moment; arrival = t.arrival; return_path = t.return_path; envelope_id = t.envelope_id; header = t.header } };
+    ghost view = { λ t. record {
+      moment = t.moment;
+      arrival = t.arrival;
+      return_path = t.return_path;
+      envelope_id = t.envelope_id;
+      header = t.header;
+    } };
 }
 
 /// The log that a letter reports.

@@ -77,11 +77,18 @@ impl Draft {
     ) -> Result<Draft, DraftFault>
         ensures moment { IfOk result (λ draft. draft.moment ≡ moment) }
         ensures arrival { IfOk result (λ draft. draft.arrival ≡ arrival) }
-        ensures return_path { IfOk result (λ draft. draft.return_path ≡ unless_empty return_path.now) }
-        ensures envelope_id { IfOk result (λ draft. draft.envelope_id ≡ unless_empty envelope_id.now) }
+        ensures return_path { IfOk result
+            (λ draft. draft.return_path ≡ unless_empty return_path.now) }
+        ensures envelope_id { IfOk result
+            (λ draft. draft.envelope_id ≡ unless_empty envelope_id.now) }
         ensures header { IfOk result (λ draft. draft.header ≡ header.now) }
-        ensures accepted { OnOk result (first_draft_fault header.now return_path.now envelope_id.now ≡ None) }
-        ensures refused { IfErr result (λ fault. fault ≡ unwrap_or (first_draft_fault header.now return_path.now envelope_id.now) DraftFault.NoMemory) }
+        ensures accepted { OnOk result
+            (first_draft_fault header.now return_path.now envelope_id.now ≡ None) }
+        ensures refused { IfErr result
+            (λ fault. fault
+            ≡ unwrap_or
+            (first_draft_fault header.now return_path.now envelope_id.now)
+            DraftFault.NoMemory) }
     {
         check(header, return_path, envelope_id)?;
         let return_path = optional_address(alloc, return_path)?;
@@ -135,11 +142,15 @@ impl Draft {
 
 /// The first fault of a draft's texts, if they have one.
 fn check(header: &[u8], return_path: &[u8], envelope_id: &[u8]) -> Result<(), DraftFault>
-    ensures accepted { OnOk result (first_draft_fault header.now return_path.now envelope_id.now ≡ None) }
+    ensures accepted { OnOk result
+        (first_draft_fault header.now return_path.now envelope_id.now ≡ None) }
     ensures header { OnOk result (length header.now ≤ LONGEST_HEADER) }
-    ensures return_path { OnOk result (IsTrue (is_none_or is_address (unless_empty return_path.now))) }
-    ensures envelope_id { OnOk result (IsTrue (is_none_or is_envelope_id (unless_empty envelope_id.now))) }
-    ensures refused { IfErr result (λ fault. first_draft_fault header.now return_path.now envelope_id.now ≡ Some fault) }
+    ensures return_path { OnOk result
+        (IsTrue (is_none_or is_address (unless_empty return_path.now))) }
+    ensures envelope_id { OnOk result
+        (IsTrue (is_none_or is_envelope_id (unless_empty envelope_id.now))) }
+    ensures refused { IfErr result
+        (λ fault. first_draft_fault header.now return_path.now envelope_id.now ≡ Some fault) }
 {
     if !RawHeader::is_valid(header) {
         return Err(DraftFault::Header);

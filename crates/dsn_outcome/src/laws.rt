@@ -11,20 +11,29 @@ ghost use Rattle.dsn_text.specs.declared.key.Key.{Key as HistoryKey};
 /// whatever is asked. Each other request about it is answered Closed, and leaves every log, the
 /// held keys and the sealed letters as they were.
 pub fn closed_logs_stay_closed()
-    ensures stays { (key : HistoryKey) (history : List Exchange) → IsClosed key history → StaysClosed key history }
-    ensures answered { (limits : Limits) (key : HistoryKey) (history : List Exchange) → IsClosed key history → AnswersClosed limits key history }
-    ensures no_outcome { (limits : Limits) (key : HistoryKey) (history : List Exchange) → IsClosed key history → TakesNoOutcome limits key history }
-    ensures between { (limits : Limits) (key : HistoryKey) (history : List Exchange) → IsClosed key history → TakesNoOutcomeUntilForgotten limits key history }
-    ensures logs { (limits : Limits) (key : HistoryKey) (history : List Exchange) → IsClosed key history → LeavesEveryLog limits key history }
-    ensures held { (limits : Limits) (key : HistoryKey) (history : List Exchange) → IsClosed key history → LeavesHeldKeys limits key history }
-    ensures letters { (limits : Limits) (key : HistoryKey) (history : List Exchange) → IsClosed key history → LeavesSealedLetters limits key history }
+    ensures stays { (key : HistoryKey) (history : List Exchange) → IsClosed key history
+        → StaysClosed key history }
+    ensures answered { (limits : Limits) (key : HistoryKey) (history : List Exchange)
+        → IsClosed key history → AnswersClosed limits key history }
+    ensures no_outcome { (limits : Limits) (key : HistoryKey) (history : List Exchange)
+        → IsClosed key history → TakesNoOutcome limits key history }
+    ensures between { (limits : Limits) (key : HistoryKey) (history : List Exchange)
+        → IsClosed key history → TakesNoOutcomeUntilForgotten limits key history }
+    ensures logs { (limits : Limits) (key : HistoryKey) (history : List Exchange)
+        → IsClosed key history → LeavesEveryLog limits key history }
+    ensures held { (limits : Limits) (key : HistoryKey) (history : List Exchange)
+        → IsClosed key history → LeavesHeldKeys limits key history }
+    ensures letters { (limits : Limits) (key : HistoryKey) (history : List Exchange)
+        → IsClosed key history → LeavesSealedLetters limits key history }
 {}
 
 /// A Forget of a closed key makes it as one that was never used, and leaves all else as it was.
 /// One of any other key changes nothing.
 pub fn closed_keys_alone_are_forgotten()
-    ensures closed { (limits : Limits) (key : HistoryKey) (history : List Exchange) → IsClosed key history → ForgetsIt limits key history }
-    ensures other { (limits : Limits) (key : HistoryKey) (history : List Exchange) → is_closed key history ≡ false → KeepsIt limits key history }
+    ensures closed { (limits : Limits) (key : HistoryKey) (history : List Exchange)
+        → IsClosed key history → ForgetsIt limits key history }
+    ensures other { (limits : Limits) (key : HistoryKey) (history : List Exchange)
+        → is_closed key history ≡ false → KeepsIt limits key history }
 {}
 
 /// A history's letters are numbered from 0, over all keys and forgettings.
@@ -35,6 +44,9 @@ pub fn letters_are_numbered()
 /// A history goes through the requests that it was made of, and answers an agent as often as the
 /// agent asked.
 pub fn histories_answer_each_request()
-    ensures requests { (limits : Limits) (requests : List Request) → map (λ exchange. exchange.request) (history_of limits requests) ≡ requests }
-    ensures answers { (limits : Limits) (agent : ℕ) (requests : List Request) → length (answers_to agent (history_of limits requests)) ≡ length (from_agent (λ request. request.agent) agent requests) }
+    ensures requests { (limits : Limits) (requests : List Request)
+        → map (λ exchange. exchange.request) (history_of limits requests) ≡ requests }
+    ensures answers { (limits : Limits) (agent : ℕ) (requests : List Request)
+        → length (answers_to agent (history_of limits requests))
+        ≡ length (from_agent (λ request. request.agent) agent requests) }
 {}

@@ -29,9 +29,11 @@ impl Model for Outcome {
 
     ghost Value = { Outcome };
 
-    ghost view = { λ o. outcome_of o.texts o.service o.action o.status o.last_attempt o.retry_until };
+    ghost view = { λ o. outcome_of o.texts o.service o.action o.status o.last_attempt
+        o.retry_until };
 
-    ghost invariant = { λ o. IsLegalOutcome (outcome_of o.texts o.service o.action o.status o.last_attempt o.retry_until) };
+    ghost invariant = { λ o. IsLegalOutcome
+        (outcome_of o.texts o.service o.action o.status o.last_attempt o.retry_until) };
 }
 
 impl Outcome {
@@ -45,10 +47,15 @@ impl Outcome {
     /// log. The fields are tested, in the order of `OutcomeFault`'s variants, before memory is
     /// taken.
     pub fn new(alloc: Global, service: Service, parts: Parts<'_>) -> Result<Box<Node>, OutcomeFault>
-        ensures kept { IfOk result (λ node. IsOutcomeOf service (fields_of parts.entry) node.value.outcome) }
-        ensures accepted { IfOk result (λ node. first_outcome_fault service (fields_of parts.entry) ≡ None) }
+        ensures kept { IfOk result
+            (λ node. IsOutcomeOf service (fields_of parts.entry) node.value.outcome) }
+        ensures accepted { IfOk result
+            (λ node. first_outcome_fault service (fields_of parts.entry) ≡ None) }
         ensures legal { IfOk result (λ node. IsLegalOutcome node.value.outcome) }
-        ensures refused { IfErr result (λ fault. fault ≡ unwrap_or (first_outcome_fault service (fields_of parts.entry)) OutcomeFault.NoMemory) }
+        ensures refused { IfErr result
+            (λ fault. fault
+            ≡ unwrap_or
+            (first_outcome_fault service (fields_of parts.entry)) OutcomeFault.NoMemory) }
     {
         // Named one by one: a whole `Parts` can't be lent and then be read once more.
         let Parts {
@@ -187,10 +194,12 @@ fn linked(alloc: Global, outcome: Outcome) -> Result<Box<Node>, OutcomeFault>
 /// The action and the status of fields that have no fault, or their first fault. It takes no
 /// memory.
 fn check(service: Service, parts: Parts<'_>) -> Result<(Action, Status), OutcomeFault>
-    ensures none { IfOk result (λ found. first_outcome_fault service (fields_of parts.entry) ≡ None) }
+    ensures none { IfOk result
+        (λ found. first_outcome_fault service (fields_of parts.entry) ≡ None) }
     ensures action { IfOk result (λ found. action_of_byte parts.entry.action ≡ Some found.0) }
     ensures status { IfOk result (λ found. found.1 ≡ parts.entry.status.now) }
-    ensures first { IfErr result (λ fault. first_outcome_fault service (fields_of parts.entry) ≡ Some fault) }
+    ensures first { IfErr result
+        (λ fault. first_outcome_fault service (fields_of parts.entry) ≡ Some fault) }
 {
     if !Address::is_valid(parts.recipient) {
         return Err(OutcomeFault::BadRecipient);

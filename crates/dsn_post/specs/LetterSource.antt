@@ -12,10 +12,17 @@ pub record LetterSource : Type 0 where
 
 -- the receiving end of the lane that carries them
 abbrev pub taken_parcels : LetterSource → Out Parcel
-taken_parcels source = record { lane = source.lane; first = 0; past = 1; taken = parcels_of source.letters source.marked }
+taken_parcels source =
+    record {
+      lane = source.lane;
+      first = 0;
+      past = 1;
+      taken = parcels_of source.letters source.marked;
+    }
 
 -- what taking comes to: the next letter; or none, at the end mark or where the lane is lost
 abbrev pub HasTaken : LetterSource → LetterSource → Option Letter → Type 0
 HasTaken old new (Some letter) =
-    (old.marked ≡ false) × (new ≡ record { lane = old.lane; letters = old.letters ++ letter ∷ []; marked = false })
+    (old.marked ≡ false)
+    × (new ≡ record { lane = old.lane; letters = old.letters ++ letter ∷ []; marked = false })
 HasTaken old new None = (new.lane ≡ old.lane) × (new.letters ≡ old.letters)

@@ -8,9 +8,11 @@ pub record Parcel : Type 0 where
   pub number : ℕ
   pub letter : Option Letter
 
--- the parcels of these letters, numbered from one on, and after them the end mark where there is one
+-- the parcels of these letters, numbered from one on, and after them the end mark where there is
+-- one
 abbrev pub parcels_from : ℕ → List Letter → Bool → List Parcel
-parcels_from number (letter ∷ rest) marked = record { number = number; letter = Some letter } ∷ parcels_from (suc number) rest marked
+parcels_from number (letter ∷ rest) marked =
+    record { number = number; letter = Some letter } ∷ parcels_from (suc number) rest marked
 parcels_from number [] true = record { number = number; letter = None } ∷ []
 parcels_from number [] false = []
 

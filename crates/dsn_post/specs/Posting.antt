@@ -10,14 +10,17 @@ use Rattle.dsn_post.specs.Parcel.{Parcel}
 use Rattle.dsn_post.specs.declared.posted.Posted.{Posted}
 use Rattle.dsn_post.specs.declared.posting.Posting.{Posting}
 
--- what the promise of a poster's thread remembers: the host that notices come from, the outbox as it was, and the lane of letters
+-- what the promise of a poster's thread remembers: the host that notices come from, the outbox as
+-- it was, and the lane of letters
 pub record Posts (W : Type 0) : Type 0 where
   pub site : List ℕ
   pub outbox : W
   pub lane : Identity Parcel
 
--- what a poster's thread comes to: the letters that came over its lane were handed on, one after another
-pub record IsPosting {W : Type 0} (drain : Drain W) (host : List ℕ) (start : W) (lane : Identity Parcel) (end : Posting W) : Type 0 where
+-- what a poster's thread comes to: the letters that came over its lane were handed on, one after
+-- another
+pub record IsPosting {W : Type 0} (drain : Drain W) (host : List ℕ) (start : W)
+    (lane : Identity Parcel) (end : Posting W) : Type 0 where
   pub lane_is : end.source.lane ≡ lane
   pub count : end.handed ≡ length end.source.letters
   pub delivered : Delivered drain host start end.outgoing end.source.letters
@@ -28,10 +31,11 @@ pub record IsUntouched {W : Type 0} (drain : Drain W) (start end : W) : Type 0 w
   pub failures : drain.failures end ≡ drain.failures start
   pub flushes : drain.flushes end ≡ drain.flushes start
 
--- an outbox at its end, of letters that were sent in this order over a lane in which at most so many wait: the first of them
--- came to the poster, all but as many as wait, and all of them where that is said; those are posted, or unsent, and the
--- outbox is theirs
-pub record IsPosted {W : Type 0} (drain : Drain W) (host : List ℕ) (start : W) (waiting : ℕ) (sent : List Letter) (end : Posted W) : Type 0 where
+-- an outbox at its end, of letters that were sent in this order over a lane in which at most so
+-- many wait: the first of them came to the poster, all but as many as wait, and all of them where
+-- that is said; those are posted, or unsent, and the outbox is theirs
+pub record IsPosted {W : Type 0} (drain : Drain W) (host : List ℕ) (start : W) (waiting : ℕ)
+    (sent : List Letter) (end : Posted W) : Type 0 where
   pub letters : List Letter
   pub came : IsPrefix letters sent
   pub few : length sent ≤ length letters + waiting

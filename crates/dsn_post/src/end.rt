@@ -19,7 +19,8 @@ pub fn end_posting<W: Drain + Drop>(
     handle: PromisedHandle<Posting<W>, Posts<W>>,
 ) -> Posted<W>
     requires lane { handle.promise.lane ≡ sink.lane }
-    ensures { IsPosted W.Drain handle.promise.site handle.promise.outbox sink.lane.capacity sink.letters result }
+    ensures { IsPosted W.Drain handle.promise.site handle.promise.outbox sink.lane.capacity
+        sink.letters result }
 {
     let sink = sink.mark(rt);
     let Posting {

@@ -25,9 +25,15 @@ impl Model for FinishedSink {
 
     ghost Value = { FinishedSink };
 
-    ghost view = { λ s. record { lane = s.end.lane; letters = letters_of s.end.sent; marked = s.marked } };
+    ghost view = { λ s. record {
+      lane = s.end.lane;
+      letters = letters_of s.end.sent;
+      marked = s.marked;
+    } };
 
-    ghost invariant = { λ s. (s.end.agent ≡ 0) × (s.end.sent ≡ parcels_of (letters_of s.end.sent) s.marked) × (s.room.items ≡ []) × (1 ≤ vec_capacity s.room) };
+    ghost invariant = { λ s. (s.end.agent ≡ 0)
+        × (s.end.sent ≡ parcels_of (letters_of s.end.sent) s.marked) × (s.room.items ≡ [])
+        × (1 ≤ vec_capacity s.room) };
 }
 
 impl FinishedSink {
@@ -36,7 +42,11 @@ impl FinishedSink {
         requires agent { end.agent ≡ 0 }
         requires sent { end.sent ≡ parcels_of (letters_of end.sent) marked }
         requires room { (room.items ≡ []) × (1 ≤ vec_capacity room) }
-        ensures { result ≡ record { lane = end.lane; letters = letters_of end.sent; marked = marked } }
+        ensures { result ≡ record {
+          lane = end.lane;
+          letters = letters_of end.sent;
+          marked = marked;
+        } }
     {
         FinishedSink { end, room, marked }
     }
@@ -47,7 +57,8 @@ impl FinishedSink {
         requires lane { source.lane ≡ self.lane }
         ensures first { IsPrefix source.letters self.letters }
         ensures few { length self.letters ≤ length source.letters + self.lane.capacity }
-        ensures all { (result ≡ true) ↔ ((source.letters ≡ self.letters) × (source.marked ≡ self.marked)) }
+        ensures all { (result ≡ true)
+            ↔ ((source.letters ≡ self.letters) × (source.marked ≡ self.marked)) }
     {
         let FinishedSink { end, mut room, .. } = self;
         room.push_reserved(end);

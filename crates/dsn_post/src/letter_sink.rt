@@ -29,7 +29,9 @@ impl Model for LetterSink {
 
     ghost view = { λ s. record { lane = s.end.lane; letters = letters_of s.end.sent } };
 
-    ghost invariant = { λ s. (s.end.agent ≡ 0) × (s.end.sent ≡ parcels_of (letters_of s.end.sent) false) × (length s.end.sent < 4294967295) × (s.room.items ≡ []) × (1 ≤ vec_capacity s.room) };
+    ghost invariant = { λ s. (s.end.agent ≡ 0)
+        × (s.end.sent ≡ parcels_of (letters_of s.end.sent) false)
+        × (length s.end.sent < 4294967295) × (s.room.items ≡ []) × (1 ≤ vec_capacity s.room) };
 }
 
 impl Sink for LetterSink {

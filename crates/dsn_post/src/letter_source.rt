@@ -23,9 +23,19 @@ impl Model for LetterSource {
 
     ghost Value = { LetterSource };
 
-    ghost view = { λ s. record { lane = s.parcels.lane; letters = letters_of s.parcels.taken; marked = s.marked } };
+    ghost view = { λ s. record {
+      lane = s.parcels.lane;
+      letters = letters_of s.parcels.taken;
+      marked = s.marked;
+    } };
 
-    ghost invariant = { λ s. s.parcels ≡ taken_parcels (record { lane = s.parcels.lane; letters = letters_of s.parcels.taken; marked = s.marked }) };
+    ghost invariant = { λ s. s.parcels
+        ≡ taken_parcels
+        (record {
+          lane = s.parcels.lane;
+          letters = letters_of s.parcels.taken;
+          marked = s.marked;
+        }) };
 }
 
 impl LetterSource {

@@ -15,7 +15,8 @@ const LETTERS_WAITING: u32 = 16;
 /// them. `NoMemory` comes only where memory was refused.
 pub fn open_post(rt: &impl Wait, alloc: Global) -> Result<(LetterSink, LetterSource), NoMemory>
     ensures sink { IfOk result (λ lane. lane.0 ≡ record { lane = lane.1.lane; letters = [] }) }
-    ensures source { IfOk result (λ lane. lane.1 ≡ record { lane = lane.1.lane; letters = []; marked = false }) }
+    ensures source { IfOk result
+        (λ lane. lane.1 ≡ record { lane = lane.1.lane; letters = []; marked = false }) }
     ensures capacity { IfOk result (λ lane. lane.1.lane.capacity ≡ 16) }
 {
     let (mut room, parcels) = open_lane(rt, alloc, 0, 1, LETTERS_WAITING)?;

@@ -26,7 +26,11 @@ impl<W> Model for Posts<W> {
 
     ghost Value = { Posts W };
 
-    ghost view = { λ p. record { site = p.site.value; outbox = p.outbox.value; lane = p.source.value.lane } };
+    ghost view = { λ p. record {
+      site = p.site.value;
+      outbox = p.outbox.value;
+      lane = p.source.value.lane;
+    } };
 }
 
 impl<W: Drain> Promise<Posting<W>> for Posts<W> {
@@ -48,7 +52,8 @@ pub fn start_posting<'s, E: 's, R: Wait + Sync, W: Drain + Drop + Send + 's>(
     requires source { source ≡ record { lane = sink.lane; letters = []; marked = false } }
     requires sink { sink.letters ≡ [] }
     ensures sink { IfOk result (λ started. started.0 ≡ sink) }
-    ensures promise { IfOk result (λ started. started.1.promise ≡ record { site = site; outbox = outbox; lane = sink.lane }) }
+    ensures promise { IfOk result
+        (λ started. started.1.promise ≡ record { site = site; outbox = outbox; lane = sink.lane }) }
     ensures refused { IfErr result (λ back. IsUntouched W.Drain outbox back) }
 {
     let promise = Posts {

@@ -7,8 +7,8 @@ use Rattle.dsn_outcome.specs.Letter.{Letter}
 use Rattle.dsn_text.specs.Service.{service_letter}
 use Rattle.dsn_text.specs.Text.{is_printable}
 
--- a byte of a returned line: `?` stands for one that is neither printable nor a tab, since a notice is
--- 7bit text (RFC 2045 section 2.7)
+-- a byte of a returned line: `?` stands for one that is neither printable nor a tab, since a notice
+-- is 7bit text (RFC 2045 section 2.7)
 abbrev pub shown_byte : ℕ → ℕ
 shown_byte byte = if is_printable byte || (byte == 9) then byte else 63
 
@@ -31,7 +31,8 @@ four_digits n = (48 + n / 1000) ∷ (48 + n / 100 % 10) ∷ (48 + n / 10 % 10) �
 -- `S.QUEUEID.MOMENT`: what tells a letter from others
 abbrev pub letter_name : Letter → List ℕ
 letter_name letter =
-    (service_letter letter.key.service ∷ []) ++ codes "." ++ letter.key.id ++ codes "." ++ decimal letter.draft.moment
+    (service_letter letter.key.service ∷ []) ++ codes "." ++ letter.key.id ++ codes "."
+    ++ decimal letter.draft.moment
 
 -- what the boundaries of a letter begin with, whatever their number
 abbrev pub boundary_front : Letter → List ℕ
@@ -49,13 +50,16 @@ is_delimiter boundary line = starts_with nat_eq line (codes "--" ++ boundary)
 abbrev pub is_dashed : List ℕ → Bool
 is_dashed line = starts_with nat_eq line (codes "--")
 
--- some returned line of a header is taken for a delimiter of the boundary that begins so and has this number
+-- some returned line of a header is taken for a delimiter of the boundary that begins so and has
+-- this number
 abbrev pub rules_out : List ℕ → List ℕ → ℕ → Bool
-rules_out front header number = list_any (is_delimiter (front ++ four_digits number)) (returned_lines header)
+rules_out front header number =
+    list_any (is_delimiter (front ++ four_digits number)) (returned_lines header)
 
 -- some returned line rules this number out
 unfoldable pub is_ruled_out : Letter → ℕ → Bool
-is_ruled_out letter number = list_any (is_delimiter (boundary_text letter number)) (returned_lines letter.draft.header)
+is_ruled_out letter number =
+    list_any (is_delimiter (boundary_text letter number)) (returned_lines letter.draft.header)
 
 -- the least number that no returned line rules out
 pub record IsBoundaryNumber (letter : Letter) (number : ℕ) : Type 0 where
@@ -65,7 +69,8 @@ pub record IsBoundaryNumber (letter : Letter) (number : ℕ) : Type 0 where
 -- the first number from one on that fails a test, tried so many times
 unfoldable pub first_failing : (ℕ → Bool) → ℕ → ℕ → ℕ
 first_failing test number zero = number
-first_failing test number (suc tries) = if test number then first_failing test (suc number) tries else number
+first_failing test number (suc tries) =
+    if test number then first_failing test (suc number) tries else number
 
 -- the number of a notice's boundary; it has four digits
 unfoldable pub boundary_number : Letter → ℕ

@@ -1,4 +1,5 @@
--- What the receiver of a mail transaction, or of a whole session, makes of its bytes (RFC 5321 section 4.5.2).
+-- What the receiver of a mail transaction, or of a whole session, makes of its bytes (RFC 5321
+-- section 4.5.2).
 use Rattle.std.specs.Prelude.{◌≡◌, ℕ, Bool, true, false, List, [], ◌∷◌, ◌++◌, map, Option, Some, None, drop, codes, if◌then◌else◌, nat_eq}
 use Rattle.dsn_outcome.specs.Letter.{Letter}
 use lib.Pointwise.{pointwise}
@@ -36,8 +37,9 @@ message_of transaction = text_of_lines (message_lines (data_after (pieces_of_tex
 abbrev pub ReceivesNotice : List ℕ → Letter → Type 0
 ReceivesNotice host letter = message_of (mail_transaction host letter) ≡ notice_of host letter
 
--- the messages of a session's lines, by what has come of the message under way, if one is: the line DATA begins one,
--- and the line that ends the data ends it. One that is cut short is none (RFC 5321 section 4.1.1.4)
+-- the messages of a session's lines, by what has come of the message under way, if one is: the line
+-- DATA begins one, and the line that ends the data ends it. One that is cut short is none (RFC 5321
+-- section 4.1.1.4)
 unfoldable pub messages_in : Option (List (List ℕ)) → List (List ℕ) → List (List (List ℕ))
 messages_in under_way [] = []
 messages_in None (line ∷ rest) = elim (begins_data line) [

@@ -38,4 +38,5 @@ recipient_group outcome = [] ∷ per_recipient_fields outcome
 
 -- the fields of the message, then a group for each outcome, in log order (RFC 3464 section 2.1)
 unfoldable pub delivery_status : List ℕ → Letter → List (List ℕ)
-delivery_status host letter = per_message_fields host letter ++ flat_map recipient_group letter.outcomes
+delivery_status host letter =
+    per_message_fields host letter ++ flat_map recipient_group letter.outcomes

@@ -29,13 +29,16 @@ same_text a b = pointwise nat_eq a b
 -- the fields of a message, in the order of RFC 3464 section 2.2
 abbrev pub per_message_names : List (List ℕ)
 per_message_names =
-    codes "Original-Envelope-Id" ∷ codes "Reporting-MTA" ∷ codes "DSN-Gateway" ∷ codes "Received-From-MTA" ∷ codes "Arrival-Date" ∷ []
+    codes "Original-Envelope-Id" ∷ codes "Reporting-MTA" ∷ codes "DSN-Gateway"
+    ∷ codes "Received-From-MTA" ∷ codes "Arrival-Date" ∷ []
 
 -- the fields of a recipient, in the order of RFC 3464 section 2.3
 abbrev pub per_recipient_names : List (List ℕ)
 per_recipient_names =
-    codes "Original-Recipient" ∷ codes "Final-Recipient" ∷ codes "Action" ∷ codes "Status" ∷ codes "Remote-MTA"
-    ∷ codes "Diagnostic-Code" ∷ codes "Last-Attempt-Date" ∷ codes "Final-Log-ID" ∷ codes "Will-Retry-Until" ∷ []
+    codes "Original-Recipient" ∷ codes "Final-Recipient" ∷ codes "Action" ∷ codes "Status"
+    ∷ codes "Remote-MTA"
+    ∷ codes "Diagnostic-Code" ∷ codes "Last-Attempt-Date" ∷ codes "Final-Log-ID"
+    ∷ codes "Will-Retry-Until" ∷ []
 
 -- the fields have some of the names, in their order, none of them twice
 abbrev pub is_choice_of : List (List ℕ) → List Field → Bool
@@ -43,12 +46,14 @@ is_choice_of [] [] = true
 is_choice_of [] (field ∷ fields) = false
 is_choice_of (name ∷ names) [] = true
 is_choice_of (name ∷ names) (field ∷ fields) =
-    if same_text name field.name then is_choice_of names fields else is_choice_of names (field ∷ fields)
+    if same_text name field.name then is_choice_of names fields
+    else is_choice_of names (field ∷ fields)
 
 -- the value of the first field of a name
 abbrev pub value_of : List ℕ → List Field → Option (List ℕ)
 value_of name [] = None
-value_of name (field ∷ fields) = if same_text name field.name then Some field.value else value_of name fields
+value_of name (field ∷ fields) =
+    if same_text name field.name then Some field.value else value_of name fields
 
 -- each value is printable, and so within its line
 abbrev pub has_plain_values : List Field → Bool
@@ -57,7 +62,9 @@ has_plain_values fields = list_all (λ field. list_all is_printable field.value)
 -- the five words of RFC 3464 section 2.3.3
 abbrev pub is_action_word : List ℕ → Bool
 is_action_word text =
-    list_any (same_text text) (codes "failed" ∷ codes "delayed" ∷ codes "delivered" ∷ codes "relayed" ∷ codes "expanded" ∷ [])
+    list_any (same_text text)
+    (codes "failed" ∷ codes "delayed" ∷ codes "delivered" ∷ codes "relayed" ∷ codes "expanded"
+    ∷ [])
 
 pub record IsMessageGroup (fields : List Field) : Type 0 where
   pub in_order : IsTrue (is_choice_of per_message_names fields)
@@ -71,25 +78,36 @@ pub record IsRecipientGroup (fields : List Field) : Type 0 where
   pub recipient : IsSome (value_of (codes "Final-Recipient") fields)
   pub action : IsSomeAnd (value_of (codes "Action") fields) (λ word. IsTrue (is_action_word word))
   pub status : IsSomeAnd (value_of (codes "Status") fields) (λ code. IsTrue (is_status_code code))
-  pub retry_until : IsSome (value_of (codes "Will-Retry-Until") fields) → value_of (codes "Action") fields ≡ Some (codes "delayed")
+  pub retry_until : IsSome (value_of (codes "Will-Retry-Until") fields)
+      → value_of (codes "Action") fields ≡ Some (codes "delayed")
 
--- the lines are the message's fields, and then for each recipient an empty line and its fields; there is a recipient
-pub record IsDeliveryStatus (lines : List (List ℕ)) (message : List Field) (recipients : List (List Field)) : Type 0 where
-  pub laid_out : lines ≡ map field_line message ++ flat_map (λ group. [] ∷ map field_line group) recipients
+-- the lines are the message's fields, and then for each recipient an empty line and its fields;
+-- there is a recipient
+pub record IsDeliveryStatus (lines : List (List ℕ)) (message : List Field)
+    (recipients : List (List Field)) : Type 0 where
+  pub laid_out : lines
+      ≡ map field_line message ++ flat_map (λ group. [] ∷ map field_line group) recipients
   pub message_group : IsMessageGroup message
   pub some_recipient : recipients ≢ []
   pub recipient_groups : All IsRecipientGroup recipients
 
--- the group tells what became of the recipient: each field's value is the outcome's, and missing where that is
+-- the group tells what became of the recipient: each field's value is the outcome's, and missing
+-- where that is
 pub record TellsOutcome (outcome : Outcome) (fields : List Field) : Type 0 where
-  pub original : value_of (codes "Original-Recipient") fields ≡ option_map (λ text. codes "rfc822; " ++ text) outcome.original
-  pub recipient : value_of (codes "Final-Recipient") fields ≡ Some (codes "rfc822; " ++ outcome.recipient)
+  pub original : value_of (codes "Original-Recipient") fields
+      ≡ option_map (λ text. codes "rfc822; " ++ text) outcome.original
+  pub recipient : value_of (codes "Final-Recipient") fields
+      ≡ Some (codes "rfc822; " ++ outcome.recipient)
   pub action : value_of (codes "Action") fields ≡ Some (action_word outcome.action)
   pub status : value_of (codes "Status") fields ≡ Some outcome.status
-  pub mta : value_of (codes "Remote-MTA") fields ≡ option_map (λ text. codes "dns; " ++ text) outcome.mta
-  pub diagnostic : value_of (codes "Diagnostic-Code") fields ≡ option_map (λ text. codes "smtp; " ++ text) outcome.diagnostic
-  pub last_attempt : value_of (codes "Last-Attempt-Date") fields ≡ option_map date_text outcome.last_attempt
-  pub retry_until : value_of (codes "Will-Retry-Until") fields ≡ option_map date_text outcome.retry_until
+  pub mta : value_of (codes "Remote-MTA") fields
+      ≡ option_map (λ text. codes "dns; " ++ text) outcome.mta
+  pub diagnostic : value_of (codes "Diagnostic-Code") fields
+      ≡ option_map (λ text. codes "smtp; " ++ text) outcome.diagnostic
+  pub last_attempt : value_of (codes "Last-Attempt-Date") fields
+      ≡ option_map date_text outcome.last_attempt
+  pub retry_until : value_of (codes "Will-Retry-Until") fields
+      ≡ option_map date_text outcome.retry_until
 
 -- the group tells whose message it is, who reports, and when the message came
 pub record TellsMessage (host : List ℕ) (letter : Letter) (fields : List Field) : Type 0 where
@@ -103,15 +121,17 @@ second_of [] = None
 second_of (first ∷ []) = None
 second_of (first ∷ second ∷ rest) = Some second
 
--- the delivery status that a mail program finds in a report: the pieces of its second part's body (RFC 6522 section
--- 3), of which the last is what stands after the last line's end
+-- the delivery status that a mail program finds in a report: the pieces of its second part's body
+-- (RFC 6522 section 3), of which the last is what stands after the last line's end
 abbrev pub delivery_status_in : Multipart → Option (List (List ℕ))
-delivery_status_in report = option_map (λ part. body_of (pieces_of_text part)) (second_of report.parts)
+delivery_status_in report =
+    option_map (λ part. body_of (pieces_of_text part)) (second_of report.parts)
 
--- in the second part of a notice's bytes there are lines, each of them ended, that meet the grammar, with one group for
--- each outcome, in log order
+-- in the second part of a notice's bytes there are lines, each of them ended, that meet the
+-- grammar, with one group for each outcome, in log order
 pub record ReportsOutcomes (host : List ℕ) (letter : Letter) : Type 0 where
-  pub found : delivery_status_in (multipart_of (boundary_of letter) (notice_of host letter)) ≡ Some (delivery_status host letter ++ [] ∷ [])
+  pub found : delivery_status_in (multipart_of (boundary_of letter) (notice_of host letter))
+      ≡ Some (delivery_status host letter ++ [] ∷ [])
   pub message : List Field
   pub recipients : List (List Field)
   pub grammar : IsDeliveryStatus (delivery_status host letter) message recipients

@@ -1,5 +1,5 @@
--- What a writer of lines did with a text: it wrote it, or holds it back. It writes nothing more after its drain's first
--- failure.
+-- What a writer of lines did with a text: it wrote it, or holds it back. It writes nothing more
+-- after its drain's first failure.
 use Rattle.std.specs.Prelude.{◌≡◌, ℕ, Bool, true, false, not, ◌==◌, List, [], ◌∷◌, ◌++◌, map, IsFalse}
 use Rattle.std.specs.List.{list_any}
 use Rattle.dsn_device.specs.QuietWriter.{QuietWriter, Writes}
@@ -7,15 +7,19 @@ use Rattle.dsn_device.specs.declared.drain.Drain.{Ghosts as Drain}
 use Rattle.dsn_report.specs.Lines.{text_of_lines, begins_with_dot, dot_stuffed}
 use Rattle.dsn_report.specs.declared.line_writer.LineWriter.{LineWriter}
 
--- a writer that began so has taken this much: a front of it is written, and what follows is held back
-pub record HasTaken {W : Type 0} (device : Drain W) (start : QuietWriter W) (lines : LineWriter W) (text : List ℕ) : Type 0 where
+-- a writer that began so has taken this much: a front of it is written, and what follows is held
+-- back
+pub record HasTaken {W : Type 0} (device : Drain W) (start : QuietWriter W) (lines : LineWriter W)
+    (text : List ℕ) : Type 0 where
   pub front : List ℕ
   pub split : text ≡ front ++ lines.held
   pub written : Writes device start lines.writer front
 
 -- the writer took the text, after all that it took before
-pub record Took {W : Type 0} (device : Drain W) (old new : LineWriter W) (text : List ℕ) : Type 0 where
-  pub text_taken : (start : QuietWriter W) (before : List ℕ) → HasTaken device start old before → HasTaken device start new (before ++ text)
+pub record Took {W : Type 0} (device : Drain W) (old new : LineWriter W)
+    (text : List ℕ) : Type 0 where
+  pub text_taken : (start : QuietWriter W) (before : List ℕ) → HasTaken device start old before
+      → HasTaken device start new (before ++ text)
   pub dots_kept : new.dots ≡ old.dots
 
 -- the writer wrote what it held back
@@ -30,7 +34,8 @@ lines_sent true lines = map dot_stuffed lines
 lines_sent false lines = lines
 
 -- the writer took the lines
-pub record Wrote {W : Type 0} (device : Drain W) (old new : LineWriter W) (lines : List (List ℕ)) : Type 0 where
+pub record Wrote {W : Type 0} (device : Drain W) (old new : LineWriter W)
+    (lines : List (List ℕ)) : Type 0 where
   pub took : Took device old new (text_of_lines (lines_sent old.dots lines))
 
 -- a text begins, and not with a dot: so does each line that begins with it

@@ -18,10 +18,12 @@ without_first_byte (piece ∷ rest) = drop 1 piece ∷ rest
 -- one byte more, before a text whose pieces are given
 unfoldable pub pieces_more : ℕ → List ℕ → List (List ℕ) → List (List ℕ)
 pieces_more byte rest pieces =
-    if (byte == 13) && begins_with_line_feed rest then [] ∷ without_first_byte pieces else onto_first byte pieces
+    if (byte == 13) && begins_with_line_feed rest then [] ∷ without_first_byte pieces
+    else onto_first byte pieces
 
--- what a reader of a message makes of its bytes: the pieces between its CRLFs. What follows the last CRLF is the
--- last piece, and an empty one where the text ends there. A CR or an LF alone is a byte of a piece
+-- what a reader of a message makes of its bytes: the pieces between its CRLFs. What follows the
+-- last CRLF is the last piece, and an empty one where the text ends there. A CR or an LF alone is a
+-- byte of a piece
 unfoldable pub pieces_of_text : List ℕ → List (List ℕ)
 pieces_of_text [] = [] ∷ []
 pieces_of_text (byte ∷ rest) = pieces_more byte rest (pieces_of_text rest)
@@ -36,6 +38,7 @@ abbrev pub begins_with_dot : List ℕ → Bool
 begins_with_dot [] = false
 begins_with_dot (byte ∷ rest) = byte == 46
 
--- a line as the mail protocol carries it: a dot before one that begins with a dot (RFC 5321 section 4.5.2)
+-- a line as the mail protocol carries it: a dot before one that begins with a dot (RFC 5321 section
+-- 4.5.2)
 unfoldable pub dot_stuffed : List ℕ → List ℕ
 dot_stuffed line = if begins_with_dot line then 46 ∷ line else line

@@ -1,5 +1,5 @@
--- How a mail program divides the body of a multipart message (RFC 2046 section 5.1.1). It knows the boundary and the
--- message's bytes, and nothing of who wrote them.
+-- How a mail program divides the body of a multipart message (RFC 2046 section 5.1.1). It knows the
+-- boundary and the message's bytes, and nothing of who wrote them.
 use Rattle.std.specs.Prelude.{◌≡◌, ℕ, Bool, List, [], ◌∷◌, ◌++◌, map, Option, Some, None, option_map, codes, if◌then◌else◌, nat_eq}
 use Rattle.std.specs.List.{starts_with}
 use Rattle.dsn_outcome.specs.Letter.{Letter}
@@ -8,8 +8,8 @@ use Rattle.dsn_report.specs.DeliveryStatus.{delivery_status}
 use Rattle.dsn_report.specs.Lines.{pieces_of_text, text_of_lines, text_of_pieces}
 use Rattle.dsn_report.specs.Notice.{notice_of, notification}
 
--- what stands before the first delimiter, the parts, and what stands after the last delimiter, if there is one, in
--- the pieces between CRLFs
+-- what stands before the first delimiter, the parts, and what stands after the last delimiter, if
+-- there is one, in the pieces between CRLFs
 pub record Division : Type 0 where
   pub before : List (List ℕ)
   pub parts : List (List (List ℕ))
@@ -32,8 +32,9 @@ unfoldable pub divide : List ℕ → List (List ℕ) → Division
 divide boundary [] = record { before = []; parts = []; after = None }
 divide boundary (line ∷ rest) = divide_more boundary line rest (divide boundary rest)
 
--- the texts of a multipart message's parts, of what stands before them, if the first delimiter isn't the first line,
--- and of what stands after them, if there is a last delimiter. The CRLF before a delimiter belongs to it
+-- the texts of a multipart message's parts, of what stands before them, if the first delimiter
+-- isn't the first line, and of what stands after them, if there is a last delimiter. The CRLF
+-- before a delimiter belongs to it
 pub record Multipart : Type 0 where
   pub preamble : Option (List ℕ)
   pub parts : List (List ℕ)
@@ -71,17 +72,26 @@ part_lines description content_type body =
 -- the returned part, where there are returned lines
 unfoldable pub returned_parts : List (List ℕ) → List (List (List ℕ))
 returned_parts [] = []
-returned_parts (line ∷ rest) = part_lines (codes "Undelivered Message Headers") (codes "text/rfc822-headers") (line ∷ rest) ∷ []
+returned_parts (line ∷ rest) =
+    part_lines (codes "Undelivered Message Headers") (codes "text/rfc822-headers") (line ∷ rest)
+    ∷ []
 
 -- the parts of a notice
 unfoldable pub notice_parts : List ℕ → Letter → List (List (List ℕ))
 notice_parts host letter =
-    part_lines (codes "Notification") (codes "text/plain; charset=us-ascii") (notification host letter)
-    ∷ part_lines (codes "Delivery report") (codes "message/delivery-status") (delivery_status host letter)
+    part_lines (codes "Notification") (codes "text/plain; charset=us-ascii")
+    (notification host letter)
+    ∷ part_lines (codes "Delivery report") (codes "message/delivery-status")
+    (delivery_status host letter)
     ∷ returned_parts (returned_lines letter.draft.header)
 
--- who divides a notice's bytes at its boundary gets its parts, each with the end of its last line, and nothing before
--- and nothing after them
+-- who divides a notice's bytes at its boundary gets its parts, each with the end of its last line,
+-- and nothing before and nothing after them
 abbrev pub DividesIntoParts : List ℕ → Letter → Type 0
 DividesIntoParts host letter =
-    multipart_of (boundary_of letter) (notice_of host letter) ≡ record { preamble = None; parts = map text_of_lines (notice_parts host letter); epilogue = Some [] }
+    multipart_of (boundary_of letter) (notice_of host letter)
+    ≡ record {
+      preamble = None;
+      parts = map text_of_lines (notice_parts host letter);
+      epilogue = Some [];
+    }

@@ -1,5 +1,5 @@
--- A notice: a multipart/report of what became of a message's recipients (RFC 6522, RFC 3464, RFC 3834), as a list
--- of lines.
+-- A notice: a multipart/report of what became of a message's recipients (RFC 6522, RFC 3464, RFC
+-- 3834), as a list of lines.
 use Rattle.std.specs.Prelude.{ℕ, List, [], ◌∷◌, ◌++◌, codes, decimal, unwrap_or}
 use Rattle.std.specs.List.{flat_map}
 use Rattle.dsn_text.specs.Action.{action_word}
@@ -28,14 +28,16 @@ opening_of Trace = codes "This is the delivery report for your message."
 abbrev pub return_path_of : Letter → List ℕ
 return_path_of letter = unwrap_or letter.draft.return_path []
 
--- the header of a notice (RFC 5322 section 3.6, RFC 3834 section 5, RFC 2045 section 4, RFC 6522 section 3)
+-- the header of a notice (RFC 5322 section 3.6, RFC 3834 section 5, RFC 2045 section 4, RFC 6522
+-- section 3)
 unfoldable pub notice_header : List ℕ → Letter → List ℕ → List (List ℕ)
 notice_header host letter boundary =
     (codes "From: Mail Delivery System <MAILER-DAEMON@" ++ host ++ codes ">")
     ∷ (codes "To: <" ++ return_path_of letter ++ codes ">")
     ∷ (codes "Subject: " ++ subject_of letter.key.service)
     ∷ (codes "Date: " ++ date_text letter.draft.moment)
-    ∷ (codes "Message-ID: <" ++ letter_name letter ++ codes "." ++ decimal letter.serial ++ codes "@" ++ host ++ codes ">")
+    ∷ (codes "Message-ID: <" ++ letter_name letter ++ codes "." ++ decimal letter.serial
+    ++ codes "@" ++ host ++ codes ">")
     ∷ codes "Auto-Submitted: auto-replied"
     ∷ codes "MIME-Version: 1.0"
     ∷ codes "Content-Type: multipart/report; report-type=delivery-status;"
@@ -51,15 +53,17 @@ part_header boundary description content_type =
     ∷ []
     ∷ []
 
--- one part; the empty line after its body belongs to the next delimiter, so that the body ends with the end of its
--- last line (RFC 2046 section 5.1.1)
+-- one part; the empty line after its body belongs to the next delimiter, so that the body ends with
+-- the end of its last line (RFC 2046 section 5.1.1)
 unfoldable pub part_of : List ℕ → List ℕ → List ℕ → List (List ℕ) → List (List ℕ)
-part_of boundary description content_type body = part_header boundary description content_type ++ body ++ [] ∷ []
+part_of boundary description content_type body =
+    part_header boundary description content_type ++ body ++ [] ∷ []
 
 -- what a person reads of one outcome
 unfoldable pub outcome_lines : Outcome → List (List ℕ)
 outcome_lines outcome =
-    (codes "<" ++ outcome.recipient ++ codes ">: " ++ action_word outcome.action ++ codes " (" ++ outcome.status ++ codes ")")
+    (codes "<" ++ outcome.recipient ++ codes ">: " ++ action_word outcome.action ++ codes " ("
+    ++ outcome.status ++ codes ")")
     ∷ line_if_any (codes "    ") outcome.reason
 
 -- what a person reads (RFC 6522 section 3, first part)
@@ -75,15 +79,18 @@ notification host letter =
 unfoldable pub returned_part : List ℕ → List (List ℕ) → List (List ℕ)
 returned_part boundary [] = []
 returned_part boundary (line ∷ rest) =
-    part_of boundary (codes "Undelivered Message Headers") (codes "text/rfc822-headers") (line ∷ rest)
+    part_of boundary (codes "Undelivered Message Headers") (codes "text/rfc822-headers")
+    (line ∷ rest)
 
 -- the lines of a notice: its header, an empty line, two or three parts, and the last delimiter
 unfoldable pub lines_with_boundary : List ℕ → Letter → List ℕ → List (List ℕ)
 lines_with_boundary host letter boundary =
     notice_header host letter boundary
     ++ [] ∷ []
-    ++ part_of boundary (codes "Notification") (codes "text/plain; charset=us-ascii") (notification host letter)
-    ++ part_of boundary (codes "Delivery report") (codes "message/delivery-status") (delivery_status host letter)
+    ++ part_of boundary (codes "Notification") (codes "text/plain; charset=us-ascii")
+    (notification host letter)
+    ++ part_of boundary (codes "Delivery report") (codes "message/delivery-status")
+    (delivery_status host letter)
     ++ returned_part boundary (returned_lines letter.draft.header)
     ++ (codes "--" ++ boundary ++ codes "--") ∷ []
 

@@ -1,4 +1,5 @@
--- The outbox: the client's side of a session of the mail protocol that hands in each notice (RFC 5321 section 3.3).
+-- The outbox: the client's side of a session of the mail protocol that hands in each notice (RFC
+-- 5321 section 3.3).
 use Rattle.std.specs.Prelude.{ℕ, List, [], ◌∷◌, ◌++◌, map, codes}
 use Rattle.std.specs.List.{flat_map}
 use Rattle.dsn_outcome.specs.Letter.{Letter}
@@ -13,8 +14,8 @@ greeting host = text_of_lines ((codes "EHLO " ++ host) ∷ [])
 unfoldable pub goodbye : List ℕ
 goodbye = text_of_lines (codes "QUIT" ∷ [])
 
--- the lines of one mail transaction: a notice comes from the null path, so that nobody answers it with another
--- (RFC 3464 section 2, RFC 5321 section 4.5.5), and a dot alone ends it
+-- the lines of one mail transaction: a notice comes from the null path, so that nobody answers it
+-- with another (RFC 3464 section 2, RFC 5321 section 4.5.5), and a dot alone ends it
 unfoldable pub transaction_lines : List ℕ → Letter → List (List ℕ)
 transaction_lines host letter =
     codes "MAIL FROM:<>"

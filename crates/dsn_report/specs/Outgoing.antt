@@ -16,7 +16,8 @@ pub record Outgoing (W : Type 0) : Type 0 where
 
 -- what is written of letters that are posted: the greeting comes with the first of them
 abbrev pub written_of : List ℕ → Bool → List Letter → List ℕ
-written_of host greeted letters = (if greeted then greeting host else []) ++ flat_map (mail_transaction host) letters
+written_of host greeted letters =
+    (if greeted then greeting host else []) ++ flat_map (mail_transaction host) letters
 
 -- known bytes grow by a front of the text that has at least this much of it
 pub record AppendsAtLeast (old new : Option (List ℕ)) (least text : List ℕ) : Type 0 where
@@ -36,44 +37,58 @@ text_until host posted [] = outbox_of host posted
 text_until host posted (first ∷ rest) = written_of host true (posted ++ first ∷ [])
 
 -- while nothing failed, each letter is written
-pub record AllWritten {W : Type 0} (drain : Drain W) (start : W) (out : Outgoing W) (letters : List Letter) : Type 0 where
+pub record AllWritten {W : Type 0} (drain : Drain W) (start : W) (out : Outgoing W)
+    (letters : List Letter) : Type 0 where
   pub none_unsent : out.unsent ≡ []
-  pub written : Appends (drain.contents start) (drain.contents out.poster.outbox) (written_of out.poster.host out.poster.greeted letters)
+  pub written : Appends (drain.contents start) (drain.contents out.poster.outbox)
+      (written_of out.poster.host out.poster.greeted letters)
   pub greeted_is : out.poster.greeted ≡ are_some letters
   pub good : drain.failures out.poster.outbox ≡ drain.failures start
-  pub flushes : drain.flushes out.poster.outbox ≡ flushed_times (length letters) (drain.flushes start)
+  pub flushes : drain.flushes out.poster.outbox
+      ≡ flushed_times (length letters) (drain.flushes start)
 
--- after a failure the letters before the failed one are written, and a front of it; the rest of them are kept
-pub record FrontWritten {W : Type 0} (drain : Drain W) (start : W) (out : Outgoing W) (letters : List Letter) : Type 0 where
+-- after a failure the letters before the failed one are written, and a front of it; the rest of
+-- them are kept
+pub record FrontWritten {W : Type 0} (drain : Drain W) (start : W) (out : Outgoing W)
+    (letters : List Letter) : Type 0 where
   pub posted : List Letter
   pub failed : Letter
   pub later : List Letter
   pub unsent_is : out.unsent ≡ failed ∷ later
   pub split : letters ≡ posted ++ (failed ∷ later)
-  pub written : AppendsAtLeast (drain.contents start) (drain.contents out.poster.outbox) (written_of out.poster.host (are_some posted) posted) (written_of out.poster.host true (posted ++ failed ∷ []))
+  pub written : AppendsAtLeast (drain.contents start) (drain.contents out.poster.outbox)
+      (written_of out.poster.host (are_some posted) posted)
+      (written_of out.poster.host true (posted ++ failed ∷ []))
   pub count : drain.failures out.poster.outbox ≡ counted true (drain.failures start)
 
 -- a device whose calls don't fail stays so, and its count of failures stays
 abbrev pub StaysSteady : {W : Type 0} → Drain W → W → W → Type 0
-StaysSteady drain old new = drain.steady old → drain.steady new × (drain.failures new ≡ drain.failures old)
+StaysSteady drain old new =
+    drain.steady old → drain.steady new × (drain.failures new ≡ drain.failures old)
 
 -- these letters were handed on, one after another
-pub record Delivered {W : Type 0} (drain : Drain W) (host : List ℕ) (start : W) (out : Outgoing W) (letters : List Letter) : Type 0 where
+pub record Delivered {W : Type 0} (drain : Drain W) (host : List ℕ) (start : W) (out : Outgoing W)
+    (letters : List Letter) : Type 0 where
   pub host_kept : out.poster.host ≡ host
   pub while_good : out.poster.failed ≡ false → AllWritten drain start out letters
   pub after_fault : out.poster.failed ≡ true → FrontWritten drain start out letters
   pub steady : StaysSteady drain start out.poster.outbox
 
--- how an outbox ended: with the whole text of all letters; or after a failure with the mails of all letters before
--- those that are unsent, and a front of what follows; the device failed once where it isn't whole, and else not;
--- a whole one was flushed once for each letter and once at its end, after all of its text
-pub record IsOutbox {W : Type 0} (drain : Drain W) (host : List ℕ) (start end : W) (whole : Bool) (unsent letters : List Letter) : Type 0 where
+-- how an outbox ended: with the whole text of all letters; or after a failure with the mails of all
+-- letters before those that are unsent, and a front of what follows; the device failed once where
+-- it isn't whole, and else not; a whole one was flushed once for each letter and once at its end,
+-- after all of its text
+pub record IsOutbox {W : Type 0} (drain : Drain W) (host : List ℕ) (start end : W) (whole : Bool)
+    (unsent letters : List Letter) : Type 0 where
   pub posted : List Letter
   pub split : letters ≡ posted ++ unsent
-  pub written : AppendsAtLeast (drain.contents start) (drain.contents end) (written_of host (are_some posted) posted) (text_until host posted unsent)
-  pub all_written : whole ≡ true → Appends (drain.contents start) (drain.contents end) (outbox_of host letters)
+  pub written : AppendsAtLeast (drain.contents start) (drain.contents end)
+      (written_of host (are_some posted) posted) (text_until host posted unsent)
+  pub all_written : whole ≡ true
+      → Appends (drain.contents start) (drain.contents end) (outbox_of host letters)
   pub none_unsent : whole ≡ true → unsent ≡ []
   pub count : drain.failures end ≡ counted (not whole) (drain.failures start)
-  pub flushes : whole ≡ true → drain.flushes end ≡ flushed (flushed_times (length letters) (drain.flushes start))
+  pub flushes : whole ≡ true
+      → drain.flushes end ≡ flushed (flushed_times (length letters) (drain.flushes start))
   pub passed_on : whole ≡ true → drain.unflushed end ≡ false
   pub steady : StaysSteady drain start end

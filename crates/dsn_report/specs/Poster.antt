@@ -5,7 +5,8 @@ use Rattle.dsn_report.specs.Outbox.{greeting, goodbye, mail_transaction}
 use Rattle.dsn_report.specs.declared.post_fault.PostFault.{PostFault}
 use Rattle.dsn_report.specs.declared.post_fault.PostFault.TheVariants.{Write, Failed}
 
--- the host that notices come from, the outbox, whether it has been greeted, and whether it has failed
+-- the host that notices come from, the outbox, whether it has been greeted, and whether it has
+-- failed
 pub record Poster (W : Type 0) : Type 0 where
   pub host : List ℕ
   pub outbox : W

@@ -39,7 +39,8 @@ impl<'a> Iterator for HeaderLines<'a> {
 /// A text's first line, and what follows it. A line ends at LF, and a CR before it goes with it.
 #[inline(always)]
 pub(crate) fn first_line(text: &[u8]) -> (&[u8], &[u8])
-    ensures { header_lines text.now ≡ (if length result.0.now == 0 then [] else result.0.now ∷ header_lines result.1.now) }
+    ensures { header_lines text.now
+        ≡ (if length result.0.now == 0 then [] else result.0.now ∷ header_lines result.1.now) }
 {
     match text.find_byte(b'\n') {
         Some(end) => (without_carriage_return(&text[..end]), &text[end + 1..]),

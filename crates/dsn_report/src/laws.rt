@@ -1,5 +1,5 @@
-//! What holds of the notice of every letter. These functions change nothing: their contracts are the
-//! laws. They read their arguments, since what a type keeps is known of a value that is read.
+//! What holds of the notice of every letter. These functions change nothing: their contracts are
+//! the laws. They read their arguments, since what a type keeps is known of a value that is read.
 ghost use Rattle.std.specs.Prelude.{All, IsTrue};
 ghost use Rattle.dsn_outcome.specs.Outcome.{IsLegalOutcome};
 ghost use Rattle.dsn_text.specs.Optional.{is_none_or};

@@ -8,8 +8,8 @@ use crate::held::Held;
 use dsn_device::{Drain, QuietWriter};
 
 /// Writes lines to a drain, each ended by CRLF. It holds texts back until many of them make one
-/// write, or until it is settled. After the drain's first failure it writes nothing more, so that its
-/// callers need not look at each line.
+/// write, or until it is settled. After the drain's first failure it writes nothing more, so that
+/// its callers need not look at each line.
 #[derive(Drop)]
 pub(crate) struct LineWriter<W> {
     pub(crate) writer: QuietWriter<W>,
@@ -49,21 +49,24 @@ impl<W: Drain> LineWriter<W> {
         self.writer.flush();
     }
 
-    /// Writes lines with their ends, from pieces of their text, of which each may reach over the ends
-    /// of lines. It adds no dots: none of the lines may begin with one.
+    /// Writes lines with their ends, from pieces of their text, of which each may reach over the
+    /// ends of lines. It adds no dots: none of the lines may begin with one.
     pub(crate) fn block(&mut self, pieces: &[&[u8]])
-        ensures { (lines : List (List ℕ)) → IsBlock lines (flat_map (λ piece. piece.now) pieces.now) → Wrote W.Drain self.old self.new lines }
+        ensures { (lines : List (List ℕ))
+            → IsBlock lines (flat_map (λ piece. piece.now) pieces.now)
+            → Wrote W.Drain self.old self.new lines }
     {
         for piece in pieces {
             self.piece(piece);
         }
     }
 
-    /// Writes a line that stands with its end behind a dot. The dot is written where the line begins
-    /// with one and dots are added.
+    /// Writes a line that stands with its end behind a dot. The dot is written where the line
+    /// begins with one and dots are added.
     pub(crate) fn dotted_line(&mut self, dotted: &[u8])
         requires { 0 < length dotted.now }
-        ensures { (line : List ℕ) → dotted.now ≡ codes "." ++ line ++ codes "\r\n" → Wrote W.Drain self.old self.new (line ∷ []) }
+        ensures { (line : List ℕ) → dotted.now ≡ codes "." ++ line ++ codes "\r\n"
+            → Wrote W.Drain self.old self.new (line ∷ []) }
     {
         let line = &dotted[1..];
         if self.dots && line.starts_with(b".") {

@@ -62,7 +62,9 @@ fn write_notification<'a, W: Drain>(
     letter: &'a Letter,
     boundary: &'a [u8],
 )
-    ensures { Wrote W.Drain lines.old lines.new ([] ∷ part_header boundary.now (codes "Notification") (codes "text/plain; charset=us-ascii") ++ notification site.now letter.now) }
+    ensures { Wrote W.Drain lines.old lines.new
+        ([] ∷ part_header boundary.now (codes "Notification")
+        (codes "text/plain; charset=us-ascii") ++ notification site.now letter.now) }
 {
     lines.block(&[
         b"\r\n--",
@@ -129,7 +131,9 @@ fn write_delivery_status<W: Drain>(
     letter: &Letter,
     boundary: &[u8],
 )
-    ensures { Wrote W.Drain lines.old lines.new ([] ∷ part_header boundary.now (codes "Delivery report") (codes "message/delivery-status") ++ delivery_status site.now letter.now) }
+    ensures { Wrote W.Drain lines.old lines.new
+        ([] ∷ part_header boundary.now (codes "Delivery report") (codes "message/delivery-status")
+        ++ delivery_status site.now letter.now) }
 {
     lines.block(&[
         b"\r\n--",
@@ -194,7 +198,8 @@ fn write_recipient_fields<W: Drain>(lines: &mut LineWriter<W>, outcome: &Outcome
 /// Writes the line of a date, if there is one.
 fn write_date_if_any<W: Drain>(lines: &mut LineWriter<W>, name: &[u8], moment: Option<Stamp>)
     requires { IsTrue (begins_plainly name.now) }
-    ensures { Wrote W.Drain lines.old lines.new (line_if_any name.now (option_map date_text moment)) }
+    ensures { Wrote W.Drain lines.old lines.new
+        (line_if_any name.now (option_map date_text moment)) }
 {
     if let Some(moment) = moment {
         lines.block(&[name, &moment.date(), b"\r\n"]);
@@ -203,7 +208,8 @@ fn write_date_if_any<W: Drain>(lines: &mut LineWriter<W>, name: &[u8], moment: O
 
 /// Writes the empty line before a part, and the part with the returned lines, if there are any.
 fn write_returned_part<W: Drain>(lines: &mut LineWriter<W>, letter: &Letter, boundary: &[u8])
-    ensures { Wrote W.Drain lines.old lines.new ([] ∷ returned_part boundary.now (returned_lines letter.now.draft.header)) }
+    ensures { Wrote W.Drain lines.old lines.new
+        ([] ∷ returned_part boundary.now (returned_lines letter.now.draft.header)) }
 {
     let header = letter.header().bytes();
     if first_line(header).0.is_empty() {

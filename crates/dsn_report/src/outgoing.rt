@@ -39,7 +39,9 @@ impl<W: Drain> Outgoing<W> {
 
     /// Posts a letter, or keeps it where the outbox fails or has failed.
     pub fn hand(&mut self, letter: Letter)
-        ensures { (host : List ℕ) (start : W) (letters : List SealedLog) → Delivered W.Drain host start self.old letters → Delivered W.Drain host start self.new (letters ++ letter ∷ []) }
+        ensures { (host : List ℕ) (start : W) (letters : List SealedLog)
+            → Delivered W.Drain host start self.old letters
+            → Delivered W.Drain host start self.new (letters ++ letter ∷ []) }
     {
         if let Err(fault) = self.poster.post(letter) {
             self.unsent.push(fault.into_letter());
@@ -48,7 +50,9 @@ impl<W: Drain> Outgoing<W> {
 
     /// Posts the letter that a request sealed, if it sealed one.
     pub fn hand_any(&mut self, letter: Option<Letter>)
-        ensures { (host : List ℕ) (start : W) (letters : List SealedLog) → Delivered W.Drain host start self.old letters → Delivered W.Drain host start self.new (letters ++ option_to_list letter) }
+        ensures { (host : List ℕ) (start : W) (letters : List SealedLog)
+            → Delivered W.Drain host start self.old letters
+            → Delivered W.Drain host start self.new (letters ++ option_to_list letter) }
     {
         if let Some(letter) = letter {
             self.hand(letter);
@@ -65,7 +69,9 @@ impl<W: Drain> Outgoing<W> {
 
     /// Ends the outbox.
     pub fn finish(self) -> OutboxEnd<W>
-        ensures { (host : List ℕ) (start : W) (letters : List SealedLog) → Delivered W.Drain host start self letters → IsOutbox W.Drain host start result.outbox result.whole result.unsent letters }
+        ensures { (host : List ℕ) (start : W) (letters : List SealedLog)
+            → Delivered W.Drain host start self letters
+            → IsOutbox W.Drain host start result.outbox result.whole result.unsent letters }
     {
         let Outgoing { poster, unsent } = self;
         let Ended { outbox, whole } = poster.finish();

@@ -29,7 +29,12 @@ impl<W> Model for Poster<W> {
 
     ghost Value = { Poster W };
 
-    ghost view = { λ p. record { host = p.site; outbox = p.lines.writer.drain; greeted = p.greeted; failed = p.lines.writer.failed } };
+    ghost view = { λ p. record {
+      host = p.site;
+      outbox = p.lines.writer.drain;
+      greeted = p.greeted;
+      failed = p.lines.writer.failed;
+    } };
 
     ghost invariant = { λ p. (p.lines.dots ≡ true) × (p.lines.held ≡ []) };
 }
@@ -46,7 +51,12 @@ pub struct Ended<W> {
 impl<W> Poster<W> {
     /// A poster of this site. It writes nothing.
     pub fn new(site: Site, outbox: W) -> Poster<W>
-        ensures { result ≡ record { host = site; outbox = outbox; greeted = false; failed = false } }
+        ensures { result ≡ record {
+          host = site;
+          outbox = outbox;
+          greeted = false;
+          failed = false;
+        } }
     {
         Poster {
             site,
@@ -71,9 +81,14 @@ impl<W: Drain> Poster<W> {
     /// Writes the letter's notice, after the greeting if that isn't written, and then flushes the
     /// outbox, once. After a fault every later call is refused with `Failed`. It takes no memory.
     pub fn post(&mut self, letter: Letter) -> Result<(), PostFault>
-        ensures sent { OnOk result (Appends (W.contents self.old.outbox) (W.contents self.new.outbox) (post_text self.old letter)) }
-        ensures front { OnErr result (AppendsFront (W.contents self.old.outbox) (W.contents self.new.outbox) (post_text self.old letter)) }
-        ensures flushed { WrittenAndFlushed W.Drain self.old.failed self.new.failed self.old.outbox self.new.outbox (post_text self.old letter) }
+        ensures sent { OnOk result
+            (Appends (W.contents self.old.outbox) (W.contents self.new.outbox)
+            (post_text self.old letter)) }
+        ensures front { OnErr result
+            (AppendsFront (W.contents self.old.outbox) (W.contents self.new.outbox)
+            (post_text self.old letter)) }
+        ensures flushed { WrittenAndFlushed W.Drain self.old.failed self.new.failed self.old.outbox
+            self.new.outbox (post_text self.old letter) }
         ensures fault { IfErr result (λ fault. fault ≡ post_fault self.old.failed letter) }
         ensures failed { self.new.failed ≡ is_err result }
         ensures greeted { OnOk result (self.new.greeted ≡ true) }
@@ -83,10 +98,12 @@ impl<W: Drain> Poster<W> {
         ensures later { IsTrue self.old.failed → result ≡ Err (PostFault.Failed letter) }
         ensures nothing { IsTrue self.old.failed → self.new ≡ self.old }
 
-        // It fails where the outbox does: the outbox's count of failures rises there, unless it stands at its end,
-        // and nowhere else.
-        ensures count { W.failures self.new.outbox ≡ counts_failure self.old.failed (is_err result) (W.failures self.old.outbox) }
-        ensures steady { W.steady self.old.outbox → W.steady self.new.outbox × (W.failures self.new.outbox ≡ W.failures self.old.outbox) }
+        // It fails where the outbox does: the outbox's count of failures rises there, unless it
+        // stands at its end, and nowhere else.
+        ensures count { W.failures self.new.outbox
+            ≡ counts_failure self.old.failed (is_err result) (W.failures self.old.outbox) }
+        ensures steady { W.steady self.old.outbox
+            → W.steady self.new.outbox × (W.failures self.new.outbox ≡ W.failures self.old.outbox) }
     {
         if self.lines.writer.has_failed() {
             return Err(PostFault::Failed(letter));
@@ -103,14 +120,20 @@ impl<W: Drain> Poster<W> {
     /// Ends the session: writes the greeting if it isn't written, and QUIT, and then flushes the
     /// outbox, once. After a fault it does nothing.
     pub fn finish(self) -> Ended<W>
-        ensures sent { IsTrue result.whole → Appends (W.contents self.outbox) (W.contents result.outbox) (finish_text self) }
-        ensures front { IsFalse result.whole → AppendsFront (W.contents self.outbox) (W.contents result.outbox) (finish_text self) }
-        ensures flushed { WrittenAndFlushed W.Drain self.failed (not result.whole) self.outbox result.outbox (finish_text self) }
-        ensures nothing { IsTrue self.failed → result ≡ record { outbox = self.outbox; whole = false } }
+        ensures sent { IsTrue result.whole
+            → Appends (W.contents self.outbox) (W.contents result.outbox) (finish_text self) }
+        ensures front { IsFalse result.whole
+            → AppendsFront (W.contents self.outbox) (W.contents result.outbox) (finish_text self) }
+        ensures flushed { WrittenAndFlushed W.Drain self.failed
+            (not result.whole) self.outbox result.outbox (finish_text self) }
+        ensures nothing { IsTrue self.failed
+            → result ≡ record { outbox = self.outbox; whole = false } }
 
         // Where nothing failed before, `whole` is false exactly where the outbox fails now.
-        ensures count { W.failures result.outbox ≡ counts_failure self.failed (not result.whole) (W.failures self.outbox) }
-        ensures steady { W.steady self.outbox → W.steady result.outbox × (W.failures result.outbox ≡ W.failures self.outbox) }
+        ensures count { W.failures result.outbox
+            ≡ counts_failure self.failed (not result.whole) (W.failures self.outbox) }
+        ensures steady { W.steady self.outbox
+            → W.steady result.outbox × (W.failures result.outbox ≡ W.failures self.outbox) }
     {
         let Poster {
             site,

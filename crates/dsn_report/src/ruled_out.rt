@@ -11,7 +11,8 @@ pub(crate) const NUMBERS: usize = 2_980;
 
 /// Which numbers the returned lines of a header rule out, for boundaries that begin so.
 pub(crate) fn numbers_ruled_out(front: &[u8], header: &[u8]) -> [bool; NUMBERS]
-    ensures { (number : ℕ) → number < NUMBERS → slice_index_or result number false ≡ rules_out front.now header.now number }
+    ensures { (number : ℕ) → number < NUMBERS
+        → slice_index_or result number false ≡ rules_out front.now header.now number }
 {
     let mut ruled_out = [false; NUMBERS];
     let mut shown = [0; LINE_ROOM];
@@ -38,16 +39,23 @@ pub(crate) fn first_free(ruled_out: &[bool; NUMBERS]) -> Option<usize>
 
 /// The number that a line rules out, if it rules one out.
 fn number_ruled_out(front: &[u8], line: &[u8]) -> Option<usize>
-    ensures some { IfSome result (λ number. (number < 10000) × IsTrue (is_delimiter (front.now ++ four_digits number) line.now)) }
-    ensures none { IfNone result ((number : ℕ) → number < 10000 → IsFalse (is_delimiter (front.now ++ four_digits number) line.now)) }
+    ensures some { IfSome result
+        (λ number. (number < 10000)
+        × IsTrue (is_delimiter (front.now ++ four_digits number) line.now)) }
+    ensures none { IfNone result
+        ((number : ℕ) → number < 10000
+        → IsFalse (is_delimiter (front.now ++ four_digits number) line.now)) }
 {
     leading_number(line.strip_prefix(b"--")?.strip_prefix(front)?)
 }
 
 /// The number in four digits that a text begins with, if it begins with one.
 fn leading_number(text: &[u8]) -> Option<usize>
-    ensures some { IfSome result (λ number. (number < 10000) × IsTrue (starts_with nat_eq text.now (four_digits number))) }
-    ensures none { IfNone result ((number : ℕ) → number < 10000 → IsFalse (starts_with nat_eq text.now (four_digits number))) }
+    ensures some { IfSome result
+        (λ number. (number < 10000) × IsTrue (starts_with nat_eq text.now (four_digits number))) }
+    ensures none { IfNone result
+        ((number : ℕ) → number < 10000
+        → IsFalse (starts_with nat_eq text.now (four_digits number))) }
 {
     let [thousands, hundreds, tens, ones, ..] = *text else {
         return None;

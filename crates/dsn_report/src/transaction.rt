@@ -19,7 +19,8 @@ pub(crate) fn send_letter<W: Drain>(
 )
     requires dots { lines.old.dots ≡ true }
     requires none_held { lines.old.held ≡ [] }
-    ensures sent { Writes W.Drain lines.old.writer lines.new.writer ((if greeted then [] else greeting site.now) ++ mail_transaction site.now letter.now) }
+    ensures sent { Writes W.Drain lines.old.writer lines.new.writer
+        ((if greeted then [] else greeting site.now) ++ mail_transaction site.now letter.now) }
     ensures dots { lines.new.dots ≡ true }
     ensures none_held { lines.new.held ≡ [] }
 {
@@ -31,7 +32,8 @@ pub(crate) fn send_letter<W: Drain>(
 /// Sends what ends the session, after what opens it unless that is sent.
 pub(crate) fn send_goodbye<W: Drain>(lines: &mut LineWriter<W>, site: &Site, greeted: bool)
     requires { lines.old.held ≡ [] }
-    ensures { Writes W.Drain lines.old.writer lines.new.writer ((if greeted then [] else greeting site.now) ++ goodbye) }
+    ensures { Writes W.Drain lines.old.writer lines.new.writer
+        ((if greeted then [] else greeting site.now) ++ goodbye) }
 {
     greet_once(lines, site, greeted);
     write_goodbye(lines);

@@ -28,8 +28,8 @@ action_of_byte byte =
     else (if byte == 4 then Some Relayed
     else (if byte == 5 then Some Expanded else None))))
 
--- which class of status, `2`, `4` or `5`, stands with an action (this project's profile, after RFC 3464 section 2.3.3
--- and RFC 3463 section 2)
+-- which class of status, `2`, `4` or `5`, stands with an action (this project's profile, after RFC
+-- 3464 section 2.3.3 and RFC 3463 section 2)
 abbrev pub fits_class : Action → ℕ → Bool
 fits_class Failed class = (class == 52) || (class == 53)
 fits_class Delayed class = class == 52
@@ -37,8 +37,8 @@ fits_class Delivered class = class == 50
 fits_class Relayed class = class == 50
 fits_class Expanded class = class == 50
 
--- whether an action stands with what is said of until when delivery is tried: only a delayed recipient's is tried again
--- (RFC 3464 section 2.3.9)
+-- whether an action stands with what is said of until when delivery is tried: only a delayed
+-- recipient's is tried again (RFC 3464 section 2.3.9)
 abbrev pub fits_retry : Action → Option ℕ → Bool
 fits_retry Failed retry_until = is_none retry_until
 fits_retry Delayed retry_until = true

@@ -11,6 +11,9 @@ use Rattle.dsn_text.specs.declared.key.Key.{Key}
 abbrev pub same_key : Key → Key → Bool
 same_key a b = same_service a.service b.service && bytes_eq a.id b.id
 
--- the order of keys: by the service's byte, then by the bytes of the queue id, a front of another before it
+-- the order of keys: by the service's byte, then by the bytes of the queue id, a front of another
+-- before it
 abbrev pub key_cmp : Key → Key → Ordering
-key_cmp a b = ordering_then (nat_cmp (service_byte a.service) (service_byte b.service)) (slice_cmp nat_cmp a.id b.id)
+key_cmp a b =
+    ordering_then (nat_cmp (service_byte a.service) (service_byte b.service))
+    (slice_cmp nat_cmp a.id b.id)

@@ -20,7 +20,8 @@ service_letter Trace = 84
 -- the service that has this byte, if one has
 abbrev pub service_of_byte : ℕ → Option Service
 service_of_byte byte =
-    if byte == 1 then Some Bounce else (if byte == 2 then Some Defer else (if byte == 3 then Some Trace else None))
+    if byte == 1 then Some Bounce
+    else (if byte == 2 then Some Defer else (if byte == 3 then Some Trace else None))
 
 -- whether two services are the same one
 abbrev pub same_service : Service → Service → Bool

@@ -1,4 +1,5 @@
--- Status codes: a class, a subject and a detail, joined by dots (RFC 3463 section 2, RFC 3464 section 2.3.4).
+-- Status codes: a class, a subject and a detail, joined by dots (RFC 3463 section 2, RFC 3464
+-- section 2.3.4).
 use Rattle.std.specs.Prelude.{◌≡◌, ℕ, Bool, false, ◌&&◌, ◌||◌, not, ◌==◌, nat_lt, List, [], ◌∷◌, ◌++◌, length, codes, IsTrue}
 use Rattle.std.specs.List.{before_first, after_first}
 use Rattle.dsn_text.specs.Text.{is_digit, is_text}
@@ -40,10 +41,12 @@ is_class_text (class ∷ rest) = is_class class && length rest == 0
 
 -- two numbers with a dot between them
 abbrev pub is_number_pair : List ℕ → Bool
-is_number_pair text = is_number_text (before_first is_dot text) && is_number_text (after_first is_dot text)
+is_number_pair text =
+    is_number_text (before_first is_dot text) && is_number_text (after_first is_dot text)
 
 abbrev pub is_status_code : List ℕ → Bool
-is_status_code text = is_class_text (before_first is_dot text) && is_number_pair (after_first is_dot text)
+is_status_code text =
+    is_class_text (before_first is_dot text) && is_number_pair (after_first is_dot text)
 
 -- the class of a status code, its first byte
 abbrev pub status_class : List ℕ → ℕ

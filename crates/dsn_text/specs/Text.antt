@@ -36,7 +36,8 @@ allows Printable = is_printable
 
 -- a text of at least so many and at most so many bytes, all of them allowed
 abbrev pub is_text : (ℕ → Bool) → ℕ → ℕ → List ℕ → Bool
-is_text allowed least most text = (nat_le least (length text) && nat_le (length text) most) && list_all allowed text
+is_text allowed least most text =
+    (nat_le least (length text) && nat_le (length text) most) && list_all allowed text
 
 -- a queue id, the name of a message's log (this project's profile)
 abbrev pub is_queue_id : List ℕ → Bool
@@ -62,7 +63,8 @@ is_clean = is_text is_printable 0 800
 abbrev pub is_remark : List ℕ → Bool
 is_remark = is_text is_printable 1 800
 
--- the bytes of a diagnostic or a reason are kept, but that `?` stands for each that is not printable
+-- the bytes of a diagnostic or a reason are kept, but that `?` stands for each that is not
+-- printable
 abbrev pub clean_byte : ℕ → ℕ
 clean_byte byte = if is_printable byte then byte else 63
 

@@ -28,7 +28,8 @@ impl Model for Status {
 
     ghost view = { λ s. take s.len s.buffer };
 
-    ghost invariant = { λ s. IsTrue (is_status_code (take s.len s.buffer)) × IsPadded 9 s.buffer s.len };
+    ghost invariant = { λ s. IsTrue (is_status_code (take s.len s.buffer))
+        × IsPadded 9 s.buffer s.len };
 
     ghost inverse = { λ t. record { buffer = t ++ replicate (9 - length t) 0; len = length t } };
 

@@ -33,34 +33,44 @@ pub record AppendsThenPart (old new : Option (List ℕ)) (text ending : List ℕ
   pub split : ending ≡ part ++ lost
   pub appended : Appends old new (text ++ part)
 
--- what the notes gained, by whether the reading ended with a line that could not be written, and whether any line was
--- lost: all lines; the lines of all answers, and of the end's a part alone; or the lines of all answers but the last, and
--- of its line a part alone
-abbrev pub NotesSent : Bool → Bool → Option (List ℕ) → Option (List ℕ) → List Spoken → List ℕ → Type 0
-NotesSent false false old new answers ending = Appends old new (answer_lines_from 0 answers ++ ending)
-NotesSent false true old new answers ending = AppendsThenPart old new (answer_lines_from 0 answers) ending
+-- what the notes gained, by whether the reading ended with a line that could not be written, and
+-- whether any line was lost: all lines; the lines of all answers, and of the end's a part alone; or
+-- the lines of all answers but the last, and of its line a part alone
+abbrev pub NotesSent : Bool → Bool → Option (List ℕ) → Option (List ℕ) → List Spoken → List ℕ
+    → Type 0
+NotesSent false false old new answers ending =
+    Appends old new (answer_lines_from 0 answers ++ ending)
+NotesSent false true old new answers ending =
+    AppendsThenPart old new (answer_lines_from 0 answers) ending
 NotesSent true false old new answers ending = ⊥
 NotesSent true true old new answers ending = LosesLast answer_line answer_lines_from old new answers
 
-module _ {R W N : Type 0} (input_device : Source R) (outbox_device : Drain W) (notes_device : Drain N) where
-  -- a run over an input: its frames, the bodies asked among them and the answers are a session, which ended so; the
-  -- replies are those of the history of the requests that the bodies make, as agent 0; the outbox has the notices of
-  -- the letters that the requests' history sealed, or a prefix of their text after a failure; the notes are the lines
-  -- of the answers and of the end, or a part of them after a failure; and each device failed once where the run says
-  -- that it failed, and else not
-  pub record IsBatch (limits : Limits) (host : List ℕ) (input now : R) (start : W) (notes later : N) (end : BatchEnd W) : Type 0 where
+module _ {R W N : Type 0} (input_device : Source R) (outbox_device : Drain W)
+    (notes_device : Drain N) where
+  -- a run over an input: its frames, the bodies asked among them and the answers are a session,
+  -- which ended so; the replies are those of the history of the requests that the bodies make, as
+  -- agent 0; the outbox has the notices of the letters that the requests' history sealed, or a
+  -- prefix of their text after a failure; the notes are the lines of the answers and of the end, or
+  -- a part of them after a failure; and each device failed once where the run says that it failed,
+  -- and else not
+  pub record IsBatch (limits : Limits) (host : List ℕ) (input now : R) (start : W)
+      (notes later : N) (end : BatchEnd W) : Type 0 where
     pub frames : List (List ℕ)
     pub bodies : List Body
     pub answers : List Spoken
     pub reading : Option ℕ
-    pub session : IsSession Input limits.requests 0 (input_device.remaining input) (input_device.remaining now) frames bodies answers reading
-    pub read_count : input_device.failures now ≡ counted (ended_with 14 reading) (input_device.failures input)
+    pub session : IsSession Input limits.requests 0 (input_device.remaining input)
+        (input_device.remaining now) frames bodies answers reading
+    pub read_count : input_device.failures now
+        ≡ counted (ended_with 14 reading) (input_device.failures input)
     pub replies : AreReplies limits answers (requests_of bodies)
-    pub outbox : IsOutbox outbox_device host start end.outbox end.whole end.unsent (sealed_letters (history_of limits (requests_of bodies)))
+    pub outbox : IsOutbox outbox_device host start end.outbox end.whole end.unsent
+        (sealed_letters (history_of limits (requests_of bodies)))
     pub logs : Option (List OpenLine)
     pub logs_are : AreOpenLines (history_of limits (requests_of bodies)) logs
     pub lost : Bool
-    pub notes_sent : NotesSent (ended_with 33 reading) lost (notes_device.contents notes) (notes_device.contents later) answers (end_lines reading end.whole end.unsent logs)
+    pub notes_sent : NotesSent (ended_with 33 reading) lost (notes_device.contents notes)
+        (notes_device.contents later) answers (end_lines reading end.whole end.unsent logs)
     pub notes_count : notes_device.failures later ≡ counted lost (notes_device.failures notes)
     pub notes_steady : StaysSteady notes_device notes later
     pub fault_is : end.fault ≡ (if lost then Some 33 else reading)

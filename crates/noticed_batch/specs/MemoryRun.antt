@@ -1,5 +1,5 @@
--- Runs over memory: what the bytes of an input put into an outbox and notes that are both empty before. It is a run over
--- devices that tell their bytes.
+-- Runs over memory: what the bytes of an input put into an outbox and notes that are both empty
+-- before. It is a run over devices that tell their bytes.
 use Rattle.std.specs.Prelude.{◌≡◌, ℕ, Bool, false, List, [], Some, None}
 use Rattle.dsn_device.specs.declared.drain.Drain.{Ghosts as Drain}
 use Rattle.dsn_device.specs.declared.source.Source.{Ghosts as Source}
@@ -10,10 +10,18 @@ use Rattle.noticed_batch.specs.declared.memory_run.MemoryRun.{MemoryRun}
 
 -- bytes in memory that are read: no read of them fails
 abbrev pub memory_source : Source (List ℕ)
-memory_source = record { remaining = λ bytes. Some bytes; holds = λ bytes. None; flushes = λ bytes. 0; unflushed = λ bytes. false; failures = λ bytes. 0; steady = λ bytes. Unit {0} }
+memory_source =
+    record {
+      remaining = λ bytes. Some bytes;
+      holds = λ bytes. None;
+      flushes = λ bytes. 0;
+      unflushed = λ bytes. false;
+      failures = λ bytes. 0;
+      steady = λ bytes. Unit {0};
+    }
 
--- bytes in memory that are written, how many of the calls that wrote them failed, how often they were flushed, and
--- whether bytes were taken since the last flush that went well
+-- bytes in memory that are written, how many of the calls that wrote them failed, how often they
+-- were flushed, and whether bytes were taken since the last flush that went well
 pub record Memory : Type 0 where
   pub bytes : List ℕ
   pub failures : ℕ
@@ -35,14 +43,22 @@ no_bytes = record { bytes = []; failures = 0; flushes = 0; unflushed = false }
 
 -- how a run over memory ended, as a run
 abbrev pub end_in_memory : MemoryRun → Memory → BatchEnd Memory
-end_in_memory end outbox = record { outbox = outbox; whole = end.whole; fault = end.fault; unsent = end.unsent; status = end.status }
+end_in_memory end outbox =
+    record {
+      outbox = outbox;
+      whole = end.whole;
+      fault = end.fault;
+      unsent = end.unsent;
+      status = end.status;
+    }
 
--- the bytes of the input, from what they were to what was left unread, are run into an outbox and notes, whose bytes
--- are these
+-- the bytes of the input, from what they were to what was left unread, are run into an outbox and
+-- notes, whose bytes are these
 pub record IsMemoryRun (limits : Limits) (host input : List ℕ) (end : MemoryRun) : Type 0 where
   pub unread : List ℕ
   pub outbox : Memory
   pub outbox_is : outbox.bytes ≡ end.outbox.items
   pub notes : Memory
   pub notes_is : notes.bytes ≡ end.notes.items
-  pub run : IsBatch memory_source memory_drain memory_drain limits host input unread no_bytes no_bytes notes (end_in_memory end outbox)
+  pub run : IsBatch memory_source memory_drain memory_drain limits host input unread no_bytes
+      no_bytes notes (end_in_memory end outbox)

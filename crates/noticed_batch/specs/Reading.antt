@@ -14,13 +14,16 @@ use Rattle.noticed_batch.specs.declared.reading_end.ReadingEnd.{ReadingEnd}
 use Rattle.noticed_batch.specs.declared.run.Run.{Run}
 use Rattle.dsn_body.specs.declared.spoken.Spoken.{Spoken}
 
-module _ {R W N : Type 0} (input_device : Source R) (outbox_device : Drain W) (notes_device : Drain N) where
+module _ {R W N : Type 0} (input_device : Source R) (outbox_device : Drain W)
+    (notes_device : Drain N) where
   -- so many frames were read and answered, and nothing failed
-  pub record HeardSoFar (limits : Limits) (host : List ℕ) (start : W) (count : ℕ) (input now : R) (run : Run W) (notes later : N) : Type 0 where
+  pub record HeardSoFar (limits : Limits) (host : List ℕ) (start : W) (count : ℕ) (input now : R)
+      (run : Run W) (notes later : N) : Type 0 where
     pub frames : List (List ℕ)
     pub bodies : List Body
     pub answers : List Spoken
-    pub session : IsOpenSession Input limits.requests 0 (input_device.remaining input) (input_device.remaining now) frames bodies answers
+    pub session : IsOpenSession Input limits.requests 0 (input_device.remaining input)
+        (input_device.remaining now) frames bodies answers
     pub replies : AreReplies limits answers (requests_of bodies)
     pub stands : Stands outbox_device limits host start run (requests_of bodies)
     pub told : AnswersTold notes_device false notes later answers
@@ -28,14 +31,17 @@ module _ {R W N : Type 0} (input_device : Source R) (outbox_device : Drain W) (n
     pub frames_counted : length frames ≡ count
     pub answers_counted : length answers ≡ count
 
-  -- what the whole input came to: a session, the end of the reading, and the lines of its answers; the reader failed
-  -- once where that ended the reading, and else not
-  pub record Heard (limits : Limits) (host : List ℕ) (start : W) (input now : R) (run : Run W) (notes later : N) (end : ReadingEnd) : Type 0 where
+  -- what the whole input came to: a session, the end of the reading, and the lines of its answers;
+  -- the reader failed once where that ended the reading, and else not
+  pub record Heard (limits : Limits) (host : List ℕ) (start : W) (input now : R) (run : Run W)
+      (notes later : N) (end : ReadingEnd) : Type 0 where
     pub frames : List (List ℕ)
     pub bodies : List Body
     pub answers : List Spoken
-    pub session : IsSession Input limits.requests 0 (input_device.remaining input) (input_device.remaining now) frames bodies answers (reading_code end)
+    pub session : IsSession Input limits.requests 0 (input_device.remaining input)
+        (input_device.remaining now) frames bodies answers (reading_code end)
     pub replies : AreReplies limits answers (requests_of bodies)
     pub stands : Stands outbox_device limits host start run (requests_of bodies)
     pub told : AnswersTold notes_device (is_notes_lost end) notes later answers
-    pub read_count : input_device.failures now ≡ counted (is_read_failed end) (input_device.failures input)
+    pub read_count : input_device.failures now
+        ≡ counted (is_read_failed end) (input_device.failures input)

@@ -1,4 +1,5 @@
--- Ends of a reading: how the reading of an input ends, and the number of its fault (this project's profile).
+-- Ends of a reading: how the reading of an input ends, and the number of its fault (this project's
+-- profile).
 use Rattle.std.specs.Prelude.{ℕ, Bool, true, false, List, Option, Some, None, Err}
 use Rattle.dsn_frame.specs.FrameFault.{frame_fault_code, source_failed}
 use Rattle.noticed_batch.specs.declared.reading_end.ReadingEnd.{ReadingEnd}

@@ -1,4 +1,5 @@
--- The requests of an input that is read alone: which they are, and what they are answered (this project's profile).
+-- The requests of an input that is read alone: which they are, and what they are answered (this
+-- project's profile).
 use Rattle.std.specs.Prelude.{◌≡◌, ℕ, ◌+◌, List, [], ◌∷◌, length, map}
 use Rattle.std.specs.List.{flat_map}
 use Rattle.dsn_body.specs.Spoken.{reply_of}
@@ -9,7 +10,8 @@ use Rattle.dsn_outcome.specs.Request.{Request, Body}
 -- the requests that bodies make: of agent 0, numbered one after another
 unfoldable pub requests_from : ℕ → List Body → List Request
 requests_from number [] = []
-requests_from number (body ∷ rest) = record { agent = 0; number = number; body = body } ∷ requests_from (number + 1) rest
+requests_from number (body ∷ rest) =
+    record { agent = 0; number = number; body = body } ∷ requests_from (number + 1) rest
 
 abbrev pub requests_of : List Body → List Request
 requests_of bodies = requests_from 0 bodies
@@ -19,5 +21,7 @@ abbrev pub next_request : List Request → Body → Request
 next_request requests body = record { agent = 0; number = length requests; body = body }
 
 -- the replies among answers are those that the history of the requests defines, in order
-pub record AreReplies (limits : Limits) (answers : List Spoken) (requests : List Request) : Type 0 where
-  pub replies : flat_map reply_of answers ≡ map (λ answer. answer.reply) (answers_to 0 (history_of limits requests))
+pub record AreReplies (limits : Limits) (answers : List Spoken)
+    (requests : List Request) : Type 0 where
+  pub replies : flat_map reply_of answers
+      ≡ map (λ answer. answer.reply) (answers_to 0 (history_of limits requests))

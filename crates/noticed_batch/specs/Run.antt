@@ -13,15 +13,19 @@ use Rattle.noticed_batch.specs.declared.run.Run.{Run}
 use Rattle.noticed_batch.specs.declared.turn.Turn.{Turn}
 
 -- the book stands for the requests' history, and the letters of that history were handed on
-pub record Stands {W : Type 0} (outbox_device : Drain W) (limits : Limits) (host : List ℕ) (start : W) (run : Run W) (requests : List Request) : Type 0 where
+pub record Stands {W : Type 0} (outbox_device : Drain W) (limits : Limits) (host : List ℕ)
+    (start : W) (run : Run W) (requests : List Request) : Type 0 where
   pub limits_kept : run.book.limits ≡ limits
   pub book : Represents run.book (history_of limits requests)
   pub count : run.accepted ≡ length requests
-  pub letters : Delivered outbox_device host start run.outgoing (sealed_letters (history_of limits requests))
+  pub letters : Delivered outbox_device host start run.outgoing
+      (sealed_letters (history_of limits requests))
 
 -- a request was taken, and the run stands for the requests with it
-pub record Asks {W : Type 0} (outbox_device : Drain W) (limits : Limits) (host : List ℕ) (start : W) (run : Run W) (before : List Request) (body : Body) (turn : Turn) : Type 0 where
-  pub answer_is : turn.answer ≡ spoken.Reply (reply_to limits (history_of limits before) (next_request before body))
+pub record Asks {W : Type 0} (outbox_device : Drain W) (limits : Limits) (host : List ℕ)
+    (start : W) (run : Run W) (before : List Request) (body : Body) (turn : Turn) : Type 0 where
+  pub answer_is : turn.answer
+      ≡ spoken.Reply (reply_to limits (history_of limits before) (next_request before body))
   pub goes_on : turn.over ≡ false
   pub stands : Stands outbox_device limits host start run (before ++ next_request before body ∷ [])
 
@@ -30,8 +34,14 @@ abbrev pub end_after : Bool → Option ℕ
 end_after over = if over then Some 46 else None
 
 -- a frame was answered as a session answers it, and the run stands for the requests after it
-pub record Answered {W : Type 0} (outbox_device : Drain W) (limits : Limits) (host : List ℕ) (start : W) (run : Run W) (before : List Request) (position : ℕ) (bytes : List ℕ) (turn : Turn) : Type 0 where
+pub record Answered {W : Type 0} (outbox_device : Drain W) (limits : Limits) (host : List ℕ)
+    (start : W) (run : Run W) (before : List Request) (position : ℕ) (bytes : List ℕ)
+    (turn : Turn) : Type 0 where
   pub asked : List Body
-  pub takes : Takes Input limits.requests (length before) position bytes asked (turn.answer ∷ []) (end_after turn.over)
-  pub replies : (answers : List Spoken) → AreReplies limits answers before → AreReplies limits (answers ++ turn.answer ∷ []) (before ++ requests_from (length before) asked)
-  pub stands : Stands outbox_device limits host start run (before ++ requests_from (length before) asked)
+  pub takes : Takes Input limits.requests (length before) position bytes asked (turn.answer ∷ [])
+      (end_after turn.over)
+  pub replies : (answers : List Spoken) → AreReplies limits answers before
+      → AreReplies limits (answers ++ turn.answer ∷ [])
+      (before ++ requests_from (length before) asked)
+  pub stands : Stands outbox_device limits host start run
+      (before ++ requests_from (length before) asked)

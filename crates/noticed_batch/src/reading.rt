@@ -24,9 +24,12 @@ pub(crate) fn read_all<R: Source, W: Drain, N: Drain>(
 ) -> ReadingEnd
     requires accepted { run.old.accepted ≡ 0 }
     requires sealed { run.old.book.sealed ≡ 0 }
-    ensures heard { (limits : Bounds) (host : List ℕ) (start : W) → limits.requests ≡ requests → Stands W.Drain limits host start run.old (requests_of []) →
-        Heard R.Source W.Drain N.Drain limits host start input.old input.new run.new notes.old notes.new result }
-    ensures steady { R.steady input.old → R.steady input.new × (R.failures input.new ≡ R.failures input.old) }
+    ensures heard { (limits : Bounds) (host : List ℕ) (start : W) → limits.requests ≡ requests
+        → Stands W.Drain limits host start run.old (requests_of [])
+        → Heard R.Source W.Drain N.Drain limits host start input.old input.new run.new
+        notes.old notes.new result }
+    ensures steady { R.steady input.old
+        → R.steady input.new × (R.failures input.new ≡ R.failures input.old) }
 {
     let mut buffer = FrameBuffer::new(alloc);
     for position in 0..requests {

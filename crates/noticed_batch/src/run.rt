@@ -26,7 +26,10 @@ impl<W: Drain> Run<W> {
         requires sealed { self.old.book.sealed ≤ self.old.accepted }
         ensures counted { self.new.accepted ≤ self.old.accepted + 1 }
         ensures sealed { self.new.book.sealed ≤ self.new.accepted }
-        ensures answered { (limits : Bounds) (host : List ℕ) (start : W) (requests : List Asked) → Stands W.Drain limits host start self.old requests → length requests < limits.requests → Answered W.Drain limits host start self.new requests position bytes.now result }
+        ensures answered { (limits : Bounds) (host : List ℕ) (start : W) (requests : List Asked)
+            → Stands W.Drain limits host start self.old requests
+            → length requests < limits.requests
+            → Answered W.Drain limits host start self.new requests position bytes.now result }
     {
         match next_request(alloc, position, bytes) {
             Ok(body) => self.ask(body),
@@ -43,7 +46,9 @@ impl<W: Drain> Run<W> {
         requires sealed { self.old.book.sealed ≤ self.old.accepted }
         ensures counted { self.new.accepted ≤ self.old.accepted + 1 }
         ensures sealed { self.new.book.sealed ≤ self.new.accepted }
-        ensures asked { (limits : Bounds) (host : List ℕ) (start : W) (requests : List Asked) → Stands W.Drain limits host start self.old requests → Asks W.Drain limits host start self.new requests (body_of body) result }
+        ensures asked { (limits : Bounds) (host : List ℕ) (start : W) (requests : List Asked)
+            → Stands W.Drain limits host start self.old requests
+            → Asks W.Drain limits host start self.new requests (body_of body) result }
     {
         let request = Request {
             agent: 0,

@@ -42,10 +42,12 @@ pub fn batch<R: Source, W: Drain, N: Drain>(
     outbox: W,
     notes: &mut N,
 ) -> BatchEnd<W>
-    ensures run { IsBatch R.Source W.Drain N.Drain limits.now site input.old input.new outbox notes.old notes.new result }
+    ensures run { IsBatch R.Source W.Drain N.Drain limits.now site input.old input.new outbox
+        notes.old notes.new result }
 
     // A reader whose calls don't fail is not blamed.
-    ensures steady { R.steady input.old → R.steady input.new × (R.failures input.new ≡ R.failures input.old) }
+    ensures steady { R.steady input.old
+        → R.steady input.new × (R.failures input.new ≡ R.failures input.old) }
 {
     let outgoing = Outgoing::new(site, outbox);
     match Book::new(alloc, *limits) {
@@ -74,9 +76,13 @@ fn read_into<R: Source, W: Drain, N: Drain>(
     notes: &mut N,
 ) -> Harvest<W>
     requires { book.sealed ≡ 0 }
-    ensures harvest { (limits : Bounds) (host : List ℕ) (start : W) → limits.requests ≡ requests → book.limits ≡ limits → Represents book [] → Delivered W.Drain host start outgoing [] →
-        Harvested R.Source W.Drain N.Drain limits host start input.old input.new notes.old notes.new result.reading result.outgoing (option_map (λ lines. lines.items) (result_ok result.logs)) }
-    ensures steady { R.steady input.old → R.steady input.new × (R.failures input.new ≡ R.failures input.old) }
+    ensures harvest { (limits : Bounds) (host : List ℕ) (start : W) → limits.requests ≡ requests
+        → book.limits ≡ limits → Represents book [] → Delivered W.Drain host start outgoing []
+        → Harvested R.Source W.Drain N.Drain limits host start input.old input.new
+        notes.old notes.new result.reading result.outgoing
+        (option_map (λ lines. lines.items) (result_ok result.logs)) }
+    ensures steady { R.steady input.old
+        → R.steady input.new × (R.failures input.new ≡ R.failures input.old) }
 {
     let mut run = Run {
         book,
@@ -99,8 +105,11 @@ fn read_into<R: Source, W: Drain, N: Drain>(
 
 /// Ends the outbox, and tells how the run ended.
 fn end<W: Drain, N: Drain>(harvest: Harvest<W>, notes: &mut N) -> BatchEnd<W>
-    ensures { (host : List ℕ) (start : W) (letters : List SealedLog) → Delivered W.Drain host start harvest.outgoing letters →
-        Ended W.Drain N.Drain host start letters harvest.reading (option_map (λ lines. lines.items) (result_ok harvest.logs)) notes.old notes.new result }
+    ensures { (host : List ℕ) (start : W) (letters : List SealedLog)
+        → Delivered W.Drain host start harvest.outgoing letters
+        → Ended W.Drain N.Drain host start letters harvest.reading
+        (option_map (λ lines. lines.items) (result_ok harvest.logs))
+        notes.old notes.new result }
 {
     let Harvest {
         reading,

@@ -35,7 +35,8 @@ answer_line position answer = decimal position ++ codes " " ++ spoken_words answ
 -- the lines of answers to frames from this place on
 unfoldable pub answer_lines_from : ℕ → List Spoken → List ℕ
 answer_lines_from position [] = []
-answer_lines_from position (answer ∷ rest) = answer_line position answer ++ answer_lines_from (suc position) rest
+answer_lines_from position (answer ∷ rest) =
+    answer_line position answer ++ answer_lines_from (suc position) rest
 
 -- the line of a fault
 unfoldable pub fault_line : ℕ → List ℕ
@@ -51,7 +52,8 @@ unsent_line letter = codes "unsent " ++ key_words letter.key ++ codes "\n"
 
 -- the line of a log that is still open, with how many outcomes it has
 unfoldable pub open_line : OpenLine → List ℕ
-open_line line = codes "open " ++ key_words line.key ++ codes " " ++ decimal line.count ++ codes "\n"
+open_line line =
+    codes "open " ++ key_words line.key ++ codes " " ++ decimal line.count ++ codes "\n"
 
 -- the line of a fault, where there is one
 unfoldable pub fault_lines : Option ℕ → List ℕ
@@ -71,6 +73,8 @@ unfoldable pub open_lines : Option (List OpenLine) → List ℕ
 open_lines None = fault_line 9
 open_lines (Some lines) = flat_map open_line lines
 
--- how a run ended: the fault of the reading, an outbox that failed, the letters that were not written, the open logs
+-- how a run ended: the fault of the reading, an outbox that failed, the letters that were not
+-- written, the open logs
 unfoldable pub end_lines : Option ℕ → Bool → List Letter → Option (List OpenLine) → List ℕ
-end_lines fault whole unsent logs = fault_lines fault ++ (outbox_lines whole ++ (unsent_lines unsent ++ open_lines logs))
+end_lines fault whole unsent logs =
+    fault_lines fault ++ (outbox_lines whole ++ (unsent_lines unsent ++ open_lines logs))

@@ -6,7 +6,10 @@ use Rattle.dsn_book.specs.declared.line.OpenLine.{OpenLine}
 use Rattle.dsn_outcome.specs.History.{Exchange}
 use Rattle.dsn_text.specs.Key.{key_cmp}
 
--- the lines of the logs that a history leaves open, in key order; none where their list found no memory
+-- the lines of the logs that a history leaves open, in key order; none where their list found no
+-- memory
 abbrev pub AreOpenLines : List Exchange → Option (List OpenLine) → Type 0
 AreOpenLines history logs =
-    MatchOption logs (Unit {0}) (λ lines. IsPermutation (open_lines_after history) lines × IsSortedByKey (λ (line : OpenLine). line.key) key_cmp lines)
+    MatchOption logs (Unit {0})
+    (λ lines. IsPermutation (open_lines_after history) lines
+    × IsSortedByKey (λ (line : OpenLine). line.key) key_cmp lines)

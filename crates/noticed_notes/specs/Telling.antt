@@ -8,7 +8,9 @@ use Rattle.dsn_report.specs.Outgoing.{StaysSteady}
 use Rattle.noticed_notes.specs.Notes.{answer_line, answer_lines_from}
 
 -- the lines of answers were told, by whether one was lost
-pub record AnswersTold {N : Type 0} (drain : Drain N) (lost : Bool) (old new : N) (answers : List Spoken) : Type 0 where
-  pub sent : AnswersSent answer_line answer_lines_from lost (drain.contents old) (drain.contents new) answers
+pub record AnswersTold {N : Type 0} (drain : Drain N) (lost : Bool) (old new : N)
+    (answers : List Spoken) : Type 0 where
+  pub sent : AnswersSent answer_line answer_lines_from lost (drain.contents old)
+      (drain.contents new) answers
   pub count : drain.failures new ≡ counted lost (drain.failures old)
   pub steady : StaysSteady drain old new

@@ -29,7 +29,9 @@ pub fn tell_end<N: Drain>(
     logs: &Result<Vec<OpenLine>, NoMemory>,
 ) -> Letters
     ensures letters { result ≡ unsent }
-    ensures told { WritesUntilFailure N.Drain telling.old.failed telling.new.failed notes.old notes.new (end_lines fault whole unsent (option_map (λ lines. lines.items) (result_ok logs.now))) }
+    ensures told { WritesUntilFailure N.Drain telling.old.failed telling.new.failed notes.old
+        notes.new
+        (end_lines fault whole unsent (option_map (λ lines. lines.items) (result_ok logs.now))) }
 {
     tell_fault(notes, telling, fault);
     tell_outbox(notes, telling, whole);
@@ -39,7 +41,8 @@ pub fn tell_end<N: Drain>(
 }
 
 fn tell_fault<N: Drain>(notes: &mut N, telling: &mut UntilFailure, fault: Option<u32>)
-    ensures { WritesUntilFailure N.Drain telling.old.failed telling.new.failed notes.old notes.new (fault_lines fault) }
+    ensures { WritesUntilFailure N.Drain telling.old.failed telling.new.failed notes.old notes.new
+        (fault_lines fault) }
 {
     if let Some(code) = fault {
         telling.write(notes, fault_line(code).bytes());
@@ -47,7 +50,8 @@ fn tell_fault<N: Drain>(notes: &mut N, telling: &mut UntilFailure, fault: Option
 }
 
 fn tell_outbox<N: Drain>(notes: &mut N, telling: &mut UntilFailure, whole: bool)
-    ensures { WritesUntilFailure N.Drain telling.old.failed telling.new.failed notes.old notes.new (outbox_lines whole) }
+    ensures { WritesUntilFailure N.Drain telling.old.failed telling.new.failed notes.old notes.new
+        (outbox_lines whole) }
 {
     if !whole {
         telling.write(notes, fault_line(OUTBOX).bytes());
@@ -56,7 +60,8 @@ fn tell_outbox<N: Drain>(notes: &mut N, telling: &mut UntilFailure, whole: bool)
 
 fn tell_unsent<N: Drain>(notes: &mut N, telling: &mut UntilFailure, unsent: Letters) -> Letters
     ensures letters { result ≡ unsent }
-    ensures told { WritesUntilFailure N.Drain telling.old.failed telling.new.failed notes.old notes.new (unsent_lines unsent) }
+    ensures told { WritesUntilFailure N.Drain telling.old.failed telling.new.failed notes.old
+        notes.new (unsent_lines unsent) }
 {
     let mut rest = unsent;
     let mut kept = Letters::new();
@@ -72,7 +77,8 @@ fn tell_open<N: Drain>(
     telling: &mut UntilFailure,
     logs: &Result<Vec<OpenLine>, NoMemory>,
 )
-    ensures { WritesUntilFailure N.Drain telling.old.failed telling.new.failed notes.old notes.new (open_lines (option_map (λ lines. lines.items) (result_ok logs.now))) }
+    ensures { WritesUntilFailure N.Drain telling.old.failed telling.new.failed notes.old notes.new
+        (open_lines (option_map (λ lines. lines.items) (result_ok logs.now))) }
 {
     match logs {
         Ok(lines) => tell_lines(notes, telling, lines.as_slice()),
@@ -81,7 +87,8 @@ fn tell_open<N: Drain>(
 }
 
 fn tell_lines<N: Drain>(notes: &mut N, telling: &mut UntilFailure, lines: &[OpenLine])
-    ensures { WritesUntilFailure N.Drain telling.old.failed telling.new.failed notes.old notes.new (flat_map open_line lines.now) }
+    ensures { WritesUntilFailure N.Drain telling.old.failed telling.new.failed notes.old notes.new
+        (flat_map open_line lines.now) }
 {
     for line in lines {
         telling.write(notes, open_line(line).bytes());

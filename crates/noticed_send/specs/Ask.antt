@@ -28,17 +28,25 @@ pub record IsFaulty (unread left : Option (List ℕ)) (fault : AnswerFault) : Ty
   pub got : ReadsNext unread left (Some body)
   pub first : first_answer_fault body ≡ Some fault
 
--- the frame of this body was sent at its place, from what the daemon was `sent` to what it was sent `later`; and of what
--- the daemon had to say, `unread`, the rest is `left`. So it was answered, or this fault was met
-abbrev pub IsAsked : ℕ → List ℕ → Option (List ℕ) → Option (List ℕ) → Option (List ℕ) → Option (List ℕ) → Result Spoken SendFault → Type 0
-IsAsked place bytes sent later unread left (Ok answer) = Appends sent later (frame bytes) × IsAnswer place unread left answer
+-- the frame of this body was sent at its place, from what the daemon was `sent` to what it was sent
+-- `later`; and of what the daemon had to say, `unread`, the rest is `left`. So it was answered, or
+-- this fault was met
+abbrev pub IsAsked : ℕ → List ℕ → Option (List ℕ) → Option (List ℕ) → Option (List ℕ)
+    → Option (List ℕ) → Result Spoken SendFault → Type 0
+IsAsked place bytes sent later unread left (Ok answer) =
+    Appends sent later (frame bytes) × IsAnswer place unread left answer
 -- a part of the frame was written, and not all of it; nothing was read
-IsAsked place bytes sent later unread left (Err NotSent) = AppendsPart sent later (frame bytes) × Keeps unread left
+IsAsked place bytes sent later unread left (Err NotSent) =
+    AppendsPart sent later (frame bytes) × Keeps unread left
 -- the daemon had no more to say
-IsAsked place bytes sent later unread left (Err Unanswered) = Appends sent later (frame bytes) × ReadsNext unread left None
-IsAsked place bytes sent later unread left (Err (AnswerFrame fault)) = Appends sent later (frame bytes) × ReadsNone unread left fault
-IsAsked place bytes sent later unread left (Err (Answer fault)) = Appends sent later (frame bytes) × IsFaulty unread left fault
-IsAsked place bytes sent later unread left (Err OutOfTurn) = Appends sent later (frame bytes) × IsOutOfTurn place unread left
+IsAsked place bytes sent later unread left (Err Unanswered) =
+    Appends sent later (frame bytes) × ReadsNext unread left None
+IsAsked place bytes sent later unread left (Err (AnswerFrame fault)) =
+    Appends sent later (frame bytes) × ReadsNone unread left fault
+IsAsked place bytes sent later unread left (Err (Answer fault)) =
+    Appends sent later (frame bytes) × IsFaulty unread left fault
+IsAsked place bytes sent later unread left (Err OutOfTurn) =
+    Appends sent later (frame bytes) × IsOutOfTurn place unread left
 -- other faults aren't met there
 IsAsked place bytes sent later unread left (Err (Input fault)) = ⊥
 IsAsked place bytes sent later unread left (Err TooMany) = ⊥

@@ -29,7 +29,8 @@ pub fn send<R: Source, S: Stream, N: Drain>(
     stream: &mut S,
     notes: &mut N,
 ) -> SendEnd
-    ensures { IsSend R.Source S.Source S.Drain N.Drain input.old input.new stream.old stream.new notes.old notes.new result }
+    ensures { IsSend R.Source S.Source S.Drain N.Drain input.old input.new stream.old stream.new
+        notes.old notes.new result }
 {
     match hand_over(alloc, input, stream, notes) {
         Ok(()) => SendEnd {
@@ -50,7 +51,8 @@ fn hand_over<R: Source, S: Stream, N: Drain>(
     stream: &mut S,
     notes: &mut N,
 ) -> Result<(), SendFault>
-    ensures { HandsOver R.Source S.Source S.Drain N.Drain input.old input.new stream.old stream.new notes.old notes.new (result_err result) }
+    ensures { HandsOver R.Source S.Source S.Drain N.Drain input.old input.new stream.old stream.new
+        notes.old notes.new (result_err result) }
 {
     let mut frames = FrameBuffer::new(alloc);
     let mut answers = FrameBuffer::new(alloc);
@@ -82,8 +84,10 @@ fn ask<S: Stream>(
     position: u32,
     frame: &FrameRef<'_>,
 ) -> Result<Spoken, SendFault>
-    ensures asked { IsAsked position frame.now (S.contents stream.old) (S.contents stream.new) (S.remaining stream.old) (S.remaining stream.new) result }
-    ensures counts { Counts (S.Source.failures) (S.Source.flushes) (S.Source.steady) (is_stream_failed (result_err result)) stream.old stream.new }
+    ensures asked { IsAsked position frame.now (S.contents stream.old) (S.contents stream.new)
+        (S.remaining stream.old) (S.remaining stream.new) result }
+    ensures counts { Counts (S.Source.failures) (S.Source.flushes) (S.Source.steady)
+        (is_stream_failed (result_err result)) stream.old stream.new }
 {
     if dsn_device::send(stream, frame.bytes()).is_err() {
         return Err(SendFault::NotSent);

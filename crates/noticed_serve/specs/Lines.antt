@@ -8,10 +8,13 @@ use Rattle.dsn_crew.specs.declared.crew_cause.CrewCause.{CrewCause}
 use Rattle.dsn_outcome.specs.Letter.{Letter}
 use Rattle.noticed_notes.specs.Notes.{end_lines, fault_line, unsent_lines}
 
--- the line of an agent: how many requests it made, how many connections it served, and how many of them ended with a fault
+-- the line of an agent: how many requests it made, how many connections it served, and how many of
+-- them ended with a fault
 unfoldable pub agent_line : ℕ → AgentLine → List ℕ
 agent_line agent line =
-    codes "agent " ++ decimal agent ++ codes " requests " ++ decimal line.requests ++ codes " connections " ++ decimal line.connections ++ codes " faults " ++ decimal line.faults ++ codes "\n"
+    codes "agent " ++ decimal agent ++ codes " requests " ++ decimal line.requests
+    ++ codes " connections " ++ decimal line.connections ++ codes " faults "
+    ++ decimal line.faults ++ codes "\n"
 
 -- the lines of agents, from this one on
 unfoldable pub agent_lines_from : ℕ → List AgentLine → List ℕ
@@ -28,7 +31,8 @@ port_fault lines = if list_any (λ line. line.port_failed) lines then Some 61 el
 -- the lines of a run that ended well: those of the agents, and then how it ended
 unfoldable pub account_lines : {W : Type 0} → Account W → Option (List OpenLine) → List ℕ
 account_lines account logs =
-    agent_lines account.agents ++ end_lines (port_fault account.agents) account.whole account.unsent logs
+    agent_lines account.agents
+    ++ end_lines (port_fault account.agents) account.whole account.unsent logs
 
 -- the lines of a crew's fault
 unfoldable pub crew_fault_lines : CrewCause → List Letter → List ℕ

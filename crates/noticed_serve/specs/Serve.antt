@@ -16,11 +16,14 @@ use Rattle.noticed_serve.specs.declared.serve_end.ServeEnd.{ServeEnd}
 -- the exit status of a run that ended well, by whether a line of the notes was lost
 abbrev pub account_status : {W : Type 0} → Bool → Account W → Option (List OpenLine) → ℕ
 account_status lost account logs =
-    if lost || (is_some (port_fault account.agents) || (not account.whole || is_none logs)) then 1 else 0
+    if lost || (is_some (port_fault account.agents) || (not account.whole || is_none logs)) then 1
+    else 0
 
 module _ {W N : Type 0} (notes_device : Drain N) where
-  -- a run with this history and account was told in the notes: each line, up to one that could not be written
-  pub record TellsAccount (history : List Exchange) (account : Account W) (notes later : N) (end : ServeEnd W) : Type 0 where
+  -- a run with this history and account was told in the notes: each line, up to one that could not
+  -- be written
+  pub record TellsAccount (history : List Exchange) (account : Account W) (notes later : N)
+      (end : ServeEnd W) : Type 0 where
     pub logs : Option (List OpenLine)
     pub logs_are : AreOpenLines history logs
     pub lost : Bool
@@ -29,22 +32,27 @@ module _ {W N : Type 0} (notes_device : Drain N) where
     pub status_is : end.status ≡ account_status lost account logs
 
   -- a crew's fault was told in the notes: each line, up to one that could not be written
-  pub record TellsFault (cause : CrewCause) (outbox : W) (unsent : List Letter) (notes later : N) (end : ServeEnd W) : Type 0 where
+  pub record TellsFault (cause : CrewCause) (outbox : W) (unsent : List Letter) (notes later : N)
+      (end : ServeEnd W) : Type 0 where
     pub lost : Bool
-    pub told : WritesUntilFailure notes_device false lost notes later (crew_fault_lines cause unsent)
+    pub told : WritesUntilFailure notes_device false lost notes later
+        (crew_fault_lines cause unsent)
     pub outbox_is : end.outbox ≡ outbox
     pub status_is : end.status ≡ 1
 
-module _ {P S W N : Type 0} (port : Port P S) (drain : Drain W) (notes_device : Drain N) (host : List ℕ) (limits : Limits) (ports : List P) (start : W) (notes later : N) (end : ServeEnd W) where
-  -- a run that ended well: all that is true of its crew, and its notes, over the logs that the requests taken leave open
+module _ {P S W N : Type 0} (port : Port P S) (drain : Drain W) (notes_device : Drain N)
+    (host : List ℕ) (limits : Limits) (ports : List P) (start : W) (notes later : N)
+    (end : ServeEnd W) where
+  -- a run that ended well: all that is true of its crew, and its notes, over the logs that the
+  -- requests taken leave open
   pub record IsServed : Type 0 where
     pub account : Account W
     pub crew : IsAccount port drain host limits ports start account
     pub count : (1 ≤ length ports) × (length ports ≤ 16)
     pub told : TellsAccount notes_device (history_of limits account.taken) account notes later end
 
-  -- a run whose crew ended with a fault: what is left of it, and its notes. The cause is PortCount where there are not 1 to
-  -- 16 ports
+  -- a run whose crew ended with a fault: what is left of it, and its notes. The cause is PortCount
+  -- where there are not 1 to 16 ports
   pub record IsFaulted : Type 0 where
     pub fault : CrewFault W
     pub crew : IsCrewFault drain host limits (length ports) start fault fault.cause
@@ -59,8 +67,10 @@ module _ {P S W N : Type 0} (port : Port P S) (drain : Drain W) (notes_device : 
 abbrev pub untold_port : Port (Unit {0}) (Unit {0})
 untold_port = record { conns = λ port. None }
 
--- a run over so many ports of a socket; or one that found no memory for their list, so that nothing began
-abbrev pub IsSocketServe : {W N : Type 0} → Drain W → Drain N → List ℕ → Limits → ℕ → W → N → N → ServeEnd W → Type 0
+-- a run over so many ports of a socket; or one that found no memory for their list, so that nothing
+-- began
+abbrev pub IsSocketServe : {W N : Type 0} → Drain W → Drain N → List ℕ → Limits → ℕ → W → N → N
+    → ServeEnd W → Type 0
 IsSocketServe drain notes_device host limits agents start notes later end =
     IsServe untold_port drain notes_device host limits (replicate agents tt) start notes later end
     ⊎ TellsFault notes_device Refused start [] notes later end

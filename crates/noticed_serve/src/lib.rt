@@ -1,4 +1,5 @@
-//! The run of the daemon: a crew of agents that serve connections, and the notes of what came of it.
+//! The run of the daemon: a crew of agents that serve connections, and the notes of what came of
+//! it.
 #![tactic(auto)]
 
 mod lines;

@@ -32,7 +32,8 @@ pub fn serve_ports<
     gate: &G,
     notes: &mut N,
 ) -> ServeEnd<W>
-    ensures { IsServe P.Port W.Drain N.Drain site limits ports.items outbox notes.old notes.new result }
+    ensures { IsServe P.Port W.Drain N.Drain site limits ports.items outbox notes.old notes.new
+        result }
 {
     match run_crew(rt, alloc, site, limits, ports, outbox, gate) {
         Ok(account) => tell_account(alloc, account, notes),

@@ -25,7 +25,8 @@ pub(crate) fn tell_account<W: Drop, N: Drain>(
     account: Account<W>,
     notes: &mut N,
 ) -> ServeEnd<W>
-    ensures { (history : List Exchange) → Represents account.book history → TellsAccount N.Drain history account notes.old notes.new result }
+    ensures { (history : List Exchange) → Represents account.book history
+        → TellsAccount N.Drain history account notes.old notes.new result }
 {
     let Account {
         agents,
@@ -63,7 +64,8 @@ pub(crate) fn tell_fault<W, N: Drain>(
 }
 
 fn tell_agents<N: Drain>(notes: &mut N, telling: &mut UntilFailure, agents: &[AgentLine])
-    ensures { WritesUntilFailure N.Drain telling.old.failed telling.new.failed notes.old notes.new (agent_lines agents.now) }
+    ensures { WritesUntilFailure N.Drain telling.old.failed telling.new.failed notes.old notes.new
+        (agent_lines agents.now) }
 {
     for (agent, line) in agents.iter().enumerate() {
         telling.write(notes, agent_line(agent, line).as_bytes());

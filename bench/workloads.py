@@ -159,7 +159,7 @@ def full_table() -> Workload:
             stream.append(long_id(source.choice(full)), b"somebody.else@mail.example.org")
         else:
             stream.broken()
-    return Workload("full table", "frame", FRAMES, 2_350, stream.bytes(), len(stream.parts))
+    return Workload("full table", "frame", FRAMES, 2_150, stream.bytes(), len(stream.parts))
 
 
 def touched_table() -> Workload:
@@ -169,7 +169,7 @@ def touched_table() -> Workload:
         stream.flush(long_id(number))
     while len(stream.parts) < FRAMES:
         stream.discard(long_id(source.randrange(LOGS)))
-    return Workload("touched table", "frame", FRAMES, 1_260, stream.bytes(), len(stream.parts))
+    return Workload("touched table", "frame", FRAMES, 1_200, stream.bytes(), len(stream.parts))
 
 
 def new_keys(name: str, limit: int, order) -> Workload:
@@ -205,4 +205,4 @@ def all_workloads():
     yield new_keys("ascending keys", 1_400, range(LOGS))
     yield new_keys("descending keys", 2_000, reversed(range(LOGS)))
     yield headers("headers of delimiters", 1_050_000, ruled_out)
-    yield headers("headers of dots", 3_150_000, lambda _: b".\n" * (HEADER // 2))
+    yield headers("headers of dots", 3_000_000, lambda _: b".\n" * (HEADER // 2))

@@ -9,7 +9,7 @@ use crate::draft_fault::DraftFault;
 use crate::optional::{
     is_optional_address, is_optional_envelope_id, optional_address, optional_envelope_id,
 };
-use dsn_text::{Address, EnvelopeId, LONGEST_HEADER, NoMemory, RawHeader, Stamp, TextFault};
+use dsn_text::{Address, EnvelopeId, LONGEST_HEADER, NoMemory, RawHeader, Stamp};
 use std::alloc::Global;
 use std::marker::Model;
 
@@ -93,7 +93,7 @@ impl Draft {
         check(header, return_path, envelope_id)?;
         let return_path = optional_address(alloc, return_path)?;
         let envelope_id = optional_envelope_id(alloc, envelope_id)?;
-        let header = tested_header(alloc, header)?;
+        let header = RawHeader::kept(alloc, header)?;
         Ok(Draft::new(alloc, moment, arrival, return_path, envelope_id, header)?)
     }
 
@@ -162,16 +162,4 @@ fn check(header: &[u8], return_path: &[u8], envelope_id: &[u8]) -> Result<(), Dr
         return Err(DraftFault::EnvelopeId);
     }
     Ok(())
-}
-
-/// The header that a tested text is, in memory of its own.
-fn tested_header(alloc: Global, text: &[u8]) -> Result<RawHeader, NoMemory>
-    requires { length text.now ≤ LONGEST_HEADER }
-    ensures { IfOk result (λ header. header ≡ text.now) }
-{
-    match RawHeader::new(alloc, text) {
-        Ok(header) => Ok(header),
-        Err(TextFault::NoMemory) => Err(NoMemory),
-        Err(TextFault::Bad) => unreachable!(),
-    }
 }

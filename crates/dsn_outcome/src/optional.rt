@@ -4,7 +4,7 @@ ghost use Rattle.std.specs.Option.{option_copied};
 ghost use Rattle.dsn_text.specs.Optional.{unless_empty, is_none_or};
 ghost use Rattle.dsn_text.specs.Text.{is_address, is_envelope_id, is_mta_name};
 
-use dsn_text::{Address, EnvelopeId, MtaName, NoMemory, TextFault};
+use dsn_text::{Address, EnvelopeId, MtaName, NoMemory};
 use std::alloc::Global;
 
 /// Whether a text is empty or can be an address.
@@ -36,11 +36,7 @@ pub(crate) fn optional_address(alloc: Global, text: &[u8]) -> Result<Option<Addr
     if text.is_empty() {
         return Ok(None);
     }
-    match Address::new(alloc, text) {
-        Ok(address) => Ok(Some(address)),
-        Err(TextFault::NoMemory) => Err(NoMemory),
-        Err(TextFault::Bad) => unreachable!(),
-    }
+    Ok(Some(Address::kept(alloc, text)?))
 }
 
 /// The envelope id that a tested text is, or `None` for an empty text.
@@ -54,11 +50,7 @@ pub(crate) fn optional_envelope_id(
     if text.is_empty() {
         return Ok(None);
     }
-    match EnvelopeId::new(alloc, text) {
-        Ok(id) => Ok(Some(id)),
-        Err(TextFault::NoMemory) => Err(NoMemory),
-        Err(TextFault::Bad) => unreachable!(),
-    }
+    Ok(Some(EnvelopeId::kept(alloc, text)?))
 }
 
 /// A text, or `None` for an empty one.

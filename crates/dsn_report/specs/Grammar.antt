@@ -36,8 +36,7 @@ per_message_names =
 abbrev pub per_recipient_names : List (List ℕ)
 per_recipient_names =
     codes "Original-Recipient" ∷ codes "Final-Recipient" ∷ codes "Action" ∷ codes "Status"
-    ∷ codes "Remote-MTA"
-    ∷ codes "Diagnostic-Code" ∷ codes "Last-Attempt-Date" ∷ codes "Final-Log-ID"
+    ∷ codes "Remote-MTA" ∷ codes "Diagnostic-Code" ∷ codes "Last-Attempt-Date" ∷ codes "Final-Log-ID"
     ∷ codes "Will-Retry-Until" ∷ []
 
 -- the fields have some of the names, in their order, none of them twice

@@ -2,6 +2,7 @@
 ghost use Rattle.std.specs.Prelude.{◌≡◌, ◌↔◌, IsTrue, IfOk, IsOk, IsErrOf};
 ghost use Rattle.dsn_text.specs.Text.{IsAddress};
 
+use crate::no_memory::NoMemory;
 use crate::text::{Alphabet, TextFault, copied, has_form};
 use std::alloc::Global;
 use std::marker::Model;
@@ -45,6 +46,15 @@ impl Address {
         if !Address::is_valid(text) {
             return Err(TextFault::Bad);
         }
+        Ok(Address::kept(alloc, text)?)
+    }
+
+    /// Keeps a text that can be an address, as [`Address::is_valid`] told: it isn't tested again.
+    /// `NoMemory` comes only where memory for it was refused.
+    pub fn kept(alloc: Global, text: &[u8]) -> Result<Address, NoMemory>
+        requires { IsAddress text.now }
+        ensures { IfOk result (λ kept. kept ≡ text.now) }
+    {
         let bytes = copied(alloc, text)?;
         Ok(Address { bytes })
     }

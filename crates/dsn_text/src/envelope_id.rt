@@ -2,6 +2,7 @@
 ghost use Rattle.std.specs.Prelude.{◌≡◌, ◌↔◌, IsTrue, IfOk, IsOk, IsErrOf};
 ghost use Rattle.dsn_text.specs.Text.{IsEnvelopeId};
 
+use crate::no_memory::NoMemory;
 use crate::text::{Alphabet, TextFault, copied, has_form};
 use std::alloc::Global;
 use std::marker::Model;
@@ -44,6 +45,15 @@ impl EnvelopeId {
         if !EnvelopeId::is_valid(text) {
             return Err(TextFault::Bad);
         }
+        Ok(EnvelopeId::kept(alloc, text)?)
+    }
+
+    /// Keeps a text that can be an envelope id, as [`EnvelopeId::is_valid`] told: it isn't
+    /// tested again. `NoMemory` comes only where memory for it was refused.
+    pub fn kept(alloc: Global, text: &[u8]) -> Result<EnvelopeId, NoMemory>
+        requires { IsEnvelopeId text.now }
+        ensures { IfOk result (λ kept. kept ≡ text.now) }
+    {
         let bytes = copied(alloc, text)?;
         Ok(EnvelopeId { bytes })
     }

@@ -1,6 +1,7 @@
 //! Headers of messages that could not be delivered.
 ghost use Rattle.std.specs.Prelude.{◌≡◌, ◌↔◌, ◌<◌, ◌≤◌, length, IsTrue, IfOk, IsOk, IsErrOf};
 
+use crate::no_memory::NoMemory;
 use crate::text::{TextFault, copied};
 use std::alloc::Global;
 use std::marker::Model;
@@ -41,6 +42,15 @@ impl RawHeader {
         if !RawHeader::is_valid(text) {
             return Err(TextFault::Bad);
         }
+        Ok(RawHeader::kept(alloc, text)?)
+    }
+
+    /// Keeps a text that is short enough, as [`RawHeader::is_valid`] told: it isn't
+    /// tested again. `NoMemory` comes only where memory for it was refused.
+    pub fn kept(alloc: Global, text: &[u8]) -> Result<RawHeader, NoMemory>
+        requires { length text.now ≤ LONGEST_HEADER }
+        ensures { IfOk result (λ kept. kept ≡ text.now) }
+    {
         let bytes = copied(alloc, text)?;
         Ok(RawHeader { bytes })
     }

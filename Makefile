@@ -88,12 +88,10 @@ check:
 	    exit 1
 	fi
 	scripts=
-	for script in tests/*.py tests/*.sh; do
-	    [ -f "$$script" ] || continue
+	export NOTICED="$(CURDIR)/$(NOTICED)" CREW_PROBE="$(CURDIR)/$(PROBE)" CALL_PROBE="$(CURDIR)/$(CALLS)" PYTHONDONTWRITEBYTECODE=1
+	for script in tests/*.py; do
 	    echo "== $$script"
-	    run=sh
-	    case $$script in *.py) run=python3 ;; esac
-	    if ! NOTICED="$(CURDIR)/$(NOTICED)" CREW_PROBE="$(CURDIR)/$(PROBE)" CALL_PROBE="$(CURDIR)/$(CALLS)" PYTHONDONTWRITEBYTECODE=1 $$run "$$script"; then
+	    if ! python3 "$$script"; then
 	        failed=$$((failed + 1))
 	        scripts="$$scripts $$script"
 	    fi
@@ -125,7 +123,8 @@ planted: $(NOTICED)
 install: $(NOTICED)
 	@install -D -m 755 $(NOTICED) "$(DESTDIR)$(PREFIX)/bin/noticed"
 	install -D -m 644 docs/noticed.8 "$(DESTDIR)$(PREFIX)/share/man/man8/noticed.8"
-	for it in docs/FORMATS.md docs/DEPLOY.md examples/noticed.service examples/feed.py examples/frames.py; do
+	for it in docs/FORMATS.md docs/DEPLOY.md docs/REFUSALS.md examples/noticed.service examples/noticed-feed.service \
+	    examples/feed.py examples/frames.py examples/agent.c examples/one-bounce.frames; do
 	    install -D -m 644 "$$it" "$(DESTDIR)$(PREFIX)/share/doc/noticed/$${it##*/}"
 	done
 	echo "installed $(DESTDIR)$(PREFIX)/bin/noticed, its manual page and $(DESTDIR)$(PREFIX)/share/doc/noticed"

@@ -13,10 +13,16 @@ With --follow the outbox is a file that grows. Once it was moved away to OUTBOX.
 name (that of the next daemon), it is read to its end, and then the next: each of those that were moved away meanwhile,
 in the order of their names, and the one that grows. It ends by SIGTERM or SIGINT, between two notices.
 
-A notice that is refused (its recipient, its text) is left out: one line on standard error has its key and the
-reply. The last line says how many were handed in and how many were left out. The status is 0 where each notice
-was handed in and each outbox was whole, 1 where one was left out or cut short, 2 for wrong arguments.
+A notice that is refused for now (a reply 4yz, no server, a lost connection, the status EX_TEMPFAIL of a program) is put
+off: it is tried again once a minute, for four days, while later ones are handed in (RFC 5321 section 4.5.4.1; --retry
+and --give-up say other times, in seconds). One that is refused for good, or for so long, is left out: it must not cause
+another notice. Each of both is said once, by a line on standard error with its key and the reply. Where a hundred wait,
+nothing more is read. What is put off is kept in memory: those that still wait when a signal comes are left out.
+
+The last line says how many were handed in and how many were left out. The status is 0 where each notice was handed in
+and each outbox was whole, 1 where one was left out or cut short, 2 for wrong arguments.
 """
+import argparse
 import contextlib
 import glob
 import itertools
@@ -27,11 +33,15 @@ import smtplib
 import subprocess
 import sys
 import time
+from collections import deque
 from dataclasses import dataclass
 
 PATIENCE = 300  # seconds that a reply may take (RFC 5321 section 4.5.3.2)
 CLOSING = 421  # the reply of a server that closes the connection, for instance after a long pause (section 3.8)
 PAUSE = 0.2  # seconds between two looks at a file that grows
+RETRY = 60  # seconds between two tries of a notice that was refused for now
+GIVE_UP = 4 * 86400  # seconds for which one is tried (RFC 5321 section 4.5.4.1)
+MOST_WAITING = 100  # notices that wait for another try before no more is read
 
 
 @dataclass
@@ -47,6 +57,15 @@ class Notice:
         return " ".join(it.decode() for it in found.groups()) if found else "?"
 
 
+@dataclass
+class Waiting:
+    """A notice that isn't handed in yet: when it is tried next, and until when (seconds of time.monotonic)."""
+
+    notice: Notice
+    due: float
+    until: float
+
+
 class CutShort(Exception):
     """The outbox ended before its QUIT."""
 
@@ -57,10 +76,10 @@ class Stopped(Exception):
 
 class Growing:
     """An outbox in a file, read line by line as it grows; it is at its end once another file has the path of the one
-    that grows."""
+    that grows. `pause` waits so many seconds."""
 
-    def __init__(self, path: str, name: str, is_stopped):
-        self.path, self.is_stopped, self.begun, self.file = path, is_stopped, b"", None
+    def __init__(self, path: str, name: str, pause):
+        self.path, self.pause, self.begun, self.file = path, pause, b"", None
         while self.file is None:
             with contextlib.suppress(FileNotFoundError):
                 self.file = open(name, "rb")
@@ -96,13 +115,6 @@ class Growing:
         later = itertools.dropwhile(lambda it: not self.is_named(it), moved)
         next(later, None)
         return next(later, self.path)
-
-    def pause(self, seconds: float):
-        """Waits so long; after a signal it goes no further."""
-        if self.is_stopped():
-            raise Stopped
-        if seconds:
-            time.sleep(seconds)
 
 
 def line_of(stream) -> bytes:
@@ -156,6 +168,12 @@ class Server:
                 if not again:
                     raise
 
+    @staticmethod
+    def is_for_now(refused: Exception) -> bool:
+        """Whether another try may succeed: a reply 4yz, or none (RFC 5321 section 4.2.1)."""
+        reply = reply_of(refused)
+        return reply[0] < 500 if reply else not isinstance(refused, smtplib.SMTPNotSupportedError)
+
     def close(self):
         """Ends the connection, if one is open and the server still there."""
         if self.connection is not None:
@@ -174,70 +192,127 @@ class Program:
         words = [*self.words, "-f", "<>", "--", notice.recipient]
         subprocess.run(words, input=notice.message.replace(b"\r\n", b"\n"), check=True, timeout=PATIENCE)
 
+    @staticmethod
+    def is_for_now(refused: Exception) -> bool:
+        """Whether another try may succeed: the program said so (sysexits.h), or took too long."""
+        return isinstance(refused, subprocess.TimeoutExpired) or getattr(refused, "returncode", None) == os.EX_TEMPFAIL
+
     def close(self):
         """Nothing is open between two notices."""
 
 
-def said(refused: Exception) -> str:
-    """Why a notice was left out, in one line: the server's reply where there is one."""
+def reply_of(refused: Exception):
+    """A server's reply, its code and its text, if there was one."""
     if isinstance(refused, smtplib.SMTPRecipientsRefused):
-        code, reply = next(iter(refused.recipients.values()))
-    elif isinstance(refused, smtplib.SMTPResponseException):
-        code, reply = refused.smtp_code, refused.smtp_error
-    else:
-        return str(refused).replace("\n", " ")
-    return f"{code} {reply.decode(errors='replace')}".replace("\n", " ")
+        return next(iter(refused.recipients.values()))
+    if isinstance(refused, smtplib.SMTPResponseException):
+        return refused.smtp_code, refused.smtp_error
+    return None
+
+
+def tell(what: str, notice: Notice, refused):
+    """Says what came of a notice, and why: the server's reply where there is one."""
+    reply = reply_of(refused)
+    why = f"{reply[0]} {reply[1].decode(errors='replace')}" if reply else str(refused)
+    print(f"{what} {notice.key()}: {why}".replace("\n", " "), file=sys.stderr, flush=True)
 
 
 class Feeder:
     """Hands the notices of outboxes to a mailer, and counts what comes of them."""
 
-    def __init__(self, mailer):
-        self.mailer, self.handed, self.left_out, self.cut = mailer, 0, 0, 0
+    def __init__(self, mailer, retry: float, give_up: float):
+        self.mailer, self.retry, self.give_up = mailer, retry, give_up
+        self.waiting, self.signals = deque(), []
+        self.handed, self.left_out, self.cut = 0, 0, 0
 
     def feed(self, stream):
         """Hands in each notice of an outbox, to its QUIT or its end."""
         try:
             for notice in notices_of(stream):
-                try:
-                    self.mailer.send(notice)
-                    self.handed += 1
-                except (smtplib.SMTPException, subprocess.SubprocessError, OSError) as refused:
-                    self.left_out += 1
-                    print(f"left out {notice.key()}: {said(refused)}", file=sys.stderr, flush=True)
+                now = time.monotonic()
+                self.hand_in(Waiting(notice, now, now + self.give_up), is_new=True)
+                self.try_again()
+                while len(self.waiting) >= MOST_WAITING:
+                    self.pause(PAUSE)
         except CutShort:
             self.cut += 1
             print("the outbox was cut short", file=sys.stderr, flush=True)
 
+    def hand_in(self, it: Waiting, is_new: bool):
+        """Hands in one notice, puts it off, or leaves it out."""
+        try:
+            self.mailer.send(it.notice)
+            self.handed += 1
+        except (smtplib.SMTPException, subprocess.SubprocessError, OSError) as refused:
+            it.due = time.monotonic() + self.retry
+            if not self.mailer.is_for_now(refused) or it.due > it.until:
+                self.leave_out(it.notice, refused)
+                return
+            if is_new:
+                tell("put off", it.notice, refused)
+            self.waiting.append(it)
+
+    def leave_out(self, notice: Notice, refused):
+        """A notice that isn't tried again."""
+        self.left_out += 1
+        tell("left out", notice, refused)
+
+    def try_again(self):
+        """Hands in the waiting notices whose time has come; they stand in the order of their times."""
+        now = time.monotonic()
+        for _ in range(len(self.waiting)):
+            if self.waiting[0].due > now:
+                return
+            self.hand_in(self.waiting.popleft(), is_new=False)
+
+    def pause(self, seconds: float):
+        """Waits so long, and then tries again what is due; after a signal it goes no further."""
+        if self.signals:
+            raise Stopped
+        if seconds:
+            time.sleep(seconds)
+            self.try_again()
+
     def follow(self, path: str):
         """The same for an outbox in a file that grows, and then for the next ones, until a signal comes."""
-        signals = []
         for it in (signal.SIGTERM, signal.SIGINT):
-            signal.signal(it, lambda number, _: signals.append(number))
+            signal.signal(it, lambda number, _: self.signals.append(number))
         with contextlib.suppress(Stopped):
             name = path
             while True:
-                outbox = Growing(path, name, lambda: signals)
+                outbox = Growing(path, name, self.pause)
                 self.feed(outbox)
                 name = outbox.next_name()
 
     def end(self) -> int:
-        """Ends the mailer, says the counts, and gives the exit status."""
+        """Tries what still waits, unless a signal came; ends the mailer, says the counts, and gives the exit status."""
+        while self.waiting and not self.signals:
+            self.pause(max(PAUSE, self.waiting[0].due - time.monotonic()))
+        for it in self.waiting:
+            self.leave_out(it.notice, "the feeder ended before another try")
         self.mailer.close()
         print(f"{self.handed} handed in, {self.left_out} left out", file=sys.stderr)
         return 1 if self.left_out or self.cut else 0
 
 
+def options():
+    """The command line."""
+    reader = argparse.ArgumentParser(description=__doc__.split("\n", maxsplit=1)[0], usage="%(prog)s [OPTION]... HOST:PORT | PROGRAM [WORD]...")
+    reader.add_argument("--follow", metavar="OUTBOX", help="a file that grows, in place of standard input")
+    reader.add_argument("--retry", type=float, default=RETRY, metavar="SECONDS", help="between two tries of a notice (%(default)s)")
+    reader.add_argument("--give-up", type=float, default=GIVE_UP, metavar="SECONDS", help="for which one is tried (%(default)s)")
+    reader.add_argument("mailer", nargs=argparse.REMAINDER, help=argparse.SUPPRESS)
+    given = reader.parse_args()
+    if not given.mailer:
+        reader.error("no mail server and no program named")
+    return given
+
+
 def main():
-    words, path = sys.argv[1:], None
-    if len(words) > 1 and words[0] == "--follow":
-        path, words = words[1], words[2:]
-    if not words or words[0].startswith("-"):
-        print("usage: feed.py [--follow OUTBOX] HOST:PORT | PROGRAM [OPTION]..", file=sys.stderr)
-        sys.exit(2)
-    is_server = len(words) == 1 and re.fullmatch(r"[^/]*:[0-9]+", words[0])
-    feeder = Feeder(Server(words[0]) if is_server else Program(words))
-    feeder.follow(path) if path else feeder.feed(sys.stdin.buffer)
+    given = options()
+    is_server = len(given.mailer) == 1 and re.fullmatch(r"[^/]*:[0-9]+", given.mailer[0])
+    feeder = Feeder(Server(given.mailer[0]) if is_server else Program(given.mailer), given.retry, given.give_up)
+    feeder.follow(given.follow) if given.follow else feeder.feed(sys.stdin.buffer)
     sys.exit(feeder.end())
 
 

@@ -1,6 +1,6 @@
 #!/usr/bin/env python3
-"""Checks examples/feed.py: it hands each notice of an outbox to a mail server, one at a time, and leaves out what is
-refused; or to a submission program. The server is a small one of this script's own, and aiosmtpd where that is
+"""Checks examples/feed.py: it hands each notice of an outbox to a mail server, one at a time, tries again what is refused
+for now, and leaves out what is refused for good; or to a submission program. The server is a small one of this script's own, and aiosmtpd where that is
 installed; the outbox is the built program's."""
 import signal
 import socket
@@ -9,6 +9,7 @@ import sys
 import tempfile
 import threading
 import time
+from collections import Counter
 from pathlib import Path
 
 try:
@@ -21,6 +22,7 @@ from running import EXAMPLES, LIMIT, Checks, batch, frames_module  # noqa: E402
 
 FEED = [sys.executable, str(EXAMPLES / "feed.py")]
 MESSAGES = 6
+SOON = ["--retry", "0.5", "--give-up", "2"]  # so that each is tried four times at most
 
 frames = frames_module()
 
@@ -42,13 +44,15 @@ def messages_of(outbox: bytes) -> list:
 
 
 class MailServer:
-    """A mail server that takes connections until it is closed: it refuses each recipient of a set, hangs up after so
-    many messages, or gives up the connection (421), and keeps what it was told and given."""
+    """A mail server that takes connections until it is closed: it refuses each recipient of a set, or each one's first
+    tries (450), hangs up after so many messages, or gives up the connection (421), and keeps what it was told and
+    given."""
 
-    def __init__(self, refused=(), hangs_up_after=None, closes_after=None):
+    def __init__(self, refused=(), hangs_up_after=None, closes_after=None, greylists=0, port=0):
         self.refused, self.hangs_up_after, self.closes_after = refused, hangs_up_after, closes_after
+        self.greylists, self.tries = greylists, Counter()
         self.taken, self.commands = [], []
-        self.listener = socket.create_server(("127.0.0.1", 0))
+        self.listener = socket.create_server(("127.0.0.1", port))
         self.address = "127.0.0.1:%d" % self.listener.getsockname()[1]
         threading.Thread(target=self.accept, daemon=True).start()
 
@@ -73,7 +77,7 @@ class MailServer:
                 return
             if command.upper().startswith(b"RCPT TO:<"):
                 recipient = command[9:-1]
-                self.say(stream, b"550 5.1.1 no such user" if recipient in self.refused else b"250 ok")
+                self.say(stream, self.reply_to(recipient))
             elif command.upper() == b"DATA":
                 self.say(stream, b"354 go on")
                 text = b"".join(iter(stream.readline, b".\r\n"))
@@ -85,6 +89,13 @@ class MailServer:
                     return
             else:
                 self.say(stream, b"221 bye" if command.upper() == b"QUIT" else b"250 ok")
+
+    def reply_to(self, recipient: bytes) -> bytes:
+        """The reply to RCPT."""
+        self.tries[recipient] += 1
+        if recipient in self.refused:
+            return b"550 5.1.1 no such user"
+        return b"450 4.2.0 try again" if self.tries[recipient] <= self.greylists else b"250 ok"
 
     @staticmethod
     def say(stream, reply: bytes):
@@ -112,8 +123,38 @@ def servers(checks: Checks, outbox: bytes):
     checks.true("every second recipient refused: what is taken", server.taken == wanted[::2])
     checks.equal("its status and end", (status, said[-1:]), (1, ["3 handed in, 3 left out"]))
     checks.equal("what is left out", said[:-1], [f"left out B K{at}: 550 5.1.1 no such user" for at in (1, 3, 5)])
-    status, said = feed(["127.0.0.1:1"], outbox)
+    checks.true("what is refused for good is tried once", all(server.tries[to] == 1 for to, _ in wanted))
+
+
+def tries(checks: Checks, outbox: bytes):
+    """What is refused for now is tried again, while later ones are handed in, and left out once it is late."""
+    wanted = [(b"sender%d@example.com" % at, it) for at, it in enumerate(messages_of(outbox))]
+    put_off = [f"put off B K{at}: 450 4.2.0 try again" for at in range(MESSAGES)]
+    server = MailServer(greylists=2)
+    status, said = feed(["--retry", "0.1", server.address], outbox)
+    checks.equal("each refused twice for now: end", (status, said), (0, [*put_off, f"{MESSAGES} handed in, 0 left out"]))
+    checks.true("what it was given", sorted(server.taken) == wanted)
+    checks.true("how often", all(it == 3 for it in server.tries.values()))
+    server = MailServer(greylists=1000)
+    status, said = feed([*SOON, server.address], outbox)
+    left_out = [f"left out B K{at}: 450 4.2.0 try again" for at in range(MESSAGES)]
+    checks.equal("each refused for ever: end", (status, sorted(said)), (1, sorted([*put_off, *left_out, f"0 handed in, {MESSAGES} left out"])))
+    checks.true("how often", all(2 <= it <= 4 for it in server.tries.values()))
+    status, said = feed([*SOON, "127.0.0.1:1"], outbox)
     checks.equal("no server", (status, said[-1:]), (1, [f"0 handed in, {MESSAGES} left out"]))
+    checks.equal("its lines", [it[:11] for it in said[:-1]], ["put off B K"] * MESSAGES + ["left out B "] * MESSAGES)
+    status, said = feed(["--give-up", "0", "127.0.0.1:1"], outbox)
+    checks.equal("nothing tried again", (status, [it[:12] for it in said]), (1, ["left out B K"] * MESSAGES + ["0 handed in,"]))
+    with socket.create_server(("127.0.0.1", 0)) as it:
+        port = it.getsockname()[1]
+    with subprocess.Popen([*FEED, "--retry", "0.1", f"127.0.0.1:{port}"], stdin=subprocess.PIPE, stderr=subprocess.PIPE) as running:
+        running.stdin.write(outbox)
+        running.stdin.close()
+        checks.true("a server that isn't there yet: the first line", running.stderr.readline().startswith(b"put off B K0: "))
+        server = MailServer(port=port)
+        checks.true("all of it", comes_to(lambda: len(server.taken), MESSAGES))
+        said = running.stderr.read().decode().splitlines()
+        checks.equal("its end", (running.wait(), said[-1]), (0, f"{MESSAGES} handed in, 0 left out"))
 
 
 class Handler:
@@ -184,14 +225,17 @@ def followed(checks: Checks, outbox: bytes):
 
 
 def programs(checks: Checks, outbox: bytes):
-    """A submission program is run once for each notice; one that fails is said."""
+    """A submission program is run once for each notice; one that fails is said, and tried again if it says so (75)."""
     with tempfile.TemporaryDirectory() as room:
         program = Path(room) / "submit"
-        program.write_text(f'#!/bin/sh\nfor last; do :; done\necho "$@" >> {room}/arguments\ncat > {room}/$last\ncase $last in *3*) exit 75 ;; esac\n')
+        program.write_text(
+            f'#!/bin/sh\nfor last; do :; done\necho "$@" >> {room}/arguments\ncat > {room}/$last\n'
+            f"case $last in *3*) exit 67 ;; *4*) [ -e {room}/again ] || {{ touch {room}/again; exit 75; }} ;; esac\n"
+        )
         program.chmod(0o755)
-        status, said = feed([str(program), "-i"], outbox)
+        status, said = feed(["--retry", "0.1", str(program), "-i"], outbox)
         checks.equal("a program: end", (status, said[-1:]), (1, ["5 handed in, 1 left out"]))
-        checks.true("the key left out", said[0].startswith("left out B K3: "))
+        checks.equal("its lines", [it[:14] for it in said[:-1]], ["left out B K3:", "put off B K4: "])
         checks.equal("its arguments", (Path(room) / "arguments").read_text().splitlines()[0], "-i -f <> -- sender0@example.com")
         for at, message in enumerate(messages_of(outbox)):
             checks.true("a message", (Path(room) / f"sender{at}@example.com").read_bytes() == message.replace(b"\r\n", b"\n"))
@@ -209,15 +253,17 @@ def cut(checks: Checks, outbox: bytes):
 
 
 def main():
-    checks = Checks("feed: each notice of an outbox goes to a mail server, and what is refused is left out")
+    checks = Checks("feed: each notice of an outbox goes to a mail server; what is refused for now is tried again, the rest left out")
     outbox = outbox_of(MESSAGES)
     servers(checks, outbox)
+    tries(checks, outbox)
     real_server(checks, outbox)
     followed(checks, outbox)
     programs(checks, outbox)
     cut(checks, outbox)
-    for words in ([], ["--help"], ["--follow", "outbox"]):
+    for words in ([], ["--nonsense", "localhost:25"], ["--follow", "outbox"], ["--retry", "soon", "localhost:25"]):
         checks.equal(f"arguments {words}", feed(words, outbox)[0], 2)
+    checks.equal("help", feed(["--help"], outbox)[0], 0)
     checks.done()
 
 

@@ -1,7 +1,7 @@
 #!/usr/bin/env python3
 """Checks examples/noticed.service: its keys, by a parser; what it runs before the daemon, in a folder of this script's
 own; the daemon's arguments, with the program under test; and the whole of it by `systemd-analyze verify` where that is
-installed."""
+installed. And examples/noticed-feed.service: that it follows the outbox of the first, as an account that may read it."""
 import os
 import shlex
 import shutil
@@ -15,6 +15,7 @@ sys.path.insert(0, str(Path(__file__).parent / "support"))
 from running import EXAMPLES, Checks, Ran, program, run  # noqa: E402
 
 UNIT = EXAMPLES / "noticed.service"
+FEEDER = EXAMPLES / "noticed-feed.service"
 SOCKET = "/run/noticed/socket"
 WANTED = {
     "User": ["noticed"],
@@ -84,6 +85,18 @@ def check_arguments(checks: Checks, command: str):
         checks.equal("its arguments", run(["serve", f"{room}/socket", *words[3:]], timeout=20), Ran(b"", b"fault 61\n", 1))
 
 
+def check_feeder(checks: Checks, sections: dict):
+    """The feeder is the script of examples/, follows the daemon's outbox, and has the account and the folder of it."""
+    given, service = sections_of(FEEDER.read_text()), sections["Service"]
+    checks.equal("the feeder: sections", list(given), ["Unit", "Service", "Install"])
+    for key in ("User", "Group", "WorkingDirectory"):
+        checks.equal(f"the feeder: {key}", given["Service"].get(key), service[key])
+    words = words_of(given["Service"]["ExecStart"][0])
+    checks.true("the feeder: the script", (EXAMPLES / Path(words[1]).name).is_file())
+    checks.equal("the feeder: what it follows", [words[2], f"append:{words[3]}"], ["--follow", service["StandardOutput"][0]])
+    checks.true("the feeder: a program after it", not words[4].startswith("-"))
+
+
 def check_verify(checks: Checks, text: str, command: str):
     """What systemd itself says of it, with the program under test in its place."""
     if not shutil.which("systemd-analyze"):
@@ -99,13 +112,14 @@ def check_verify(checks: Checks, text: str, command: str):
 
 
 def main():
-    checks = Checks("unit: the systemd unit of examples/")
+    checks = Checks("unit: the systemd units of examples/")
     text = UNIT.read_text()
     sections = sections_of(text)
     check_keys(checks, sections)
     check_outboxes(checks, sections["Service"]["ExecStartPre"][1])
     (command,) = sections["Service"]["ExecStart"]
     check_arguments(checks, command)
+    check_feeder(checks, sections)
     check_verify(checks, text, command)
     checks.done()
 

@@ -15,7 +15,7 @@ SHELL := /bin/sh
 .SHELLFLAGS := -euc
 .ONESHELL:
 .DELETE_ON_ERROR:
-.PHONY: all build demo check edits bench planted install clean
+.PHONY: all build demo check edits refused bench planted install clean
 
 all: build
 
@@ -107,6 +107,10 @@ check:
 # Which functions the wrong edits change that the gate must see refused.
 edits:
 	@PYTHONDONTWRITEBYTECODE=1 python3 tests/support/edits.py
+
+# Which clause refuses each wrong edit of the crates that CRATES names, or of all; over what was proved here before.
+refused:
+	@PYTHONDONTWRITEBYTECODE=1 python3 tests/support/refused.py $(CRATES)
 
 # Measures the program on workloads made from a seed, crews in memory, and the daemon over sockets; not part of
 # `make check`.

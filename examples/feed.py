@@ -28,6 +28,7 @@ import glob
 import itertools
 import os
 import re
+import select
 import signal
 import smtplib
 import subprocess
@@ -72,6 +73,27 @@ class CutShort(Exception):
 
 class Stopped(Exception):
     """A signal came while nothing was in hand."""
+
+
+class Piped:
+    """An outbox on standard input, read line by line as it comes. `pause` waits so many seconds."""
+
+    def __init__(self, pause):
+        self.pause, self.begun, self.lines = pause, b"", deque()
+
+    def readline(self) -> bytes:
+        """The next line once it is whole; what there is of it at the end."""
+        while not self.lines:
+            self.pause(0)
+            if not select.select([sys.stdin], [], [], PAUSE)[0]:
+                continue
+            came = os.read(sys.stdin.fileno(), 65536)
+            if not came:
+                line, self.begun = self.begun, b""
+                return line
+            *lines, self.begun = (self.begun + came).split(b"\n")
+            self.lines.extend(it + b"\n" for it in lines)
+        return self.lines.popleft()
 
 
 class Growing:
@@ -223,6 +245,8 @@ class Feeder:
     def __init__(self, mailer, retry: float, give_up: float):
         self.mailer, self.retry, self.give_up = mailer, retry, give_up
         self.waiting, self.signals = deque(), []
+        for it in (signal.SIGTERM, signal.SIGINT):
+            signal.signal(it, lambda number, _: self.signals.append(number))
         self.handed, self.left_out, self.cut = 0, 0, 0
 
     def feed(self, stream):
@@ -271,12 +295,20 @@ class Feeder:
             raise Stopped
         if seconds:
             time.sleep(seconds)
-            self.try_again()
+        self.try_again()
+
+    def feed_input(self):
+        """Hands in the notices of standard input, and then what still waits, until a signal comes."""
+        try:
+            self.feed(Piped(self.pause))
+            while self.waiting:
+                self.pause(PAUSE)
+        except Stopped:
+            self.cut += 1
+            print("stopped before the end", file=sys.stderr, flush=True)
 
     def follow(self, path: str):
-        """The same for an outbox in a file that grows, and then for the next ones, until a signal comes."""
-        for it in (signal.SIGTERM, signal.SIGINT):
-            signal.signal(it, lambda number, _: self.signals.append(number))
+        """Hands in the notices of a file that grows, and then of the next ones, until a signal comes."""
         with contextlib.suppress(Stopped):
             name = path
             while True:
@@ -285,9 +317,7 @@ class Feeder:
                 name = outbox.next_name()
 
     def end(self) -> int:
-        """Tries what still waits, unless a signal came; ends the mailer, says the counts, and gives the exit status."""
-        while self.waiting and not self.signals:
-            self.pause(max(PAUSE, self.waiting[0].due - time.monotonic()))
+        """Leaves out what still waits, ends the mailer, says the counts, and gives the exit status."""
         for it in self.waiting:
             self.leave_out(it.notice, "the feeder ended before another try")
         self.mailer.close()
@@ -312,7 +342,7 @@ def main():
     given = options()
     is_server = len(given.mailer) == 1 and re.fullmatch(r"[^/]*:[0-9]+", given.mailer[0])
     feeder = Feeder(Server(given.mailer[0]) if is_server else Program(given.mailer), given.retry, given.give_up)
-    feeder.follow(given.follow) if given.follow else feeder.feed(sys.stdin.buffer)
+    feeder.follow(given.follow) if given.follow else feeder.feed_input()
     sys.exit(feeder.end())
 
 

@@ -157,6 +157,26 @@ def tries(checks: Checks, outbox: bytes):
         checks.equal("its end", (running.wait(), said[-1]), (0, f"{MESSAGES} handed in, 0 left out"))
 
 
+def waiting_for_input(checks: Checks, outbox: bytes):
+    """What was put off is tried again while no more comes in; a signal names what still waits."""
+    first_end = outbox.index(b"\r\n.\r\n") + 5
+    for comes in (True, False):
+        with socket.create_server(("127.0.0.1", 0)) as it:
+            port = it.getsockname()[1]
+        with subprocess.Popen([*FEED, "--retry", "0.1", f"127.0.0.1:{port}"], stdin=subprocess.PIPE, stderr=subprocess.PIPE) as running:
+            running.stdin.write(outbox[:first_end])
+            running.stdin.flush()
+            checks.true("the first is put off", running.stderr.readline().startswith(b"put off B K0: "))
+            if comes:
+                server = MailServer(port=port)
+                checks.true("it is taken", comes_to(lambda it=server: len(it.taken), 1))
+            running.send_signal(signal.SIGTERM)
+            said = running.stderr.read().decode().splitlines()
+            left_out = [] if comes else ["left out B K0: the feeder ended before another try"]
+            counts = f"{int(comes)} handed in, {int(not comes)} left out"
+            checks.equal("after a signal", (running.wait(), said), (1, ["stopped before the end", *left_out, counts]))
+
+
 class Handler:
     """What a real server asks of a test: it refuses each recipient of a set, and keeps the messages."""
 
@@ -257,6 +277,7 @@ def main():
     outbox = outbox_of(MESSAGES)
     servers(checks, outbox)
     tries(checks, outbox)
+    waiting_for_input(checks, outbox)
     real_server(checks, outbox)
     followed(checks, outbox)
     programs(checks, outbox)

@@ -65,50 +65,18 @@ demo: $(NOTICED)
 	sh examples/demo.sh $(NOTICED)
 	exit $$status
 
-# The gate, then the scripts of tests/ on the program that the gate left. The last line is the gate's own,
-# 'N passed, M failed'; a script that failed is counted into M.
+# The gate: every proof from nothing, the wrong edits, then the scripts of tests/ on the programs that it built. The last
+# line is 'N passed, M failed'.
 check:
-	@mkdir -p out
-	for tool in python3 gcc "$(RT)"; do
-	    command -v "$$tool" > /dev/null || { echo "make check needs $$tool"; echo "0 passed, 1 failed"; exit 1; }
-	done
-	echo "running the gate, rt ci (log: out/gate.log) .."
-	gate=0
-	RT_JOBS="$${RT_JOBS:-$$(python3 tests/support/jobs.py)}" "$(RT)" ci > out/gate.log 2>&1 || gate=$$?
-	cat out/gate.log
-	verdict=$$(sed -n '/^[0-9][0-9]* passed, [0-9][0-9]* failed$$/h; $${x; p;}' out/gate.log)
-	verdict=$${verdict:-0 passed, 1 failed}
-	passed=$${verdict%% *}
-	failed=$${verdict#*, }
-	failed=$${failed%% *}
-	if [ $$gate -ne 0 ] || [ $$failed -ne 0 ]; then
-	    [ $$failed -ne 0 ] || failed=1
-	    echo "the gate failed with status $$gate, so the scripts of tests/ were not run"
-	    echo "$$passed passed, $$failed failed"
-	    exit 1
-	fi
-	scripts=
-	export NOTICED="$(CURDIR)/$(NOTICED)" CREW_PROBE="$(CURDIR)/$(PROBE)" CALL_PROBE="$(CURDIR)/$(CALLS)" PYTHONDONTWRITEBYTECODE=1
-	for script in tests/*.py; do
-	    echo "== $$script"
-	    if ! python3 "$$script"; then
-	        failed=$$((failed + 1))
-	        scripts="$$scripts $$script"
-	    fi
-	done
-	if [ $$failed -ne 0 ]; then
-	    echo "FAILED:$$scripts"
-	    echo "$$passed passed, $$failed failed"
-	    exit 1
-	fi
-	echo "the gate and every script of tests/ passed"
-	echo "$$verdict"
+	@command -v python3 > /dev/null || { echo "make check needs python3"; echo "0 passed, 1 failed"; exit 1; }
+	exec python3 tests/support/gate.py
 
 # Which functions the wrong edits change that the gate must see refused.
 edits:
 	@PYTHONDONTWRITEBYTECODE=1 python3 tests/support/edits.py
 
-# Which clause refuses each wrong edit of the crates that CRATES names, or of all; over what was proved here before.
+# Tries the wrong edits of the crates that CRATES names, or of all, and says which clause refuses each; over what
+# `rt all check` proved here before.
 refused:
 	@PYTHONDONTWRITEBYTECODE=1 python3 tests/support/refused.py $(CRATES)
 

@@ -16,10 +16,12 @@ DEFINITION = "(definition)"
 
 @dataclass(frozen=True)
 class Item:
-    """A function or a constant of a source file, with its lines there, and its body if it is a function."""
+    """A function or a constant of a source file, with its lines there, and its body if it is a function. `path` is the end of
+    the name that a check gives a function, and empty for a constant."""
 
     file: str
     name: str
+    path: str
     public: bool
     first: int
     last: int
@@ -32,11 +34,14 @@ def crates() -> list:
     return [line.split(":")[0] for line in lines if line.strip() and not line.startswith("#")]
 
 
-def owner_of(head: str) -> str:
-    """The type of an impl block, or the trait, by the rest of its first line."""
+def owner_of(head: str) -> tuple:
+    """The type of an impl block, or the trait, by the rest of its first line, and the name that a check gives the block: of a
+    trait's impl the type's name and the trait's in one, with the trait's own argument."""
     head = re.sub(r"^<[^<>]*(?:<[^<>]*>[^<>]*)*>", "", head.strip()).strip()
-    found = re.match(r"\w+", head.split(" for ")[-1].strip())
-    return found.group(0) if found else ""
+    trait, is_impl, owner = head.rpartition(" for ")
+    found = re.match(r"\w+", owner.strip())
+    owner = found.group(0) if found else ""
+    return owner, owner + ("".join(re.match(r"(\w+)(?:<(\w+)>)?", trait.split("::")[-1]).groups("")) if is_impl else "")
 
 
 def end_of(lines: list, first: int, indent: str) -> int:
@@ -48,7 +53,8 @@ def end_of(lines: list, first: int, indent: str) -> int:
 
 def items(crate: str, file: str) -> list:
     """The functions and constants of a source file, with the type before a method's name."""
-    found, owner = [], ""
+    found, owner, block = [], "", ""
+    module = Path(file).stem
     lines = (ROOT / "crates" / crate / file).read_text().splitlines()
     for first, line in enumerate(lines):
         item = ITEM.match(line)
@@ -56,13 +62,16 @@ def items(crate: str, file: str) -> list:
             continue
         indent, public, function, head, constant = item.groups()
         if head is not None:
-            owner = owner if indent else owner_of(head)
+            owner, block = (owner, block) if indent else owner_of(head)
             continue
         last = end_of(lines, first, indent)
         name = function or f"const {constant}"
-        name = f"{owner}::{name}" if function and indent and owner else name
+        is_method = function and indent and owner
+        place = block if is_method else "" if module in ("lib", "main") else module
+        path = f"{place}::{name}".removeprefix("::") if function else ""
+        name = f"{owner}::{name}" if is_method else name
         body = "\n".join(lines[first : last + 1]).partition(f"\n{indent}{{")[2]
-        found.append(Item(file, name, public == "pub ", first, last, body))
+        found.append(Item(file, name, path, public == "pub ", first, last, body))
     return found
 
 

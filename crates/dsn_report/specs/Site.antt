@@ -8,9 +8,13 @@ use Rattle.dsn_report.specs.declared.site.SiteFault.TheVariants.{BadHost, NoMemo
 abbrev pub is_host_byte : ℕ → Bool
 is_host_byte byte = is_letter_or_digit byte || ((byte == 46) || (byte == 45))
 
+-- the longest host name, in bytes (RFC 5321 section 4.5.3.1.2)
+abbrev pub longest_host : ℕ
+longest_host = 255
+
 -- a host name (this project's profile: no more is asked of its labels)
 abbrev pub is_host : List ℕ → Bool
-is_host = is_text is_host_byte 1 255
+is_host = is_text is_host_byte 1 longest_host
 
 abbrev pub IsHost : List ℕ → Type 0
 IsHost host = IsTrue (is_host host)

@@ -10,7 +10,7 @@ use Rattle.dsn_body.specs.FrameBody.{frame, IsFrameBody}
 use Rattle.dsn_body.specs.Request.{Encodes, first_body_fault}
 use Rattle.dsn_body.specs.declared.body_fault.BodyFault.{BodyFault}
 use Rattle.dsn_body.specs.declared.spoken.Spoken.{Spoken}
-use Rattle.dsn_body.specs.declared.spoken.Spoken.TheVariants as spoken
+use Rattle.dsn_body.specs.declared.spoken.Spoken.TheVariants
 use Rattle.dsn_frame.specs.Frame.{ReadsNone}
 use Rattle.dsn_frame.specs.FrameFault.{frame_fault_code}
 use Rattle.dsn_frame.specs.declared.frame_fault.FrameFault.{FrameFault}
@@ -35,19 +35,19 @@ pub data Takes (medium : Medium) (limit accepted place : ℕ) (bytes : List ℕ)
   -- a body with a fault is refused by the number of the first one
   faulty : (fault : BodyFault) → first_body_fault bytes ≡ Some fault
       → Takes medium limit accepted place bytes []
-      (spoken.Refused (body_fault_code fault) ∷ []) None
+      (TheVariants.Refused (body_fault_code fault) ∷ []) None
   -- a body without a fault may meet want of memory
   out_of_memory : first_body_fault bytes ≡ None
-      → Takes medium limit accepted place bytes [] (spoken.Refused 9 ∷ []) None
+      → Takes medium limit accepted place bytes [] (TheVariants.Refused 9 ∷ []) None
   -- a body whose number isn't the frame's place is refused, and ends the session
   out_of_turn : (number : ℕ) (body : Body) → Encodes bytes number body → number ≢ place
-      → Takes medium limit accepted place bytes [] (spoken.Refused 46 ∷ []) (Some 46)
+      → Takes medium limit accepted place bytes [] (TheVariants.Refused 46 ∷ []) (Some 46)
   -- a body beyond the accepted requests that there may be is refused
   used_up : (body : Body) → Encodes bytes place body → accepted ≡ limit
-      → Takes medium limit accepted place bytes [] (spoken.Refused 44 ∷ []) None
+      → Takes medium limit accepted place bytes [] (TheVariants.Refused 44 ∷ []) None
   -- any other body is asked, and gets a reply
   asked : (body : Body) (reply : Reply) → Encodes bytes place body → accepted < limit
-      → Takes medium limit accepted place bytes (body ∷ []) (spoken.Reply reply ∷ []) None
+      → Takes medium limit accepted place bytes (body ∷ []) (TheVariants.Reply reply ∷ []) None
   -- on a connection the daemon may have given up before the body is asked
   given_up : (body : Body) → Encodes bytes place body → medium ≡ Connection
       → Takes medium limit accepted place bytes [] [] (Some 41)

@@ -3,6 +3,7 @@
 use Rattle.std.specs.Prelude.{◌≡◌, ℕ, ◌+◌, ◌≤◌, Bool, true, false, ◌||◌, ◌==◌, List, [], ◌∷◌, ◌++◌, Option, Some, None}
 use Rattle.std.specs.List.{AllByRecursion}
 use Rattle.std.specs.Option.{option_map, option_map_or}
+use Rattle.dsn_text.specs.NoMemory.{no_memory_code}
 use Rattle.dsn_outcome.specs.Request.{Body}
 use Rattle.dsn_outcome.specs.declared.answer.Reply.{Reply}
 use Rattle.dsn_body.specs.declared.spoken.Spoken.{Spoken}
@@ -16,7 +17,7 @@ use Rattle.dsn_frame.specs.declared.frame_fault.FrameFault.{FrameFault}
 -- that could not be written (to notes, to a connection), and a daemon that gave up
 abbrev pub is_from_outside : ℕ → Bool
 is_from_outside code =
-    (code == 9) || ((code == 14) || ((code == 33) || ((code == 35) || (code == 41))))
+    (code == no_memory_code) || ((code == 14) || ((code == 33) || ((code == 35) || (code == 41))))
 
 -- an answer that the bytes decide, but for which reply it is
 abbrev pub IsDecided : Spoken → Type 0

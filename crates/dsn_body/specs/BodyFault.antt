@@ -1,5 +1,6 @@
 -- The numbers of the refusals of a body (this project's profile).
 use Rattle.std.specs.Prelude.{ℕ}
+use Rattle.dsn_text.specs.NoMemory.{no_memory_code}
 use Rattle.dsn_outcome.specs.OutcomeFault.{outcome_fault_code}
 use Rattle.dsn_outcome.specs.declared.draft_fault.DraftFault.{DraftFault}
 use Rattle.dsn_outcome.specs.declared.draft_fault.DraftFault.TheVariants as draft
@@ -20,7 +21,7 @@ body_fault_code (Outcome fault) = outcome_fault_code fault
 body_fault_code Header = 28
 body_fault_code ReturnPath = 29
 body_fault_code EnvelopeId = 30
-body_fault_code NoMemory = 9
+body_fault_code NoMemory = no_memory_code
 
 -- how an outcome's refusal refuses the body that carries it
 abbrev pub outcome_refusal : OutcomeFault → BodyFault

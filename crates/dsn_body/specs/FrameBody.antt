@@ -2,9 +2,13 @@
 use Rattle.std.specs.Prelude.{ℕ, ◌≤◌, List, ◌++◌, length}
 use Rattle.std.specs.Int.{w32, to_be_bytes}
 
+-- the longest body of a frame, in bytes (this project's profile)
+abbrev pub longest_body : ℕ
+longest_body = 65536
+
 -- how many bytes a frame's body has
 abbrev pub IsFrameLength : ℕ → Type 0
-IsFrameLength size = (1 ≤ size) × (size ≤ 65536)
+IsFrameLength size = (1 ≤ size) × (size ≤ longest_body)
 
 abbrev pub IsFrameBody : List ℕ → Type 0
 IsFrameBody body = IsFrameLength (length body)

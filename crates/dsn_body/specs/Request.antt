@@ -9,7 +9,7 @@ use Rattle.dsn_text.specs.Optional.{is_none_or, unless_empty}
 use Rattle.dsn_outcome.specs.Request.{Body, Append, Flush, Discard, Forget, Bye}
 use Rattle.dsn_text.specs.Service.{service_byte, service_of_byte}
 use Rattle.dsn_text.specs.Stamp.{last_moment, is_moment}
-use Rattle.dsn_text.specs.Text.{is_queue_id, is_address, is_envelope_id}
+use Rattle.dsn_text.specs.Text.{is_queue_id, is_address, is_envelope_id, longest_header, longest_queue_id}
 use Rattle.dsn_text.specs.declared.key.Key.{Key}
 use Rattle.dsn_text.specs.declared.service.Service.{Service}
 use Rattle.dsn_body.specs.BodyFault.{outcome_refusal}
@@ -45,7 +45,7 @@ head_checks head =
 abbrev pub flush_checks : FlushFields → List (Bool × BodyFault)
 flush_checks fields =
     (nat_le fields.moment last_moment && nat_le fields.arrival last_moment, faults.Moment)
-    ∷ (nat_le (length fields.header) 32768, faults.Header)
+    ∷ (nat_le (length fields.header) longest_header, faults.Header)
     ∷ (is_none_or is_address (unless_empty fields.return_path), faults.ReturnPath)
     ∷ (is_none_or is_envelope_id (unless_empty fields.envelope_id), faults.EnvelopeId)
     ∷ []
@@ -237,7 +237,7 @@ pub record IsWritten (number : ℕ) (body : Body) (wire : WireBody) : Type 0 whe
   pub number_is : (head_of wire).number ≡ number
   pub known : is_known wire ≡ true
   pub fits : Fits wire
-  pub id_short : length (head_of wire).id ≤ 32
+  pub id_short : length (head_of wire).id ≤ longest_queue_id
   pub own_short : length (own_bytes wire) ≤ 60000
   pub accepted : first_field_fault wire ≡ None
   pub stands_for : StandsFor wire body

@@ -5,7 +5,7 @@ ghost use Rattle.dsn_outcome.specs.Body.{body_of};
 ghost use Rattle.dsn_outcome.specs.Draft.{IsLegalDraft};
 ghost use Rattle.dsn_outcome.specs.Outcome.{IsLegalOutcome};
 ghost use Rattle.dsn_text.specs.Optional.{is_none_or};
-ghost use Rattle.dsn_outcome.specs.Request.{Bye as Goodbye};
+ghost use Rattle.dsn_outcome.specs.Request.{Bye};
 ghost use Rattle.dsn_text.specs.Text.{IsQueueId, is_address, is_envelope_id};
 ghost use Rattle.dsn_body.specs.BodyParts.{head_in, recipient_fields_in, retry_fields_in, flush_fields_in, wire_body_in};
 ghost use Rattle.dsn_body.specs.FrameBody.{IsFrameBody};
@@ -22,7 +22,7 @@ use std::alloc::Global;
 /// taken at once, so `NoMemory` comes before a byte is written.
 #[tactic(auto, using(crate::proofs::EncodingLaws::written_encodes, crate::proofs::EncodingLaws::written_fits), unfolding(crate::specs::Request::request_body, crate::specs::Request::request_bytes))]
 pub fn encode_request(alloc: Global, number: u32, body: &Body) -> Result<Vec<u8>, NoMemory>
-    requires { body_of body.now ≢ Goodbye }
+    requires { body_of body.now ≢ Bye }
     ensures written { IfOk result (λ frame. frame.items ≡ request_bytes number (body_of body.now)) }
     ensures whole { IsFrameBody (request_body number (body_of body.now)) }
     ensures encoded { Encodes (request_body number (body_of body.now)) number (body_of body.now) }
@@ -39,7 +39,7 @@ pub fn encode_request(alloc: Global, number: u32, body: &Body) -> Result<Vec<u8>
 /// The fields of a request.
 #[tactic(auto, unfolding(crate::specs::Request::fields_written))]
 fn parts_of(number: u32, body: &Body) -> BodyParts<'_>
-    requires { body_of body.now ≢ Goodbye }
+    requires { body_of body.now ≢ Bye }
     ensures fields { fields_written number (body_of body.now) ≡ Some (wire_body_in result) }
     ensures written { IsWritten number (body_of body.now) (wire_body_in result) }
 {

@@ -2,7 +2,7 @@
 ghost use Rattle.std.specs.Prelude.{◌≡◌, ◌+◌, ◌<◌, ◌≤◌, ◌^◌, ◌++◌, length, vec_capacity};
 ghost use Rattle.std.specs.Int.{w64};
 ghost use Rattle.dsn_body.specs.BodyParts.{head_in, recipient_fields_in, retry_fields_in, flush_fields_in, wire_body_in};
-ghost use Rattle.dsn_body.specs.FrameBody.{frame};
+ghost use Rattle.dsn_body.specs.FrameBody.{frame, longest_body};
 ghost use Rattle.dsn_body.specs.Wire.{Fits as FitsWire, FitsAppend, FitsFlush, FitsHead, FitsOwn, FitsText, number_bytes, text_bytes, head_bytes, append_bytes, retry_bytes, flush_bytes, own_bytes, body_bytes};
 
 use crate::parts::{BodyParts, FlushParts, HeadParts, RecipientParts, RetryParts};
@@ -139,7 +139,7 @@ fn push_own(out: &mut Vec<u8>, parts: BodyParts<'_>)
 /// Adds the frame of a body.
 pub(crate) fn push_frame(out: &mut Vec<u8>, parts: BodyParts<'_>)
     requires fits { FitsWire (wire_body_in parts) }
-    requires small { length (body_bytes (wire_body_in parts)) ≤ 65536 }
+    requires small { length (body_bytes (wire_body_in parts)) ≤ longest_body }
     requires room { length out.old.items +
         (4 + length (body_bytes (wire_body_in parts))) ≤ vec_capacity out.old }
     ensures { out.new.items ≡ out.old.items ++ frame (body_bytes (wire_body_in parts.entry)) }

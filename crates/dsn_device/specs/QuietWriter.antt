@@ -1,7 +1,7 @@
 -- Quiet writers: what contracts see of them.
 use Rattle.std.specs.Prelude.{ℕ, Bool, List}
 use Rattle.dsn_device.specs.UntilFailure.{WritesUntilFailure, FlushesUntilFailure}
-use Rattle.dsn_device.specs.declared.drain.Drain.{Ghosts as Drain}
+use Rattle.dsn_device.specs.declared.drain.Drain
 
 -- the drain, and whether it has failed
 pub record QuietWriter (D : Type 0) : Type 0 where
@@ -9,9 +9,9 @@ pub record QuietWriter (D : Type 0) : Type 0 where
   pub failed : Bool
 
 -- the writer wrote a text
-abbrev pub Writes : {D : Type 0} → Drain D → QuietWriter D → QuietWriter D → List ℕ → Type 0
+abbrev pub Writes : {D : Type 0} → Drain.Ghosts D → QuietWriter D → QuietWriter D → List ℕ → Type 0
 Writes drain old new text = WritesUntilFailure drain old.failed new.failed old.drain new.drain text
 
 -- the writer flushed
-abbrev pub Flushes : {D : Type 0} → Drain D → QuietWriter D → QuietWriter D → Type 0
+abbrev pub Flushes : {D : Type 0} → Drain.Ghosts D → QuietWriter D → QuietWriter D → Type 0
 Flushes drain old new = FlushesUntilFailure drain old.failed new.failed old.drain new.drain

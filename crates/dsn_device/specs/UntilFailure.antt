@@ -5,7 +5,7 @@ use Rattle.std.specs.Io.KnownBytes.{Appends, Keeps}
 use Rattle.dsn_device.specs.Failures.{counted}
 use Rattle.dsn_device.specs.Flushes.{flushed}
 use Rattle.dsn_device.specs.Transfer.{AppendsPart}
-use Rattle.dsn_device.specs.declared.drain.Drain.{Ghosts as Drain}
+use Rattle.dsn_device.specs.declared.drain.Drain
 
 -- what became of a text, by whether the drain had failed before and whether it has failed now: all
 -- of it is there, a part and not all, or nothing is done
@@ -21,7 +21,7 @@ counts_failure false failed count = counted failed count
 counts_failure true failed count = count
 
 -- a text was written to a drain, unless it had failed before
-pub record WritesUntilFailure {W : Type 0} (drain : Drain W) (before after : Bool) (old new : W)
+pub record WritesUntilFailure {W : Type 0} (drain : Drain.Ghosts W) (before after : Bool) (old new : W)
     (text : List ℕ) : Type 0 where
   pub sent : Sent before after (drain.contents old) (drain.contents new) text
   pub idle : before ≡ true → (after ≡ true) × (new ≡ old)
@@ -30,7 +30,7 @@ pub record WritesUntilFailure {W : Type 0} (drain : Drain W) (before after : Boo
   pub stays_steady : drain.steady old → drain.steady new × (drain.failures new ≡ drain.failures old)
 
 -- a drain was flushed once, unless it had failed before
-pub record FlushesUntilFailure {W : Type 0} (drain : Drain W) (before after : Bool)
+pub record FlushesUntilFailure {W : Type 0} (drain : Drain.Ghosts W) (before after : Bool)
     (old new : W) : Type 0 where
   pub kept : Keeps (drain.contents old) (drain.contents new)
   pub idle : before ≡ true → (after ≡ true) × (new ≡ old)
@@ -40,7 +40,7 @@ pub record FlushesUntilFailure {W : Type 0} (drain : Drain W) (before after : Bo
   pub stays_steady : drain.steady old → drain.steady new × (drain.failures new ≡ drain.failures old)
 
 -- the whole text was taken, and one flush was made, after all of it
-pub record TakenAndFlushed {W : Type 0} (drain : Drain W) (old new : W)
+pub record TakenAndFlushed {W : Type 0} (drain : Drain.Ghosts W) (old new : W)
     (text : List ℕ) : Type 0 where
   pub taken : Appends (drain.contents old) (drain.contents new) text
   pub once : drain.flushes new ≡ flushed (drain.flushes old)
@@ -48,7 +48,7 @@ pub record TakenAndFlushed {W : Type 0} (drain : Drain W) (old new : W)
 
 -- the drain failed: within the text, and then it was not flushed; or at the one flush after the
 -- whole text
-pub data Lost {W : Type 0} (drain : Drain W) (old new : W) (text : List ℕ) : Type 0 where
+pub data Lost {W : Type 0} (drain : Drain.Ghosts W) (old new : W) (text : List ℕ) : Type 0 where
   in_text : AppendsPart (drain.contents old) (drain.contents new) text
       → drain.flushes new ≡ drain.flushes old → Lost drain old new text
   at_flush : Appends (drain.contents old) (drain.contents new) text
@@ -56,7 +56,7 @@ pub data Lost {W : Type 0} (drain : Drain W) (old new : W) (text : List ℕ) : T
 
 -- what became of a text that was to be written and then flushed once, by whether the drain had
 -- failed before and whether it has failed now
-abbrev pub WrittenAndFlushed : {W : Type 0} → Drain W → Bool → Bool → W → W → List ℕ → Type 0
+abbrev pub WrittenAndFlushed : {W : Type 0} → Drain.Ghosts W → Bool → Bool → W → W → List ℕ → Type 0
 WrittenAndFlushed drain false false old new text = TakenAndFlushed drain old new text
 WrittenAndFlushed drain false true old new text = Lost drain old new text
 WrittenAndFlushed drain true false old new text = ⊥

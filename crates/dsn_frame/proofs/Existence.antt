@@ -6,7 +6,7 @@ use Rattle.std.proofs.lemmas.List.Concat.{flat_map-cons}
 use Rattle.std.proofs.lemmas.Nat.{be_bytes_4}
 use Rattle.std.specs.Int.{w32, to_be_bytes}
 use Rattle.std.specs.List.{flat_map}
-use Rattle.dsn_body.specs.FrameBody.{frame, IsFrameLength, IsFrameBody}
+use Rattle.dsn_body.specs.FrameBody.{frame, longest_body, IsFrameLength, IsFrameBody}
 use Rattle.dsn_body.proofs.FieldLaws.{IsBytes, IsBytes-take, IsBytes-after}
 use Rattle.dsn_frame.specs.Frame.{declared_length, FramesEnd, AreFramesOf}
 use Rattle.dsn_frame.specs.declared.frame_fault.FrameFault.{FrameFault}
@@ -62,7 +62,7 @@ frames_within (suc fuel) input short fits =
       | inr none ↦ ends_here input None (nil_from_length input (omega arith))
       | inl some ↦ elim (cases_lt (length input) 4) [
         | inl cut ↦ ends_here input (Some CutShort) (some, λ h. absurd (omega arith))
-        | inr four ↦ elim (cases_lt 65536 (declared_length input)) [
+        | inr four ↦ elim (cases_lt longest_body (declared_length input)) [
           | inl long ↦ ends_here input (Some TooLong) (four, long)
           | inr bounded ↦ elim (cases_lt 0 (declared_length input)) [
             | inr empty ↦ ends_here input (Some Empty) (four, omega arith)

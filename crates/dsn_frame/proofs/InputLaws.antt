@@ -4,7 +4,7 @@ use Rattle.std.specs.Int.{w32, from_be_bytes, to_be_bytes}
 use Rattle.std.specs.List.{flat_map, AllByRecursion}
 use Rattle.std.proofs.lemmas.List.{append-nil, length-append, take_at, drop_at, take-append-le}
 use Rattle.std.proofs.lemmas.List.Concat.{flat_map-cons}
-use Rattle.dsn_body.specs.FrameBody.{frame, IsFrameBody}
+use Rattle.dsn_body.specs.FrameBody.{frame, longest_body, IsFrameBody}
 use Rattle.dsn_frame.specs.Frame.{declared_length, FramesEnd, AreFramesOf, ReadsNone}
 use Rattle.dsn_frame.specs.declared.frame_fault.FrameFault.{FrameFault}
 use Rattle.dsn_frame.specs.declared.frame_fault.FrameFault.TheVariants.{NoMemory, TooLong, Empty, CutShort, Read}
@@ -22,10 +22,10 @@ none_ends input None fault none not_read not_memory = absurd none.consumed
 none_ends input (Some rest) NoMemory none not_read not_memory = absurd (not_memory refl)
 none_ends input (Some rest) Read none not_read not_memory = absurd (not_read refl)
 none_ends input (Some rest) TooLong none not_read not_memory =
-    let stops : (length none.part ≡ 4) × (65536 < declared_length none.part) = none.stops in
+    let stops : (length none.part ≡ 4) × (longest_body < declared_length none.part) = none.stops in
     let declares : declared_length (none.part ++ rest) ≡ declared_length none.part = same_length none.part rest (omega arith) in
-    subst (λ (text : List ℕ). (4 ≤ length text) × (65536 < declared_length text)) (sym none.consumed)
-    (omega (arith, length-append none.part rest), subst (λ (n : ℕ). 65536 < n) (sym declares) stops.1)
+    subst (λ (text : List ℕ). (4 ≤ length text) × (longest_body < declared_length text)) (sym none.consumed)
+    (omega (arith, length-append none.part rest), subst (λ (n : ℕ). longest_body < n) (sym declares) stops.1)
 none_ends input (Some rest) Empty none not_read not_memory =
     let stops : (length none.part ≡ 4) × (declared_length none.part ≡ 0) = none.stops in
     let declares : declared_length (none.part ++ rest) ≡ declared_length none.part = same_length none.part rest (omega arith) in

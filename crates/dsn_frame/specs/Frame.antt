@@ -4,24 +4,32 @@ use Rattle.std.specs.Prelude.{◌≡◌, ℕ, ◌+◌, ◌<◌, ◌≤◌, List,
 use Rattle.std.specs.Io.KnownBytes.{Consumes, IsAtEnd}
 use Rattle.std.specs.Int.{w32, to_be_bytes, from_be_bytes}
 use Rattle.std.specs.List.{flat_map, AllByRecursion}
-use Rattle.dsn_body.specs.FrameBody.{frame, IsFrameLength, IsFrameBody}
+use Rattle.dsn_body.specs.FrameBody.{frame, longest_body, IsFrameLength, IsFrameBody}
 use Rattle.dsn_frame.specs.declared.frame_fault.FrameFault.{FrameFault}
 use Rattle.dsn_frame.specs.declared.frame_fault.FrameFault.TheVariants.{NoMemory, TooLong, Empty, CutShort, Read}
 
+-- the bytes of the length that a frame begins with (this project's profile)
+abbrev pub length_prefix : ℕ
+length_prefix = 4
+
+-- the longest frame, in bytes: the length and the longest body
+abbrev pub longest_frame : ℕ
+longest_frame = length_prefix + longest_body
+
 -- bytes that are a frame, whose body stands after the first four
 pub record IsHeld (bytes : List ℕ) : Type 0 where
-  pub legal : IsFrameBody (drop 4 bytes)
-  pub whole : bytes ≡ frame (drop 4 bytes)
+  pub legal : IsFrameBody (drop length_prefix bytes)
+  pub whole : bytes ≡ frame (drop length_prefix bytes)
 
 -- the length that the first four bytes declare
 abbrev pub declared_length : List ℕ → ℕ
-declared_length bytes = from_be_bytes w32 (take 4 bytes)
+declared_length bytes = from_be_bytes w32 (take length_prefix bytes)
 
 -- less than a whole frame, as far as its bytes tell
 abbrev pub IsPartOfFrame : List ℕ → Type 0
 IsPartOfFrame part =
-    4 ≤ length part
-    → IsFrameLength (declared_length part) × (length part < 4 + declared_length part)
+    length_prefix ≤ length part
+    → IsFrameLength (declared_length part) × (length part < length_prefix + declared_length part)
 
 -- ---- the frames of a whole input
 
@@ -29,8 +37,8 @@ IsPartOfFrame part =
 -- its own
 abbrev pub FramesEnd : List ℕ → Option FrameFault → Type 0
 FramesEnd rest None = rest ≡ []
-FramesEnd rest (Some TooLong) = (4 ≤ length rest) × (65536 < declared_length rest)
-FramesEnd rest (Some Empty) = (4 ≤ length rest) × (declared_length rest ≡ 0)
+FramesEnd rest (Some TooLong) = (length_prefix ≤ length rest) × (longest_body < declared_length rest)
+FramesEnd rest (Some Empty) = (length_prefix ≤ length rest) × (declared_length rest ≡ 0)
 FramesEnd rest (Some CutShort) = (0 < length rest) × IsPartOfFrame rest
 FramesEnd rest (Some Read) = ⊥
 FramesEnd rest (Some NoMemory) = ⊥
@@ -56,11 +64,11 @@ ReadsNext old new (Some body) = IsFrameBody body × Consumes old new (frame body
 
 -- what a fault says of the bytes that were read before it: the length alone, or less than a frame
 abbrev pub StopsAt : FrameFault → List ℕ → Type 0
-StopsAt TooLong part = (length part ≡ 4) × (65536 < declared_length part)
-StopsAt Empty part = (length part ≡ 4) × (declared_length part ≡ 0)
+StopsAt TooLong part = (length part ≡ length_prefix) × (longest_body < declared_length part)
+StopsAt Empty part = (length part ≡ length_prefix) × (declared_length part ≡ 0)
 StopsAt CutShort part = (0 < length part) × IsPartOfFrame part
 StopsAt Read part = IsPartOfFrame part
-StopsAt NoMemory part = (length part ≡ 4) × IsFrameLength (declared_length part)
+StopsAt NoMemory part = (length part ≡ length_prefix) × IsFrameLength (declared_length part)
 
 -- no frame could be read: these bytes were, and a frame that is cut short is cut by the end of the
 -- input
@@ -79,7 +87,7 @@ pub record ConsumesLength (old new : Option (List ℕ)) (size : ℕ) : Type 0 wh
 pub record LacksRoom (room : ℕ) (old new : Option (List ℕ)) : Type 0 where
   pub size : ℕ
   pub consumed : ConsumesLength old new size
-  pub lacks : room < 4 + size
+  pub lacks : room < length_prefix + size
 
 -- the length of the next frame, or none at the end
 abbrev pub ReadsLength : Option (List ℕ) → Option (List ℕ) → Option ℕ → Type 0

@@ -1,10 +1,11 @@
 -- The numbers of the faults of a frame (this project's profile).
 use Rattle.std.specs.Prelude.{ℕ, Bool, true, false, Result, Ok, Err}
+use Rattle.dsn_text.specs.NoMemory.{no_memory_code}
 use Rattle.dsn_frame.specs.declared.frame_fault.FrameFault.{FrameFault}
 use Rattle.dsn_frame.specs.declared.frame_fault.FrameFault.TheVariants.{NoMemory, TooLong, Empty, CutShort, Read}
 
 abbrev pub frame_fault_code : FrameFault → ℕ
-frame_fault_code NoMemory = 9
+frame_fault_code NoMemory = no_memory_code
 frame_fault_code TooLong = 11
 frame_fault_code Empty = 12
 frame_fault_code CutShort = 13

@@ -3,6 +3,7 @@
 use Rattle.std.specs.Prelude.{◌≡◌, ◌≢◌, ℕ, ◌+◌, ◌<◌, List, [], ◌∷◌, ◌++◌, length, Option, Some, None}
 use Rattle.std.specs.Io.KnownBytes.{Consumes, IsAtEnd}
 use Rattle.std.specs.List.{flat_map}
+use Rattle.dsn_text.specs.NoMemory.{no_memory_code}
 use Rattle.dsn_outcome.specs.Request.{Body}
 use Rattle.dsn_outcome.specs.declared.answer.Reply.{Reply}
 use Rattle.dsn_body.specs.BodyFault.{body_fault_code}
@@ -10,7 +11,7 @@ use Rattle.dsn_body.specs.FrameBody.{frame, IsFrameBody}
 use Rattle.dsn_body.specs.Request.{Encodes, first_body_fault}
 use Rattle.dsn_body.specs.declared.body_fault.BodyFault.{BodyFault}
 use Rattle.dsn_body.specs.declared.spoken.Spoken.{Spoken}
-use Rattle.dsn_body.specs.declared.spoken.Spoken.TheVariants as spoken
+use Rattle.dsn_body.specs.declared.spoken.Spoken.TheVariants
 use Rattle.dsn_frame.specs.Frame.{ReadsNone}
 use Rattle.dsn_frame.specs.FrameFault.{frame_fault_code}
 use Rattle.dsn_frame.specs.declared.frame_fault.FrameFault.{FrameFault}
@@ -35,19 +36,19 @@ pub data Takes (medium : Medium) (limit accepted place : ℕ) (bytes : List ℕ)
   -- a body with a fault is refused by the number of the first one
   faulty : (fault : BodyFault) → first_body_fault bytes ≡ Some fault
       → Takes medium limit accepted place bytes []
-      (spoken.Refused (body_fault_code fault) ∷ []) None
+      (TheVariants.Refused (body_fault_code fault) ∷ []) None
   -- a body without a fault may meet want of memory
   out_of_memory : first_body_fault bytes ≡ None
-      → Takes medium limit accepted place bytes [] (spoken.Refused 9 ∷ []) None
+      → Takes medium limit accepted place bytes [] (TheVariants.Refused no_memory_code ∷ []) None
   -- a body whose number isn't the frame's place is refused, and ends the session
   out_of_turn : (number : ℕ) (body : Body) → Encodes bytes number body → number ≢ place
-      → Takes medium limit accepted place bytes [] (spoken.Refused 46 ∷ []) (Some 46)
+      → Takes medium limit accepted place bytes [] (TheVariants.Refused 46 ∷ []) (Some 46)
   -- a body beyond the accepted requests that there may be is refused
   used_up : (body : Body) → Encodes bytes place body → accepted ≡ limit
-      → Takes medium limit accepted place bytes [] (spoken.Refused 44 ∷ []) None
+      → Takes medium limit accepted place bytes [] (TheVariants.Refused 44 ∷ []) None
   -- any other body is asked, and gets a reply
   asked : (body : Body) (reply : Reply) → Encodes bytes place body → accepted < limit
-      → Takes medium limit accepted place bytes (body ∷ []) (spoken.Reply reply ∷ []) None
+      → Takes medium limit accepted place bytes (body ∷ []) (TheVariants.Reply reply ∷ []) None
   -- on a connection the daemon may have given up before the body is asked
   given_up : (body : Body) → Encodes bytes place body → medium ≡ Connection
       → Takes medium limit accepted place bytes [] [] (Some 41)
@@ -100,7 +101,7 @@ pub data Ends (medium : Medium) (limit count : ℕ) (made : Option ℕ)
       → Consumes left now (frame bytes) → Ends medium limit count made left now (Some 47)
   -- memory for the logs of an input that is read alone is refused before anything is read
   no_memory_for_book : medium ≡ Input → made ≡ None → count ≡ 0 → left ≡ now
-      → Ends medium limit count made left now (Some 9)
+      → Ends medium limit count made left now (Some no_memory_code)
 
 -- a session over the bytes of a source, from `start` to what is at last still to be read, `now`:
 -- these are the bodies of the frames that were taken, these bodies were asked, these answers given,

@@ -3,10 +3,11 @@
 use Rattle.std.specs.Prelude.{◌≡◌, ℕ, ◌+◌, ◌≤◌, Bool, true, false, ◌||◌, ◌==◌, List, [], ◌∷◌, ◌++◌, Option, Some, None}
 use Rattle.std.specs.List.{AllByRecursion}
 use Rattle.std.specs.Option.{option_map, option_map_or}
+use Rattle.dsn_text.specs.NoMemory.{no_memory_code}
 use Rattle.dsn_outcome.specs.Request.{Body}
-use Rattle.dsn_outcome.specs.declared.answer.Reply.{Reply as Given}
+use Rattle.dsn_outcome.specs.declared.answer.Reply.{Reply}
 use Rattle.dsn_body.specs.declared.spoken.Spoken.{Spoken}
-use Rattle.dsn_body.specs.declared.spoken.Spoken.TheVariants.{Reply, Refused}
+use Rattle.dsn_body.specs.declared.spoken.Spoken.TheVariants
 use Rattle.dsn_frame.specs.Frame.{AreFramesOf}
 use Rattle.dsn_frame.specs.FrameFault.{frame_fault_code}
 use Rattle.dsn_frame.specs.Session.{Medium, IsSession}
@@ -16,12 +17,12 @@ use Rattle.dsn_frame.specs.declared.frame_fault.FrameFault.{FrameFault}
 -- that could not be written (to notes, to a connection), and a daemon that gave up
 abbrev pub is_from_outside : ℕ → Bool
 is_from_outside code =
-    (code == 9) || ((code == 14) || ((code == 33) || ((code == 35) || (code == 41))))
+    (code == no_memory_code) || ((code == 14) || ((code == 33) || ((code == 35) || (code == 41))))
 
 -- an answer that the bytes decide, but for which reply it is
 abbrev pub IsDecided : Spoken → Type 0
-IsDecided (Reply reply) = Unit {0}
-IsDecided (Refused code) = is_from_outside code ≡ false
+IsDecided (TheVariants.Reply reply) = Unit {0}
+IsDecided (TheVariants.Refused code) = is_from_outside code ≡ false
 
 -- a session that met nothing from outside the bytes, neither in an answer nor at its end
 pub record IsOfBytesAlone (answers : List Spoken) (end : Option ℕ) : Type 0 where
@@ -30,10 +31,10 @@ pub record IsOfBytesAlone (answers : List Spoken) (end : Option ℕ) : Type 0 wh
 
 -- two answers of which both are replies, or both the same refusal
 abbrev pub AreAlike : Spoken → Spoken → Type 0
-AreAlike (Reply reply) (Reply other) = Unit {0}
-AreAlike (Reply reply) (Refused code) = ⊥
-AreAlike (Refused code) (Reply reply) = ⊥
-AreAlike (Refused code) (Refused other) = code ≡ other
+AreAlike (TheVariants.Reply reply) (TheVariants.Reply other) = Unit {0}
+AreAlike (TheVariants.Reply reply) (TheVariants.Refused code) = ⊥
+AreAlike (TheVariants.Refused code) (TheVariants.Reply reply) = ⊥
+AreAlike (TheVariants.Refused code) (TheVariants.Refused other) = code ≡ other
 
 -- as many answers, and each two of them are alike
 abbrev pub AnswerAlike : List Spoken → List Spoken → Type 0
@@ -77,15 +78,15 @@ LeavesOneRest medium limit before bytes =
     → left ≡ other_left
 
 -- the replies among the answers from a place on are those that are given for their places
-abbrev pub RepliesAre : (ℕ → Given) → ℕ → List Spoken → Type 0
+abbrev pub RepliesAre : (ℕ → Reply) → ℕ → List Spoken → Type 0
 RepliesAre replies place [] = Unit {0}
-RepliesAre replies place (Reply reply ∷ rest) =
+RepliesAre replies place (TheVariants.Reply reply ∷ rest) =
     (reply ≡ replies place) × RepliesAre replies (place + 1) rest
-RepliesAre replies place (Refused code ∷ rest) = RepliesAre replies (place + 1) rest
+RepliesAre replies place (TheVariants.Refused code ∷ rest) = RepliesAre replies (place + 1) rest
 
 -- a session over these bytes that met nothing from outside, with these replies
 pub record SessionWith (medium : Medium) (limit before : ℕ) (bytes : List ℕ)
-    (replies : ℕ → Given) : Type 0 where
+    (replies : ℕ → Reply) : Type 0 where
   pub left : Option (List ℕ)
   pub frames : List (List ℕ)
   pub bodies : List Body
@@ -98,7 +99,7 @@ pub record SessionWith (medium : Medium) (limit before : ℕ) (bytes : List ℕ)
 -- there is one, whatever the replies are, where no more requests came before it than there may be
 abbrev pub HasSomeSession : Medium → ℕ → ℕ → List ℕ → Type 0
 HasSomeSession medium limit before bytes =
-    before ≤ limit → (replies : ℕ → Given) → SessionWith medium limit before bytes replies
+    before ≤ limit → (replies : ℕ → Reply) → SessionWith medium limit before bytes replies
 
 -- the ends that the frames of an input make: none at all, a length that is none, and a frame that
 -- is cut short

@@ -2,6 +2,7 @@
 -- project's profile).
 use Rattle.std.specs.Prelude.{◌≡◌, ◌≢◌, ℕ, ◌+◌, ◌≤◌, List, [], ◌∷◌, ◌++◌, length, take, Option, Some, None}
 use Rattle.std.specs.List.{flat_map, AllByRecursion}
+use Rattle.dsn_text.specs.NoMemory.{no_memory_code}
 use Rattle.dsn_outcome.specs.Request.{Body}
 use Rattle.dsn_body.specs.FrameBody.{frame, IsFrameBody}
 use Rattle.dsn_body.specs.Request.{Encodes}
@@ -34,13 +35,13 @@ IsReply (Refused number) = ⊥
 
 abbrev pub IsReplyOrNoMemory : Spoken → Type 0
 IsReplyOrNoMemory (Reply reply) = Unit {0}
-IsReplyOrNoMemory (Refused number) = number ≡ 9
+IsReplyOrNoMemory (Refused number) = number ≡ no_memory_code
 
 -- no fault, or one that is none of the bytes: want of memory, a read that failed, an answer that
 -- was not written, or a daemon that gave up, which happens on a connection alone
 pub data IsOutside (medium : Medium) : Option ℕ → Type 0 where
   none : IsOutside medium None
-  no_memory : IsOutside medium (Some 9)
+  no_memory : IsOutside medium (Some no_memory_code)
   read_failed : IsOutside medium (Some 14)
   unwritten : IsOutside medium (Some (unwritten_code medium))
   given_up : medium ≡ Connection → IsOutside medium (Some 41)

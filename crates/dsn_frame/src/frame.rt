@@ -4,7 +4,7 @@ ghost use Rattle.std.specs.Int.{w32, from_be_bytes, to_be_bytes};
 ghost use Rattle.std.specs.Io.KnownBytes.{Consumes, IsAtEnd, Keeps};
 ghost use Rattle.dsn_device.specs.Failures.{counted};
 ghost use Rattle.dsn_body.specs.FrameBody.{IsFrameLength, IsFrameBody, frame};
-ghost use Rattle.dsn_frame.specs.Frame.{BodyMissing, IsHeld, ReadsLength, ReadsNext, ReadsNone};
+ghost use Rattle.dsn_frame.specs.Frame.{BodyMissing, IsHeld, ReadsLength, ReadsNext, ReadsNone, length_prefix};
 ghost use Rattle.dsn_frame.specs.FrameFault.{source_failed};
 
 use crate::frame_fault::FrameFault;
@@ -27,11 +27,11 @@ pub struct Frame {
 
 impl Model for Frame {
     ghost use Rattle.std.specs.Prelude.{ℕ, List, drop};
-    ghost use Rattle.dsn_frame.specs.Frame.{IsHeld};
+    ghost use Rattle.dsn_frame.specs.Frame.{IsHeld, length_prefix};
 
     ghost Value = { List ℕ };
 
-    ghost view = { λ f. drop 4 f.bytes.items };
+    ghost view = { λ f. drop length_prefix f.bytes.items };
 
     ghost invariant = { λ f. IsHeld f.bytes.items };
 }
@@ -118,8 +118,9 @@ fn read_after_length<S: Source>(
     requires legal { IsFrameLength size }
     ensures whole { IfOk result (λ bytes. IsHeld bytes.items) }
     ensures body { IfOk result
-        (λ bytes. (length (drop 4 bytes.items) ≡ size)
-        × Consumes (S.remaining source.old) (S.remaining source.new) (drop 4 bytes.items)) }
+        (λ bytes. (length (drop length_prefix bytes.items) ≡ size)
+        × Consumes (S.remaining source.old) (S.remaining source.new)
+        (drop length_prefix bytes.items)) }
     ensures refused { IfErr result
         (λ fault. BodyMissing (S.remaining source.old) (S.remaining source.new) size fault) }
     ensures held { Keeps (S.holds source.old) (S.holds source.new) }
@@ -142,12 +143,13 @@ pub(crate) fn fill_frame<S: Source>(
     room: &mut [u8],
 ) -> Result<(), FrameFault>
     requires legal { IsFrameLength size }
-    requires room { length room.old ≡ 4 + size }
-    ensures long { length room.new ≡ 4 + size }
+    requires room { length room.old ≡ length_prefix + size }
+    ensures long { length room.new ≡ length_prefix + size }
     ensures whole { OnOk result (IsHeld room.new) }
     ensures body { OnOk result
-        ((length (drop 4 room.new) ≡ size)
-        × Consumes (S.remaining source.old) (S.remaining source.new) (drop 4 room.new)) }
+        ((length (drop length_prefix room.new) ≡ size)
+        × Consumes (S.remaining source.old) (S.remaining source.new)
+        (drop length_prefix room.new)) }
     ensures refused { IfErr result
         (λ fault. BodyMissing (S.remaining source.old) (S.remaining source.new) size fault) }
     ensures no_growth { IfErr result (λ fault. fault ≢ FrameFault.NoMemory) }
@@ -169,7 +171,7 @@ pub(crate) fn fill_frame<S: Source>(
 
 /// The number that four bytes are, the highest first.
 fn number_in(bytes: &[u8]) -> u32
-    requires { length bytes.now ≡ 4 }
+    requires { length bytes.now ≡ length_prefix }
     ensures value { result ≡ from_be_bytes w32 bytes.now }
     ensures written { bytes.now ≡ to_be_bytes w32 result }
 {

@@ -2,7 +2,7 @@
 ghost use Rattle.std.specs.Prelude.{◌≡◌, ◌+◌, ◌<◌, ◌≤◌, length, IfOk, IfErr, OnOk, OnErr};
 ghost use Rattle.std.specs.Io.KnownBytes.{Keeps};
 ghost use Rattle.dsn_device.specs.Failures.{counted};
-ghost use Rattle.dsn_frame.specs.Frame.{LacksRoom, ReadsNext, ReadsNone};
+ghost use Rattle.dsn_frame.specs.Frame.{LacksRoom, ReadsNext, ReadsNone, longest_frame};
 ghost use Rattle.dsn_frame.specs.FrameFault.{source_failed};
 
 use crate::frame::{LENGTH, LONGEST_BODY, fill_frame, read_length};
@@ -27,13 +27,14 @@ pub struct FrameBuffer {
 
 impl Model for FrameBuffer {
     ghost use Rattle.std.specs.Prelude.{ℕ, length, ◌≤◌};
+    ghost use Rattle.dsn_frame.specs.Frame.{longest_frame};
 
     // how many bytes of a frame it has room for
     ghost Value = { ℕ };
 
     ghost view = { λ b. length b.bytes.items };
 
-    ghost invariant = { λ b. length b.bytes.items ≤ 65540 };
+    ghost invariant = { λ b. length b.bytes.items ≤ longest_frame };
 }
 
 impl FrameBuffer {
@@ -84,9 +85,9 @@ impl FrameBuffer {
 /// Makes a buffer as long as a frame, at least. What it had stays, and zeros follow.
 fn grow(bytes: &mut Vec<u8>, whole: usize) -> Result<(), AllocError>
     requires longer { length bytes.old.items < whole }
-    requires legal { whole ≤ 65540 }
+    requires legal { whole ≤ longest_frame }
     ensures room { OnOk result (whole ≤ length bytes.new.items) }
-    ensures bound { length bytes.new.items ≤ 65540 }
+    ensures bound { length bytes.new.items ≤ longest_frame }
     ensures refused { OnErr result (bytes.new.items ≡ bytes.old.items) }
 {
     let room = whole.max(2 * bytes.len()).min(LONGEST_FRAME);

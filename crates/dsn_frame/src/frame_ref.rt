@@ -14,11 +14,11 @@ pub struct FrameRef<'a> {
 
 impl<'a> Model for FrameRef<'a> {
     ghost use Rattle.std.specs.Prelude.{ℕ, List, drop};
-    ghost use Rattle.dsn_frame.specs.Frame.{IsHeld};
+    ghost use Rattle.dsn_frame.specs.Frame.{IsHeld, length_prefix};
 
     ghost Value = { List ℕ };
 
-    ghost view = { λ f. drop 4 f.bytes.now };
+    ghost view = { λ f. drop length_prefix f.bytes.now };
 
     ghost invariant = { λ f. IsHeld f.bytes.now };
 }

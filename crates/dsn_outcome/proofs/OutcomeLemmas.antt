@@ -9,7 +9,7 @@ use Rattle.dsn_outcome.specs.Outcome.{Fields, Outcome, first_failed, first_outco
 use Rattle.dsn_text.specs.Optional.{unless_empty, is_none_or}
 use Rattle.dsn_text.specs.Service.{takes}
 use Rattle.dsn_text.specs.Status.{is_status_code, status_class}
-use Rattle.dsn_text.specs.Text.{is_address, is_mta_name, is_remark, is_text, clean_text}
+use Rattle.dsn_text.specs.Text.{is_address, is_mta_name, is_remark, is_text, clean_text, longest_address, longest_mta_name, longest_clean}
 use Rattle.dsn_text.proofs.TextLemmas.{is_remark-clean_text}
 use Rattle.dsn_text.specs.declared.service.Service.{Service}
 
@@ -37,8 +37,8 @@ pub record Passes (service : Service) (fields : Fields) : Type 0 where
   pub status : IsTrue (is_status_code fields.status)
   pub class : IsTrue (option_map_or (λ action. fits_class action (status_class fields.status)) (action_of_byte fields.action) false)
   pub mta : IsTrue (is_none_or is_mta_name (unless_empty fields.mta))
-  pub diagnostic : length fields.diagnostic ≤ 800
-  pub reason : length fields.reason ≤ 800
+  pub diagnostic : length fields.diagnostic ≤ longest_clean
+  pub reason : length fields.reason ≤ longest_clean
   pub retry : IsTrue (option_map_or (λ action. fits_retry action fields.retry_until) (action_of_byte fields.action) false)
 
 pub passes-none : (service : Service) (fields : Fields) → first_outcome_fault service fields ≡ None → Passes service fields
@@ -76,11 +76,11 @@ length-unless_empty allowed least most (byte ∷ rest) is = length-is_text allow
 
 -- how long the texts of fields without a fault are
 pub record AreShort (fields : Fields) : Type 0 where
-  pub recipient : length fields.recipient ≤ 256
-  pub original : length fields.original ≤ 256
-  pub mta : length fields.mta ≤ 255
-  pub diagnostic : length fields.diagnostic ≤ 800
-  pub reason : length fields.reason ≤ 800
+  pub recipient : length fields.recipient ≤ longest_address
+  pub original : length fields.original ≤ longest_address
+  pub mta : length fields.mta ≤ longest_mta_name
+  pub diagnostic : length fields.diagnostic ≤ longest_clean
+  pub reason : length fields.reason ≤ longest_clean
 
 pub short-none : (service : Service) (fields : Fields) → first_outcome_fault service fields ≡ None → AreShort fields
 short-none service fields none =
@@ -94,7 +94,7 @@ short-none service fields none =
     }
 
 -- a cleaned text that is short enough, if there is one
-is_remark-unless_empty : (text : List ℕ) → length text ≤ 800 → IsTrue (is_none_or is_remark (unless_empty (clean_text text)))
+is_remark-unless_empty : (text : List ℕ) → length text ≤ longest_clean → IsTrue (is_none_or is_remark (unless_empty (clean_text text)))
 is_remark-unless_empty [] short = refl
 is_remark-unless_empty (byte ∷ rest) short = is_remark-clean_text (byte ∷ rest) (omega arith) short
 

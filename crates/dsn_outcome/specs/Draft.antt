@@ -3,7 +3,7 @@ use Rattle.std.specs.Prelude.{ℕ, ◌≤◌, nat_le, Bool, List, [], ◌∷◌,
 use Rattle.dsn_outcome.specs.Outcome.{first_failed}
 use Rattle.dsn_text.specs.Optional.{is_none_or, unless_empty}
 use Rattle.dsn_text.specs.Stamp.{last_moment}
-use Rattle.dsn_text.specs.Text.{is_address, is_envelope_id}
+use Rattle.dsn_text.specs.Text.{is_address, is_envelope_id, longest_header}
 use Rattle.dsn_outcome.specs.declared.draft_fault.DraftFault.{DraftFault}
 use Rattle.dsn_outcome.specs.declared.draft_fault.DraftFault.TheVariants.{Header, ReturnPath, EnvelopeId}
 
@@ -22,12 +22,12 @@ pub record IsLegalDraft (draft : Draft) : Type 0 where
   pub arrival_dated : draft.arrival ≤ last_moment
   pub return_path_legal : IsTrue (is_none_or is_address draft.return_path)
   pub envelope_id_legal : IsTrue (is_none_or is_envelope_id draft.envelope_id)
-  pub header_short : length draft.header ≤ 32768
+  pub header_short : length draft.header ≤ longest_header
 
 -- the first fault of a draft's texts, if they have one
 abbrev pub draft_checks : List ℕ → List ℕ → List ℕ → List (Bool × DraftFault)
 draft_checks header return_path envelope_id =
-    (nat_le (length header) 32768, Header)
+    (nat_le (length header) longest_header, Header)
     ∷ (is_none_or is_address (unless_empty return_path), ReturnPath)
     ∷ (is_none_or is_envelope_id (unless_empty envelope_id), EnvelopeId)
     ∷ []

@@ -1,5 +1,5 @@
 -- Letters: a sealed log with the draft of its notice.
-use Rattle.std.specs.Prelude.{◌≡◌, ◌≢◌, ℕ, List, [], All, IsSome}
+use Rattle.std.specs.Prelude.{◌≡◌, ◌≢◌, ℕ, ◌-◌, ◌^◌, List, [], All, IsSome}
 use Rattle.dsn_outcome.specs.Draft.{Draft}
 use Rattle.dsn_outcome.specs.Outcome.{Outcome}
 use Rattle.dsn_text.specs.declared.key.Key.{Key}
@@ -11,6 +11,10 @@ pub record Letter : Type 0 where
   pub draft : Draft
   pub outcomes : List Outcome
   pub serial : ℕ
+
+-- the most that a count of letters tells, which has 64 bits: it stands for so many letters or more
+abbrev pub most_counted : ℕ
+most_counted = 2 ^ 64 - 1
 
 -- a letter can be sent: it reports some outcome (RFC 3464 section 2.1), all of its service, and
 -- somebody gets it

@@ -5,7 +5,7 @@ use Rattle.dsn_text.specs.Action.{action_of_byte, fits_class, fits_retry}
 use Rattle.dsn_text.specs.Optional.{is_none_or, unless_empty}
 use Rattle.dsn_text.specs.Service.{takes}
 use Rattle.dsn_text.specs.Stamp.{is_moment}
-use Rattle.dsn_text.specs.Text.{is_address, is_mta_name, is_remark, clean_text}
+use Rattle.dsn_text.specs.Text.{is_address, is_mta_name, is_remark, longest_clean, clean_text}
 use Rattle.dsn_text.specs.Status.{is_status_code, status_class}
 use Rattle.dsn_text.specs.declared.action.Action.{Action}
 use Rattle.dsn_outcome.specs.declared.outcome_fault.OutcomeFault.{OutcomeFault}
@@ -55,8 +55,8 @@ outcome_checks service fields =
       StatusClass,
     )
     ∷ (option_map_or is_mta_name (unless_empty fields.mta) true, BadMta)
-    ∷ (nat_le (length fields.diagnostic) 800, LongDiagnostic)
-    ∷ (nat_le (length fields.reason) 800, LongReason)
+    ∷ (nat_le (length fields.diagnostic) longest_clean, LongDiagnostic)
+    ∷ (nat_le (length fields.reason) longest_clean, LongReason)
     ∷ (
       option_map_or (λ action. fits_retry action fields.retry_until)
           (action_of_byte fields.action) false,

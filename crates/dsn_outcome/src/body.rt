@@ -20,7 +20,7 @@ pub enum Body {
 
 impl Body {
     ghost use Rattle.std.specs.Prelude.{◌≡◌, ◌↔◌, IsTrue};
-    ghost use Rattle.dsn_outcome.specs.Request.{key_of, Bye as Goodbye};
+    ghost use Rattle.dsn_outcome.specs.Request.{key_of, Bye};
     ghost use Rattle.dsn_outcome.specs.Body.{body_of};
 
     /// The key of the log that it is about; a goodbye has none.
@@ -39,7 +39,7 @@ impl Body {
 
     /// Whether the agent leaves.
     pub fn is_bye(&self) -> bool
-        ensures { IsTrue result ↔ (body_of self.now ≡ Goodbye) }
+        ensures { IsTrue result ↔ (body_of self.now ≡ Bye) }
     {
         matches!(self, Body::Bye)
     }

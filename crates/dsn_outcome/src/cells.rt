@@ -1,5 +1,6 @@
 //! Letters joined by their own links, in one direction.
-ghost use Rattle.std.specs.Prelude.{◌≡◌, ◌==◌, ◌^◌, ◌-◌, [], ◌∷◌, ◌++◌, length, min, reverse, IfNone, IfSome};
+ghost use Rattle.std.specs.Prelude.{◌≡◌, ◌==◌, [], ◌∷◌, ◌++◌, length, min, reverse, IfNone, IfSome};
+ghost use Rattle.dsn_outcome.specs.Letter.{most_counted};
 
 use crate::cell::Cell;
 use crate::letter::Letter;
@@ -68,7 +69,7 @@ impl Cells {
 
     /// How many there are, up to 2^64 - 1.
     pub(crate) fn len(&self) -> u64
-        ensures { result ≡ min (length self.now) (2 ^ 64 - 1) }
+        ensures { result ≡ min (length self.now) most_counted }
     {
         let mut count = 0u64;
         let mut link = &self.first;

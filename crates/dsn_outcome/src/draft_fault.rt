@@ -22,9 +22,9 @@ pub enum DraftFault {
 }
 
 impl From<NoMemory> for DraftFault {
-    ghost use Rattle.dsn_outcome.specs.declared.draft_fault.DraftFault.TheVariants as fault;
+    ghost use Rattle.dsn_outcome.specs.declared.draft_fault.DraftFault.{DraftFault};
 
-    ghost from_gives = { λ _ refusal. refusal ≡ fault.NoMemory };
+    ghost from_gives = { λ _ refusal. refusal ≡ DraftFault.NoMemory };
 
     fn from(_: NoMemory) -> DraftFault {
         DraftFault::NoMemory

@@ -5,34 +5,34 @@ ghost use Rattle.dsn_outcome.specs.CloseRule.{StaysClosed, AnswersClosed, TakesN
 ghost use Rattle.dsn_outcome.specs.Forgetting.{AreNumbered, ForgetsIt, KeepsIt};
 ghost use Rattle.dsn_outcome.specs.History.{Limits, Exchange, IsClosed, is_closed, answers_to, history_of};
 ghost use Rattle.dsn_outcome.specs.Request.{Request};
-ghost use Rattle.dsn_text.specs.declared.key.Key.{Key as HistoryKey};
+ghost use Rattle.dsn_text.specs.declared.key.Key.{Key};
 
 /// The close rule: until it is forgotten a closed key stays closed, and its log takes no outcome,
 /// whatever is asked. Each other request about it is answered Closed, and leaves every log, the
 /// held keys and the sealed letters as they were.
 pub fn closed_logs_stay_closed()
-    ensures stays { (key : HistoryKey) (history : List Exchange) → IsClosed key history
+    ensures stays { (key : Key) (history : List Exchange) → IsClosed key history
         → StaysClosed key history }
-    ensures answered { (limits : Limits) (key : HistoryKey) (history : List Exchange)
+    ensures answered { (limits : Limits) (key : Key) (history : List Exchange)
         → IsClosed key history → AnswersClosed limits key history }
-    ensures no_outcome { (limits : Limits) (key : HistoryKey) (history : List Exchange)
+    ensures no_outcome { (limits : Limits) (key : Key) (history : List Exchange)
         → IsClosed key history → TakesNoOutcome limits key history }
-    ensures between { (limits : Limits) (key : HistoryKey) (history : List Exchange)
+    ensures between { (limits : Limits) (key : Key) (history : List Exchange)
         → IsClosed key history → TakesNoOutcomeUntilForgotten limits key history }
-    ensures logs { (limits : Limits) (key : HistoryKey) (history : List Exchange)
+    ensures logs { (limits : Limits) (key : Key) (history : List Exchange)
         → IsClosed key history → LeavesEveryLog limits key history }
-    ensures held { (limits : Limits) (key : HistoryKey) (history : List Exchange)
+    ensures held { (limits : Limits) (key : Key) (history : List Exchange)
         → IsClosed key history → LeavesHeldKeys limits key history }
-    ensures letters { (limits : Limits) (key : HistoryKey) (history : List Exchange)
+    ensures letters { (limits : Limits) (key : Key) (history : List Exchange)
         → IsClosed key history → LeavesSealedLetters limits key history }
 {}
 
 /// A Forget of a closed key makes it as one that was never used, and leaves all else as it was.
 /// One of any other key changes nothing.
 pub fn closed_keys_alone_are_forgotten()
-    ensures closed { (limits : Limits) (key : HistoryKey) (history : List Exchange)
+    ensures closed { (limits : Limits) (key : Key) (history : List Exchange)
         → IsClosed key history → ForgetsIt limits key history }
-    ensures other { (limits : Limits) (key : HistoryKey) (history : List Exchange)
+    ensures other { (limits : Limits) (key : Key) (history : List Exchange)
         → is_closed key history ≡ false → KeepsIt limits key history }
 {}
 

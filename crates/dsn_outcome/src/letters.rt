@@ -1,5 +1,6 @@
 //! Letters joined by their own links.
-ghost use Rattle.std.specs.Prelude.{◌≡◌, ◌==◌, ◌^◌, ◌-◌, [], ◌∷◌, ◌++◌, length, min, IfNone, IfSome};
+ghost use Rattle.std.specs.Prelude.{◌≡◌, ◌==◌, [], ◌∷◌, ◌++◌, length, min, IfNone, IfSome};
+ghost use Rattle.dsn_outcome.specs.Letter.{most_counted};
 
 use crate::cells::Cells;
 use crate::letter::Letter;
@@ -55,7 +56,7 @@ impl Letters {
     /// How many letters there are; 18,446,744,073,709,551,615 stands for so many or more. It
     /// walks over them.
     pub fn len(&self) -> u64
-        ensures { result ≡ min (length self.now) (2 ^ 64 - 1) }
+        ensures { result ≡ min (length self.now) most_counted }
     {
         self.front.len().saturating_add(self.back.len())
     }

@@ -1,7 +1,7 @@
 //! The texts of an outcome, which share one piece of memory.
 ghost use Rattle.std.specs.Prelude.{◌≡◌, ◌+◌, ◌≤◌, ◌++◌, length, IfOk, IfErr};
 ghost use Rattle.std.specs.Vec.{vec_len, vec_capacity};
-ghost use Rattle.dsn_text.specs.Text.{clean_text};
+ghost use Rattle.dsn_text.specs.Text.{clean_text, longest_address, longest_mta_name, longest_clean};
 
 use crate::outcome_fault::OutcomeFault;
 use dsn_text::replace_unprintable;
@@ -44,11 +44,11 @@ impl Texts {
         diagnostic: &[u8],
         reason: &[u8],
     ) -> Result<Texts, OutcomeFault>
-        requires recipient { length recipient.now ≤ 256 }
-        requires original { length original.now ≤ 256 }
-        requires mta { length mta.now ≤ 255 }
-        requires diagnostic { length diagnostic.now ≤ 800 }
-        requires reason { length reason.now ≤ 800 }
+        requires recipient { length recipient.now ≤ longest_address }
+        requires original { length original.now ≤ longest_address }
+        requires mta { length mta.now ≤ longest_mta_name }
+        requires diagnostic { length diagnostic.now ≤ longest_clean }
+        requires reason { length reason.now ≤ longest_clean }
         ensures recipient { IfOk result (λ texts. texts.recipient ≡ recipient.now) }
         ensures original { IfOk result (λ texts. texts.original ≡ original.now) }
         ensures mta { IfOk result (λ texts. texts.mta ≡ mta.now) }

@@ -1,20 +1,24 @@
 -- The boundary between the parts of a notice, and the returned lines that it has to differ from
 -- (RFC 2046 section 5.1.1).
-use Rattle.std.specs.Prelude.{ℕ, zero, suc, ◌+◌, ◌/◌, ◌%◌, ◌<◌, Bool, ◌||◌, ◌==◌, List, [], ◌∷◌, ◌++◌, length, map, take, codes, decimal, if◌then◌else◌, nat_eq, IsTrue, IsFalse}
+use Rattle.std.specs.Prelude.{ℕ, zero, suc, ◌+◌, ◌-◌, ◌/◌, ◌%◌, ◌<◌, Bool, ◌||◌, ◌==◌, List, [], ◌∷◌, ◌++◌, length, map, take, codes, decimal, if◌then◌else◌, nat_eq, IsTrue, IsFalse}
 use Rattle.std.specs.List.{list_any, starts_with, before_first}
 use Rattle.std.specs.Str.Lines.{lines}
 use Rattle.dsn_outcome.specs.Letter.{Letter}
 use Rattle.dsn_text.specs.Service.{service_letter}
-use Rattle.dsn_text.specs.Text.{is_printable}
+use Rattle.dsn_text.specs.Text.{is_printable, longest_queue_id, most_digits}
 
 -- a byte of a returned line: `?` stands for one that is neither printable nor a tab, since a notice
 -- is 7bit text (RFC 2045 section 2.7)
 abbrev pub shown_byte : ℕ → ℕ
 shown_byte byte = if is_printable byte || (byte == 9) then byte else 63
 
--- a returned line, cut to the length that a line may have (RFC 5322 section 2.1.1)
+-- the longest line of a mail, in bytes without its end (RFC 5322 section 2.1.1)
+abbrev pub longest_line : ℕ
+longest_line = 998
+
+-- a returned line, cut to the length that a line may have
 abbrev pub shown_line : List ℕ → List ℕ
-shown_line line = take 998 (map shown_byte line)
+shown_line line = take longest_line (map shown_byte line)
 
 -- the lines of a message's header: those before the first empty line (RFC 5322 section 2.1)
 unfoldable pub header_lines : List ℕ → List (List ℕ)
@@ -23,6 +27,11 @@ header_lines header = before_first (λ line. length line == 0) (lines header)
 -- the lines that a notice returns of a header
 unfoldable pub returned_lines : List ℕ → List (List ℕ)
 returned_lines header = map shown_line (header_lines header)
+
+-- how many boundaries a letter has: as many as there are numbers of four digits (this project's
+-- profile)
+abbrev pub boundary_numbers : ℕ
+boundary_numbers = 10000
 
 -- a number below 10,000 in four digits
 abbrev pub four_digits : ℕ → List ℕ
@@ -33,6 +42,11 @@ abbrev pub letter_name : Letter → List ℕ
 letter_name letter =
     (service_letter letter.key.service ∷ []) ++ codes "." ++ letter.key.id ++ codes "."
     ++ decimal letter.draft.moment
+
+-- the longest name of a letter, in bytes: the service's letter, two dots, a queue id of at most 32
+-- and a moment of at most 20 digits
+abbrev pub longest_letter_name : ℕ
+longest_letter_name = 3 + longest_queue_id + most_digits
 
 -- what the boundaries of a letter begin with, whatever their number
 abbrev pub boundary_front : Letter → List ℕ
@@ -74,7 +88,7 @@ first_failing test number (suc tries) =
 
 -- the number of a notice's boundary; it has four digits
 unfoldable pub boundary_number : Letter → ℕ
-boundary_number letter = first_failing (is_ruled_out letter) 0 9999
+boundary_number letter = first_failing (is_ruled_out letter) 0 (boundary_numbers - 1)
 
 -- the boundary of a notice
 abbrev pub boundary_of : Letter → List ℕ

@@ -2,15 +2,16 @@
 use Rattle.std.specs.Prelude.{◌≡◌, ℕ, Bool, ◌||◌, ◌&&◌, ◌==◌, List, length, IsTrue, nat_le}
 use Rattle.std.specs.List.{list_all}
 use Rattle.dsn_text.specs.Text.{is_printable}
+use Rattle.dsn_report.specs.Boundary.{longest_line}
 use Rattle.dsn_report.specs.Lines.{text_of_lines}
 
 -- a tab, or a printable byte
 abbrev pub is_line_byte : ℕ → Bool
 is_line_byte byte = is_printable byte || (byte == 9)
 
--- at most 998 such bytes, without the line's end
+-- at most so many such bytes, without the line's end
 abbrev pub is_legal_line : List ℕ → Bool
-is_legal_line line = nat_le (length line) 998 && list_all is_line_byte line
+is_legal_line line = nat_le (length line) longest_line && list_all is_line_byte line
 
 -- a text is lines, each of them legal and ended by CRLF, and nothing more
 pub record HasLegalLines (text : List ℕ) : Type 0 where

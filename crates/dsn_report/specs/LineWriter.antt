@@ -3,27 +3,27 @@
 use Rattle.std.specs.Prelude.{◌≡◌, ℕ, Bool, true, false, not, ◌==◌, List, [], ◌∷◌, ◌++◌, map, IsFalse}
 use Rattle.std.specs.List.{list_any}
 use Rattle.dsn_device.specs.QuietWriter.{QuietWriter, Writes}
-use Rattle.dsn_device.specs.declared.drain.Drain.{Ghosts as Drain}
+use Rattle.dsn_device.specs.declared.drain.Drain
 use Rattle.dsn_report.specs.Lines.{text_of_lines, begins_with_dot, dot_stuffed}
 use Rattle.dsn_report.specs.declared.line_writer.LineWriter.{LineWriter}
 
 -- a writer that began so has taken this much: a front of it is written, and what follows is held
 -- back
-pub record HasTaken {W : Type 0} (device : Drain W) (start : QuietWriter W) (lines : LineWriter W)
+pub record HasTaken {W : Type 0} (device : Drain.Ghosts W) (start : QuietWriter W) (lines : LineWriter W)
     (text : List ℕ) : Type 0 where
   pub front : List ℕ
   pub split : text ≡ front ++ lines.held
   pub written : Writes device start lines.writer front
 
 -- the writer took the text, after all that it took before
-pub record Took {W : Type 0} (device : Drain W) (old new : LineWriter W)
+pub record Took {W : Type 0} (device : Drain.Ghosts W) (old new : LineWriter W)
     (text : List ℕ) : Type 0 where
   pub text_taken : (start : QuietWriter W) (before : List ℕ) → HasTaken device start old before
       → HasTaken device start new (before ++ text)
   pub dots_kept : new.dots ≡ old.dots
 
 -- the writer wrote what it held back
-pub record Settled {W : Type 0} (device : Drain W) (old new : LineWriter W) : Type 0 where
+pub record Settled {W : Type 0} (device : Drain.Ghosts W) (old new : LineWriter W) : Type 0 where
   pub held_written : Writes device old.writer new.writer old.held
   pub none_held : new.held ≡ []
   pub dots_kept : new.dots ≡ old.dots
@@ -34,7 +34,7 @@ lines_sent true lines = map dot_stuffed lines
 lines_sent false lines = lines
 
 -- the writer took the lines
-pub record Wrote {W : Type 0} (device : Drain W) (old new : LineWriter W)
+pub record Wrote {W : Type 0} (device : Drain.Ghosts W) (old new : LineWriter W)
     (lines : List (List ℕ)) : Type 0 where
   pub took : Took device old new (text_of_lines (lines_sent old.dots lines))
 

@@ -4,7 +4,7 @@ use Rattle.std.specs.Io.KnownBytes.{Appends}
 use Rattle.std.specs.List.{flat_map}
 use Rattle.dsn_device.specs.Failures.{counted}
 use Rattle.dsn_device.specs.Flushes.{flushed, flushed_times}
-use Rattle.dsn_device.specs.declared.drain.Drain.{Ghosts as Drain}
+use Rattle.dsn_device.specs.declared.drain.Drain
 use Rattle.dsn_outcome.specs.Letter.{Letter}
 use Rattle.dsn_report.specs.Outbox.{greeting, mail_transaction, outbox_of}
 use Rattle.dsn_report.specs.Poster.{Poster}
@@ -37,7 +37,7 @@ text_until host posted [] = outbox_of host posted
 text_until host posted (first ∷ rest) = written_of host true (posted ++ first ∷ [])
 
 -- while nothing failed, each letter is written
-pub record AllWritten {W : Type 0} (drain : Drain W) (start : W) (out : Outgoing W)
+pub record AllWritten {W : Type 0} (drain : Drain.Ghosts W) (start : W) (out : Outgoing W)
     (letters : List Letter) : Type 0 where
   pub none_unsent : out.unsent ≡ []
   pub written : Appends (drain.contents start) (drain.contents out.poster.outbox)
@@ -49,7 +49,7 @@ pub record AllWritten {W : Type 0} (drain : Drain W) (start : W) (out : Outgoing
 
 -- after a failure the letters before the failed one are written, and a front of it; the rest of
 -- them are kept
-pub record FrontWritten {W : Type 0} (drain : Drain W) (start : W) (out : Outgoing W)
+pub record FrontWritten {W : Type 0} (drain : Drain.Ghosts W) (start : W) (out : Outgoing W)
     (letters : List Letter) : Type 0 where
   pub posted : List Letter
   pub failed : Letter
@@ -62,12 +62,12 @@ pub record FrontWritten {W : Type 0} (drain : Drain W) (start : W) (out : Outgoi
   pub count : drain.failures out.poster.outbox ≡ counted true (drain.failures start)
 
 -- a device whose calls don't fail stays so, and its count of failures stays
-abbrev pub StaysSteady : {W : Type 0} → Drain W → W → W → Type 0
+abbrev pub StaysSteady : {W : Type 0} → Drain.Ghosts W → W → W → Type 0
 StaysSteady drain old new =
     drain.steady old → drain.steady new × (drain.failures new ≡ drain.failures old)
 
 -- these letters were handed on, one after another
-pub record Delivered {W : Type 0} (drain : Drain W) (host : List ℕ) (start : W) (out : Outgoing W)
+pub record Delivered {W : Type 0} (drain : Drain.Ghosts W) (host : List ℕ) (start : W) (out : Outgoing W)
     (letters : List Letter) : Type 0 where
   pub host_kept : out.poster.host ≡ host
   pub while_good : out.poster.failed ≡ false → AllWritten drain start out letters
@@ -78,7 +78,7 @@ pub record Delivered {W : Type 0} (drain : Drain W) (host : List ℕ) (start : W
 -- letters before those that are unsent, and a front of what follows; the device failed once where
 -- it isn't whole, and else not; a whole one was flushed once for each letter and once at its end,
 -- after all of its text
-pub record IsOutbox {W : Type 0} (drain : Drain W) (host : List ℕ) (start end : W) (whole : Bool)
+pub record IsOutbox {W : Type 0} (drain : Drain.Ghosts W) (host : List ℕ) (start end : W) (whole : Bool)
     (unsent letters : List Letter) : Type 0 where
   pub posted : List Letter
   pub split : letters ≡ posted ++ unsent

@@ -1,5 +1,6 @@
 -- Sites: host names, and the numbers of their refusals.
 use Rattle.std.specs.Prelude.{ℕ, Bool, ◌||◌, ◌==◌, List, IsTrue}
+use Rattle.dsn_text.specs.NoMemory.{no_memory_code}
 use Rattle.dsn_text.specs.Text.{is_text, is_letter_or_digit}
 use Rattle.dsn_report.specs.declared.site.SiteFault.{SiteFault}
 use Rattle.dsn_report.specs.declared.site.SiteFault.TheVariants.{BadHost, NoMemory}
@@ -8,13 +9,17 @@ use Rattle.dsn_report.specs.declared.site.SiteFault.TheVariants.{BadHost, NoMemo
 abbrev pub is_host_byte : ℕ → Bool
 is_host_byte byte = is_letter_or_digit byte || ((byte == 46) || (byte == 45))
 
+-- the longest host name, in bytes (RFC 5321 section 4.5.3.1.2)
+abbrev pub longest_host : ℕ
+longest_host = 255
+
 -- a host name (this project's profile: no more is asked of its labels)
 abbrev pub is_host : List ℕ → Bool
-is_host = is_text is_host_byte 1 255
+is_host = is_text is_host_byte 1 longest_host
 
 abbrev pub IsHost : List ℕ → Type 0
 IsHost host = IsTrue (is_host host)
 
 abbrev pub site_fault_code : SiteFault → ℕ
 site_fault_code BadHost = 51
-site_fault_code NoMemory = 9
+site_fault_code NoMemory = no_memory_code

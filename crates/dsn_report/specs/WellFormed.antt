@@ -4,7 +4,7 @@ use Rattle.dsn_outcome.specs.Letter.{Letter, IsLetter}
 use Rattle.dsn_outcome.specs.Outcome.{IsLegalOutcome}
 use Rattle.dsn_text.specs.Optional.{is_none_or}
 use Rattle.dsn_text.specs.Stamp.{last_moment}
-use Rattle.dsn_text.specs.Text.{is_address, is_envelope_id, is_queue_id}
+use Rattle.dsn_text.specs.Text.{is_address, is_envelope_id, is_queue_id, longest_header}
 use Rattle.dsn_report.specs.Site.{IsHost}
 
 pub record IsWellFormed (host : List ℕ) (letter : Letter) : Type 0 where
@@ -15,6 +15,6 @@ pub record IsWellFormed (host : List ℕ) (letter : Letter) : Type 0 where
   pub path_legal : IsTrue (is_none_or is_address letter.draft.return_path)
   pub envelope_id_legal : IsTrue (is_none_or is_envelope_id letter.draft.envelope_id)
   pub serial_fits : letter.serial < 2 ^ 64
-  pub header_short : length letter.draft.header ≤ 32768
+  pub header_short : length letter.draft.header ≤ longest_header
   pub outcomes_legal : All IsLegalOutcome letter.outcomes
   pub sealed : IsLetter letter

@@ -1,7 +1,7 @@
 //! The number of a notice's boundary.
 ghost use Rattle.std.specs.Prelude.{◌≡◌, ◌<◌};
 ghost use Rattle.std.specs.List.{list_any};
-ghost use Rattle.dsn_report.specs.Boundary.{IsBoundaryNumber, boundary_number, header_lines, is_dashed};
+ghost use Rattle.dsn_report.specs.Boundary.{IsBoundaryNumber, boundary_number, boundary_numbers, header_lines, is_dashed};
 
 use crate::header_lines::HeaderLines;
 use crate::name::boundary_front;
@@ -13,7 +13,7 @@ use dsn_outcome::Letter;
 pub fn boundary(letter: &Letter) -> u16
     ensures least { IsBoundaryNumber letter.now result }
     ensures number { result ≡ boundary_number letter.now }
-    ensures four_digits { result < 10000 }
+    ensures four_digits { result < boundary_numbers }
 {
     // Few headers have such a line, and the others need no table.
     if has_dashed_line(letter.header().bytes()) {

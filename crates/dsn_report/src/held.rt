@@ -15,12 +15,13 @@ pub(crate) struct Held {
 
 impl Model for Held {
     ghost use Rattle.std.specs.Prelude.{ℕ, List, ◌≤◌, take};
+    ghost use Rattle.dsn_report.specs.declared.held.TheConstants.{HELD_ROOM};
 
     ghost Value = { List ℕ };
 
     ghost view = { λ h. take h.len h.room };
 
-    ghost invariant = { λ h. h.len ≤ 4096 };
+    ghost invariant = { λ h. h.len ≤ HELD_ROOM };
 }
 
 impl Held {

@@ -1,6 +1,6 @@
 //! The name and the serial of a letter, and the boundaries made of its name.
 ghost use Rattle.std.specs.Prelude.{◌≡◌, ◌+◌, ◌<◌, ◌≤◌, decimal, length};
-ghost use Rattle.dsn_report.specs.Boundary.{letter_name, boundary_front, boundary_text};
+ghost use Rattle.dsn_report.specs.Boundary.{letter_name, boundary_front, boundary_numbers, boundary_text, longest_letter_name};
 
 use dsn_outcome::{Letter, ShortText};
 
@@ -10,7 +10,7 @@ pub(crate) const NUMBER_LEN: usize = 4;
 /// The letter's name: its service's letter, its queue id and its moment.
 fn letter_name(letter: &Letter) -> ShortText
     ensures name { result ≡ letter_name letter.now }
-    ensures short { length result ≤ 55 }
+    ensures short { length result ≤ longest_letter_name }
 {
     let key = letter.key();
     let mut name = ShortText::new();
@@ -34,7 +34,7 @@ pub(crate) fn serial_text(letter: &Letter) -> ShortText
 /// What the letter's boundaries begin with, whatever their number.
 pub(crate) fn boundary_front(letter: &Letter) -> ShortText
     ensures front { result ≡ boundary_front letter.now }
-    ensures short { length result ≤ 56 }
+    ensures short { length result ≤ longest_letter_name + 1 }
 {
     let mut front = letter_name(letter);
     front.push(b".");
@@ -43,7 +43,7 @@ pub(crate) fn boundary_front(letter: &Letter) -> ShortText
 
 /// The letter's boundary that has this number.
 pub(crate) fn boundary_text(letter: &Letter, number: u16) -> ShortText
-    requires { number < 10000 }
+    requires { number < boundary_numbers }
     ensures { result ≡ boundary_text letter.now number }
 {
     let mut boundary = boundary_front(letter);

@@ -1,7 +1,7 @@
 //! The numbers that a header's lines rule out for a notice's boundary.
 ghost use Rattle.std.specs.Prelude.{◌≡◌, ◌≢◌, ◌+◌, ◌*◌, ◌<◌, ℕ, ◌++◌, IsTrue, IsFalse, IfNone, IfSome, slice_index_or, nat_eq, false, not, position};
 ghost use Rattle.std.specs.List.{starts_with};
-ghost use Rattle.dsn_report.specs.Boundary.{four_digits, is_delimiter, rules_out};
+ghost use Rattle.dsn_report.specs.Boundary.{boundary_numbers, four_digits, is_delimiter, rules_out};
 
 use crate::header_lines::{HeaderLines, LINE_ROOM, show_line};
 
@@ -40,10 +40,10 @@ pub(crate) fn first_free(ruled_out: &[bool; NUMBERS]) -> Option<usize>
 /// The number that a line rules out, if it rules one out.
 fn number_ruled_out(front: &[u8], line: &[u8]) -> Option<usize>
     ensures some { IfSome result
-        (λ number. (number < 10000)
+        (λ number. (number < boundary_numbers)
         × IsTrue (is_delimiter (front.now ++ four_digits number) line.now)) }
     ensures none { IfNone result
-        ((number : ℕ) → number < 10000
+        ((number : ℕ) → number < boundary_numbers
         → IsFalse (is_delimiter (front.now ++ four_digits number) line.now)) }
 {
     leading_number(line.strip_prefix(b"--")?.strip_prefix(front)?)
@@ -52,9 +52,10 @@ fn number_ruled_out(front: &[u8], line: &[u8]) -> Option<usize>
 /// The number in four digits that a text begins with, if it begins with one.
 fn leading_number(text: &[u8]) -> Option<usize>
     ensures some { IfSome result
-        (λ number. (number < 10000) × IsTrue (starts_with nat_eq text.now (four_digits number))) }
+        (λ number. (number < boundary_numbers)
+        × IsTrue (starts_with nat_eq text.now (four_digits number))) }
     ensures none { IfNone result
-        ((number : ℕ) → number < 10000
+        ((number : ℕ) → number < boundary_numbers
         → IsFalse (starts_with nat_eq text.now (four_digits number))) }
 {
     let [thousands, hundreds, tens, ones, ..] = *text else {

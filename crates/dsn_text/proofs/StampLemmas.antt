@@ -1,5 +1,5 @@
 -- Counting days from 1 January 1970 agrees with the day numbers of jiff's calendar.
-use Rattle.std.proofs.Common.{◌≡◌, ℕ, zero, suc, ◌+◌, ◌-◌, ◌<◌, ◌≤◌, List, [], nat_lt, true, refl, sym, ap, ◌∙◌, arith, rules, inl, inr, length, pos, unsigned_abs}
+use Rattle.std.proofs.Common.{◌≡◌, ℕ, zero, suc, ◌+◌, ◌<◌, ◌≤◌, nat_lt, refl, sym, ap, ◌∙◌, arith, rules, inl, inr, pos, unsigned_abs}
 use Rattle.std.specs.Int.{IsInRange}
 use Rattle.std.proofs.lemmas.Bool.{cond_both, cases_lt, ltb-true, ltb-false}
 use Rattle.jiff_core.specs.Calendar.{days_from_civil, IsCivilDate}
@@ -8,10 +8,7 @@ use Rattle.jiff_core.specs.declared.civil.date.Date.{Date}
 use Rattle.jiff_core.proofs.SignedLemmas.{signed_arith}
 use Rattle.jiff_core.proofs.CalendarLemmas.{days_from_civil-day_count, day_count-epoch, day_count-lt_year, days_in_month_bounds}
 use Rattle.jiff_core.proofs.DateLemmas.{epoch_day_injective, days_from_civil-day, days_from_civil-next_month, days_from_civil-next_year, days_from_civil-max, epoch_day_range}
-use Rattle.dsn_text.specs.Stamp.{CivilDate, days_in_month, next_day, civil_after, weekday_after, day_names, day_name, month_names, month_name}
-use Rattle.dsn_text.specs.Text.{is_printable}
-use Rattle.std.proofs.lemmas.List.Elements.{All-get_or, All-from_recursion}
-use Rattle.std.specs.List.{All, list_all}
+use Rattle.dsn_text.specs.Stamp.{CivilDate, days_in_month, next_day, civil_after}
 
 -- the calendar has this date, and it has this day number
 record IsDay (days : ℕ) (date : CivilDate) : Type 0 where

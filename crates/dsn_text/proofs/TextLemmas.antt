@@ -5,7 +5,7 @@ use Rattle.std.proofs.Common.{arith, sym, ap}
 use Rattle.std.proofs.lemmas.Grind.{common_steps}
 use Rattle.std.proofs.lemmas.List.{length-map, drop-replicate}
 use Rattle.std.proofs.Math.Seq.{take-append_seam}
-use Rattle.dsn_text.specs.Text.{is_printable, clean_byte, clean_text, is_remark, IsClean, IsPadded}
+use Rattle.dsn_text.specs.Text.{is_printable, clean_byte, clean_text, is_remark, longest_clean, IsClean, IsPadded}
 
 -- `?` is printable
 is_printable-if : (byte : ℕ) (test : Bool) → is_printable byte ≡ test → is_printable (if test then byte else 63) ≡ true
@@ -18,11 +18,11 @@ list_all-clean_text [] = refl
 list_all-clean_text (byte ∷ text) = grind (arith, is_printable-if byte (is_printable byte) refl, list_all-clean_text text)
 
 -- cleaning keeps a text's length
-pub IsClean-clean_text : (text : List ℕ) → length text ≤ 800 → IsClean (clean_text text)
+pub IsClean-clean_text : (text : List ℕ) → length text ≤ longest_clean → IsClean (clean_text text)
 IsClean-clean_text text short = grind (arith, common_steps, list_all-clean_text text, length-map text clean_byte)
 
 -- and one that isn't empty says something
-pub is_remark-clean_text : (text : List ℕ) → 1 ≤ length text → length text ≤ 800 → is_remark (clean_text text) ≡ true
+pub is_remark-clean_text : (text : List ℕ) → 1 ≤ length text → length text ≤ longest_clean → is_remark (clean_text text) ≡ true
 is_remark-clean_text text some short = grind (arith, common_steps, list_all-clean_text text, length-map text clean_byte)
 
 -- a text written over zeros

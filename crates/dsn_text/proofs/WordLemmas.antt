@@ -12,7 +12,7 @@ use Rattle.std.specs.declared.cmp.Ordering.TheVariants.{Less, Equal, Greater}
 use Rattle.std.proofs.lemmas.Cmp.{ranked}
 use Rattle.std.proofs.lemmas.Map.Text.{is_eq-slice_cmp}
 use Rattle.std.proofs.lemmas.List.{get_or-drop, drop-drop, length-drop}
-use Rattle.dsn_text.specs.Text.{is_letter_or_digit, IsQueueId, IsPadded}
+use Rattle.dsn_text.specs.Text.{is_letter_or_digit, longest_queue_id, IsQueueId, IsPadded}
 
 abbrev pub AreBytes : List ℕ → Type 0
 AreBytes xs = (k : ℕ) → get_or xs k 0 < 256
@@ -95,13 +95,13 @@ letters-above_zero [] legal = tt
 letters-above_zero (byte ∷ text) legal = (grind (arith, legal), letters-above_zero text (grind (arith, legal)))
 
 -- queue ids are in the order of the blocks that hold them
-pub block-order : (left right : List ℕ) (m n : ℕ) → IsQueueId (take m left) → IsPadded 32 left m → IsQueueId (take n right) → IsPadded 32 right n → slice_cmp nat_cmp left right ≡ slice_cmp nat_cmp (take m left) (take n right)
+pub block-order : (left right : List ℕ) (m n : ℕ) → IsQueueId (take m left) → IsPadded longest_queue_id left m → IsQueueId (take n right) → IsPadded longest_queue_id right n → slice_cmp nat_cmp left right ≡ slice_cmp nat_cmp (take m left) (take n right)
 block-order left right m n first low second high =
-    let long : length (take m left) ≤ 32 = grind (arith, first) in
-    let other : length (take n right) ≤ 32 = grind (arith, second) in
+    let long : length (take m left) ≤ longest_queue_id = grind (arith, first) in
+    let other : length (take n right) ≤ longest_queue_id = grind (arith, second) in
     ap (λ (block : List ℕ). slice_cmp nat_cmp block right) (sym low.padded)
-    ∙ ap (λ (block : List ℕ). slice_cmp nat_cmp (take m left ++ replicate (32 - m) 0) block) (sym high.padded)
-    ∙ padded-order (take m left) (take n right) (32 - m) (32 - n) (omega (arith, low.counted, high.counted, long, other)) (letters-above_zero (take m left) (grind (arith, first))) (letters-above_zero (take n right) (grind (arith, second)))
+    ∙ ap (λ (block : List ℕ). slice_cmp nat_cmp (take m left ++ replicate (longest_queue_id - m) 0) block) (sym high.padded)
+    ∙ padded-order (take m left) (take n right) (longest_queue_id - m) (longest_queue_id - n) (omega (arith, low.counted, high.counted, long, other)) (letters-above_zero (take m left) (grind (arith, first))) (letters-above_zero (take n right) (grind (arith, second)))
 
 -- texts tie where they are equal
 pub tied_where_equal : (xs ys : List ℕ) → is_eq (slice_cmp nat_cmp xs ys) ≡ bytes_eq xs ys

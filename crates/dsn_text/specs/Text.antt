@@ -39,29 +39,58 @@ abbrev pub is_text : (ℕ → Bool) → ℕ → ℕ → List ℕ → Bool
 is_text allowed least most text =
     (nat_le least (length text) && nat_le (length text) most) && list_all allowed text
 
+-- the longest queue id, in bytes (this project's profile)
+abbrev pub longest_queue_id : ℕ
+longest_queue_id = 32
+
 -- a queue id, the name of a message's log (this project's profile)
 abbrev pub is_queue_id : List ℕ → Bool
-is_queue_id = is_text is_letter_or_digit 1 32
+is_queue_id = is_text is_letter_or_digit 1 longest_queue_id
+
+-- the longest address, in bytes (this project's profile; RFC 5321 section 4.5.3.1.3 has as many with
+-- the angle brackets)
+abbrev pub longest_address : ℕ
+longest_address = 256
 
 -- an envelope address, without its angle brackets
 abbrev pub is_address : List ℕ → Bool
-is_address = is_text is_address_byte 1 256
+is_address = is_text is_address_byte 1 longest_address
+
+-- the longest name of a mail system, in bytes (RFC 5321 section 4.5.3.1.2)
+abbrev pub longest_mta_name : ℕ
+longest_mta_name = 255
 
 -- a host's name as a remote mail system gave it (RFC 3464 section 2.3.5)
 abbrev pub is_mta_name : List ℕ → Bool
-is_mta_name = is_text is_visible 1 255
+is_mta_name = is_text is_visible 1 longest_mta_name
+
+-- the longest envelope id, in bytes, decoded (RFC 3461 section 4.4)
+abbrev pub longest_envelope_id : ℕ
+longest_envelope_id = 100
 
 -- a decoded envelope id (RFC 3464 section 2.2.1, RFC 3461 section 4.4)
 abbrev pub is_envelope_id : List ℕ → Bool
-is_envelope_id = is_text is_printable 1 100
+is_envelope_id = is_text is_printable 1 longest_envelope_id
+
+-- the longest diagnostic or reason, in bytes (this project's profile)
+abbrev pub longest_clean : ℕ
+longest_clean = 800
 
 -- a diagnostic or a reason, as it is kept: printable bytes alone (this project's profile)
 abbrev pub is_clean : List ℕ → Bool
-is_clean = is_text is_printable 0 800
+is_clean = is_text is_printable 0 longest_clean
 
 -- one that is there says something: an empty one means that there is none
 abbrev pub is_remark : List ℕ → Bool
-is_remark = is_text is_printable 1 800
+is_remark = is_text is_printable 1 longest_clean
+
+-- the longest header of a message that a request carries, in bytes (this project's profile)
+abbrev pub longest_header : ℕ
+longest_header = 32768
+
+-- the most digits that a number of 64 bits has in decimal: 2 ^ 64 - 1 has as many
+abbrev pub most_digits : ℕ
+most_digits = 20
 
 -- the bytes of a diagnostic or a reason are kept, but that `?` stands for each that is not
 -- printable

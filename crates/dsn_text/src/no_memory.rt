@@ -1,5 +1,6 @@
 //! Want of memory.
 ghost use Rattle.std.specs.Prelude.{◌≡◌};
+ghost use Rattle.dsn_text.specs.NoMemory.{no_memory_code};
 
 use thiserror::Error;
 
@@ -11,7 +12,7 @@ pub struct NoMemory;
 impl NoMemory {
     /// The number of the refusal, 9.
     pub fn code(&self) -> u32
-        ensures { result ≡ 9 }
+        ensures { result ≡ no_memory_code }
     {
         9
     }

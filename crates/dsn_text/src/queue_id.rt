@@ -25,15 +25,19 @@ pub struct QueueId {
 impl Model for QueueId {
     ghost use Rattle.std.specs.Prelude.{ℕ, List, ◌++◌, ◌-◌, take, length, replicate};
     ghost use Rattle.std.proofs.Common.{arith};
-    ghost use Rattle.dsn_text.specs.Text.{IsQueueId, IsPadded};
+    ghost use Rattle.dsn_text.specs.Text.{IsQueueId, IsPadded, longest_queue_id};
 
     ghost Value = { List ℕ };
 
     ghost view = { λ q. take q.len q.buffer };
 
-    ghost invariant = { λ q. IsQueueId (take q.len q.buffer) × IsPadded 32 q.buffer q.len };
+    ghost invariant = { λ q. IsQueueId (take q.len q.buffer)
+        × IsPadded longest_queue_id q.buffer q.len };
 
-    ghost inverse = { λ t. record { buffer = t ++ replicate (32 - length t) 0; len = length t } };
+    ghost inverse = { λ t. record {
+      buffer = t ++ replicate (longest_queue_id - length t) 0;
+      len = length t;
+    } };
 
     ghost inverse_ok = { λ a h. Prim.grind arith };
 }

@@ -17,12 +17,13 @@ pub struct RawHeader {
 
 impl Model for RawHeader {
     ghost use Rattle.std.specs.Prelude.{ℕ, List, ◌≤◌, length};
+    ghost use Rattle.dsn_text.specs.Text.{longest_header};
 
     ghost Value = { List ℕ };
 
     ghost view = { λ a. a.bytes.items };
 
-    ghost invariant = { λ a. length a.bytes.items ≤ 32768 };
+    ghost invariant = { λ a. length a.bytes.items ≤ longest_header };
 }
 
 impl RawHeader {

@@ -1,5 +1,6 @@
 //! Short texts that take no memory.
 ghost use Rattle.std.specs.Prelude.{◌≡◌, ◌+◌, ◌≤◌, [], ◌++◌, length, decimal};
+ghost use Rattle.dsn_text.specs.Text.{most_digits};
 
 use itoa::Buffer;
 use std::marker::Model;
@@ -16,12 +17,13 @@ pub struct ShortText {
 
 impl Model for ShortText {
     ghost use Rattle.std.specs.Prelude.{ℕ, List, ◌≤◌, take};
+    ghost use Rattle.dsn_text.specs.declared.short_text.TheConstants.{SHORT_ROOM};
 
     ghost Value = { List ℕ };
 
     ghost view = { λ t. take t.len t.buffer };
 
-    ghost invariant = { λ t. t.len ≤ 64 };
+    ghost invariant = { λ t. t.len ≤ SHORT_ROOM };
 }
 
 impl ShortText {
@@ -47,9 +49,9 @@ impl ShortText {
 
     /// Adds a number in decimal at the end; it takes at most 20 bytes.
     pub fn push_number(&mut self, number: u64)
-        requires { length self.old + 20 ≤ SHORT_ROOM }
+        requires { length self.old + most_digits ≤ SHORT_ROOM }
         ensures added { self.new ≡ self.old ++ decimal number }
-        ensures short { length self.new ≤ length self.old + 20 }
+        ensures short { length self.new ≤ length self.old + most_digits }
     {
         self.push(Buffer::new().format(number).as_bytes());
     }

@@ -22,16 +22,19 @@ impl Model for Status {
     ghost use Rattle.std.specs.Prelude.{ℕ, List, ◌++◌, ◌-◌, take, length, replicate, IsTrue};
     ghost use Rattle.std.proofs.Common.{arith};
     ghost use Rattle.dsn_text.specs.Text.{IsPadded};
-    ghost use Rattle.dsn_text.specs.Status.{is_status_code};
+    ghost use Rattle.dsn_text.specs.Status.{is_status_code, longest_status};
 
     ghost Value = { List ℕ };
 
     ghost view = { λ s. take s.len s.buffer };
 
     ghost invariant = { λ s. IsTrue (is_status_code (take s.len s.buffer))
-        × IsPadded 9 s.buffer s.len };
+        × IsPadded longest_status s.buffer s.len };
 
-    ghost inverse = { λ t. record { buffer = t ++ replicate (9 - length t) 0; len = length t } };
+    ghost inverse = { λ t. record {
+      buffer = t ++ replicate (longest_status - length t) 0;
+      len = length t;
+    } };
 
     ghost inverse_ok = { λ a h. Prim.grind arith };
 }

@@ -20,9 +20,9 @@ pub enum TextFault {
 }
 
 impl From<NoMemory> for TextFault {
-    ghost use Rattle.dsn_text.specs.declared.text.TextFault.TheVariants as fault;
+    ghost use Rattle.dsn_text.specs.declared.text.TextFault.{TextFault};
 
-    ghost from_gives = { λ _ refusal. refusal ≡ fault.NoMemory };
+    ghost from_gives = { λ _ refusal. refusal ≡ TextFault.NoMemory };
 
     fn from(_: NoMemory) -> TextFault {
         TextFault::NoMemory

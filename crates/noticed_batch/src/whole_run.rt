@@ -77,7 +77,8 @@ fn read_into<R: Source, W: Drain, N: Drain>(
 ) -> Harvest<W>
     requires { book.sealed ≡ 0 }
     ensures harvest { (limits : History.Limits) (host : List ℕ) (start : W)
-        → limits.requests ≡ requests → book.limits ≡ limits → Represents book [] → Delivered W.Drain host start outgoing []
+        → limits.requests ≡ requests → book.limits ≡ limits → Represents book []
+        → Delivered W.Drain host start outgoing []
         → Harvested R.Source W.Drain N.Drain limits host start input.old input.new
         notes.old notes.new result.reading result.outgoing
         (option_map (λ lines. lines.items) (result_ok result.logs)) }

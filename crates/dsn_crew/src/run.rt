@@ -48,7 +48,8 @@ pub fn run_crew<
     gate: &G,
 ) -> Result<Account<W>, CrewFault<W>>
     ensures account { IfOk result (IsAccount P.Port W.Drain site limits ports.items outbox) }
-    ensures count { IfOk result (λ _. (1 ≤ length ports.items) × (length ports.items ≤ most_ports)) }
+    ensures count { IfOk result
+        (λ _. (1 ≤ length ports.items) × (length ports.items ≤ most_ports)) }
     ensures fault { IfErr result
         (λ fault. IsCrewFault W.Drain site limits (length ports.items) outbox fault fault.cause) }
     ensures refused { IfErr result

@@ -1,6 +1,7 @@
 -- Agents: what contracts see of an agent and its ends, and what a request of it comes to.
 use Rattle.std.specs.Prelude.{◌≡◌, ◌≢◌, ℕ, ◌+◌, ◌<◌, ◌≤◌, Bool, true, false, List, [], ◌∷◌, ◌++◌, All, length, Option, Some, None, Result, Ok, Err}
 use Rattle.dsn_lane.specs.Ends.{End, Out}
+use Rattle.dsn_lane.specs.Lane.{lost_code}
 use Rattle.dsn_outcome.specs.Agents.{from_agent}
 use Rattle.dsn_outcome.specs.Body.{body_of}
 use Rattle.dsn_outcome.specs.Request.{Request, Body, Bye}
@@ -11,9 +12,13 @@ use Rattle.dsn_outcome.specs.declared.body.Body.{Body as Asked}
 use Rattle.dsn_agent.specs.declared.ask_fault.AskFault.{AskFault}
 use Rattle.dsn_agent.specs.declared.ask_fault.AskFault.TheVariants.{Limit, Lost}
 
+-- how many requests an agent may make at most
+abbrev pub most_requests : ℕ
+most_requests = 1000000
+
 abbrev pub ask_fault_code : AskFault → ℕ
 ask_fault_code (Limit body) = 44
-ask_fault_code (Lost body) = 41
+ask_fault_code (Lost body) = lost_code
 
 -- an agent's two ends: the one by which it asks, and the one by which it is answered
 pub record Ends : Type 0 where
@@ -99,11 +104,11 @@ IsAsk old body new (Err (Limit back)) =
 abbrev pub Stays : List Request → Type 0
 Stays requests = All (λ (request : Request). request.body ≢ Bye) requests
 
--- what every agent keeps: it makes no more requests than it may, and a million at most; it has not
+-- what every agent keeps: it makes no more requests than it may, and `most_requests` at most; it has not
 -- said goodbye; and while no lane was lost it has an answer to each request
 pub record IsAgent (agent : Agent) : Type 0 where
   pub limited : length agent.ends.requests.sent ≤ agent.limit
-  pub few : agent.limit ≤ 1000000
+  pub few : agent.limit ≤ most_requests
   pub stays : Stays agent.ends.requests.sent
   pub answered : agent.lost ≡ false
       → length agent.ends.answers.taken ≡ length agent.ends.requests.sent

@@ -4,6 +4,7 @@ use Rattle.std.specs.Prelude.{◌≡◌, ◌≢◌, ℕ, ◌+◌, ◌<◌, ◌�
 use Rattle.std.specs.List.{AllZip, flat_map}
 use Rattle.dsn_device.specs.Failures.{most_failures}
 use Rattle.dsn_device.specs.declared.source.Source.{Ghosts as Source}
+use Rattle.dsn_lane.specs.Lane.{lost_code}
 use Rattle.dsn_outcome.specs.Request.{Body, Bye}
 use Rattle.dsn_outcome.specs.declared.answer.Reply.TheVariants.{Gone}
 use Rattle.dsn_body.specs.declared.spoken.Spoken.{Spoken}
@@ -14,6 +15,10 @@ use Rattle.dsn_agent.specs.declared.agent_line.AgentLine.{AgentLine}
 use Rattle.dsn_agent.specs.declared.next.Next.{Next}
 use Rattle.dsn_agent.specs.declared.next.Next.TheVariants as next
 use Rattle.dsn_agent.specs.declared.port_end.PortEnd.{PortEnd}
+
+-- how many connections an agent serves at most
+abbrev pub most_connections : ℕ
+most_connections = 1000000
 
 -- ---- what a port tells
 
@@ -88,15 +93,15 @@ pub record IsOver (conn : Conn) (session : Session) : Type 0 where
   pub steady : conn.may_fail ≡ false → (session.end ≢ Some 14) × (session.end ≢ Some 35)
 
 -- the sessions over the connections of a port that tells them: one over each, in order, from the
--- first on. None is left but those beyond the 1,000,000 that an agent serves, unless a lane was
--- lost; and the port is not told to have failed
+-- first on. None is left but those beyond the `most_connections` that an agent serves, unless a lane
+-- was lost; and the port is not told to have failed
 pub record AreOverConns (conns : List Conn) (sessions : List Session)
     (lost port_failed : Bool) : Type 0 where
   pub served : List Conn
   pub left : List Conn
   pub conns_are : conns ≡ served ++ left
   pub over : AllZip IsOver served sessions
-  pub all : lost ≡ false → (left ≡ []) ⊎ (length sessions ≡ 1000000)
+  pub all : lost ≡ false → (left ≡ []) ⊎ (length sessions ≡ most_connections)
   pub good : port_failed ≡ false
 
 -- of a port that doesn't tell nothing is claimed
@@ -116,8 +121,8 @@ pub record HasServed (conns : Option (List Conn)) (old new : Agent)
   pub follow : AreSessions old.limit (length old.ends.requests.sent) sessions
   pub over : AreOverPort conns sessions lost line.port_failed
   pub asked : HasAsked old new (bodies_of sessions) (answers_of sessions) lost
-  pub heard : lost ≡ false → All (λ (session : Session). session.end ≢ Some 41) sessions
-  pub few : length sessions ≤ 1000000
+  pub heard : lost ≡ false → All (λ (session : Session). session.end ≢ Some lost_code) sessions
+  pub few : length sessions ≤ most_connections
   pub requests : line.requests ≡ length new.ends.requests.sent
   pub connections : line.connections ≡ length sessions
   pub faults : line.faults ≡ faults_of sessions

@@ -5,6 +5,7 @@ use Rattle.std.specs.List.{flat_map}
 use Rattle.dsn_device.specs.Failures.{counted}
 use Rattle.dsn_device.specs.declared.drain.Drain.{Ghosts as Drain}
 use Rattle.dsn_device.specs.declared.source.Source.{Ghosts as Source}
+use Rattle.dsn_lane.specs.Lane.{lost_code}
 use Rattle.dsn_outcome.specs.Request.{Request, Body}
 use Rattle.dsn_outcome.specs.declared.answer.Answer.{Answer}
 use Rattle.dsn_outcome.specs.declared.answer.Reply.{Reply}
@@ -29,7 +30,7 @@ serve_fault_code (Frame fault) = frame_fault_code fault
 serve_fault_code WriteBack = 35
 serve_fault_code Number = 46
 serve_fault_code Frames = 47
-serve_fault_code Lost = 41
+serve_fault_code Lost = lost_code
 
 -- the number of the session's end, if it didn't end well
 abbrev pub served_end : Result Served ServeFault → Option ℕ
@@ -163,7 +164,7 @@ told (Some turn) = turn.answer ∷ []
 
 -- the number with which one frame ends the session, if it does
 abbrev pub turn_end : Option Turn → Option ℕ
-turn_end None = Some 41
+turn_end None = Some lost_code
 turn_end (Some turn) = if turn.over then Some 46 else None
 
 abbrev pub has_lost : Option Turn → Bool

@@ -1,8 +1,8 @@
 //! An agent's side of a crew.
 ghost use Rattle.std.specs.Prelude.{◌≡◌, ◌≢◌, ◌≤◌, ◌+◌, false, [], IfOk};
 ghost use Rattle.dsn_outcome.specs.Body.{body_of};
-ghost use Rattle.dsn_outcome.specs.Request.{Bye as Goodbye};
-ghost use Rattle.dsn_agent.specs.Agent.{IsAgent, IsAsk, IsFinished, IsGoodbye};
+ghost use Rattle.dsn_outcome.specs.Request.{Bye};
+ghost use Rattle.dsn_agent.specs.Agent.{IsAgent, IsAsk, IsFinished, IsGoodbye, most_requests};
 
 use crate::ask_fault::AskFault;
 use crate::ends::Ends;
@@ -37,7 +37,7 @@ impl Agent {
         requires own { (requests.agent ≡ agent) × (answers.first ≡ agent)
             × (answers.past ≡ agent + 1) }
         requires unused { (requests.sent ≡ []) × (answers.taken ≡ []) }
-        requires limit { limit ≤ 1000000 }
+        requires limit { limit ≤ most_requests }
         ensures { result ≡ record {
           ends = record { requests = requests; answers = answers };
           limit = limit;
@@ -74,7 +74,7 @@ impl Agent {
     /// was. `Lost` (41) comes where the collector is gone: with the body where the request was not
     /// sent, and so at every later ask.
     pub fn ask(&mut self, rt: &impl Wait, body: Body) -> Result<Answer, AskFault>
-        requires stays { body_of body ≢ Goodbye }
+        requires stays { body_of body ≢ Bye }
         ensures ask { IsAsk self.old (body_of body) self.new result }
         ensures kept { IsAgent self.new }
     {

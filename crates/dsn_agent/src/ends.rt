@@ -1,5 +1,6 @@
 //! The two ends by which an agent asks and is answered.
 ghost use Rattle.std.specs.Prelude.{◌≡◌, ◌<◌, ◌+◌, [], length};
+ghost use Rattle.dsn_lane.specs.Lane.{most_sent};
 ghost use Rattle.dsn_outcome.specs.Body.{body_of};
 ghost use Rattle.dsn_agent.specs.Agent.{AreEnds, IsExchange};
 
@@ -69,7 +70,7 @@ impl Ends {
     /// nothing where it was.
     pub(crate) fn exchange(&mut self, rt: &impl Wait, body: Body) -> Result<Answer, Option<Body>>
         requires answered { length self.old.answers.taken ≡ length self.old.requests.sent }
-        requires room { length self.old.requests.sent < 4294967295 }
+        requires room { length self.old.requests.sent < most_sent }
         ensures { IsExchange self.old (body_of body) self.new result }
     {
         let request = Request {

@@ -1,7 +1,7 @@
 //! An agent's session over one connection.
 ghost use Rattle.std.specs.Prelude.{◌≢◌, ℕ, List};
 ghost use Rattle.dsn_outcome.specs.Body.{body_of};
-ghost use Rattle.dsn_outcome.specs.Request.{Bye as Goodbye};
+ghost use Rattle.dsn_outcome.specs.Request.{Bye};
 ghost use Rattle.dsn_body.specs.Request.{Encodes};
 ghost use Rattle.dsn_agent.specs.Agent.{IsAgent};
 ghost use Rattle.dsn_agent.specs.Serve.{IsServed, IsTurn};
@@ -90,7 +90,7 @@ impl Agent {
 
     /// Asks a body, between the calls of the gate.
     fn ask_at<G: Gate>(&mut self, rt: &impl Wait, gate: &G, body: Body) -> Option<Turn>
-        requires stays { body_of body ≢ Goodbye }
+        requires stays { body_of body ≢ Bye }
         ensures turn { (place : ℕ) (bytes : List ℕ) → Encodes bytes place (body_of body)
             → IsTurn self.old self.new place bytes result }
         ensures kept { IsAgent self.new }

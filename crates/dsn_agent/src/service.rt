@@ -2,7 +2,7 @@
 ghost use Rattle.std.specs.Prelude.{◌≡◌, length};
 ghost use Rattle.dsn_agent.specs.Agent.{IsAgent};
 ghost use Rattle.dsn_agent.specs.Port.{HasServed, IsPortServed};
-ghost use Rattle.dsn_agent.specs.Serve.{is_lost as lost};
+ghost use Rattle.dsn_agent.specs.Serve;
 
 use crate::agent::Agent;
 use crate::agent_line::AgentLine;
@@ -83,7 +83,7 @@ fn serve_connections<P: Port, G: Gate>(
 
 /// Whether a session found the collector gone.
 fn is_lost(served: &Result<Served, ServeFault>) -> bool
-    ensures { result ≡ lost served.now }
+    ensures { result ≡ Serve.is_lost served.now }
 {
     matches!(served, Err(ServeFault::Lost))
 }

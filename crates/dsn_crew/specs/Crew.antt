@@ -4,24 +4,29 @@ use Rattle.std.specs.List.{flat_map}
 use Rattle.dsn_book.specs.Book.{Book, Represents}
 use Rattle.dsn_device.specs.declared.drain.Drain.{Ghosts as Drain}
 use Rattle.dsn_body.specs.Spoken.{reply_of}
-use Rattle.dsn_lane.specs.Lane.{IsNumbered}
+use Rattle.dsn_lane.specs.Lane.{IsNumbered, lost_code, most_agents}
 use Rattle.dsn_outcome.specs.Agents.{from_agent}
 use Rattle.dsn_outcome.specs.History.{Limits, answers_to, history_of, sealed_letters}
 use Rattle.dsn_outcome.specs.Letter.{Letter}
 use Rattle.dsn_outcome.specs.Request.{Request, Bye}
 use Rattle.dsn_outcome.specs.declared.answer.Reply.TheVariants.{Gone}
+use Rattle.dsn_post.specs.LetterSink.{letters_waiting}
 use Rattle.dsn_post.specs.Posting.{IsUntouched}
 use Rattle.dsn_report.specs.Outgoing.{IsOutbox}
 use Rattle.dsn_agent.specs.Agent.{Ends}
-use Rattle.dsn_agent.specs.Port.{AreOverPort, AreSessions, Conn, Session, answers_of, bodies_of, faults_of}
+use Rattle.dsn_agent.specs.Port.{AreOverPort, AreSessions, Conn, Session, answers_of, bodies_of, faults_of, most_connections}
 use Rattle.dsn_agent.specs.Serve.{answers_from, numbered_answer, numbered_request, requests_from}
 use Rattle.dsn_agent.specs.declared.agent_line.AgentLine.{AgentLine}
 use Rattle.dsn_crew.specs.declared.crew_cause.CrewCause.{CrewCause}
 use Rattle.dsn_crew.specs.declared.crew_cause.CrewCause.TheVariants.{Lost, Refused, PortCount}
 use Rattle.dsn_agent.specs.declared.port.Port.{Ghosts as Port}
 
+-- how many ports a crew has at most: as many as agents
+abbrev pub most_ports : ℕ
+most_ports = most_agents
+
 abbrev pub crew_cause_code : CrewCause → ℕ
-crew_cause_code Lost = 41
+crew_cause_code Lost = lost_code
 crew_cause_code Refused = 42
 crew_cause_code PortCount = 43
 
@@ -53,7 +58,7 @@ pub record IsAgentAccount (conns : Option (List Conn)) (limits : Limits) (taken 
   pub sessions : List Session
   pub follow : AreSessions limits.requests 0 sessions
   pub over : AreOverPort conns sessions false line.port_failed
-  pub heard : All (λ (session : Session). session.end ≢ Some 41) sessions
+  pub heard : All (λ (session : Session). session.end ≢ Some lost_code) sessions
   pub sent :
       ends.requests.sent
       ≡ requests_from agent 0 (bodies_of sessions)
@@ -65,7 +70,7 @@ pub record IsAgentAccount (conns : Option (List Conn)) (limits : Limits) (taken 
   pub requests : line.requests ≡ length (bodies_of sessions)
   pub connections : line.connections ≡ length sessions
   pub faults : line.faults ≡ faults_of sessions
-  pub few : length sessions ≤ 1000000
+  pub few : length sessions ≤ most_connections
 
 -- what is true of each agent, from one on, with the port in its place
 abbrev pub AreAgentAccounts :
@@ -109,9 +114,9 @@ pub record IsUnbegun {W : Type 0} (drain : Drain W) (start : W) (fault : CrewFau
 
 -- what is left of a run of so many agents that was broken off. The requests taken are of these
 -- agents, and numbered from 0 agent by agent. The letters that came to the poster are the first of
--- those which their history sealed; those that are not in the outbox are unsent, in order. Up to 16
--- later ones waited for the poster, and are dropped. After them comes at most one more, which the
--- collector still held
+-- those which their history sealed; those that are not in the outbox are unsent, in order. At
+-- most `letters_waiting` later ones waited for the poster, and are dropped. After them comes at most
+-- one more, which the collector still held
 pub record IsBrokenOff {W : Type 0} (drain : Drain W) (host : List ℕ) (limits : Limits) (agents : ℕ)
     (start : W) (fault : CrewFault W) : Type 0 where
   pub only : All (λ (request : Request). request.agent < agents) fault.taken
@@ -123,7 +128,7 @@ pub record IsBrokenOff {W : Type 0} (drain : Drain W) (host : List ℕ) (limits 
   pub between : List Letter
   pub held : List Letter
   pub sealed : sealed_letters (history_of limits fault.taken) ≡ letters ++ (between ++ held)
-  pub few : length between ≤ 16
+  pub few : length between ≤ letters_waiting
   pub one : length held ≤ 1
   pub whole : Bool
   pub unsent : List Letter

@@ -1,6 +1,7 @@
 -- Rooms: what a run of a crew has before its first thread is started.
 use Rattle.std.specs.Prelude.{◌≡◌, ℕ, ◌≤◌, false, [], vec_capacity}
 use Rattle.dsn_outcome.specs.History.{Limits}
+use Rattle.dsn_post.specs.LetterSink.{letters_waiting}
 use Rattle.dsn_desk.specs.Open.{IsOpened}
 use Rattle.dsn_crew.specs.declared.room.Room.{Room}
 use Rattle.dsn_crew.specs.declared.slots.Slots.{Slots}
@@ -18,5 +19,5 @@ pub record IsRoom {P S : Type 0} (limits : Limits) (agents : ℕ) (room : Room P
   pub opened : IsOpened limits agents room.agents.items room.desk
   pub source : room.source ≡ record { lane = room.sink.lane; letters = []; marked = false }
   pub sink : room.sink.letters ≡ []
-  pub waiting : room.sink.lane.capacity ≡ 16
+  pub waiting : room.sink.lane.capacity ≡ letters_waiting
   pub slots : AreSlots agents room.slots

@@ -1,5 +1,6 @@
 //! What a run of a crew needs memory for.
 ghost use Rattle.std.specs.Prelude.{◌≤◌, IfOk};
+ghost use Rattle.dsn_lane.specs.Lane.{most_agents};
 ghost use Rattle.dsn_crew.specs.Room.{IsRoom};
 
 use crate::slots::Slots;
@@ -29,7 +30,7 @@ impl<P: Port> Room<P> {
         limits: Limits,
         agents: u32,
     ) -> Result<Room<P>, NoMemory>
-        requires { (1 ≤ agents) × (agents ≤ 16) }
+        requires { (1 ≤ agents) × (agents ≤ most_agents) }
         ensures { IfOk result (IsRoom limits agents) }
     {
         let Ok((crew, desk)) = open_crew(rt, alloc, limits, agents) else {

@@ -1,6 +1,6 @@
 //! A whole crew, from its first thread to its last.
 ghost use Rattle.std.specs.Prelude.{◌≡◌, ◌≢◌, ◌≤◌, ◌<◌, ◌↔◌, ◌⊎◌, length, IfErr, IfOk};
-ghost use Rattle.dsn_crew.specs.Crew.{IsAccount, IsCrewFault};
+ghost use Rattle.dsn_crew.specs.Crew.{IsAccount, IsCrewFault, most_ports};
 
 use crate::account::Account;
 use crate::collected::Collected;
@@ -48,12 +48,13 @@ pub fn run_crew<
     gate: &G,
 ) -> Result<Account<W>, CrewFault<W>>
     ensures account { IfOk result (IsAccount P.Port W.Drain site limits ports.items outbox) }
-    ensures count { IfOk result (λ _. (1 ≤ length ports.items) × (length ports.items ≤ 16)) }
+    ensures count { IfOk result
+        (λ _. (1 ≤ length ports.items) × (length ports.items ≤ most_ports)) }
     ensures fault { IfErr result
         (λ fault. IsCrewFault W.Drain site limits (length ports.items) outbox fault fault.cause) }
     ensures refused { IfErr result
         (λ fault. (fault.cause ≡ CrewCause.PortCount)
-        ↔ ((length ports.items ≡ 0) ⊎ (16 < length ports.items))) }
+        ↔ ((length ports.items ≡ 0) ⊎ (most_ports < length ports.items))) }
 {
     let agents = ports.len();
     if agents == 0 || agents > MOST_PORTS {
@@ -63,7 +64,7 @@ pub fn run_crew<
         thread::scope_env(),
         rt,
         move |scope| -> Result<Account<W>, CrewFault<W>>
-            requires { (1 ≤ length ports.items) × (length ports.items ≤ 16) }
+            requires { (1 ≤ length ports.items) × (length ports.items ≤ most_ports) }
         { run_in(scope, rt, alloc, site, limits, ports, outbox, gate) },
     )
 }
@@ -86,7 +87,7 @@ fn run_in<
     outbox: W,
     gate: &'s G,
 ) -> Result<Account<W>, CrewFault<W>>
-    requires few { (1 ≤ length ports.items) × (length ports.items ≤ 16) }
+    requires few { (1 ≤ length ports.items) × (length ports.items ≤ most_ports) }
     ensures account { IfOk result (IsAccount P.Port W.Drain site limits ports.items outbox) }
     ensures fault { IfErr result
         (λ fault. IsCrewFault W.Drain site limits (length ports.items) outbox fault fault.cause) }

@@ -5,7 +5,7 @@ use Rattle.std.specs.List.{slice_index_or}
 use Rattle.dsn_book.specs.Book.{Book, Represents}
 use Rattle.dsn_book.specs.Step.{letters_in}
 use Rattle.dsn_lane.specs.Ends.{End, Out}
-use Rattle.dsn_lane.specs.Lane.{IsNumbered}
+use Rattle.dsn_lane.specs.Lane.{IsNumbered, most_agents}
 use Rattle.dsn_outcome.specs.Agents.{from_agent}
 use Rattle.dsn_outcome.specs.History.{Exchange, answer_of, answers_to, exchange_of, history_of, letter_of, sealed_letters}
 use Rattle.dsn_outcome.specs.Letter.{Letter}
@@ -67,13 +67,13 @@ AreAnswered ends exchanges =
     → (slice_index_or ends a d).sent ≡ answers_to a exchanges
 
 -- what every collector keeps: each answer lane is of its agent, and the agents are numbered from 0,
--- up to 16; what it took is of these agents, and numbered from 0 agent by agent; its book stands
--- for that; what it sent each agent are the first of the answers which that history gives the
--- agent, and all of them unless it failed
+-- up to `most_agents`; what it took is of these agents, and numbered from 0 agent by agent; its
+-- book stands for that; what it sent each agent are the first of the answers which that history
+-- gives the agent, and all of them unless it failed
 pub record IsDesk (desk : Desk) : Type 0 where
   pub first : desk.requests.first ≡ 0
   pub past : desk.requests.past ≡ length desk.answers
-  pub few : length desk.answers ≤ 16
+  pub few : length desk.answers ≤ most_agents
   pub lines : (a : ℕ) (d : End Answer) → a < length desk.answers
       → (slice_index_or desk.answers a d).agent ≡ a
   pub mine : All (λ (request : Request). request.agent < length desk.answers) desk.requests.taken

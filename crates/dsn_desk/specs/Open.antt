@@ -10,6 +10,10 @@ use Rattle.dsn_desk.specs.Desk.{Desk, IsDesk}
 use Rattle.dsn_desk.specs.declared.crew_open_fault.CrewOpenFault.{CrewOpenFault}
 use Rattle.dsn_desk.specs.declared.crew_open_fault.CrewOpenFault.TheVariants.{NoMemory, AgentCount}
 
+-- how many requests wait at most
+abbrev pub requests_waiting : ℕ
+requests_waiting = 64
+
 abbrev pub crew_open_fault_code : CrewOpenFault → ℕ
 crew_open_fault_code NoMemory = 42
 crew_open_fault_code AgentCount = 43
@@ -36,12 +40,12 @@ abbrev pub AreLines : List (End Answer) → Type 0
 AreLines ends = (a : ℕ) (d : End Answer) → a < length ends → IsLine a (slice_index_or ends a d)
 
 -- a crew of so many agents, before the first request: each agent has the lane on which it asks, and
--- the one on which the collector answers it; requests wait up to 64, and answers to an agent up to
--- 1
+-- the one on which the collector answers it; `requests_waiting` requests wait at most, and 1
+-- answer to an agent
 pub record IsOpened (limits : Limits) (agents : ℕ) (crew : List Agent) (desk : Desk) : Type 0 where
   pub limits_are : desk.book.limits ≡ limits
   pub taken : desk.requests.taken ≡ []
-  pub capacity : desk.requests.lane.capacity ≡ 64
+  pub capacity : desk.requests.lane.capacity ≡ requests_waiting
   pub count : length desk.answers ≡ agents
   pub lines : AreLines desk.answers
   pub crew_is : crew ≡ map (opened_agent limits.requests desk.requests.lane) desk.answers

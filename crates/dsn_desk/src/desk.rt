@@ -3,6 +3,7 @@ ghost use Rattle.std.specs.Prelude.{◌≡◌, ◌+◌, ◌<◌, ◌≤◌, ℕ,
 ghost use Rattle.std.specs.List.{slice_index_or};
 ghost use Rattle.dsn_book.specs.Book.{Represents};
 ghost use Rattle.dsn_lane.specs.Ends.{End};
+ghost use Rattle.dsn_lane.specs.Lane.{most_agents, most_sent};
 ghost use Rattle.dsn_outcome.specs.declared.answer.Answer.{Answer};
 ghost use Rattle.dsn_desk.specs.Open.{AreLines};
 ghost use Rattle.dsn_desk.specs.Desk.{AreTold, HasRoom, IsDesk, IsRun, IsTaken, all_gone, desk_of, goodbyes, missing, places_of};
@@ -55,7 +56,7 @@ impl Desk {
         requires book { Represents book [] }
         requires requests { (requests.first ≡ 0) × (requests.past ≡ length lines.items)
             × (requests.taken ≡ []) }
-        requires lines { AreLines lines.items × (length lines.items ≤ 16) }
+        requires lines { AreLines lines.items × (length lines.items ≤ most_agents) }
         requires room { HasRoom lines.items room.items (vec_capacity room) }
         ensures new { result ≡ desk_of book requests lines.items 0 false }
         ensures kept { IsDesk result }
@@ -177,7 +178,7 @@ fn tell(rt: &impl Wait, lines: &mut Vec<Line>, answer: Answer) -> bool
         → (slice_index_or lines.old.items answer.agent d).agent ≡ answer.agent }
     requires number { (d : End Answer)
         → length (slice_index_or lines.old.items answer.agent d).sent ≡ answer.number }
-    requires room { answer.number < 4294967295 }
+    requires room { answer.number < most_sent }
     ensures { AreTold result lines.old.items answer lines.new.items }
 {
     lines[answer.agent as usize].send(rt, answer)

@@ -1,6 +1,7 @@
 //! Why a collector stopped.
 ghost use Rattle.std.specs.Prelude.{◌≡◌, Err};
 ghost use Rattle.dsn_book.specs.Step.{letters_in};
+ghost use Rattle.dsn_lane.specs.Lane.{lost_code};
 ghost use Rattle.dsn_desk.specs.Desk.{letter_kept};
 
 use dsn_outcome::Letter;
@@ -30,7 +31,7 @@ impl DeskFault {
 
     /// The number of the fault, 41.
     pub fn code(&self) -> u32
-        ensures { result ≡ 41 }
+        ensures { result ≡ lost_code }
     {
         41
     }

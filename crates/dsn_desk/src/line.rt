@@ -1,5 +1,6 @@
 //! The collector's side of one agent's answer lane.
 ghost use Rattle.std.specs.Prelude.{◌≡◌, ◌<◌, [], ◌∷◌, length, OnOk, OnErr, vec_capacity, ◌≤◌};
+ghost use Rattle.dsn_lane.specs.Lane.{most_sent};
 ghost use Rattle.dsn_desk.specs.Desk.{answered_more};
 
 use dsn_lane::LaneIn;
@@ -39,7 +40,7 @@ impl Line {
     pub(crate) fn send(&mut self, rt: &impl Wait, answer: Answer) -> bool
         requires agent { answer.agent ≡ self.old.agent }
         requires number { answer.number ≡ length self.old.sent }
-        requires room { length self.old.sent < 4294967295 }
+        requires room { length self.old.sent < most_sent }
         ensures { self.new ≡ answered_more result self.old answer }
     {
         self.end.send(rt, answer).is_ok()

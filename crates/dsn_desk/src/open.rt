@@ -1,5 +1,6 @@
 //! A crew, from its first step on.
 ghost use Rattle.std.specs.Prelude.{◌≡◌, ◌<◌, ◌≤◌, ◌↔◌, ◌⊎◌, [], IfOk, IfErr};
+ghost use Rattle.dsn_lane.specs.Lane.{most_agents};
 ghost use Rattle.dsn_desk.specs.Open.{IsLine, IsOpened, opened_agent};
 
 use crate::crew_open_fault::CrewOpenFault;
@@ -26,9 +27,9 @@ pub fn open_crew(
     agents: u32,
 ) -> Result<(Vec<Agent>, Desk), CrewOpenFault>
     ensures opened { IfOk result (λ crew. IsOpened limits agents crew.0.items crew.1) }
-    ensures count { IfOk result (λ _. (1 ≤ agents) × (agents ≤ 16)) }
+    ensures count { IfOk result (λ _. (1 ≤ agents) × (agents ≤ most_agents)) }
     ensures refused { IfErr result
-        (λ fault. (fault ≡ CrewOpenFault.AgentCount) ↔ ((agents ≡ 0) ⊎ (16 < agents))) }
+        (λ fault. (fault ≡ CrewOpenFault.AgentCount) ↔ ((agents ≡ 0) ⊎ (most_agents < agents))) }
 {
     if agents == 0 || agents > 16 {
         return Err(CrewOpenFault::AgentCount);
@@ -43,7 +44,7 @@ fn open_room(
     limits: Limits,
     agents: u32,
 ) -> Result<(Vec<Agent>, Desk), CrewOpenFault>
-    requires { (1 ≤ agents) × (agents ≤ 16) }
+    requires { (1 ≤ agents) × (agents ≤ most_agents) }
     ensures opened { IfOk result (λ crew. IsOpened limits agents crew.0.items crew.1) }
     ensures refused { IfErr result (λ fault. fault ≡ CrewOpenFault.NoMemory) }
 {
@@ -84,7 +85,7 @@ pub(crate) fn open_agent(
     agent: u32,
     requests: LaneIn<Request>,
 ) -> Result<(Agent, Line), NoMemory>
-    requires agent { (requests.agent ≡ agent) × (agent < 16) }
+    requires agent { (requests.agent ≡ agent) × (agent < most_agents) }
     requires unused { requests.sent ≡ [] }
     ensures agent { IfOk result
         (λ pair. pair.0 ≡ opened_agent limits.requests requests.lane pair.1) }

@@ -8,7 +8,7 @@ use Rattle.crossbeam_channel.specs.declared.flavors.array.Doing.{Doing}
 use Rattle.crossbeam_channel.specs.declared.flavors.array.Key.{Key}
 use Rattle.crossbeam_channel.specs.declared.flavors.array.Rows.{Rows}
 use Rattle.dsn_outcome.specs.Agents.{from_agent}
-use Rattle.dsn_lane.specs.Lane.{IsNumbered}
+use Rattle.dsn_lane.specs.Lane.{IsNumbered, most_agents}
 use Rattle.dsn_lane.specs.declared.token.Sending.{Sending}
 use Rattle.dsn_lane.specs.declared.token.Taking.{Taking}
 use Rattle.dsn_lane.specs.declared.token.Token.{Token}
@@ -115,11 +115,11 @@ module _ {T : Type 0} where
     pub mine : from_agent agent end.agent end.sent ≡ end.sent
     pub numbered : IsNumbered number end.sent
 
-  -- what the receiving end keeps while the lane is open: that it has up to sixteen agents; that the
+  -- what the receiving end keeps while the lane is open: that it has up to `most_agents` agents; that the
   -- ends that came back are those of the agents below the first, unused; its count, which wraps;
   -- and that what it took of each agent is numbered from 0
   pub record IsReceiving (agent number : T → ℕ) (known : Taking T) (count : ℕ) : Type 0 where
-    pub agents : (length known.back < known.made) × (known.made ≤ 16)
+    pub agents : (length known.back < known.made) × (known.made ≤ most_agents)
     pub passed : known.back ≡ fresh 0 (length known.back)
     pub counted : count ≡ length known.taken % 2 ^ 64
     pub numbered : (a : ℕ) → IsNumbered number (from_agent agent a known.taken)

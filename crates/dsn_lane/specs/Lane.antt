@@ -9,6 +9,22 @@ use Rattle.dsn_lane.specs.declared.token.Taking.{Taking}
 use Rattle.dsn_lane.specs.declared.token.Token.{Token}
 use Rattle.dsn_lane.specs.declared.token.Token.TheVariants.{Sends, Takes, Spent}
 
+-- how many agents a crew has at most
+abbrev pub most_agents : ℕ
+most_agents = 16
+
+-- how many items a lane may hold at most, as it is opened
+abbrev pub most_waiting : ℕ
+most_waiting = 1024
+
+-- how many items an end may send at most: so many, numbered from 0, are counted in four bytes
+abbrev pub most_sent : ℕ
+most_sent = 4294967295
+
+-- the number of the refusal where the other side of a lane is gone
+abbrev pub lost_code : ℕ
+lost_code = 41
+
 -- each item's number is its place in the list, from 0
 abbrev pub IsNumbered : {T : Type 0} → (T → ℕ) → List T → Type 0
 IsNumbered {T} number items =

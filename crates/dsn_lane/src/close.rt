@@ -7,6 +7,7 @@ ghost use Rattle.crossbeam_channel.specs.Ends.{sends_on};
 ghost use Rattle.dsn_outcome.specs.Agents.{from_agent};
 ghost use Rattle.dsn_lane.specs.declared.token.Token.TheVariants.{Sends, Takes};
 ghost use Rattle.dsn_lane.specs.Ends.{IsAccepted, capacity_of, lane_at, lane_of, sending_of, taking};
+ghost use Rattle.dsn_lane.specs.Lane.{most_agents};
 ghost use Rattle.dsn_lane.specs.Step.{Settles, after_join, known_after};
 
 use crate::lane_in::LaneIn;
@@ -53,7 +54,7 @@ fn take_all_back<T: Carried>(pass: &mut Pass<T, Token<T>>, mut ends: Vec<LaneIn<
     requires receiver { view pass.old
         ≡ Takes (capacity_of (view pass.old)) (taking (view pass.old)) }
     requires lane { All (λ end. end.lane ≡ lane_of pass.old) ends.items }
-    requires count { (0 < length ends.items) × (length ends.items ≤ 16) }
+    requires count { (0 < length ends.items) × (length ends.items ≤ most_agents) }
     ensures sent { result ≡ sum_by (λ end. length end.sent) ends.items }
     ensures settled { (waiting : List T)
         × Settles T.agent T.number (capacity_of (view pass.old))

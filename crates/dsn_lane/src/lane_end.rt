@@ -1,5 +1,6 @@
 //! The end of a lane.
 ghost use Rattle.std.specs.Prelude.{◌≡◌};
+ghost use Rattle.dsn_lane.specs.Lane.{lost_code};
 
 use thiserror::Error;
 
@@ -11,7 +12,7 @@ pub struct LaneEnd;
 impl LaneEnd {
     /// The number of the refusal, 41.
     pub fn code(&self) -> u32
-        ensures { result ≡ 41 }
+        ensures { result ≡ lost_code }
     {
         41
     }

@@ -5,7 +5,7 @@ ghost use Rattle.crossbeam_channel.specs.Ends.{sends_on, ruled_capacity};
 ghost use Rattle.dsn_outcome.specs.Agents.{from_agent};
 ghost use Rattle.dsn_lane.specs.declared.token.Token.TheVariants.{Takes};
 ghost use Rattle.dsn_lane.specs.Ends.{lane_at, taking};
-ghost use Rattle.dsn_lane.specs.Lane.{IsNumbered};
+ghost use Rattle.dsn_lane.specs.Lane.{IsNumbered, most_sent};
 ghost use Rattle.dsn_lane.specs.Step.{after_split};
 
 use crate::lost::Lost;
@@ -30,7 +30,8 @@ pub struct LaneIn<T: Carried> {
 
 impl<T: Carried> Model for LaneIn<T> {
     ghost use Rattle.std.specs.Prelude.{◌≡◌};
-    ghost use Rattle.crossbeam_channel.specs.Claims.{view as knows, IsSeatAt};
+    ghost use Rattle.crossbeam_channel.specs.Claims;
+    ghost use Rattle.crossbeam_channel.specs.Claims.{IsSeatAt};
     ghost use Rattle.crossbeam_channel.specs.Ends.{sends_on, ruled_capacity};
     ghost use Rattle.dsn_lane.specs.declared.token.Token.TheVariants.{Sends};
     ghost use Rattle.dsn_lane.specs.Ends.{End, IsSending, end_of, sending};
@@ -40,8 +41,9 @@ impl<T: Carried> Model for LaneIn<T> {
     ghost view = { λ e. end_of e.pass };
 
     ghost invariant = { λ e. IsSeatAt (sends_on e.sender) e.pass
-        × (knows e.pass ≡ Sends (ruled_capacity (sends_on e.sender)) (sending (knows e.pass)))
-        × IsSending T.agent T.number (sending (knows e.pass)) e.count };
+        × (Claims.view e.pass
+        ≡ Sends (ruled_capacity (sends_on e.sender)) (sending (Claims.view e.pass)))
+        × IsSending T.agent T.number (sending (Claims.view e.pass)) e.count };
 }
 
 impl<T: Carried> LaneIn<T> {
@@ -87,7 +89,7 @@ impl<T: Carried> LaneIn<T> {
     pub fn send(&mut self, rt: &impl Wait, item: T) -> Result<(), Lost<T>>
         requires agent { T.agent item ≡ self.old.agent }
         requires number { T.number item ≡ length self.old.sent }
-        requires room { length self.old.sent < 4294967295 }
+        requires room { length self.old.sent < most_sent }
         ensures ok { OnOk result (self.new.sent ≡ self.old.sent ++ item ∷ []) }
         ensures lost { IfErr result (λ lost. (lost.item ≡ item) × (self.new.sent ≡ self.old.sent)) }
         ensures numbered { (from_agent T.agent self.new.agent self.new.sent ≡ self.new.sent)

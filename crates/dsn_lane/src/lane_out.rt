@@ -30,7 +30,8 @@ pub struct LaneOut<T: Carried> {
 
 impl<T: Carried> Model for LaneOut<T> {
     ghost use Rattle.std.specs.Prelude.{◌≡◌};
-    ghost use Rattle.crossbeam_channel.specs.Claims.{view as knows, IsSeatAt};
+    ghost use Rattle.crossbeam_channel.specs.Claims;
+    ghost use Rattle.crossbeam_channel.specs.Claims.{IsSeatAt};
     ghost use Rattle.crossbeam_channel.specs.Ends.{receives_on, ruled_capacity};
     ghost use Rattle.dsn_lane.specs.declared.token.Token.TheVariants.{Takes};
     ghost use Rattle.dsn_lane.specs.Ends.{Out, IsReceiving, out_of, taking};
@@ -40,8 +41,9 @@ impl<T: Carried> Model for LaneOut<T> {
     ghost view = { λ o. out_of o.pass };
 
     ghost invariant = { λ o. IsSeatAt (receives_on o.receiver) o.pass
-        × (knows o.pass ≡ Takes (ruled_capacity (receives_on o.receiver)) (taking (knows o.pass)))
-        × IsReceiving T.agent T.number (taking (knows o.pass)) o.count };
+        × (Claims.view o.pass
+        ≡ Takes (ruled_capacity (receives_on o.receiver)) (taking (Claims.view o.pass)))
+        × IsReceiving T.agent T.number (taking (Claims.view o.pass)) o.count };
 }
 
 impl<T: Carried> LaneOut<T> {

@@ -1,5 +1,6 @@
 //! An item that could not be sent.
 ghost use Rattle.std.specs.Prelude.{◌≡◌};
+ghost use Rattle.dsn_lane.specs.Lane.{lost_code};
 
 /// The receiving end of the lane is gone: the item is handed back.
 #[derive(Drop)]
@@ -11,7 +12,7 @@ pub struct Lost<T> {
 impl<T> Lost<T> {
     /// The number of the refusal, 41.
     pub fn code(&self) -> u32
-        ensures { result ≡ 41 }
+        ensures { result ≡ lost_code }
     {
         41
     }

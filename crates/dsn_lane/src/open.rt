@@ -3,6 +3,7 @@ ghost use Rattle.std.specs.Prelude.{◌≡◌, ◌+◌, ◌≤◌, [], IfOk, vec
 ghost use Rattle.crossbeam_channel.specs.Claims.{view, IsSeatAt};
 ghost use Rattle.crossbeam_channel.specs.Ends.{sends_on};
 ghost use Rattle.dsn_lane.specs.Ends.{capacity_of, fresh_ends, passed_over};
+ghost use Rattle.dsn_lane.specs.Lane.{most_agents, most_waiting};
 ghost use Rattle.dsn_lane.specs.Step.{opened};
 
 use crate::lane_in::LaneIn;
@@ -24,8 +25,8 @@ pub fn open_lane<T: Carried>(
     agents: u32,
     capacity: u32,
 ) -> Result<(Vec<LaneIn<T>>, LaneOut<T>), NoMemory>
-    requires agents { (1 ≤ agents) × (first + agents ≤ 16) }
-    requires capacity { (1 ≤ capacity) × (capacity ≤ 1024) }
+    requires agents { (1 ≤ agents) × (first + agents ≤ most_agents) }
+    requires capacity { (1 ≤ capacity) × (capacity ≤ most_waiting) }
     ensures capacity { IfOk result (λ lane. lane.1.lane.capacity ≡ capacity) }
     ensures ends { IfOk result (λ lane. lane.0.items ≡ fresh_ends lane.1.lane first agents) }
     ensures room { IfOk result (λ lane. agents ≤ vec_capacity lane.0) }

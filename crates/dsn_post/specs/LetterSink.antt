@@ -1,8 +1,12 @@
 -- Letter sinks: what contracts see of the sending end of the lane of letters.
-use Rattle.std.specs.Prelude.{◌≡◌, Bool, List, [], ◌∷◌, ◌++◌}
+use Rattle.std.specs.Prelude.{◌≡◌, ℕ, Bool, List, [], ◌∷◌, ◌++◌}
 use Rattle.dsn_lane.specs.Ends.{Identity}
 use Rattle.dsn_outcome.specs.Letter.{Letter}
 use Rattle.dsn_post.specs.Parcel.{Parcel}
+
+-- how many letters wait at most
+abbrev pub letters_waiting : ℕ
+letters_waiting = 16
 
 -- its lane, and the letters that it has sent, in order
 pub record LetterSink : Type 0 where

@@ -22,6 +22,7 @@ pub struct LetterSink {
 
 impl Model for LetterSink {
     ghost use Rattle.std.specs.Prelude.{◌≡◌, ◌<◌, ◌≤◌, false, [], length, vec_capacity};
+    ghost use Rattle.dsn_lane.specs.Lane.{most_sent};
     ghost use Rattle.dsn_post.specs.LetterSink.{LetterSink};
     ghost use Rattle.dsn_post.specs.Parcel.{letters_of, parcels_of};
 
@@ -31,7 +32,7 @@ impl Model for LetterSink {
 
     ghost invariant = { λ s. (s.end.agent ≡ 0)
         × (s.end.sent ≡ parcels_of (letters_of s.end.sent) false)
-        × (length s.end.sent < 4294967295) × (s.room.items ≡ []) × (1 ≤ vec_capacity s.room) };
+        × (length s.end.sent < most_sent) × (s.room.items ≡ []) × (1 ≤ vec_capacity s.room) };
 }
 
 impl Sink for LetterSink {

@@ -1,5 +1,6 @@
 //! The poster's side of the lane of letters.
-ghost use Rattle.std.specs.Prelude.{◌≡◌, ◌<◌, IsSome, false, [], length};
+ghost use Rattle.std.specs.Prelude.{◌≡◌, ◌≤◌, IsSome, false, [], length};
+ghost use Rattle.dsn_lane.specs.Lane.{most_sent};
 ghost use Rattle.dsn_post.specs.LetterSource.{HasTaken};
 
 use crate::parcel::Parcel;
@@ -54,7 +55,7 @@ impl LetterSource {
     /// it, and where the sending end is gone.
     pub(crate) fn take(&mut self, rt: &impl Wait) -> Option<Letter>
         ensures taken { HasTaken self.old self.new result }
-        ensures few { IsSome result → length self.new.letters < 4294967296 }
+        ensures few { IsSome result → length self.new.letters ≤ most_sent }
     {
         if self.marked {
             return None;

@@ -1,5 +1,6 @@
 //! The opening of a lane of letters.
 ghost use Rattle.std.specs.Prelude.{◌≡◌, false, [], IfOk};
+ghost use Rattle.dsn_post.specs.LetterSink.{letters_waiting};
 
 use crate::letter_sink::LetterSink;
 use crate::letter_source::LetterSource;
@@ -17,7 +18,7 @@ pub fn open_post(rt: &impl Wait, alloc: Global) -> Result<(LetterSink, LetterSou
     ensures sink { IfOk result (λ lane. lane.0 ≡ record { lane = lane.1.lane; letters = [] }) }
     ensures source { IfOk result
         (λ lane. lane.1 ≡ record { lane = lane.1.lane; letters = []; marked = false }) }
-    ensures capacity { IfOk result (λ lane. lane.1.lane.capacity ≡ 16) }
+    ensures capacity { IfOk result (λ lane. lane.1.lane.capacity ≡ letters_waiting) }
 {
     let (mut room, parcels) = open_lane(rt, alloc, 0, 1, LETTERS_WAITING)?;
     let Some(end) = room.pop() else {

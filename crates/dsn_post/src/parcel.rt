@@ -14,13 +14,14 @@ pub(crate) struct Parcel {
 
 impl Model for Parcel {
     ghost use Rattle.std.specs.Prelude.{◌<◌, IsSome};
+    ghost use Rattle.dsn_lane.specs.Lane.{most_sent};
     ghost use Rattle.dsn_post.specs.Parcel.{Parcel};
 
     ghost Value = { Parcel };
 
     ghost view = { λ p. record { number = p.number; letter = p.letter } };
 
-    ghost invariant = { λ p. IsSome p.letter → p.number < 4294967295 };
+    ghost invariant = { λ p. IsSome p.letter → p.number < most_sent };
 }
 
 impl Carried for Parcel {

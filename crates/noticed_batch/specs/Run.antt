@@ -12,6 +12,10 @@ use Rattle.noticed_batch.specs.Requests.{AreReplies, next_request, requests_from
 use Rattle.noticed_batch.specs.declared.run.Run.{Run}
 use Rattle.noticed_batch.specs.declared.turn.Turn.{Turn}
 
+-- how many requests a run takes at most: so many are counted in four bytes
+abbrev pub most_accepted : ℕ
+most_accepted = 4294967295
+
 -- the book stands for the requests' history, and the letters of that history were handed on
 pub record Stands {W : Type 0} (outbox_device : Drain W) (limits : Limits) (host : List ℕ)
     (start : W) (run : Run W) (requests : List Request) : Type 0 where

@@ -1,6 +1,6 @@
 //! Reading an input to its end, one frame after another.
 ghost use Rattle.std.specs.Prelude.{◌≡◌, ℕ, [], List, Option};
-ghost use Rattle.dsn_outcome.specs.History.{Limits as Bounds};
+ghost use Rattle.dsn_outcome.specs.History.{Limits};
 ghost use Rattle.noticed_batch.specs.Reading.{Heard};
 ghost use Rattle.noticed_batch.specs.Requests.{requests_of};
 ghost use Rattle.noticed_batch.specs.Run.{Stands};
@@ -24,7 +24,7 @@ pub(crate) fn read_all<R: Source, W: Drain, N: Drain>(
 ) -> ReadingEnd
     requires accepted { run.old.accepted ≡ 0 }
     requires sealed { run.old.book.sealed ≡ 0 }
-    ensures heard { (limits : Bounds) (host : List ℕ) (start : W) → limits.requests ≡ requests
+    ensures heard { (limits : Limits) (host : List ℕ) (start : W) → limits.requests ≡ requests
         → Stands W.Drain limits host start run.old (requests_of [])
         → Heard R.Source W.Drain N.Drain limits host start input.old input.new run.new
         notes.old notes.new result }

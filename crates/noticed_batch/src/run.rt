@@ -1,9 +1,9 @@
 //! One run of the daemon on one thread: frames in, letters out.
-ghost use Rattle.std.specs.Prelude.{◌≡◌, ℕ, ◌+◌, ◌^◌, ◌<◌, ◌≤◌, List, length, Option};
-ghost use Rattle.dsn_outcome.specs.History.{Limits as Bounds};
+ghost use Rattle.std.specs.Prelude.{◌≡◌, ℕ, ◌+◌, ◌<◌, ◌≤◌, List, length, Option};
+ghost use Rattle.dsn_outcome.specs.History.{Limits};
 ghost use Rattle.dsn_outcome.specs.Request.{Request as Asked};
 ghost use Rattle.dsn_outcome.specs.Body.{body_of};
-ghost use Rattle.noticed_batch.specs.Run.{Stands, Asks, Answered};
+ghost use Rattle.noticed_batch.specs.Run.{Stands, Asks, Answered, most_accepted};
 
 use crate::turn::Turn;
 use dsn_book::{Book, Step};
@@ -22,11 +22,11 @@ pub(crate) struct Run<W> {
 impl<W: Drain> Run<W> {
     /// Answers the frame that stands at this place of the input.
     pub(crate) fn answer(&mut self, alloc: Global, position: u32, bytes: &[u8]) -> Turn
-        requires counted { self.old.accepted + 1 < 2 ^ 32 }
+        requires counted { self.old.accepted < most_accepted }
         requires sealed { self.old.book.sealed ≤ self.old.accepted }
         ensures counted { self.new.accepted ≤ self.old.accepted + 1 }
         ensures sealed { self.new.book.sealed ≤ self.new.accepted }
-        ensures answered { (limits : Bounds) (host : List ℕ) (start : W) (requests : List Asked)
+        ensures answered { (limits : Limits) (host : List ℕ) (start : W) (requests : List Asked)
             → Stands W.Drain limits host start self.old requests
             → length requests < limits.requests
             → Answered W.Drain limits host start self.new requests position bytes.now result }
@@ -42,11 +42,11 @@ impl<W: Drain> Run<W> {
 
     /// Takes a request, posts the letter that it seals, and gives the reply.
     fn ask(&mut self, body: Body) -> Turn
-        requires counted { self.old.accepted + 1 < 2 ^ 32 }
+        requires counted { self.old.accepted < most_accepted }
         requires sealed { self.old.book.sealed ≤ self.old.accepted }
         ensures counted { self.new.accepted ≤ self.old.accepted + 1 }
         ensures sealed { self.new.book.sealed ≤ self.new.accepted }
-        ensures asked { (limits : Bounds) (host : List ℕ) (start : W) (requests : List Asked)
+        ensures asked { (limits : Limits) (host : List ℕ) (start : W) (requests : List Asked)
             → Stands W.Drain limits host start self.old requests
             → Asks W.Drain limits host start self.new requests (body_of body) result }
     {

@@ -3,8 +3,8 @@ ghost use Rattle.std.specs.Prelude.{◌≡◌, ℕ, ◌≤◌, ◌||◌, not, Li
 ghost use Rattle.std.specs.Option.{option_map};
 ghost use Rattle.std.specs.Result.{result_ok};
 ghost use Rattle.dsn_book.specs.Book.{Represents};
-ghost use Rattle.dsn_outcome.specs.History.{Limits as Bounds};
-ghost use Rattle.dsn_outcome.specs.Letter.{Letter as SealedLog};
+ghost use Rattle.dsn_outcome.specs.History;
+ghost use Rattle.dsn_outcome.specs.Letter.{Letter};
 ghost use Rattle.noticed_batch.specs.Batch.{IsBatch};
 ghost use Rattle.noticed_batch.specs.Harvest.{Harvested, Ended};
 ghost use Rattle.noticed_batch.specs.ReadingEnd.{reading_code};
@@ -76,8 +76,9 @@ fn read_into<R: Source, W: Drain, N: Drain>(
     notes: &mut N,
 ) -> Harvest<W>
     requires { book.sealed ≡ 0 }
-    ensures harvest { (limits : Bounds) (host : List ℕ) (start : W) → limits.requests ≡ requests
-        → book.limits ≡ limits → Represents book [] → Delivered W.Drain host start outgoing []
+    ensures harvest { (limits : History.Limits) (host : List ℕ) (start : W)
+        → limits.requests ≡ requests → book.limits ≡ limits → Represents book []
+        → Delivered W.Drain host start outgoing []
         → Harvested R.Source W.Drain N.Drain limits host start input.old input.new
         notes.old notes.new result.reading result.outgoing
         (option_map (λ lines. lines.items) (result_ok result.logs)) }
@@ -105,7 +106,7 @@ fn read_into<R: Source, W: Drain, N: Drain>(
 
 /// Ends the outbox, and tells how the run ended.
 fn end<W: Drain, N: Drain>(harvest: Harvest<W>, notes: &mut N) -> BatchEnd<W>
-    ensures { (host : List ℕ) (start : W) (letters : List SealedLog)
+    ensures { (host : List ℕ) (start : W) (letters : List Letter)
         → Delivered W.Drain host start harvest.outgoing letters
         → Ended W.Drain N.Drain host start letters harvest.reading
         (option_map (λ lines. lines.items) (result_ok harvest.logs))

@@ -2,6 +2,7 @@
 #![tactic(auto, unfolding(crate::specs::Notes::answer_line, crate::specs::Notes::fault_line, crate::specs::Notes::unsent_line, crate::specs::Notes::key_words, crate::specs::Notes::open_line, crate::specs::Notes::reply_words, crate::specs::Notes::spoken_words))]
 
 ghost use Rattle.std.specs.Prelude.{◌≡◌, ◌+◌, ◌≤◌, ◌++◌, length, decimal};
+ghost use Rattle.noticed_notes.specs.Notes.{longest_counted, longest_key, longest_key_start, longest_place, longest_reply};
 ghost use Rattle.noticed_notes.specs.Notes.{answer_line, fault_line, unsent_line, open_line, key_words, reply_words, spoken_words};
 
 use dsn_book::OpenLine;
@@ -56,9 +57,9 @@ pub(crate) fn open_line(log: &OpenLine) -> ShortText
 }
 
 fn push_key(line: &mut ShortText, key: &Key)
-    requires { length line.old ≤ 10 }
+    requires { length line.old ≤ longest_key_start }
     ensures pushed { line.new ≡ line.old ++ key_words key.now }
-    ensures short { length line.new ≤ length line.old + 34 }
+    ensures short { length line.new ≤ length line.old + longest_key }
 {
     line.push(&[key.service.letter()]);
     line.push(b" ");
@@ -66,9 +67,9 @@ fn push_key(line: &mut ShortText, key: &Key)
 }
 
 fn push_spoken(line: &mut ShortText, answer: Spoken)
-    requires { length line.old ≤ 21 }
+    requires { length line.old ≤ longest_place }
     ensures pushed { line.new ≡ line.old ++ spoken_words answer }
-    ensures short { length line.new ≤ length line.old + 30 }
+    ensures short { length line.new ≤ length line.old + longest_reply }
 {
     match answer {
         Spoken::Reply(reply) => push_reply(line, reply),
@@ -77,9 +78,9 @@ fn push_spoken(line: &mut ShortText, answer: Spoken)
 }
 
 fn push_reply(line: &mut ShortText, reply: Reply)
-    requires { length line.old ≤ 21 }
+    requires { length line.old ≤ longest_place }
     ensures pushed { line.new ≡ line.old ++ reply_words reply }
-    ensures short { length line.new ≤ length line.old + 30 }
+    ensures short { length line.new ≤ length line.old + longest_reply }
 {
     match reply {
         Reply::Logged(place) => push_counted(line, b"logged ", place),
@@ -98,10 +99,10 @@ fn push_reply(line: &mut ShortText, reply: Reply)
 
 /// Adds words and a number.
 fn push_counted(line: &mut ShortText, words: &[u8], count: u32)
-    requires before { length line.old ≤ 21 }
-    requires words { length words.now ≤ 10 }
+    requires before { length line.old ≤ longest_place }
+    requires words { length words.now ≤ longest_counted }
     ensures pushed { line.new ≡ line.old ++ words.now ++ decimal count }
-    ensures short { length line.new ≤ length line.old + 30 }
+    ensures short { length line.new ≤ length line.old + longest_reply }
 {
     line.push(words);
     line.push_number(u64::from(count));

@@ -8,6 +8,10 @@ use Rattle.dsn_crew.specs.declared.crew_cause.CrewCause.{CrewCause}
 use Rattle.dsn_outcome.specs.Letter.{Letter}
 use Rattle.noticed_notes.specs.Notes.{end_lines, fault_line, unsent_lines}
 
+-- how many digits a number of 64 bits has at most
+abbrev pub most_digits : ℕ
+most_digits = 20
+
 -- the line of an agent: how many requests it made, how many connections it served, and how many of
 -- them ended with a fault
 unfoldable pub agent_line : ℕ → AgentLine → List ℕ

@@ -1,7 +1,7 @@
 -- Serve: what the daemon's run over ports comes to.
 use Rattle.std.specs.Prelude.{◌≡◌, ℕ, ◌<◌, ◌≤◌, ◌⊎◌, ◌↔◌, Bool, false, not, ◌||◌, List, [], length, Option, None, replicate, is_some, is_none, if◌then◌else◌}
 use Rattle.dsn_book.specs.declared.line.OpenLine.{OpenLine}
-use Rattle.dsn_crew.specs.Crew.{Account, CrewFault, IsAccount, IsCrewFault}
+use Rattle.dsn_crew.specs.Crew.{Account, CrewFault, IsAccount, IsCrewFault, most_ports}
 use Rattle.dsn_crew.specs.declared.crew_cause.CrewCause.{CrewCause}
 use Rattle.dsn_crew.specs.declared.crew_cause.CrewCause.TheVariants.{Refused, PortCount}
 use Rattle.dsn_agent.specs.declared.port.Port.{Ghosts as Port}
@@ -48,15 +48,15 @@ module _ {P S W N : Type 0} (port : Port P S) (drain : Drain W) (notes_device : 
   pub record IsServed : Type 0 where
     pub account : Account W
     pub crew : IsAccount port drain host limits ports start account
-    pub count : (1 ≤ length ports) × (length ports ≤ 16)
+    pub count : (1 ≤ length ports) × (length ports ≤ most_ports)
     pub told : TellsAccount notes_device (history_of limits account.taken) account notes later end
 
   -- a run whose crew ended with a fault: what is left of it, and its notes. The cause is PortCount
-  -- where there are not 1 to 16 ports
+  -- where there are not 1 to `most_ports` ports
   pub record IsFaulted : Type 0 where
     pub fault : CrewFault W
     pub crew : IsCrewFault drain host limits (length ports) start fault fault.cause
-    pub counted : (fault.cause ≡ PortCount) ↔ ((length ports ≡ 0) ⊎ (16 < length ports))
+    pub counted : (fault.cause ≡ PortCount) ↔ ((length ports ≡ 0) ⊎ (most_ports < length ports))
     pub told : TellsFault notes_device fault.cause fault.outbox fault.unsent notes later end
 
   -- a run over these ports

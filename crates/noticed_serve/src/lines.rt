@@ -2,7 +2,7 @@
 #![tactic(auto, unfolding(crate::specs::Lines::agent_line))]
 
 ghost use Rattle.std.specs.Prelude.{◌≡◌, ◌+◌, ◌≤◌, ◌++◌, length, decimal};
-ghost use Rattle.noticed_serve.specs.Lines.{agent_line};
+ghost use Rattle.noticed_serve.specs.Lines.{agent_line, most_digits};
 
 use arrayvec::ArrayString;
 use dsn_crew::AgentLine;
@@ -26,9 +26,9 @@ pub(crate) fn agent_line(agent: usize, line: &AgentLine) -> ArrayString<LINE_ROO
 
 /// Adds words and a number.
 fn push_counted(text: &mut ArrayString<LINE_ROOM>, words: &str, number: u64)
-    requires { length text.old.bytes + length words.now + 20 ≤ LINE_ROOM }
+    requires { length text.old.bytes + length words.now + most_digits ≤ LINE_ROOM }
     ensures pushed { text.new.bytes ≡ text.old.bytes ++ words.now ++ decimal number }
-    ensures short { length text.new.bytes ≤ length text.old.bytes + length words.now + 20 }
+    ensures short { length text.new.bytes ≤ length text.old.bytes + length words.now + most_digits }
 {
     text.push_str(words);
     text.push_str(Buffer::new().format(number));

@@ -6,7 +6,7 @@ r"""Hands the notices of an outbox to a mail system, one at a time, and waits fo
     python3 examples/feed.py --follow /var/lib/noticed/outbox localhost:25
 
 The outbox is read from standard input as it grows. With HOST:PORT each notice is a mail transaction with that
-server (SMTP, RFC 5321), over one connection that is made anew where it was lost; any other words are a local
+server (SMTP, RFC 5321), over one connection that is made anew where the server closed it; any other words are a local
 submission program, run once for each notice with `-f <> -- RECIPIENT` after them and the message on its input.
 
 With --follow the outbox is a file that grows. Once it was moved away to OUTBOX.TIME, and another one stands under its
@@ -17,7 +17,8 @@ A notice that is refused for now (a reply 4yz, no server, a lost connection, the
 off: it is tried again once a minute, for four days, while later ones are handed in (RFC 5321 section 4.5.4.1; --retry
 and --give-up say other times, in seconds). One that is refused for good, or for so long, is left out: it must not cause
 another notice. Each of both is said once, by a line on standard error with its key and the reply. Where a hundred wait,
-nothing more is read. What is put off is kept in memory: those that still wait when a signal comes are left out.
+nothing more is read. What is put off is kept in memory: those that still wait when a signal comes are left out. A
+notice is sent twice where the server took it and its reply was late or lost.
 
 The last line says how many were handed in and how many were left out. The status is 0 where each notice was handed in
 and each outbox was whole, 1 where one was left out or cut short, 2 for wrong arguments.
@@ -25,7 +26,6 @@ and each outbox was whole, 1 where one was left out or cut short, 2 for wrong ar
 import argparse
 import contextlib
 import glob
-import itertools
 import os
 import re
 import select
@@ -37,7 +37,7 @@ import time
 from collections import deque
 from dataclasses import dataclass
 
-PATIENCE = 300  # seconds that a reply may take (RFC 5321 section 4.5.3.2)
+PATIENCE = 600  # seconds that a reply may take: the longest is that to a message's end (RFC 5321 section 4.5.3.2.6)
 CLOSING = 421  # the reply of a server that closes the connection, for instance after a long pause (section 3.8)
 PAUSE = 0.2  # seconds between two looks at a file that grows
 RETRY = 60  # seconds between two tries of a notice that was refused for now
@@ -129,14 +129,22 @@ class Growing:
         except FileNotFoundError:
             return False
 
-    def next_name(self) -> str:
-        """Waits until another file grows, and gives the name of the outbox after this one."""
+    def next_name(self, done: set) -> str:
+        """Waits until another file grows, and gives the name of the outbox after this one: the first of those that were
+        moved away and aren't done, or that of the one that grows. What it passes over or gives is done."""
         while not self.is_replaced():
             self.pause(PAUSE)
-        moved = sorted(glob.glob(glob.escape(self.path) + ".*"))
-        later = itertools.dropwhile(lambda it: not self.is_named(it), moved)
-        next(later, None)
-        return next(later, self.path)
+        for name in moved_away(self.path):
+            if name not in done:
+                done.add(name)
+                if not self.is_named(name):
+                    return name
+        return self.path
+
+
+def moved_away(path: str) -> list:
+    """The outboxes that were moved away from this path, in their order."""
+    return sorted(glob.glob(glob.escape(path) + ".*"))
 
 
 def line_of(stream) -> bytes:
@@ -175,20 +183,23 @@ class Server:
         self.connection = None
 
     def send(self, notice: Notice):
-        """Hands in one notice from the null sender; a connection that was lost, or that the server gives up, is made
-        anew once."""
-        for again in (True, False):
-            if self.connection is None:
-                self.connection = smtplib.SMTP(self.host, int(self.port), timeout=PATIENCE)
-            try:
-                self.connection.sendmail("", [notice.recipient], notice.message)
-                return
-            except (smtplib.SMTPServerDisconnected, smtplib.SMTPResponseException) as lost:
-                if getattr(lost, "smtp_code", CLOSING) != CLOSING:
-                    raise
+        """Hands in one notice from the null sender. The connection of the one before is used if the server still answers
+        there. It is asked first, since a notice whose reply was lost may have been taken: it isn't sent again at once."""
+        if not self.answers():
+            self.connection = smtplib.SMTP(self.host, int(self.port), timeout=PATIENCE)
+        try:
+            self.connection.sendmail("", [notice.recipient], notice.message)
+        except (smtplib.SMTPServerDisconnected, smtplib.SMTPResponseException) as lost:
+            if getattr(lost, "smtp_code", CLOSING) == CLOSING:
                 self.connection = None
-                if not again:
-                    raise
+            raise
+
+    def answers(self) -> bool:
+        """Whether there is a connection whose server doesn't close it."""
+        try:
+            return self.connection is not None and self.connection.noop()[0] != CLOSING
+        except smtplib.SMTPServerDisconnected:
+            return False
 
     @staticmethod
     def is_for_now(refused: Exception) -> bool:
@@ -310,11 +321,11 @@ class Feeder:
     def follow(self, path: str):
         """Hands in the notices of a file that grows, and then of the next ones, until a signal comes."""
         with contextlib.suppress(Stopped):
-            name = path
+            name, done = path, set(moved_away(path))
             while True:
                 outbox = Growing(path, name, self.pause)
                 self.feed(outbox)
-                name = outbox.next_name()
+                name = outbox.next_name(done)
 
     def end(self) -> int:
         """Leaves out what still waits, ends the mailer, says the counts, and gives the exit status."""

@@ -1,7 +1,7 @@
 #!/usr/bin/env python3
 """Checks examples/feed.py: it hands each notice of an outbox to a mail server, one at a time, tries again what is refused
-for now, and leaves out what is refused for good; or to a submission program. The server is a small one of this script's own, and aiosmtpd where that is
-installed; the outbox is the built program's."""
+for now, and leaves out what is refused for good; or to a submission program. The server is a small one of this script's
+own, and aiosmtpd where that is installed; the outbox is the built program's."""
 import signal
 import socket
 import subprocess
@@ -45,11 +45,12 @@ def messages_of(outbox: bytes) -> list:
 
 class MailServer:
     """A mail server that takes connections until it is closed: it refuses each recipient of a set, or each one's first
-    tries (450), hangs up after so many messages, or gives up the connection (421), and keeps what it was told and
-    given."""
+    tries (450), hangs up after so many messages, in place of its first replies to them or not, or gives up the
+    connection (421), and keeps what it was told and given."""
 
-    def __init__(self, refused=(), hangs_up_after=None, closes_after=None, greylists=0, port=0):
+    def __init__(self, refused=(), hangs_up_after=None, closes_after=None, greylists=0, lost_replies=0, port=0):
         self.refused, self.hangs_up_after, self.closes_after = refused, hangs_up_after, closes_after
+        self.lost_replies = lost_replies
         self.greylists, self.tries = greylists, Counter()
         self.taken, self.commands = [], []
         self.listener = socket.create_server(("127.0.0.1", port))
@@ -84,6 +85,8 @@ class MailServer:
                 lines = text.split(b"\r\n")[:-1]
                 self.taken.append((recipient, b"".join(it.removeprefix(b".") + b"\r\n" for it in lines)))
                 given += 1
+                if len(self.taken) <= self.lost_replies:
+                    return
                 self.say(stream, b"250 taken")
                 if given == self.hangs_up_after:
                     return
@@ -155,6 +158,15 @@ def tries(checks: Checks, outbox: bytes):
         checks.true("all of it", comes_to(lambda: len(server.taken), MESSAGES))
         said = running.stderr.read().decode().splitlines()
         checks.equal("its end", (running.wait(), said[-1]), (0, f"{MESSAGES} handed in, 0 left out"))
+
+
+def lost_replies(checks: Checks, outbox: bytes):
+    """A notice whose reply was lost isn't sent again at once, but put off, since the server may have taken it."""
+    server = MailServer(lost_replies=2)
+    status, said = feed(["--retry", "0.5", server.address], outbox)
+    checks.equal("two replies lost: end", (status, [it[:14] for it in said[:-1]], said[-1]), (0, ["put off B K0: ", "put off B K1: "], f"{MESSAGES} handed in, 0 left out"))
+    order = [int(to[6:7]) for to, _ in server.taken]
+    checks.equal("what it was given, in order", order, [*range(MESSAGES), 0, 1])
 
 
 def waiting_for_input(checks: Checks, outbox: bytes):
@@ -244,6 +256,27 @@ def followed(checks: Checks, outbox: bytes):
             checks.equal("its end", (running.returncode, said), (1, ["the outbox was cut short", f"{2 * MESSAGES + 1} handed in, 0 left out"]))
 
 
+def removed(checks: Checks, outbox: bytes):
+    """An outbox that was moved away is handed in also where the one before it was removed; one that was moved away before
+    the feeder began is not."""
+    server = MailServer()
+    with tempfile.TemporaryDirectory() as room:
+        path = Path(room) / "outbox"
+        path.with_suffix(".0").write_bytes(outbox)
+        path.write_bytes(b"")
+        with subprocess.Popen([*FEED, "--follow", str(path), server.address], stderr=subprocess.PIPE, text=True) as running:
+            time.sleep(1)  # until it reads the empty one
+            path.unlink()
+            other = Path(room) / "made"
+            other.write_bytes(outbox)
+            other.rename(path.with_suffix(".1"))
+            path.write_bytes(outbox)
+            checks.true("the one that was moved away, and the one that grows", comes_to(lambda: len(server.taken), 2 * MESSAGES))
+            running.send_signal(signal.SIGTERM)
+            said = running.communicate(timeout=LIMIT)[1].splitlines()
+            checks.equal("its end", (running.returncode, said), (1, ["the outbox was cut short", f"{2 * MESSAGES} handed in, 0 left out"]))
+
+
 def programs(checks: Checks, outbox: bytes):
     """A submission program is run once for each notice; one that fails is said, and tried again if it says so (75)."""
     with tempfile.TemporaryDirectory() as room:
@@ -277,9 +310,11 @@ def main():
     outbox = outbox_of(MESSAGES)
     servers(checks, outbox)
     tries(checks, outbox)
+    lost_replies(checks, outbox)
     waiting_for_input(checks, outbox)
     real_server(checks, outbox)
     followed(checks, outbox)
+    removed(checks, outbox)
     programs(checks, outbox)
     cut(checks, outbox)
     for words in ([], ["--nonsense", "localhost:25"], ["--follow", "outbox"], ["--retry", "soon", "localhost:25"]):

@@ -3,9 +3,7 @@
 (tests/support/fail.c, compiled here with gcc): with an error, interrupted, and as a write that takes no byte. What came
 before stands, what is lost is told, and nothing comes after, as a plain reading of docs/FORMATS.md has it."""
 import errno
-import os
 import socket
-import subprocess
 import sys
 import tempfile
 from pathlib import Path
@@ -16,9 +14,9 @@ from daemon import Daemon, line  # noqa: E402
 from formats import sessions  # noqa: E402
 from formats.logs import REFUSED, Limits, Logs  # noqa: E402
 from formats.notices import crlf, mail, outbox  # noqa: E402
+from preloading import built, preloading  # noqa: E402
 from running import EXAMPLES, HOST, Checks, Ran, batch, frames_module  # noqa: E402
 
-SOURCE = Path(__file__).parent / "support" / "fail.c"
 FRAMES = frames_module()
 FAILS = {"an error": errno.EIO, "an interruption": errno.EINTR, "a write that takes no byte": 0}
 MOST = 2000  # calls of a run; more than this and the sweep is broken
@@ -35,7 +33,7 @@ def messages() -> bytes:
 
 def failing(library: Path, call: str, at: int, error: int, short: int = 0) -> dict:
     """The environment of a run whose call of that number fails."""
-    return {**os.environ, "LD_PRELOAD": str(library), "FAIL": call, "FAIL_AT": str(at), "FAIL_WITH": str(error), "SHORT": str(short)}
+    return preloading(library, FAIL=call, FAIL_AT=at, FAIL_WITH=error, SHORT=short)
 
 
 def check_reads(checks: Checks, library: Path):
@@ -153,8 +151,7 @@ def check_connection(checks: Checks, library: Path):
 def main():
     checks = Checks("calls that fail: each read and each write of the devices in turn")
     with tempfile.TemporaryDirectory() as room:
-        library = Path(room) / "fail.so"
-        subprocess.run(["gcc", "-O2", "-shared", "-fPIC", "-o", str(library), str(SOURCE), "-ldl"], check=True)
+        library = built(room, "fail")
         check_reads(checks, library)
         check_outbox(checks, library)
         check_notes(checks, library)

@@ -4,16 +4,15 @@ one that is written down, and nobody waits for ever."""
 import os
 import re
 import resource
-import subprocess
 import sys
 import tempfile
 from pathlib import Path
 
 sys.path.insert(0, str(Path(__file__).parent / "support"))
 from daemon import FIRST_FRAME, FRAMES, NOTES, OUTBOX, PATIENCE, Daemon, answer, append, asked, closed_pipe, flush, line  # noqa: E402
+from preloading import built, compare_ends, each_refused, preloading  # noqa: E402
 from running import HOST, Checks, Ran, empty_outbox, run  # noqa: E402
 
-SUPPORT = Path(__file__).parent / "support"
 MOST = 200  # growths of a run; more than this and the sweep is broken
 UNBOUND = Ran(b"", b"fault 61\n", 1)
 UNBEGUN = Ran(b"", b"fault 9\n", 1)
@@ -119,27 +118,13 @@ def few_descriptors(checks: Checks):
 def sweep(library: Path, given: bytes) -> list:
     """How a daemon with one agent ends where its first growth is refused, its second, and so on up to the first run that
     is whole."""
-    with Daemon(1, 1) as daemon:
-        daemon.send(given)
-        whole = daemon.end()
-    ends = []
-    for number in range(1, MOST):
-        environment = {**os.environ, "LD_PRELOAD": str(library), "REFUSE": str(number)}
+
+    def ended(environment=None) -> Ran:
         with Daemon(1, 1, env=environment) as daemon:
             daemon.send(given)
-            ends.append(daemon.end())
-        if ends[-1] == whole:
-            break
-    return ends
+            return daemon.end()
 
-
-def compare(checks: Checks, about: str, ends: list, wanted: dict):
-    """Compares the ends, which come in the order of the wanted ones, with each of these met."""
-    named = {(end.outbox, end.notes, end.status): name for name, end in wanted.items()}
-    met = [named.get((it.outbox, it.notes, it.status), f"another end: {it}") for it in ends]
-    in_order = [name for at, name in enumerate(met) if at == 0 or met[at - 1] != name]
-    checks.equal(about, in_order, list(wanted))
-    print(f"  {about}: {len(ends) - 1} growths, each refused once")
+    return each_refused(library, MOST, ended, ended())
 
 
 def growths(checks: Checks, library: Path):
@@ -152,14 +137,14 @@ def growths(checks: Checks, library: Path):
         "for the first frame": Ran(empty_outbox(), line(0, 0, 1, 1), 0),
     }
     # an append that is refused isn't a request; the flush after it is, of a log with nothing in it
-    compare(checks, "growths of a daemon", sweep(library, FRAMES), {
+    compare_ends(checks, "growths of a daemon", sweep(library, FRAMES), {
         **before_a_frame,
         "for the append": Ran(empty_outbox(), line(0, 1), 0),
         "for the second frame": Ran(empty_outbox(), line(0, 1, 1, 1) + is_open, 0),
         "for the flush": Ran(empty_outbox(), line(0, 1) + is_open, 0),
         "none": Ran(OUTBOX, line(0, 2), 0),
     })
-    compare(checks, "growths of one with an open log", sweep(library, FRAMES[:FIRST_FRAME]), {
+    compare_ends(checks, "growths of one with an open log", sweep(library, FRAMES[:FIRST_FRAME]), {
         **before_a_frame,
         "for the append": Ran(empty_outbox(), line(0, 0), 0),
         "for the list of open logs": Ran(empty_outbox(), line(0, 1) + b"fault 9\n", 1),
@@ -171,8 +156,7 @@ def threads(checks: Checks, library: Path):
     """Each start of a thread refused in turn: without the poster nothing is begun; without an agent the others serve."""
     for agents in (1, 2, 4):
         for number in range(1, agents + 3):
-            environment = {**os.environ, "LD_PRELOAD": str(library), "REFUSE_THREAD": str(number)}
-            with Daemon(agents, 1, env=environment) as daemon:
+            with Daemon(agents, 1, env=preloading(library, REFUSE_THREAD=number)) as daemon:
                 served = agents - (2 <= number <= agents + 1) if number > 1 else 0
                 told = [daemon.send() for _ in range(served)]
                 ended = daemon.end()
@@ -186,20 +170,13 @@ def threads(checks: Checks, library: Path):
                 checks.equal(f"{about}: none", (ended.outbox, ended.status), (OUTBOX, 0))
 
 
-def preloaded(room: str, name: str) -> Path:
-    """A library of tests/support, compiled."""
-    library = Path(room) / f"{name}.so"
-    subprocess.run(["gcc", "-O2", "-shared", "-fPIC", "-o", str(library), str(SUPPORT / f"{name}.c"), "-ldl"], check=True)
-    return library
-
-
 def main():
     checks = Checks("daemon_faults: sockets, outputs, descriptors, memory and threads that a daemon wants")
     for check in (sockets, bad_outboxes, breaking_outbox, bad_notes, few_descriptors):
         check(checks)
     with tempfile.TemporaryDirectory() as room:
-        growths(checks, preloaded(room, "refuse"))
-        threads(checks, preloaded(room, "refuse_thread"))
+        growths(checks, built(room, "refuse"))
+        threads(checks, built(room, "refuse_thread"))
     checks.done()
 
 

@@ -10,9 +10,9 @@ import tempfile
 from pathlib import Path
 
 sys.path.insert(0, str(Path(__file__).parent / "support"))
+from preloading import built, compare_ends, each_refused, preloading  # noqa: E402
 from running import EXAMPLES, ROOT, Checks, Ran, batch, empty_outbox  # noqa: E402
 
-SOURCE = Path(__file__).parent / "support" / "refuse.c"
 PROBE = os.environ.get("CALL_PROBE") or str(ROOT / "crates/call_probe/out/call_probe")
 MOST = 200  # growths of a run; more than this and the sweep is broken
 UNBEGUN = Ran(b"", b"fault 9\n", 1)  # nothing is read or written
@@ -26,22 +26,7 @@ def ended(notes: bytes, status: int) -> Ran:
 
 def sweep(library: Path, given: bytes) -> list:
     """How the run ends where its first growth is refused, its second, and so on up to the first run that is whole."""
-    ends, whole = [], batch(given)
-    for number in range(1, MOST):
-        environment = {**os.environ, "LD_PRELOAD": str(library), "REFUSE": str(number)}
-        ends.append(batch(given, env=environment))
-        if ends[-1] == whole:
-            break
-    return ends
-
-
-def check(checks: Checks, about: str, ends: list, wanted: dict):
-    """Compares the ends, which come in the order of the wanted ones, with each of these met."""
-    named = {(end.outbox, end.notes, end.status): name for name, end in wanted.items()}
-    met = [named.get((it.outbox, it.notes, it.status), f"another end: {it}") for it in ends]
-    in_order = [name for at, name in enumerate(met) if at == 0 or met[at - 1] != name]
-    checks.equal(about, in_order, list(wanted))
-    print(f"  {about}: {len(ends) - 1} growths, each refused once")
+    return each_refused(library, MOST, lambda environment: batch(given, env=environment), batch(given))
 
 
 def longer_and_longer(checks: Checks, library: Path):
@@ -74,9 +59,9 @@ WITHOUT_MEMORY = {"read-empty": b"refused 12", "read-too-long": b"refused 11", "
 
 def called(library: Path, call: str, growth) -> bytes:
     """What a public call comes to whose growth of this number is refused; "all" of them, or None."""
-    refused = {} if growth is None else {"LD_PRELOAD": str(library), "REFUSE": str(growth), "REFUSE_AFTER": "begin\n"}
+    environment = None if growth is None else preloading(library, REFUSE=growth, REFUSE_AFTER="begin\n")
     words = [PROBE, call, *TEXTS.get(call, ())]
-    ended = subprocess.run(words, capture_output=True, env={**os.environ, **refused}, check=False)
+    ended = subprocess.run(words, capture_output=True, env=environment, check=False)
     begun, _, came = ended.stdout.partition(b"begin\n")
     return came.strip() if (begun, ended.stderr, ended.returncode) == (b"", b"", 0) else b"another end: " + str(ended).encode()
 
@@ -108,10 +93,9 @@ def main():
     given = (EXAMPLES / "one-bounce.frames").read_bytes()
     outbox, notes = ((EXAMPLES / f"one-bounce.{it}").read_bytes() for it in ("outbox", "notes"))
     with tempfile.TemporaryDirectory() as room:
-        library = Path(room) / "refuse.so"
-        subprocess.run(["gcc", "-O2", "-shared", "-fPIC", "-o", str(library), str(SOURCE), "-ldl"], check=True)
+        library = built(room, "refuse")
         check_calls(checks, library)
-        check(checks, "an append and a flush", sweep(library, given), {
+        compare_ends(checks, "an append and a flush", sweep(library, given), {
             "before the run": UNBEGUN,
             "for the book, or for the first frame": ended(b"fault 9\n", 1),
             "for the append": ended(b"0 refused 9\n1 nothing\n", 0),
@@ -119,7 +103,7 @@ def main():
             "for the flush": ended(b"0 logged 0\n1 refused 9\nopen B A1B2C3 1\n", 0),
             "none": Ran(outbox, notes, 0),
         })
-        check(checks, "the append alone", sweep(library, given[:FIRST_FRAME]), {
+        compare_ends(checks, "the append alone", sweep(library, given[:FIRST_FRAME]), {
             "before the run": UNBEGUN,
             "for the book, or for the frame": ended(b"fault 9\n", 1),
             "for the append": ended(b"0 refused 9\n", 0),

@@ -4,7 +4,6 @@ broken inputs and outputs; with no daemon; and with each growth of its memory re
 import contextlib
 import os
 import socket
-import subprocess
 import sys
 import tempfile
 import threading
@@ -12,6 +11,7 @@ from pathlib import Path
 
 sys.path.insert(0, str(Path(__file__).parent / "support"))
 from daemon import FIRST_FRAME, FRAMES, NOTES, PATIENCE, answer, closed_pipe, heard  # noqa: E402
+from preloading import built, each_refused  # noqa: E402
 from running import Checks, Ran, run  # noqa: E402
 
 MOST = 100  # growths of a run; more than this and the sweep is broken
@@ -155,18 +155,15 @@ def outputs(checks: Checks):
 def growths(checks: Checks):
     """Each growth of memory refused in turn: what was told, what was sent, and the fault. The second frame is longer than
     the first and so wants memory; the second answer is as long as the first and wants none."""
-    ends, first, whole = [], FRAMES[:FIRST_FRAME], (Ran(NOTES, b"", 0), FRAMES)
+    first, whole = FRAMES[:FIRST_FRAME], (Ran(NOTES, b"", 0), FRAMES)
+
+    def ended(environment: dict):
+        with Answering([answer(1), answer(7, 1, 1)], reads_on=True) as daemon:
+            ran = run(["send", daemon.path], FRAMES, env=environment)
+        return ran, daemon.read
+
     with tempfile.TemporaryDirectory() as room:
-        library = f"{room}/refuse.so"
-        source = str(Path(__file__).parent / "support" / "refuse.c")
-        subprocess.run(["gcc", "-O2", "-shared", "-fPIC", "-o", library, source, "-ldl"], check=True)
-        for number in range(1, MOST):
-            with Answering([answer(1), answer(7, 1, 1)], reads_on=True) as daemon:
-                environment = {**os.environ, "LD_PRELOAD": library, "REFUSE": str(number)}
-                ran = run(["send", daemon.path], FRAMES, env=environment)
-            ends.append((ran, daemon.read))
-            if ends[-1] == whole:
-                break
+        ends = each_refused(built(room, "refuse"), MOST, ended, whole)
     met = [end for at, end in enumerate(ends) if at == 0 or ends[at - 1] != end]
     line = b"0 logged 0\n"
     checks.equal("growths", met, [(fault(9), b""), (fault(9), first), (fault(9, line), first), whole])

@@ -8,11 +8,12 @@ import subprocess
 import sys
 import tempfile
 from pathlib import Path
+from typing import Optional
 
 sys.path.insert(0, str(Path(__file__).parent / "support"))
+from preloading import built, compare_ends, each_refused, preloading  # noqa: E402
 from running import EXAMPLES, ROOT, Checks, Ran, empty_outbox  # noqa: E402
 
-SUPPORT = Path(__file__).parent / "support"
 PROBE = os.environ.get("CREW_PROBE") or str(ROOT / "crates/crew_probe/out/crew_probe")
 PATIENCE = 20  # seconds that a run may take
 MOST = 300  # growths of a run; more than this and the sweep is broken
@@ -22,9 +23,8 @@ OUTBOX = (EXAMPLES / "one-bounce.outbox").read_bytes().replace(b"ann@example.com
 UNBEGUN = Ran(b"", b"", 1)  # the program's own memory was refused
 
 
-def crew(agents: int, **refused) -> Ran:
+def crew(agents: int, environment: Optional[dict] = None) -> Ran:
     """A crew of so many agents: each appends once to a log of its own, and agent 0 then flushes it."""
-    environment = {**os.environ, **{name: str(value) for name, value in refused.items()}}
     ended = subprocess.run([PROBE, str(agents), "1"], capture_output=True, env=environment, timeout=PATIENCE, check=False)
     return Ran(ended.stdout, ended.stderr, ended.returncode)
 
@@ -50,34 +50,21 @@ def threads(checks: Checks, library: Path, agents: int):
     wanted = [refused(0, b""), refused(agents - 1, empty_outbox())]
     wanted += [refused(agents, OUTBOX)] * (agents - 1) + [whole(agents)]
     for number, end in enumerate(wanted, 1):
-        checks.equal(f"{agents} agents, thread {number} refused", crew(agents, LD_PRELOAD=library, REFUSE_THREAD=number), end)
-
-
-def sweep(library: Path, agents: int) -> list:
-    """How the run ends where its first growth is refused, its second, and so on up to the first run that is whole."""
-    ends = []
-    for number in range(1, MOST):
-        ends.append(crew(agents, LD_PRELOAD=library, REFUSE=number))
-        if ends[-1] == whole(agents):
-            break
-    return ends
+        checks.equal(f"{agents} agents, thread {number} refused", crew(agents, preloading(library, REFUSE_THREAD=number)), end)
 
 
 def growths_of_one(checks: Checks, ends: list):
     """The ends of a crew of one agent come in the order of its growths, and each of them is met. The second frame is as
     long as the first, so what the first was read into has room for it."""
-    wanted = [
-        ("before the run", UNBEGUN),
-        ("for the crew, or for the poster's thread", refused(0, b"")),
-        ("for the agent's thread", refused(0, empty_outbox())),
-        ("for the first frame", shown(0, [(0, 1)], 0, empty_outbox())),
-        ("for a body", shown(1, [(1, 0)], 0, empty_outbox())),
-        ("none", whole(1)),
-    ]
-    named = {(end.outbox, end.status): name for name, end in wanted}
-    met = [named.get((it.outbox, it.status), f"another end: {it}") for it in ends]
-    in_order = [name for at, name in enumerate(met) if at == 0 or met[at - 1] != name]
-    checks.equal("growths of a crew of one agent", in_order, [name for name, _ in wanted])
+    wanted = {
+        "before the run": UNBEGUN,
+        "for the crew, or for the poster's thread": refused(0, b""),
+        "for the agent's thread": refused(0, empty_outbox()),
+        "for the first frame": shown(0, [(0, 1)], 0, empty_outbox()),
+        "for a body": shown(1, [(1, 0)], 0, empty_outbox()),
+        "none": whole(1),
+    }
+    compare_ends(checks, "growths of a crew of one agent", ends, wanted)
 
 
 def growths_of_many(checks: Checks, agents: int, ends: list):
@@ -90,24 +77,17 @@ def growths_of_many(checks: Checks, agents: int, ends: list):
         checks.true(f"{agents} agents, growth {number} refused: {end}", is_known and (end.notes, end.status) == (b"", 0))
 
 
-def preloaded(room: str, name: str) -> Path:
-    """A library of tests/support, compiled."""
-    library = Path(room) / f"{name}.so"
-    subprocess.run(["gcc", "-O2", "-shared", "-fPIC", "-o", str(library), str(SUPPORT / f"{name}.c"), "-ldl"], check=True)
-    return library
-
-
 def main():
     checks = Checks("threads: each start of a thread of a crew refused in turn, and each growth of its memory")
     if not os.access(PROBE, os.X_OK):
         print(f"there is no program {PROBE}: run the gate, or name one in CREW_PROBE")
         sys.exit(1)
     with tempfile.TemporaryDirectory() as room:
-        growth, start = preloaded(room, "refuse"), preloaded(room, "refuse_thread")
+        growth, start = built(room, "refuse"), built(room, "refuse_thread")
         for agents in (1, 2, 4):
             checks.equal(f"{agents} agents", crew(agents), whole(agents))
             threads(checks, start, agents)
-            ends = sweep(growth, agents)
+            ends = each_refused(growth, MOST, lambda environment, agents=agents: crew(agents, environment), whole(agents))
             checks.equal(f"{agents} agents: the last growth is passed", ends[-1], whole(agents))
             growths_of_one(checks, ends) if agents == 1 else growths_of_many(checks, agents, ends)
             print(f"  {agents} agents: {agents + 1} threads and {len(ends) - 1} growths, each refused once")

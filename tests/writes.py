@@ -5,17 +5,15 @@
 Each read of the input asks for 65,536 bytes; a letter is one write of the outbox; an answer's line is one write of
 the notes; and a letter is out before its answer's line.
 """
-import os
-import subprocess
 import sys
 import tempfile
 import time
 from pathlib import Path
 
 sys.path.insert(0, str(Path(__file__).parent / "support"))
+from preloading import built, preloading  # noqa: E402
 from running import HOST, Checks, batch, frames_module  # noqa: E402
 
-SOURCE = Path(__file__).parent / "support" / "record.c"
 MESSAGES = 1000
 READ = 65536
 
@@ -33,10 +31,9 @@ def requests() -> bytes:
 def recorded(given: bytes):
     """The run, and its reads and writes: (call, stream, bytes asked for, bytes answered, first bytes of a write)."""
     with tempfile.TemporaryDirectory() as room:
-        library, record, source = (Path(room) / it for it in ("record.so", "record", "frames"))
-        subprocess.run(["gcc", "-O2", "-shared", "-fPIC", "-o", str(library), str(SOURCE), "-ldl"], check=True)
+        record, source = (Path(room) / it for it in ("record", "frames"))
         source.write_bytes(given)
-        environment = {**os.environ, "LD_PRELOAD": str(library), "RECORD": str(record)}
+        environment = preloading(built(room, "record"), RECORD=record)
         with source.open("rb") as it:
             ran = batch(stdin=it, env=environment)
         lines = record.read_text().splitlines()

@@ -12,7 +12,8 @@ use dsn_post::{LetterSink, LetterSource, open_post};
 use std::alloc::Global;
 use std::sync::Wait;
 
-/// All that a run needs memory for, so that nothing is refused once its first thread is started.
+/// All that a run needs memory for, but for what the system takes to start a thread: so once the
+/// first is started no growth of the run's own is refused.
 #[derive(Drop)]
 pub(crate) struct Room<P: Port> {
     pub(crate) agents: Vec<Agent>,

@@ -1,0 +1,43 @@
+"""What the scripts share that refuse the program something from outside: the small libraries in C beside this file, which are
+loaded before the program's own (LD_PRELOAD), and the ends of runs in each of which one more thing is refused."""
+import os
+import subprocess
+from pathlib import Path
+
+from running import Checks
+
+SUPPORT = Path(__file__).resolve().parent
+
+
+def built(room, name: str) -> Path:
+    """The library of this folder with that name, compiled into a folder."""
+    library = Path(room) / f"{name}.so"
+    subprocess.run(["gcc", "-O2", "-shared", "-fPIC", "-o", str(library), str(SUPPORT / f"{name}.c"), "-ldl"], check=True)
+    return library
+
+
+def preloading(library: Path, **variables) -> dict:
+    """The environment of a run with this library, which reads what it is to do from variables."""
+    return {**os.environ, "LD_PRELOAD": str(library), **{name: str(value) for name, value in variables.items()}}
+
+
+def each_refused(library: Path, most: int, run, whole) -> list:
+    """How a run ends where its first growth of memory is refused, its second, and so on up to the first run that is whole, or
+    so many. `run` is given the environment."""
+    ends = []
+    for number in range(1, most):
+        ends.append(run(preloading(library, REFUSE=number)))
+        if ends[-1] == whole:
+            break
+    return ends
+
+
+def compare_ends(checks: Checks, about: str, ends: list, wanted: dict):
+    """Compares ends with the wanted ones, by their names: they come in this order, and each is met."""
+    def parts(end):
+        return (end.outbox, end.notes, end.status)
+
+    names = {parts(end): name for name, end in wanted.items()}
+    met = [names.get(parts(it), f"another end: {it}") for it in ends]
+    checks.equal(about, [name for at, name in enumerate(met) if at == 0 or met[at - 1] != name], list(wanted))
+    print(f"  {about}: {len(ends) - 1} growths, each refused once")

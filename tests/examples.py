@@ -1,13 +1,33 @@
 #!/usr/bin/env python3
-"""Runs each stored example and compares outbox, notes and exit status with the stored ones, byte by byte.
+"""Runs each stored example and compares outbox, notes and exit status with the stored ones, byte by byte. The outboxes that
+tests of the crates compare with, which can read no file, must be those of the examples.
 
 With arguments it runs the examples of those folders instead.
 """
+import re
 import sys
 from pathlib import Path
 
 sys.path.insert(0, str(Path(__file__).parent / "support"))
-from running import EXAMPLES, Checks, batch  # noqa: E402
+from running import EXAMPLES, ROOT, Checks, batch  # noqa: E402
+
+TEXT = re.compile(r'const (\w+): &\[u8; \d+\] = b"((?:[^"\\]|\\.|\\\n)*)";', re.DOTALL)
+
+
+def outboxes_in(source: Path):
+    """The whole outboxes that a source file of a crate has as constants: their names and bytes."""
+    for name, text in TEXT.findall(source.read_text()):
+        made = re.sub(r"\\\n\s*", "", text).encode().decode("unicode_escape").encode("latin-1")
+        if made.startswith(b"EHLO ") and made.endswith(b"QUIT\r\n"):
+            yield name, made
+
+
+def in_tests(checks: Checks):
+    """Compares the outboxes of the crates' tests with those of the examples."""
+    stored = {it.read_bytes() for it in EXAMPLES.glob("*.outbox")}
+    for source in sorted(ROOT.glob("crates/*_tests/src/*.rt")):
+        for name, made in outboxes_in(source):
+            checks.true(f"{source.relative_to(ROOT)}: {name} is an example's outbox", made in stored)
 
 
 def main():
@@ -21,6 +41,7 @@ def main():
         checks.equal(f"{frames.stem}: notes", ran.notes, frames.with_suffix(".notes").read_bytes())
         checks.equal(f"{frames.stem}: status", ran.status, int(frames.with_suffix(".status").read_text()))
         print(f"  {frames.stem}")
+    in_tests(checks)
     checks.done()
 
 

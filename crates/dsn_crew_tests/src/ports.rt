@@ -28,7 +28,7 @@ fn assert_lines<R: Threads + Wait + Sync + Abort>(
     assert_eq!(rt; told.agents.as_slice(), lines);
     assert!(rt; told.whole && told.letters == 0);
     assert_eq!(rt; told.open.len(), 0);
-    assert_eq!(rt; told.outbox.into_inner().heard.as_slice(), EMPTY.as_slice());
+    assert_eq!(rt; told.outbox.into_inner().text.as_slice(), EMPTY.as_slice());
     Ok(())
 }
 
@@ -122,7 +122,7 @@ fn crew_of_0_or_17_ports_is_refused(rt: HostRuntime) -> Result<(), Fail> {
         let told = run_all(&rt, rt.alloc(), 8, ports)?;
         assert_eq!(rt; told.code, 43);
         assert!(rt; told.unsent.is_empty());
-        assert!(rt; told.outbox.into_inner().heard.is_empty());
+        assert!(rt; told.outbox.into_inner().text.is_empty());
     }
     Ok(())
 }

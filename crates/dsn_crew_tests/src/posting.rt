@@ -39,7 +39,7 @@ fn one_append_one_flush(rt: HostRuntime) -> Result<(), Fail> {
     assert_eq!(rt; told.agents.as_slice(), [line(2, 1)].as_slice());
     assert!(rt; told.whole && told.open.is_empty());
     assert_eq!(rt;
-        told.outbox.into_inner().heard.as_slice(),
+        told.outbox.into_inner().text.as_slice(),
         ONE_NOTICE.as_slice()
     );
     Ok(())
@@ -60,7 +60,7 @@ fn client_leaves_mid_frame(rt: HostRuntime) -> Result<(), Fail> {
     };
     assert_eq!(rt; told.agents.as_slice(), [line].as_slice());
     assert_eq!(rt;
-        told.outbox.into_inner().heard.as_slice(),
+        told.outbox.into_inner().text.as_slice(),
         ONE_NOTICE.as_slice()
     );
     Ok(())
@@ -95,9 +95,9 @@ fn outbox_fails_in_a_crew(rt: HostRuntime) -> Result<(), Fail> {
     assert_eq!(rt; (told.code, told.letters, told.whole), (0, 1, false));
     assert_eq!(rt; told.unsent.as_slice(), b"K2K3".as_slice());
     assert_eq!(rt; told.agents.as_slice(), [line(6, 1)].as_slice());
-    let heard = told.outbox.into_inner().heard;
-    assert_eq!(rt; heard.len(), room);
-    assert!(rt; heard.ends_with(b"\r\n.\r\nMAIL FROM:<>\r\nRCPT T"));
+    let text = told.outbox.into_inner().text;
+    assert_eq!(rt; text.len(), room);
+    assert!(rt; text.ends_with(b"\r\n.\r\nMAIL FROM:<>\r\nRCPT T"));
     Ok(())
 }
 

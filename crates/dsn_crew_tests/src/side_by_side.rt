@@ -3,7 +3,7 @@
 use super::frames::Frames;
 use super::hold::{Hold, Until};
 use super::memory_port::MemoryPort;
-use super::peer::Peer;
+use super::outbox::Outbox;
 use super::whole_crew::{EMPTY, Told, line, open, outbox, port, run_over};
 use dsn_device::Plain;
 use std::alloc::Global;
@@ -28,7 +28,7 @@ fn held<R: Threads + Wait + Clock + Sync>(
     alloc: Global,
     all: &[Frames],
     until: Until,
-) -> Result<(Told<Plain<Peer<'static>>>, u64), Fail> {
+) -> Result<(Told<Plain<Outbox>>, u64), Fail> {
     let hold = Hold::new(rt, until);
     let ports = ports_of(alloc, all)?;
     let told = run_over(rt, alloc, 100, ports, outbox(alloc, usize::MAX), &hold)?;
@@ -45,15 +45,15 @@ fn appends(alloc: Global, count: u32, message: &[u8]) -> Result<Frames, Fail> {
 }
 
 /// Asserts that a run ended well, that no hold ran out, and that no letter was made.
-fn assert_empty<R: Abort>(rt: &R, told: (Told<Plain<Peer<'static>>>, u64), requests: u32) {
+fn assert_empty<R: Abort>(rt: &R, told: (Told<Plain<Outbox>>, u64), requests: u32) {
     let (told, ran_out) = told;
     assert_eq!(rt; (told.code, ran_out, told.letters), (0, 0, 0));
     for agent in told.agents {
         assert_eq!(rt; agent, line(requests, 1));
     }
     assert!(rt; told.whole);
-    let heard = told.outbox.into_inner().heard;
-    assert_eq!(rt; heard.as_slice(), EMPTY.as_slice());
+    let text = told.outbox.into_inner().text;
+    assert_eq!(rt; text.as_slice(), EMPTY.as_slice());
 }
 
 #[test]
@@ -181,9 +181,9 @@ fn two_agents_one_log(rt: HostRuntime) -> Result<(), Fail> {
         [line(51, 1), line(50, 1)].as_slice()
     );
     assert!(rt; told.whole && told.open.is_empty());
-    let heard = told.outbox.into_inner().heard;
-    assert_eq!(rt; groups(&heard), 100);
-    assert_eq!(rt; groups_in_order(&heard, b'a'), 50);
-    assert_eq!(rt; groups_in_order(&heard, b'b'), 50);
+    let text = told.outbox.into_inner().text;
+    assert_eq!(rt; groups(&text), 100);
+    assert_eq!(rt; groups_in_order(&text, b'a'), 50);
+    assert_eq!(rt; groups_in_order(&text, b'b'), 50);
     Ok(())
 }

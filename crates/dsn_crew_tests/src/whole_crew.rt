@@ -1,6 +1,6 @@
 //! Whole crews over connections in memory, and what comes of them.
 use super::memory_port::{MemoryPort, Text};
-use super::peer::Peer;
+use super::outbox::Outbox;
 use dsn_book::{Limits, OpenLine};
 use dsn_crew::{Account, AgentLine, CrewFault, Gate, NoGate, run_crew};
 use dsn_device::{Drain, Plain};
@@ -29,11 +29,9 @@ pub(super) struct Told<W> {
 }
 
 /// An outbox in memory that fails once it has taken so many bytes, once.
-pub(super) fn outbox(alloc: Global, room: usize) -> Plain<Peer<'static>> {
-    Plain::new(Peer {
-        sent: b"",
-        most: 0,
-        heard: Vec::new(alloc),
+pub(super) fn outbox(alloc: Global, room: usize) -> Plain<Outbox> {
+    Plain::new(Outbox {
+        text: Vec::new(alloc),
         room,
     })
 }
@@ -112,7 +110,7 @@ pub(super) fn run_all<R: Threads + Wait + Sync>(
     alloc: Global,
     requests: u32,
     ports: Vec<MemoryPort<'_>>,
-) -> Result<Told<Plain<Peer<'static>>>, Fail> {
+) -> Result<Told<Plain<Outbox>>, Fail> {
     let outbox = outbox(alloc, usize::MAX);
     run_over(rt, alloc, requests, ports, outbox, &NoGate)
 }

@@ -1,8 +1,9 @@
 //! What comes when one side of a crew is gone.
 use super::bodies::discard;
 use super::opened::opened;
+use dsn_agent::{Agent, AskFault};
 use dsn_book::Limits;
-use dsn_crew::{Agent, AskFault, Desk, DeskFault, open_crew};
+use dsn_desk::{Desk, DeskFault, open_crew};
 use std::alloc::Global;
 use std::sync::Wait;
 use std::test::Fail;

@@ -1,6 +1,7 @@
 //! Crews of so many agents, and how many a crew may have.
+use dsn_agent::Agent;
 use dsn_book::Limits;
-use dsn_crew::{Agent, CrewOpenFault, Desk, open_crew};
+use dsn_desk::{CrewOpenFault, Desk, open_crew};
 use std::alloc::Global;
 use std::sync::Wait;
 use std::test::Fail;

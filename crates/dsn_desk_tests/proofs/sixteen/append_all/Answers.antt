@@ -2,8 +2,8 @@
 use denote.Exit.{no}
 use denote.Param.Send.{IsSend, param_send, arg_send, sendable}
 use Rattle.dsn_agent.proofs.SendLemmas.{agent_send}
-use Rattle.dsn_crew_tests.specs.contracts.sixteen.Job as Job
-use Rattle.dsn_crew_tests.proofs.sixteen.append_all.Goals as goal
+use Rattle.dsn_desk_tests.specs.contracts.sixteen.Job as Job
+use Rattle.dsn_desk_tests.proofs.sixteen.append_all.Goals as goal
 
 job_send : IsSend Job.the_row
 job_send = search (agent_send, sendable) depth 20

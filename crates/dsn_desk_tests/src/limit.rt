@@ -8,8 +8,9 @@ ghost use Rattle.dsn_desk.specs.Desk.{all_gone};
 
 use super::bodies::append;
 use super::collect::collect;
+use dsn_agent::{Agent, AskFault, Finished};
 use dsn_book::{Book, Limits};
-use dsn_crew::{Agent, AskFault, Desk, Finished, close_crew, open_crew};
+use dsn_desk::{Desk, close_crew, open_crew};
 use dsn_outcome::{Body, Reply};
 use std::alloc::Global;
 use std::sync::Wait;

@@ -1,8 +1,9 @@
 //! Sixteen agents, each on a thread of its own, beside their collector.
 use super::bodies::append;
 use super::collect::collect;
+use dsn_agent::Agent;
 use dsn_book::Limits;
-use dsn_crew::{Agent, open_crew};
+use dsn_desk::open_crew;
 use dsn_outcome::Reply;
 use std::alloc::Global;
 use std::sync::Wait;

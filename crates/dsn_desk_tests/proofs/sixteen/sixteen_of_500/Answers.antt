@@ -9,8 +9,8 @@ use Rattle.std.proofs.Crossing.{crosses}
 use Rattle.std.specs.contracts.alloc.Global as Global
 use Rattle.dsn_lane.proofs.SendLemmas.{closure_send}
 use Rattle.dsn_agent.proofs.SendLemmas.{agent_send}
-use Rattle.dsn_crew_tests.specs.contracts.sixteen.Jobs as Jobs
-use Rattle.dsn_crew_tests.proofs.sixteen.sixteen_of_500.Goals as goal
+use Rattle.dsn_desk_tests.specs.contracts.sixteen.Jobs as Jobs
+use Rattle.dsn_desk_tests.proofs.sixteen.sixteen_of_500.Goals as goal
 
 global_send : IsSend Global.the_row
 global_send = search sendable depth 20

@@ -11,8 +11,8 @@ use Rattle.std.specs.contracts.alloc.Global as Global
 use Rattle.dsn_lane.proofs.SendLemmas.{closure_send}
 use Rattle.dsn_agent.proofs.SendLemmas.{agent_send, finished_send}
 use Rattle.dsn_agent.specs.contracts.agent.Agent as Agent
-use Rattle.dsn_crew_tests.specs.contracts.limit.Told as Told
-use Rattle.dsn_crew_tests.proofs.limit.two_agents.Goals as goal
+use Rattle.dsn_desk_tests.specs.contracts.limit.Told as Told
+use Rattle.dsn_desk_tests.proofs.limit.two_agents.Goals as goal
 
 global_send : IsSend Global.the_row
 global_send = search sendable depth 20

@@ -9,8 +9,8 @@ use Rattle.std.proofs.Crossing.{crosses}
 use Rattle.std.specs.contracts.alloc.Global as Global
 use Rattle.dsn_lane.proofs.SendLemmas.{closure_send}
 use Rattle.dsn_agent.proofs.SendLemmas.{agent_send}
-use Rattle.dsn_crew_tests.specs.contracts.serving.Work as Work
-use Rattle.dsn_crew_tests.proofs.serving.fn.served.scope.Goals as goal
+use Rattle.dsn_desk_tests.specs.contracts.serving.Work as Work
+use Rattle.dsn_desk_tests.proofs.serving.fn.served.scope.Goals as goal
 
 work_send : IsSend Work.the_row
 work_send = search (agent_send, crosses, sendable) depth 20

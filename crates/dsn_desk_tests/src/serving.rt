@@ -3,7 +3,8 @@ ghost use Rattle.std.specs.Thread.{IsSync};
 
 use super::opened::opened;
 use super::peer::Peer;
-use dsn_crew::{Agent, Desk, Gate, NoGate};
+use dsn_agent::{Agent, Gate, NoGate};
+use dsn_desk::Desk;
 use dsn_device::Plain;
 use std::alloc::Global;
 use std::process::Abort;

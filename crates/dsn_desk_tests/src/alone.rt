@@ -5,7 +5,7 @@ ghost use Rattle.dsn_desk.specs.Open.{IsLine};
 
 use super::bodies::discard;
 use super::memory::Memory;
-use dsn_crew::{Agent, AskFault, Gate, ServeFault, Served};
+use dsn_agent::{Agent, AskFault, Gate, ServeFault, Served};
 use dsn_lane::{LaneIn, LaneOut, open_lane};
 use dsn_outcome::{Answer, Reply, Request};
 use std::alloc::Global;

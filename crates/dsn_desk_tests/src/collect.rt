@@ -4,8 +4,9 @@ ghost use Rattle.dsn_agent.specs.Agent.{Ends};
 ghost use Rattle.dsn_desk.specs.Close.{AreCrew};
 ghost use Rattle.dsn_desk.specs.Desk.{all_gone};
 
-use dsn_crew::{Desk, Sink};
+use dsn_desk::Desk;
 use dsn_outcome::Letter;
+use dsn_post::Sink;
 use std::sync::Wait;
 
 /// A sink that counts letters, and drops them.

@@ -1,9 +1,11 @@
 //! Letters that a collector seals and hands on, by one thread: its agents have asked before it runs.
 use super::bodies::{append, flush};
+use dsn_agent::Agent;
 use dsn_book::Limits;
-use dsn_crew::{Agent, Desk, DeskFault, Sink, open_crew};
+use dsn_desk::{Desk, DeskFault, open_crew};
 use dsn_lane::LaneOut;
 use dsn_outcome::{Answer, Body, Letter, Request};
+use dsn_post::Sink;
 use std::alloc::Global;
 use std::sync::Wait;
 use std::test::Fail;

@@ -48,6 +48,187 @@ Status: 5.1.1\r\n\
 QUIT\r\n\
 ";
 
+/// The same with every optional field, and two returned lines.
+pub(super) const ALL_FIELDS: &[u8; 1335] = b"\
+EHLO mx.example.net\r\n\
+MAIL FROM:<>\r\n\
+RCPT TO:<ann@example.com>\r\n\
+DATA\r\n\
+From: Mail Delivery System <MAILER-DAEMON@mx.example.net>\r\n\
+To: <ann@example.com>\r\n\
+Subject: Undelivered Mail Returned to Sender\r\n\
+Date: Tue, 14 Nov 2023 22:13:20 +0000\r\n\
+Message-ID: <B.A1B2C3.1700000000.0@mx.example.net>\r\n\
+Auto-Submitted: auto-replied\r\n\
+MIME-Version: 1.0\r\n\
+Content-Type: multipart/report; report-type=delivery-status;\r\n\
+\x20boundary=\"B.A1B2C3.1700000000.0000\"\r\n\
+\r\n\
+--B.A1B2C3.1700000000.0000\r\n\
+Content-Description: Notification\r\n\
+Content-Type: text/plain; charset=us-ascii\r\n\
+\r\n\
+This is the mail system at host mx.example.net.\r\n\
+\r\n\
+Your message could not be delivered to the recipients below.\r\n\
+\r\n\
+<bob@example.org>: failed (5.1.1)\r\n\
+\x20   host said:?no such user\r\n\
+\r\n\
+--B.A1B2C3.1700000000.0000\r\n\
+Content-Description: Delivery report\r\n\
+Content-Type: message/delivery-status\r\n\
+\r\n\
+Original-Envelope-Id: QQ314159\r\n\
+Reporting-MTA: dns; mx.example.net\r\n\
+Arrival-Date: Tue, 14 Nov 2023 21:13:20 +0000\r\n\
+\r\n\
+Original-Recipient: rfc822; bob.alias@example.org\r\n\
+Final-Recipient: rfc822; bob@example.org\r\n\
+Action: failed\r\n\
+Status: 5.1.1\r\n\
+Remote-MTA: dns; mail.example.org\r\n\
+Diagnostic-Code: smtp; 550 5.1.1 no such user\r\n\
+\r\n\
+--B.A1B2C3.1700000000.0000\r\n\
+Content-Description: Undelivered Message Headers\r\n\
+Content-Type: text/rfc822-headers\r\n\
+\r\n\
+Subject: hi\r\n\
+X: y\r\n\
+\r\n\
+--B.A1B2C3.1700000000.0000--\r\n\
+.\r\n\
+QUIT\r\n\
+";
+
+/// The same where a returned line rules the first boundary out.
+pub(super) const COLLISION: &[u8; 1164] = b"\
+EHLO mx.example.net\r\n\
+MAIL FROM:<>\r\n\
+RCPT TO:<ann@example.com>\r\n\
+DATA\r\n\
+From: Mail Delivery System <MAILER-DAEMON@mx.example.net>\r\n\
+To: <ann@example.com>\r\n\
+Subject: Undelivered Mail Returned to Sender\r\n\
+Date: Tue, 14 Nov 2023 22:13:20 +0000\r\n\
+Message-ID: <B.A1B2C3.1700000000.0@mx.example.net>\r\n\
+Auto-Submitted: auto-replied\r\n\
+MIME-Version: 1.0\r\n\
+Content-Type: multipart/report; report-type=delivery-status;\r\n\
+\x20boundary=\"B.A1B2C3.1700000000.0001\"\r\n\
+\r\n\
+--B.A1B2C3.1700000000.0001\r\n\
+Content-Description: Notification\r\n\
+Content-Type: text/plain; charset=us-ascii\r\n\
+\r\n\
+This is the mail system at host mx.example.net.\r\n\
+\r\n\
+Your message could not be delivered to the recipients below.\r\n\
+\r\n\
+<bob@example.org>: failed (5.1.1)\r\n\
+\r\n\
+--B.A1B2C3.1700000000.0001\r\n\
+Content-Description: Delivery report\r\n\
+Content-Type: message/delivery-status\r\n\
+\r\n\
+Reporting-MTA: dns; mx.example.net\r\n\
+Arrival-Date: Tue, 14 Nov 2023 21:13:20 +0000\r\n\
+\r\n\
+Final-Recipient: rfc822; bob@example.org\r\n\
+Action: failed\r\n\
+Status: 5.1.1\r\n\
+\r\n\
+--B.A1B2C3.1700000000.0001\r\n\
+Content-Description: Undelivered Message Headers\r\n\
+Content-Type: text/rfc822-headers\r\n\
+\r\n\
+--B.A1B2C3.1700000000.0000x\r\n\
+Subject: hi\r\n\
+\r\n\
+--B.A1B2C3.1700000000.0001--\r\n\
+.\r\n\
+QUIT\r\n\
+";
+
+/// A failed and a delayed recipient of the message X1.
+pub(super) const TWO_SERVICES: &[u8; 1948] = b"\
+EHLO mx.example.net\r\n\
+MAIL FROM:<>\r\n\
+RCPT TO:<ann@example.com>\r\n\
+DATA\r\n\
+From: Mail Delivery System <MAILER-DAEMON@mx.example.net>\r\n\
+To: <ann@example.com>\r\n\
+Subject: Undelivered Mail Returned to Sender\r\n\
+Date: Tue, 14 Nov 2023 22:13:20 +0000\r\n\
+Message-ID: <B.X1.1700000000.0@mx.example.net>\r\n\
+Auto-Submitted: auto-replied\r\n\
+MIME-Version: 1.0\r\n\
+Content-Type: multipart/report; report-type=delivery-status;\r\n\
+\x20boundary=\"B.X1.1700000000.0000\"\r\n\
+\r\n\
+--B.X1.1700000000.0000\r\n\
+Content-Description: Notification\r\n\
+Content-Type: text/plain; charset=us-ascii\r\n\
+\r\n\
+This is the mail system at host mx.example.net.\r\n\
+\r\n\
+Your message could not be delivered to the recipients below.\r\n\
+\r\n\
+<bob@example.org>: failed (5.1.1)\r\n\
+\r\n\
+--B.X1.1700000000.0000\r\n\
+Content-Description: Delivery report\r\n\
+Content-Type: message/delivery-status\r\n\
+\r\n\
+Reporting-MTA: dns; mx.example.net\r\n\
+Arrival-Date: Tue, 14 Nov 2023 21:13:20 +0000\r\n\
+\r\n\
+Final-Recipient: rfc822; bob@example.org\r\n\
+Action: failed\r\n\
+Status: 5.1.1\r\n\
+\r\n\
+--B.X1.1700000000.0000--\r\n\
+.\r\n\
+MAIL FROM:<>\r\n\
+RCPT TO:<ann@example.com>\r\n\
+DATA\r\n\
+From: Mail Delivery System <MAILER-DAEMON@mx.example.net>\r\n\
+To: <ann@example.com>\r\n\
+Subject: Delayed Mail (still being retried)\r\n\
+Date: Tue, 14 Nov 2023 22:13:20 +0000\r\n\
+Message-ID: <D.X1.1700000000.1@mx.example.net>\r\n\
+Auto-Submitted: auto-replied\r\n\
+MIME-Version: 1.0\r\n\
+Content-Type: multipart/report; report-type=delivery-status;\r\n\
+\x20boundary=\"D.X1.1700000000.0000\"\r\n\
+\r\n\
+--D.X1.1700000000.0000\r\n\
+Content-Description: Notification\r\n\
+Content-Type: text/plain; charset=us-ascii\r\n\
+\r\n\
+This is the mail system at host mx.example.net.\r\n\
+\r\n\
+Your message has not yet been delivered to the recipients below.\r\n\
+\r\n\
+<bob@example.org>: delayed (4.4.1)\r\n\
+\r\n\
+--D.X1.1700000000.0000\r\n\
+Content-Description: Delivery report\r\n\
+Content-Type: message/delivery-status\r\n\
+\r\n\
+Reporting-MTA: dns; mx.example.net\r\n\
+Arrival-Date: Tue, 14 Nov 2023 21:13:20 +0000\r\n\
+\r\n\
+Final-Recipient: rfc822; bob@example.org\r\n\
+Action: delayed\r\n\
+Status: 4.4.1\r\n\
+\r\n\
+--D.X1.1700000000.0000--\r\n\
+.\r\n\
+QUIT\r\n\
+";
+
 /// A bounce's outbox up to what it tells a person of each recipient.
 pub(super) const BEFORE_LINES: &[u8; 662] = b"\
 EHLO mx.example.net\r\n\

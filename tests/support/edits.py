@@ -75,11 +75,17 @@ def items(crate: str, file: str) -> list:
     return found
 
 
-def item_at(crate: str, file: str, text: str) -> str:
-    """The function or constant that has this text of a source file; none stands for the file's other items."""
+def item_with(crate: str, file: str, text: str):
+    """The function or constant that has this text of a source file; none for the file's other items."""
     source = (ROOT / "crates" / crate / file).read_text()
     line = source[: source.find(text)].count("\n")
-    return next((it.name for it in items(crate, file) if it.first <= line <= it.last), "-")
+    return next((it for it in items(crate, file) if it.first <= line <= it.last), None)
+
+
+def item_at(crate: str, file: str, text: str) -> str:
+    """The name of the function or constant that has this text of a source file; "-" stands for the file's other items."""
+    found = item_with(crate, file, text)
+    return found.name if found else "-"
 
 
 def places(crate: str, edit: Path) -> list:

@@ -23,7 +23,7 @@ from dataclasses import dataclass
 from pathlib import Path
 
 sys.path.insert(0, str(Path(__file__).parent))
-from edits import crates, items, places  # noqa: E402
+from edits import crates, item_with  # noqa: E402
 from jobs import jobs  # noqa: E402
 from running import ROOT  # noqa: E402
 
@@ -80,9 +80,8 @@ def read(crate: str, path: Path) -> Edit:
             old = text.removeprefix(" ")
         elif word == "new":
             changes.append((file, old, text.removeprefix(" ")))
-    known = {(it.file, it.name): it for file in {file for file, _, _ in changes} if file.endswith(".rt") for it in items(crate, file) if it.path}
-    found = [known.get(place) for place in places(crate, path)]
-    return Edit(path, changes, [] if None in found else found)
+    found = [item_with(crate, file, old) if file.endswith(".rt") else None for file, old, _ in changes]
+    return Edit(path, changes, found if all(it and it.path for it in found) else [])
 
 
 def edits_of(crate: str) -> list:

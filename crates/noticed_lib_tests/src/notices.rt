@@ -1,11 +1,10 @@
-//! Inputs that put notices into the outbox.
+//! Inputs that put notices into the outbox, beside those of examples/, which tests/examples.py
+//! runs.
 use super::input::{
-    AppendFields, Ask, BOB, BOUNCE, DEFER, FlushTexts, Input, ONE_MESSAGE, TO_ANN, input_of,
+    AppendFields, Ask, BOB, BOUNCE, FlushTexts, Input, ONE_MESSAGE, TO_ANN, input_of,
 };
-use super::outboxes::{
-    AFTER_GROUPS, ALL_FIELDS, BEFORE_GROUPS, BEFORE_LINES, COLLISION, ONE_NOTICE, TWO_SERVICES,
-};
-use super::runs::{PROGRAM, Want, expect_bytes, expect_run, run_within};
+use super::outboxes::{AFTER_GROUPS, BEFORE_GROUPS, BEFORE_LINES, ONE_NOTICE};
+use super::runs::{PROGRAM, Want, expect_bytes, run_within};
 use noticed_lib::MemoryRun;
 use std::alloc::Global;
 use std::process::Abort;
@@ -40,86 +39,11 @@ fn one_append_one_flush(rt: HostRuntime) -> Result<(), Fail> {
     expect_bytes(&rt, rt.alloc(), ONE_MESSAGE, well(ONE_NOTICE, SEALED))
 }
 
-#[test]
-fn all_optional_fields(rt: HostRuntime) -> Result<(), Fail> {
-    let parts = AppendFields {
-        original: b"bob.alias@example.org",
-        mta: b"mail.example.org",
-        diagnostic: b"550 5.1.1 no such user",
-        reason: b"host said:\nno such user",
-        ..BOB
-    };
-    let texts = FlushTexts {
-        envelope_id: b"QQ314159",
-        header: b"Subject: hi\nX: y\r\n\r\nbody",
-        ..TO_ANN
-    };
-    expect_run(
-        &rt,
-        rt.alloc(),
-        &one_message(parts, texts),
-        well(ALL_FIELDS, SEALED),
-    )
-}
-
-#[test]
-fn boundary_collision(rt: HostRuntime) -> Result<(), Fail> {
-    let texts = FlushTexts {
-        header: b"--B.A1B2C3.1700000000.0000x\nSubject: hi\r\n\r\nbody",
-        ..TO_ANN
-    };
-    expect_run(
-        &rt,
-        rt.alloc(),
-        &one_message(BOB, texts),
-        well(COLLISION, SEALED),
-    )
-}
-
 /// Asserts the end of a run's outbox and of its notes; it ends well.
 fn expect_ends(rt: &impl Abort, ran: &MemoryRun, outbox: &[u8], notes: &[u8]) {
     assert!(rt; ran.outbox.as_slice().ends_with(outbox));
     assert!(rt; ran.notes.as_slice().ends_with(notes));
     assert_eq!(rt; ran.status, 0);
-}
-
-/// A text of so many bytes `a` between two others.
-fn around(alloc: Global, before: &[u8], long: usize, after: &[u8]) -> Result<Vec<u8>, Fail> {
-    let line = vec![in alloc; b'a'; long]?;
-    joined(alloc, &[before, &line, after])
-}
-
-#[test]
-fn dots_long_lines_eight_bit(rt: HostRuntime) -> Result<(), Fail> {
-    let header = around(rt.alloc(), b".x\n", 1_200, b"\nb\xe9\rc\n")?;
-    let texts = FlushTexts {
-        header: &header,
-        ..TO_ANN
-    };
-    let input = input_of(rt.alloc(), &one_message(BOB, texts))?;
-    let ran = run_within(rt.alloc(), PROGRAM, &input.bytes)?;
-    let before = b"Content-Type: text/rfc822-headers\r\n\r\n..x\r\n";
-    let after = b"\r\nb??c\r\n\r\n--B.A1B2C3.1700000000.0000--\r\n.\r\nQUIT\r\n";
-    expect_ends(&rt, &ran, &around(rt.alloc(), before, 998, after)?, SEALED);
-    assert_eq!(rt; ran.notes.len(), SEALED.len());
-    Ok(())
-}
-
-#[test]
-fn two_services_one_message(rt: HostRuntime) -> Result<(), Fail> {
-    let delayed = AppendFields {
-        action: 2,
-        status: b"4.4.1",
-        ..BOB
-    };
-    let asks = [
-        Ask::Append(BOUNCE, b"X1", BOB),
-        Ask::Append(DEFER, b"X1", delayed),
-        Ask::Flush(BOUNCE, b"X1", TO_ANN),
-        Ask::Flush(DEFER, b"X1", TO_ANN),
-    ];
-    let notes = b"0 logged 0\n1 logged 0\n2 sealed 1\n3 sealed 1\n";
-    expect_run(&rt, rt.alloc(), &asks, well(TWO_SERVICES, notes))
 }
 
 /// The pieces, one after another.

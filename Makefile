@@ -6,8 +6,7 @@ DESTDIR ?=
 RT      ?= $(shell command -v rt || echo /opt/rattle/bin/rt)
 
 NOTICED := crates/noticed/out/noticed
-PROBE   := crates/crew_probe/out/crew_probe
-CALLS   := crates/call_probe/out/call_probe
+PROBE   := crates/probe/out/probe
 SOURCES := $(shell find crates -name out -prune -o -type f -print)
 EXAMPLE := examples/one-bounce
 
@@ -33,8 +32,8 @@ $(NOTICED): $(SOURCES) crates.txt HANDLES
 	fi
 	touch $@
 
-# The same for the programs that the scripts run to refuse a crew, or a call, its memory and threads, and to measure a crew.
-$(PROBE) $(CALLS): $(SOURCES) crates.txt HANDLES
+# The same for the program that the scripts run to refuse a crew, or a call, its memory and threads, and to measure a crew.
+$(PROBE): $(SOURCES) crates.txt HANDLES
 	@mkdir -p out
 	echo "proving and building $@ (log: out/probe.log) .."
 	if ! (cd crates/$(@F) && "$(RT)" run -- $$(cat args)) < /dev/null > out/probe.log 2>&1; then
@@ -83,7 +82,7 @@ refused:
 # Measures the program on workloads made from a seed, crews in memory, and the daemon over sockets; not part of
 # `make check`.
 bench: $(NOTICED) $(PROBE)
-	@export NOTICED="$(CURDIR)/$(NOTICED)" CREW_PROBE="$(CURDIR)/$(PROBE)" PYTHONDONTWRITEBYTECODE=1
+	@export NOTICED="$(CURDIR)/$(NOTICED)" PROBE="$(CURDIR)/$(PROBE)" PYTHONDONTWRITEBYTECODE=1
 	python3 bench/crew.py
 	python3 bench/daemon.py
 	python3 bench/bench.py

@@ -1,5 +1,5 @@
 #!/usr/bin/env python3
-"""Measures crews of 1, 4 and 16 agents over connections in memory (the program crew_probe): requests a second, and
+"""Measures crews of 1, 4 and 16 agents over connections in memory (the program probe): requests a second, and
 processor time a request. Beside them two threads that exchange as many messages over the same kind of channels alone.
 
     python3 bench/crew.py [REQUESTS]      so many requests in all, 400,000 unless said
@@ -12,7 +12,7 @@ import time
 from pathlib import Path
 
 ROOT = Path(__file__).resolve().parents[1]
-PROBE = os.environ.get("CREW_PROBE") or str(ROOT / "crates/crew_probe/out/crew_probe")
+PROBE = os.environ.get("PROBE") or str(ROOT / "crates/probe/out/probe")
 
 
 def measured(words) -> tuple:
@@ -37,7 +37,7 @@ def main():
     total = int(sys.argv[1]) if len(sys.argv) > 1 else 400_000
     print(f"{len(os.sched_getaffinity(0))} processors")
     for agents in (1, 4, 16):
-        show(f"requests of {agents} agents", total, measured([str(agents), str(total // agents)]))
+        show(f"requests of {agents} agents", total, measured(["crew", str(agents), str(total // agents)]))
     show("messages and answers over channels alone, two threads", total, measured(["channel", str(total)]))
 
 

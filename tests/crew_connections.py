@@ -1,5 +1,5 @@
 #!/usr/bin/env python3
-"""A crew of one agent over connections in memory (the program crew_probe), with reads of one, two, three and many bytes,
+"""A crew of one agent over connections in memory (the program probe), with reads of one, two, three and many bytes,
 beside a plain reading of docs/FORMATS.md: the first exchange cut after each byte, with each byte changed to each other,
 with lengths that no frame has, and without an end; and each read, each write, each post and each flush of a run
 failing in turn: with an error, interrupted (which is a failure like any other), and taking or giving no byte."""
@@ -17,7 +17,7 @@ from formats.logs import CLOSED, DISCARDED, REFUSED, Limits, Logs  # noqa: E402
 from formats.notices import crlf, mail, outbox  # noqa: E402
 from running import EXAMPLES, HOST, ROOT, Checks, frames_module  # noqa: E402
 
-PROBE = os.environ.get("CREW_PROBE") or str(ROOT / "crates/crew_probe/out/crew_probe")
+PROBE = os.environ.get("PROBE") or str(ROOT / "crates/probe/out/probe")
 PATIENCE = 120  # seconds that a run may take
 MANY = 65_536  # more bytes than a connection of these runs sends
 FAILURES = ("error", "interruption", "nothing")
@@ -232,7 +232,7 @@ def check_flushes(checks: Checks, sent: list):
 def main():
     checks = Checks("crew_connections: cut and changed frames over a crew, and its reads, writes and flushes failing in turn")
     if not os.access(PROBE, os.X_OK):
-        print(f"there is no program {PROBE}: run the gate, or name one in CREW_PROBE")
+        print(f"there is no program {PROBE}: run the gate, or name one in PROBE")
         sys.exit(1)
     check_cuts(checks)
     check_all(checks, "odd lengths and turns", odd_lengths())

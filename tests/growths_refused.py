@@ -1,7 +1,7 @@
 #!/usr/bin/env python3
 """Refuses the first, the second, .. growth of memory by a small library that is preloaded (tests/support/refuse.c,
 compiled here with gcc): of a run of `batch` until it is whole, each of whose ends is one that want of memory may have;
-and of each public call that takes memory (the program call_probe makes the values before it, then the call), which
+and of each public call that takes memory (the program probe makes the values before it, then the call), which
 answers 9 (42 of a crew) until it succeeds. A call that takes no memory succeeds where each growth is refused."""
 import os
 import subprocess
@@ -13,7 +13,7 @@ sys.path.insert(0, str(Path(__file__).parent / "support"))
 from preloading import built, compare_ends, each_refused, preloading  # noqa: E402
 from running import EXAMPLES, ROOT, Checks, Ran, batch, empty_outbox  # noqa: E402
 
-PROBE = os.environ.get("CALL_PROBE") or str(ROOT / "crates/call_probe/out/call_probe")
+PROBE = os.environ.get("PROBE") or str(ROOT / "crates/probe/out/probe")
 MOST = 200  # growths of a run; more than this and the sweep is broken
 UNBEGUN = Ran(b"", b"fault 9\n", 1)  # nothing is read or written
 FIRST_FRAME = 52  # bytes of the example's append
@@ -60,7 +60,7 @@ WITHOUT_MEMORY = {"read-empty": b"refused 12", "read-too-long": b"refused 11", "
 def called(library: Path, call: str, growth) -> bytes:
     """What a public call comes to whose growth of this number is refused; "all" of them, or None."""
     environment = None if growth is None else preloading(library, REFUSE=growth, REFUSE_AFTER="begin\n")
-    words = [PROBE, call, *TEXTS.get(call, ())]
+    words = [PROBE, "call", call, *TEXTS.get(call, ())]
     ended = subprocess.run(words, capture_output=True, env=environment, check=False)
     begun, _, came = ended.stdout.partition(b"begin\n")
     return came.strip() if (begun, ended.stderr, ended.returncode) == (b"", b"", 0) else b"another end: " + str(ended).encode()
@@ -88,7 +88,7 @@ def check_calls(checks: Checks, library: Path):
 def main():
     checks = Checks("growths_refused: each growth of memory refused in turn")
     if not os.access(PROBE, os.X_OK):
-        print(f"there is no program {PROBE}: run the gate, or name one in CALL_PROBE")
+        print(f"there is no program {PROBE}: run the gate, or name one in PROBE")
         sys.exit(1)
     given = (EXAMPLES / "one-bounce.frames").read_bytes()
     outbox, notes = ((EXAMPLES / f"one-bounce.{it}").read_bytes() for it in ("outbox", "notes"))

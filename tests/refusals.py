@@ -25,7 +25,7 @@ def numbers_of_code() -> set:
     """The numbers that the shipped crates give: in a `code` of a fault, or 61 where a line is told."""
     found = set()
     for path in ROOT.glob("crates/*/src/**/*.rt"):
-        if path.relative_to(ROOT).parts[1].endswith(("_tests", "_probe")):
+        if path.relative_to(ROOT).parts[1].endswith(("_tests", "probe")):
             continue
         text = path.read_text()
         for body in CODE.findall(text):

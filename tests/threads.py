@@ -1,6 +1,6 @@
 #!/usr/bin/env python3
 """Refuses the first, the second, .. start of a thread, and the first, the second, .. growth of memory, of a crew over
-connections in memory (the program crew_probe), by small libraries that are preloaded (tests/support/refuse_thread.c and
+connections in memory (the program probe), by small libraries that are preloaded (tests/support/refuse_thread.c and
 refuse.c, compiled here with gcc). Each run ends, and as it should: without its poster nothing is begun, without an agent
 the others are served to their ends."""
 import os
@@ -14,7 +14,7 @@ sys.path.insert(0, str(Path(__file__).parent / "support"))
 from preloading import built, compare_ends, each_refused, preloading  # noqa: E402
 from running import EXAMPLES, ROOT, Checks, Ran, empty_outbox  # noqa: E402
 
-PROBE = os.environ.get("CREW_PROBE") or str(ROOT / "crates/crew_probe/out/crew_probe")
+PROBE = os.environ.get("PROBE") or str(ROOT / "crates/probe/out/probe")
 PATIENCE = 20  # seconds that a run may take
 MOST = 300  # growths of a run; more than this and the sweep is broken
 
@@ -25,7 +25,7 @@ UNBEGUN = Ran(b"", b"", 1)  # the program's own memory was refused
 
 def crew(agents: int, environment: Optional[dict] = None) -> Ran:
     """A crew of so many agents: each appends once to a log of its own, and agent 0 then flushes it."""
-    ended = subprocess.run([PROBE, str(agents), "1"], capture_output=True, env=environment, timeout=PATIENCE, check=False)
+    ended = subprocess.run([PROBE, "crew", str(agents), "1"], capture_output=True, env=environment, timeout=PATIENCE, check=False)
     return Ran(ended.stdout, ended.stderr, ended.returncode)
 
 
@@ -80,7 +80,7 @@ def growths_of_many(checks: Checks, agents: int, ends: list):
 def main():
     checks = Checks("threads: each start of a thread of a crew refused in turn, and each growth of its memory")
     if not os.access(PROBE, os.X_OK):
-        print(f"there is no program {PROBE}: run the gate, or name one in CREW_PROBE")
+        print(f"there is no program {PROBE}: run the gate, or name one in PROBE")
         sys.exit(1)
     with tempfile.TemporaryDirectory() as room:
         growth, start = built(room, "refuse"), built(room, "refuse_thread")

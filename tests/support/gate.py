@@ -19,7 +19,7 @@ from jobs import jobs  # noqa: E402
 from running import ROOT  # noqa: E402
 
 RT = shutil.which("rt") or "/opt/rattle/bin/rt"
-PROGRAMS = {"NOTICED": "noticed", "CREW_PROBE": "crew_probe", "CALL_PROBE": "call_probe"}
+PROGRAMS = {"NOTICED": "noticed", "PROBE": "probe"}
 COUNT = re.compile(r"^(\d+) (?:passed|refused), (\d+) (?:failed|not refused)$", re.M)
 
 

@@ -8,8 +8,9 @@ edit of anything but a function's body (a definition, a constant, a type) is tri
 longer proved. A check reads the changed functions alone, over what the crate's other checks proved; an edit that this
 doesn't refuse is tried once more alone, over the whole crate.
 
-The libraries below must have been built (`rt all check`, or the gate). The last line counts the edits that were refused and
-those that weren't, and the status is 1 where one wasn't."""
+The libraries below must have been built (`rt all check`). With `--beside ROOM LOG` they are those that `rt ci` builds in
+ROOM and tells of in LOG, and the edits of a crate are tried as soon as what the crate stands on is there. The last line
+counts the edits that were refused and those that weren't, and the status is 1 where one wasn't."""
 import importlib.machinery
 import importlib.util
 import os
@@ -18,7 +19,8 @@ import shutil
 import subprocess
 import sys
 import tempfile
-from concurrent.futures import ThreadPoolExecutor
+import time
+from concurrent.futures import FIRST_COMPLETED, ThreadPoolExecutor, wait
 from dataclasses import dataclass
 from pathlib import Path
 
@@ -27,6 +29,7 @@ from edits import crates, item_with  # noqa: E402
 from jobs import jobs  # noqa: E402
 from running import ROOT  # noqa: E402
 
+POLL = 2  # seconds between two looks at what was built
 RT = Path(shutil.which("rt") or "/opt/rattle/bin/rt").resolve()
 VERDICT = re.compile(r"^fn (?P<path>[^:]+(?:::[^:]+)*): (?:no proof|not proved)(?P<why>.*)$", re.M)
 CLAUSES = re.compile(r"did not prove ((?:`[^`]+`(?:, | and )?)+)")
@@ -180,20 +183,74 @@ def try_crate(crate) -> tuple:
     return len(edits), refused, [f"{crate.name}: {len(edits)} wrong edits in {len(groups)} checks", *lines]
 
 
-def main() -> int:
-    module = kit()
-    os.chdir(ROOT)
-    known = {it.name: it for it in module.crates_below(str(ROOT))}
-    wanted = [known[name] for name in sys.argv[1:] or reversed(crates()) if (ROOT / "crates" / name / "must-fail").is_dir()]
-    missing = sorted({low.name for it in wanted for low in it.below() if not Path(low.rlib).is_dir()})
-    if missing:
-        print(f"not built: {', '.join(missing)}; run rt all check first")
-        return 1
-    refused = failed = 0
+class Proving:
+    """A run of `rt ci` that goes on, in a copy of the repository: what its log says of it."""
+
+    PROVED = re.compile(r"^rt: (\w+) proved$", re.M)
+    ENDED = re.compile(r"^\d+ passed, \d+ failed$", re.M)
+
+    def __init__(self, log: Path):
+        self.log = log
+
+    def lacking(self, crate) -> list:
+        """The libraries below a crate that aren't built."""
+        built = set(self.PROVED.findall(self.log.read_text(errors="replace")))
+        return [low.name for low in crate.below() if low.name not in built]
+
+    def has_ended(self) -> bool:
+        """Whether it proves no more."""
+        return bool(self.ENDED.search(self.log.read_text(errors="replace")))
+
+
+class Built:
+    """Libraries that were built before."""
+
+    @staticmethod
+    def lacking(crate) -> list:
+        """The libraries below a crate that aren't built."""
+        return [low.name for low in crate.below() if not Path(low.rlib).is_dir()]
+
+    @staticmethod
+    def has_ended() -> bool:
+        """Nothing is proved beside the edits."""
+        return True
+
+
+def try_all(wanted: list, libraries):
+    """Tries the wrong edits of these crates, each once the libraries below it are built, and gives what came of each. While
+    libraries are proved beside it half as many checks run at once as the processors allow."""
+    left, running = list(wanted), set()
     with ThreadPoolExecutor(jobs()) as pool:
-        for count, good, lines in pool.map(try_crate, wanted):
+        while left or running:
+            ended = libraries.has_ended()
+            ready = [it for it in left if not libraries.lacking(it)]
+            if ended and not running and not ready:
+                raise ValueError(f"not built: {', '.join(sorted(set().union(*map(libraries.lacking, left))))}; run rt all check first")
+            for crate in ready[: (jobs() if ended else max(1, jobs() // 2)) - len(running)]:
+                left.remove(crate)
+                running.add(pool.submit(try_crate, crate))
+            done, running = wait(running, timeout=POLL, return_when=FIRST_COMPLETED) if running else (set(), running)
+            yield from (it.result() for it in done)
+            if not done:
+                time.sleep(POLL)
+
+
+def main() -> int:
+    words = sys.argv[1:]
+    room, libraries = ROOT, Built()
+    if words[:1] == ["--beside"]:
+        room, libraries, words = Path(words[1]), Proving(Path(words[2])), words[3:]
+    os.chdir(room)
+    known = {it.name: it for it in kit().crates_below(str(room))}
+    wanted = [known[name] for name in words or reversed(crates()) if (ROOT / "crates" / name / "must-fail").is_dir()]
+    refused = failed = 0
+    try:
+        for count, good, lines in try_all(wanted, libraries):
             print("\n".join(lines), flush=True)
             refused, failed = refused + good, failed + count - good
+    except ValueError as wrong:
+        print(wrong)
+        failed += 1
     print(f"{refused} refused, {failed} not refused")
     return 1 if failed else 0
 

@@ -1,6 +1,6 @@
 //! Outcomes, drafts, and a book of logs.
-use crate::asked::{append, envelope_id, header, key, parts, return_path};
-use crate::begin;
+use crate::calls::asked::{append, envelope_id, header, key, parts, return_path};
+use crate::calls::begin;
 use dsn_book::{Book, Limits};
 use dsn_outcome::{Body, Draft, Letter, Outcome, OutcomeFault, Request, Service, Stamp};
 use std::alloc::Global;

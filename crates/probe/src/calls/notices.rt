@@ -1,7 +1,7 @@
 //! Sites and notices.
-use crate::asked::{append, flush};
-use crate::begin;
-use crate::logs::ask;
+use crate::calls::asked::{append, flush};
+use crate::calls::begin;
+use crate::calls::logs::ask;
 use dsn_book::{Book, Limits};
 use dsn_outcome::Letter;
 use dsn_report::{Site, SiteFault, notice};

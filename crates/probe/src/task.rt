@@ -1,11 +1,13 @@
 //! What the arguments ask for.
-use crate::failing::{Call, Failing, Failure};
+use crate::crew::{Call, Failing, Failure};
 use std::env;
 use std::env::Args;
 
 /// What to do.
 #[derive(Drop)]
 pub(crate) enum Task {
+    /// Makes the public call of this name, of a diagnostic with its text.
+    Call(String, Option<String>),
     /// Runs a crew of so many agents, of which each serves so many appends.
     Crew(u32, u32),
     /// Exchanges so many messages.
@@ -20,9 +22,11 @@ pub(crate) fn asked_for(rt: &HostRuntime) -> Option<Task> {
     let _program = words.next();
     let first = words.next()?;
     match first.as_str() {
-        "channel" => Some(Task::Channel(number(&mut words)?)),
+        "call" => Some(Task::Call(words.next()?, words.next())),
+        "crew" => Some(Task::Crew(number(&mut words)?, number(&mut words)?)),
         "given" => given(words),
-        agents => Some(Task::Crew(agents.parse().ok()?, number(&mut words)?)),
+        "channel" => Some(Task::Channel(number(&mut words)?)),
+        _ => None,
     }
 }
 

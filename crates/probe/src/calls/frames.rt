@@ -1,5 +1,5 @@
 //! Frames and their bodies.
-use crate::begin;
+use crate::calls::begin;
 use dsn_device::Plain;
 use dsn_frame::{FrameBuffer, decode_request, encode_request, read_frame};
 use std::alloc::Global;

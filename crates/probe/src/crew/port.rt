@@ -1,7 +1,7 @@
 //! A port with one connection in memory.
 ghost use Rattle.std.specs.Prelude.{None};
 
-use crate::peer::Peer;
+use crate::crew::peer::Peer;
 use dsn_crew::{Next, Port};
 use dsn_device::Plain;
 

@@ -1,7 +1,7 @@
 //! An outbox in memory, of which one write or one flush fails where that is asked.
 ghost use Rattle.std.specs.Prelude.{refl};
 
-use crate::failing::{Call, Failing};
+use crate::crew::failing::{Call, Failing};
 use dsn_device::Opaque;
 use std::io;
 use std::io::{Read, Write};

@@ -1,7 +1,7 @@
 //! Connections whose bytes are given, and a port that gives them one after another.
 ghost use Rattle.std.specs.Prelude.{None, refl};
 
-use crate::failing::{Call, Failing};
+use crate::crew::failing::{Call, Failing};
 use dsn_crew::{Next, Port};
 use dsn_device::{Opaque, Plain};
 use std::io;

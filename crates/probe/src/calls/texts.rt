@@ -1,5 +1,5 @@
 //! The constructors of texts. A text that is kept is shown.
-use crate::begin;
+use crate::calls::begin;
 use dsn_outcome::{Address, Clean, EnvelopeId, MtaName, RawHeader, TextFault};
 use std::alloc::Global;
 use std::io;

@@ -1,5 +1,5 @@
 //! Lanes, the letter lane, and a crew before it begins.
-use crate::begin;
+use crate::calls::begin;
 use dsn_book::Limits;
 use dsn_crew::open_crew;
 use dsn_lane::open_lane;

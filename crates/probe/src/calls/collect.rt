@@ -1,6 +1,6 @@
 //! A collector and an outbox at work, once their requests and letters are made.
-use crate::asked::{append, flush};
-use crate::begin;
+use crate::calls::asked::{append, flush};
+use crate::calls::begin;
 use dsn_book::Limits;
 use dsn_crew::{Agent, Desk, Sink, open_crew};
 use dsn_device::Plain;

@@ -1,51 +1,42 @@
-//! Makes one public call that takes memory, on values that are made before it, for scripts that
-//! refuse it memory: `call_probe CALL`, and for a diagnostic `call_probe clean TEXT`.
+//! Public calls that take memory, each on values that are made before it.
 //!
 //! Standard output gets the line `begin` once the values are made, and after the call a text that
 //! was kept and `made`, or `refused` and the number of the refusal. `collect` is a collector and an
 //! outbox at work, and `keys-ascending` and `keys-descending` a book that gets 65,536 keys in that
 //! order; they take no memory after `begin`.
-#![tactic(auto)]
-
 mod asked;
 mod collect;
-mod crews;
 mod frames;
+mod lanes;
 mod logs;
 mod notices;
 mod texts;
 
 use std::alloc::Global;
-use std::env;
-use std::env::Env;
-use std::process::ExitCode;
 use std::sync::Wait;
 
-fn main(rt: HostRuntime) -> ExitCode {
-    let came = called(&rt, rt.alloc());
-    let shown = match came {
-        Some(0) => println!(rt; " made"),
-        Some(refusal) => println!(rt; "refused {refusal}"),
-        None => println!(rt; "nothing"),
-    };
-    ExitCode::from(u8::from(came.is_none() || shown.is_err()))
-}
-
-/// What the call comes to that the argument names.
-fn called(rt: &(impl Env + Alloc + Print + Wait), alloc: Global) -> Option<u32> {
-    let mut words = env::args(rt).ok()?;
-    let _program = words.next();
-    let call = words.next()?;
-    match words.next() {
+/// Makes the call of this name, and shows what it came to. There is none where no such call is
+/// known, a value before it could not be made, or a line can't be written.
+pub(crate) fn show_call(
+    rt: &(impl Print + Wait),
+    alloc: Global,
+    name: &str,
+    text: Option<&str>,
+) -> Option<()> {
+    let came = match text {
         Some(text) => texts::clean(rt, alloc, text.as_bytes()),
-        None => come_to(rt, alloc, call.as_str()),
+        None => come_to(rt, alloc, name),
+    };
+    match came? {
+        0 => println!(rt; " made").ok(),
+        refusal => println!(rt; "refused {refusal}").ok(),
     }
 }
 
 /// What a call comes to: 0, or the number of its refusal; none where no such call is known, or a
 /// value before it could not be made.
-fn come_to(rt: &(impl Print + Wait), alloc: Global, call: &str) -> Option<u32> {
-    match call {
+fn come_to(rt: &(impl Print + Wait), alloc: Global, name: &str) -> Option<u32> {
+    match name {
         "address" => texts::address(rt, alloc),
         "mta-name" => texts::mta_name(rt, alloc),
         "envelope-id" => texts::envelope_id(rt, alloc),
@@ -66,9 +57,9 @@ fn come_to(rt: &(impl Print + Wait), alloc: Global, call: &str) -> Option<u32> {
         "encode-flush" => frames::encode(rt, alloc, frames::FLUSH),
         "site" => notices::site(rt, alloc),
         "notice" => notices::notice_of_letter(rt, alloc),
-        "open-lane" => crews::lane(rt, alloc),
-        "open-post" => crews::post(rt, alloc),
-        "open-crew" => crews::crew(rt, alloc),
+        "open-lane" => lanes::lane(rt, alloc),
+        "open-post" => lanes::post(rt, alloc),
+        "open-crew" => lanes::crew(rt, alloc),
         "collect" => collect::collect(rt, alloc),
         _ => None,
     }

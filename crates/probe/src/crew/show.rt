@@ -1,5 +1,5 @@
 //! What came of a run, on standard output.
-use crate::outbox::Outbox;
+use crate::crew::outbox::Outbox;
 use dsn_crew::{Account, AgentLine, CrewFault};
 use dsn_device::Plain;
 use std::io;

@@ -1,0 +1,51 @@
+//! What the scripts of tests/ and bench/ run to refuse memory, threads, reads and writes, and to
+//! measure.
+//!
+//! `probe call NAME` makes one public call that takes memory, on values that are made before it; of
+//! a diagnostic `probe call clean TEXT`.
+//!
+//! `probe crew AGENTS REQUESTS` runs a crew over connections in memory: each agent serves one, which
+//! asks for so many appends, and of agent 0 also for a flush.
+//!
+//! `probe given MOST CALL NUMBER FAILURE`: one agent serves the connections that standard input
+//! gives, each a length in four bytes and what the peer sends. A read gives at most `MOST` bytes;
+//! the call of this kind and number (`read`, `write`, `post`, `flush`; from 1, 0 for none) fails so
+//! (`error`, `interruption`, `nothing`). Standard output has `conn` for each connection and the
+//! bytes of its answers before the rest.
+//!
+//! `probe channel MESSAGES` exchanges so many messages between two threads over channels alone, for
+//! comparison.
+#![tactic(auto)]
+
+mod calls;
+mod channel;
+mod crew;
+mod task;
+
+use std::io::Read;
+use std::process::ExitCode;
+use task::{Task, asked_for};
+
+fn main(rt: HostRuntime) -> ExitCode {
+    let done = match asked_for(&rt) {
+        Some(Task::Call(name, text)) => {
+            let text = text.as_ref().map(String::as_str);
+            calls::show_call(&rt, rt.alloc(), name.as_str(), text)
+        }
+        Some(Task::Crew(agents, requests)) => crew::run_peers(&rt, rt.alloc(), agents, requests),
+        Some(Task::Given(most, failing)) => match sent(&rt) {
+            Some(sent) => crew::run_given(&rt, rt.alloc(), &sent, most, &failing),
+            None => None,
+        },
+        Some(Task::Channel(messages)) => channel::exchange(&rt, rt.alloc(), messages),
+        None => None,
+    };
+    ExitCode::from(u8::from(done.is_none()))
+}
+
+/// What standard input gives, to its end.
+fn sent(rt: &HostRuntime) -> Option<Vec<u8>> {
+    let mut sent = Vec::new(rt.alloc());
+    rt.stdin().read_to_end(&mut sent).ok()?;
+    Some(sent)
+}

@@ -6,3 +6,5 @@
 mod books;
 #[cfg(test)]
 mod limits;
+#[cfg(test)]
+mod same;

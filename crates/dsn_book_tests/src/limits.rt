@@ -1,4 +1,5 @@
 //! Limits: which are legal, and that they are kept.
+use crate::same::same;
 use dsn_book::Limits;
 
 #[test]
@@ -13,7 +14,7 @@ fn bounds(rt: HostRuntime) {
         (1, 1_001, 1, false),
         (1, 1, 1_000_001, false),
     ] {
-        assert_eq!(rt; Limits::new(logs, entries, requests).is_some(), want);
+        same(&rt, Limits::new(logs, entries, requests).is_some(), want);
     }
 }
 
@@ -22,7 +23,7 @@ fn limits_are_kept(rt: HostRuntime) {
     let Some(limits) = Limits::new(10, 20, 30) else {
         panic!(rt; "no limits");
     };
-    assert_eq!(rt; limits.logs(), 10);
-    assert_eq!(rt; limits.entries(), 20);
-    assert_eq!(rt; limits.requests(), 30);
+    same(&rt, limits.logs(), 10);
+    same(&rt, limits.entries(), 20);
+    same(&rt, limits.requests(), 30);
 }

@@ -17,6 +17,8 @@ mod ports;
 #[cfg(test)]
 mod posting;
 #[cfg(test)]
+mod same;
+#[cfg(test)]
 mod side_by_side;
 #[cfg(test)]
 mod whole_crew;

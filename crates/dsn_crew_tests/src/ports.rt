@@ -1,6 +1,7 @@
 //! Crews whose agents serve ports to their ends: what each port and connection counts.
 use super::memory_port::MemoryPort;
 use super::whole_crew::{EMPTY, line, port, run_all};
+use crate::same::same;
 use dsn_crew::AgentLine;
 use std::alloc::Global;
 use std::process::Abort;
@@ -24,11 +25,15 @@ fn assert_lines<R: Threads + Wait + Sync + Abort>(
     lines: &[AgentLine],
 ) -> Result<(), Fail> {
     let told = run_all(rt, alloc, requests, ports)?;
-    assert_eq!(rt; told.code, 0);
-    assert_eq!(rt; told.agents.as_slice(), lines);
+    same(rt, told.code, 0);
+    same(rt, told.agents.as_slice(), lines);
     assert!(rt; told.whole && told.letters == 0);
-    assert_eq!(rt; told.open.len(), 0);
-    assert_eq!(rt; told.outbox.into_inner().text.as_slice(), EMPTY.as_slice());
+    same(rt, told.open.len(), 0);
+    same(
+        rt,
+        told.outbox.into_inner().text.as_slice(),
+        EMPTY.as_slice(),
+    );
     Ok(())
 }
 
@@ -120,7 +125,7 @@ fn crew_of_0_or_17_ports_is_refused(rt: HostRuntime) -> Result<(), Fail> {
     for count in [0u32, 17] {
         let ports = failing_ports(rt.alloc(), count)?;
         let told = run_all(&rt, rt.alloc(), 8, ports)?;
-        assert_eq!(rt; told.code, 43);
+        same(&rt, told.code, 43);
         assert!(rt; told.unsent.is_empty());
         assert!(rt; told.outbox.into_inner().text.is_empty());
     }

@@ -5,6 +5,7 @@ use super::memory_port::MemoryPort;
 use super::outbox_text::ONE_NOTICE;
 use super::side_by_side::ports_of;
 use super::whole_crew::{line, open, outbox, port, run_all, run_over};
+use crate::same::same;
 use dsn_book::OpenLine;
 use dsn_crew::{AgentLine, NoGate};
 use dsn_device::Plain;
@@ -35,12 +36,13 @@ fn one_append_one_flush(rt: HostRuntime) -> Result<(), Fail> {
     let mut ports = Vec::new(rt.alloc());
     ports.push(port(rt.alloc(), &[(ONE_MESSAGE.as_slice(), true)], false)?)?;
     let told = run_all(&rt, rt.alloc(), 8, ports)?;
-    assert_eq!(rt; (told.code, told.letters), (0, 1));
-    assert_eq!(rt; told.agents.as_slice(), [line(2, 1)].as_slice());
+    same(&rt, (told.code, told.letters), (0, 1));
+    same(&rt, told.agents.as_slice(), [line(2, 1)].as_slice());
     assert!(rt; told.whole && told.open.is_empty());
-    assert_eq!(rt;
+    same(
+        &rt,
         told.outbox.into_inner().text.as_slice(),
-        ONE_NOTICE.as_slice()
+        ONE_NOTICE.as_slice(),
     );
     Ok(())
 }
@@ -51,17 +53,18 @@ fn client_leaves_mid_frame(rt: HostRuntime) -> Result<(), Fail> {
     let mut ports = Vec::new(rt.alloc());
     ports.push(port(rt.alloc(), &texts, false)?)?;
     let told = run_all(&rt, rt.alloc(), 8, ports)?;
-    assert_eq!(rt; (told.code, told.letters), (0, 1));
+    same(&rt, (told.code, told.letters), (0, 1));
     let line = AgentLine {
         requests: 2,
         connections: 2,
         faults: 1,
         port_failed: false,
     };
-    assert_eq!(rt; told.agents.as_slice(), [line].as_slice());
-    assert_eq!(rt;
+    same(&rt, told.agents.as_slice(), [line].as_slice());
+    same(
+        &rt,
         told.outbox.into_inner().text.as_slice(),
-        ONE_NOTICE.as_slice()
+        ONE_NOTICE.as_slice(),
     );
     Ok(())
 }
@@ -92,11 +95,11 @@ fn outbox_fails_in_a_crew(rt: HostRuntime) -> Result<(), Fail> {
     let ports = ports_of(rt.alloc(), &all)?;
     let outbox = outbox(rt.alloc(), room);
     let told = run_over(&rt, rt.alloc(), 8, ports, outbox, &NoGate)?;
-    assert_eq!(rt; (told.code, told.letters, told.whole), (0, 1, false));
-    assert_eq!(rt; told.unsent.as_slice(), b"K2K3".as_slice());
-    assert_eq!(rt; told.agents.as_slice(), [line(6, 1)].as_slice());
+    same(&rt, (told.code, told.letters, told.whole), (0, 1, false));
+    same(&rt, told.unsent.as_slice(), b"K2K3".as_slice());
+    same(&rt, told.agents.as_slice(), [line(6, 1)].as_slice());
     let text = told.outbox.into_inner().text;
-    assert_eq!(rt; text.len(), room);
+    same(&rt, text.len(), room);
     assert!(rt; text.ends_with(b"\r\n.\r\nMAIL FROM:<>\r\nRCPT T"));
     Ok(())
 }
@@ -154,7 +157,7 @@ fn notice_written_aside(rt: HostRuntime) -> Result<(), Fail> {
     let all = [flush_between(rt.alloc())?];
     let ports = ports_of(rt.alloc(), &all)?;
     let (code, letters, whole, lines) = told_aside(&rt, rt.alloc(), ports, &hold)?;
-    assert_eq!(rt; (code, letters, whole, hold.ran_out()), (0, 1, true, 0));
-    assert_eq!(rt; lines.as_slice(), [open(b"K2", 1)?].as_slice());
+    same(&rt, (code, letters, whole, hold.ran_out()), (0, 1, true, 0));
+    same(&rt, lines.as_slice(), [open(b"K2", 1)?].as_slice());
     Ok(())
 }

@@ -5,6 +5,7 @@ use super::hold::{Hold, Until};
 use super::memory_port::MemoryPort;
 use super::outbox::Outbox;
 use super::whole_crew::{EMPTY, Told, line, open, outbox, port, run_over};
+use crate::same::same;
 use dsn_device::Plain;
 use std::alloc::Global;
 use std::process::Abort;
@@ -47,13 +48,13 @@ fn appends(alloc: Global, count: u32, message: &[u8]) -> Result<Frames, Fail> {
 /// Asserts that a run ended well, that no hold ran out, and that no letter was made.
 fn assert_empty<R: Abort>(rt: &R, told: (Told<Plain<Outbox>>, u64), requests: u32) {
     let (told, ran_out) = told;
-    assert_eq!(rt; (told.code, ran_out, told.letters), (0, 0, 0));
+    same(rt, (told.code, ran_out, told.letters), (0, 0, 0));
     for agent in told.agents {
-        assert_eq!(rt; agent, line(requests, 1));
+        same(rt, agent, line(requests, 1));
     }
     assert!(rt; told.whole);
     let text = told.outbox.into_inner().text;
-    assert_eq!(rt; text.as_slice(), EMPTY.as_slice());
+    same(rt, text.as_slice(), EMPTY.as_slice());
 }
 
 #[test]
@@ -72,8 +73,8 @@ fn agents_side_by_side(rt: HostRuntime) -> Result<(), Fail> {
     ];
     let told = held(&rt, rt.alloc(), &all, until)?;
     let lines = [open(b"Q1", 1)?, open(b"Q2", 1)?];
-    assert_eq!(rt; told.0.open.as_slice(), lines.as_slice());
-    assert_eq!(rt; told.0.agents.len(), 2);
+    same(&rt, told.0.open.as_slice(), lines.as_slice());
+    same(&rt, told.0.agents.len(), 2);
     assert_empty(&rt, told, 1);
     Ok(())
 }
@@ -94,8 +95,8 @@ fn agents_cross(rt: HostRuntime) -> Result<(), Fail> {
     ];
     let told = held(&rt, rt.alloc(), &all, until)?;
     let lines = [open(b"Q1", 2)?, open(b"Q2", 2)?];
-    assert_eq!(rt; told.0.open.as_slice(), lines.as_slice());
-    assert_eq!(rt; told.0.agents.len(), 2);
+    same(&rt, told.0.open.as_slice(), lines.as_slice());
+    same(&rt, told.0.agents.len(), 2);
     assert_empty(&rt, told, 2);
     Ok(())
 }
@@ -115,8 +116,8 @@ fn sixteen_agents(rt: HostRuntime) -> Result<(), Fail> {
         all.push(appends(rt.alloc(), 10, b"Q1")?)?;
     }
     let told = held(&rt, rt.alloc(), &all, until)?;
-    assert_eq!(rt; told.0.open.as_slice(), [open(b"Q1", 160)?].as_slice());
-    assert_eq!(rt; told.0.agents.len(), 16);
+    same(&rt, told.0.open.as_slice(), [open(b"Q1", 160)?].as_slice());
+    same(&rt, told.0.agents.len(), 16);
     assert_empty(&rt, told, 10);
     Ok(())
 }
@@ -175,15 +176,16 @@ fn two_agents_one_log(rt: HostRuntime) -> Result<(), Fail> {
     first.flush(rt.alloc(), 50, b"Q1")?;
     let all = [first, fifty(rt.alloc(), b'b')?];
     let (told, ran_out) = held(&rt, rt.alloc(), &all, until)?;
-    assert_eq!(rt; (told.code, ran_out, told.letters), (0, 0, 1));
-    assert_eq!(rt;
+    same(&rt, (told.code, ran_out, told.letters), (0, 0, 1));
+    same(
+        &rt,
         told.agents.as_slice(),
-        [line(51, 1), line(50, 1)].as_slice()
+        [line(51, 1), line(50, 1)].as_slice(),
     );
     assert!(rt; told.whole && told.open.is_empty());
     let text = told.outbox.into_inner().text;
-    assert_eq!(rt; groups(&text), 100);
-    assert_eq!(rt; groups_in_order(&text, b'a'), 50);
-    assert_eq!(rt; groups_in_order(&text, b'b'), 50);
+    same(&rt, groups(&text), 100);
+    same(&rt, groups_in_order(&text, b'a'), 50);
+    same(&rt, groups_in_order(&text, b'b'), 50);
     Ok(())
 }

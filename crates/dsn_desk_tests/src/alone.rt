@@ -5,6 +5,7 @@ ghost use Rattle.dsn_desk.specs.Open.{IsLine};
 
 use super::bodies::discard;
 use super::memory::Memory;
+use crate::same::same;
 use dsn_agent::{Agent, AskFault, Gate, ServeFault, Served};
 use dsn_lane::{LaneIn, LaneOut, open_lane};
 use dsn_outcome::{Answer, Reply, Request};
@@ -91,15 +92,15 @@ fn discarded(rt: &impl Wait, alloc: Global) -> Option<(u32, u64, Memory<'static>
 #[test]
 fn answer_is_one_write_to_a_stream_that_tells_its_bytes(rt: HostRuntime) -> Result<(), Fail> {
     let (frames, _, stream) = discarded(&rt, rt.alloc()).ok_or("a session")?;
-    assert_eq!(rt; (frames, stream.writes, stream.unread.len()), (1, 1, 0));
-    assert_eq!(rt; stream.written.as_slice(), DISCARDED);
+    same(&rt, (frames, stream.writes, stream.unread.len()), (1, 1, 0));
+    same(&rt, stream.written.as_slice(), DISCARDED);
     Ok(())
 }
 
 #[test]
 fn gate_is_told_the_agent_and_the_number(rt: HostRuntime) -> Result<(), Fail> {
     let (_, calls, _) = discarded(&rt, rt.alloc()).ok_or("a session")?;
-    assert_eq!(rt; calls, 131_231);
+    same(&rt, calls, 131_231);
     Ok(())
 }
 
@@ -130,7 +131,7 @@ fn deserted(rt: &impl Wait, alloc: Global) -> Option<(u32, u32, u64, usize)> {
 #[test]
 fn agent_without_its_collector_answers_nothing(rt: HostRuntime) -> Result<(), Fail> {
     let told = deserted(&rt, rt.alloc()).ok_or("an agent")?;
-    assert_eq!(rt; told, (41, 41, 130_130, 0));
+    same(&rt, told, (41, 41, 130_130, 0));
     Ok(())
 }
 
@@ -148,6 +149,6 @@ fn unanswered(rt: &impl Wait, alloc: Global) -> Option<(bool, bool, bool)> {
 #[test]
 fn request_that_is_taken_and_not_answered(rt: HostRuntime) -> Result<(), Fail> {
     let told = unanswered(&rt, rt.alloc()).ok_or("an agent")?;
-    assert_eq!(rt; told, (true, true, true));
+    same(&rt, told, (true, true, true));
     Ok(())
 }

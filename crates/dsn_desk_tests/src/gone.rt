@@ -1,6 +1,7 @@
 //! What comes when one side of a crew is gone.
 use super::bodies::discard;
 use super::opened::opened;
+use crate::same::same;
 use dsn_agent::{Agent, AskFault};
 use dsn_book::Limits;
 use dsn_desk::{Desk, DeskFault, open_crew};
@@ -29,7 +30,7 @@ fn without_desk(rt: &impl Wait, alloc: Global) -> Option<(bool, bool, bool)> {
 #[test]
 fn agent_without_its_collector_is_lost(rt: HostRuntime) -> Result<(), Fail> {
     let told = without_desk(&rt, rt.alloc()).expect(&rt, "a crew");
-    assert_eq!(rt; told, (true, true, true));
+    same(&rt, told, (true, true, true));
     Ok(())
 }
 
@@ -55,7 +56,7 @@ fn without_agents(rt: &impl Wait, alloc: Global) -> Option<(bool, bool)> {
 #[test]
 fn collector_without_agents_has_failed(rt: HostRuntime) -> Result<(), Fail> {
     let told = without_agents(&rt, rt.alloc()).expect(&rt, "a crew");
-    assert_eq!(rt; told, (true, true));
+    same(&rt, told, (true, true));
     Ok(())
 }
 
@@ -73,6 +74,6 @@ fn missed(rt: &impl Wait, alloc: Global) -> Option<(bool, bool)> {
 #[test]
 fn agents_that_never_start_are_not_awaited(rt: HostRuntime) -> Result<(), Fail> {
     let told = missed(&rt, rt.alloc()).expect(&rt, "a crew");
-    assert_eq!(rt; told, (false, true));
+    same(&rt, told, (false, true));
     Ok(())
 }

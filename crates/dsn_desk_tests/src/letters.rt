@@ -1,5 +1,6 @@
 //! Letters that a collector seals and hands on, by one thread: its agents have asked before it runs.
 use super::bodies::{append, flush};
+use crate::same::same;
 use dsn_agent::Agent;
 use dsn_book::Limits;
 use dsn_desk::{Desk, DeskFault, open_crew};
@@ -138,16 +139,17 @@ fn runs(
 #[test]
 fn letters_are_handed_on_in_order(rt: HostRuntime) -> Result<(), Fail> {
     let told = runs(&rt, rt.alloc(), 5, 4).ok_or("a crew")?;
-    assert_eq!(rt; told, (RunEnd::Well, RunEnd::Well, *b"12\0\0"));
+    same(&rt, told, (RunEnd::Well, RunEnd::Well, *b"12\0\0"));
     Ok(())
 }
 
 #[test]
 fn letter_comes_back_from_a_sink_that_is_gone(rt: HostRuntime) -> Result<(), Fail> {
     let told = runs(&rt, rt.alloc(), 5, 1).ok_or("a crew")?;
-    assert_eq!(rt;
+    same(
+        &rt,
         told,
-        (RunEnd::Letters(b'2'), RunEnd::Requests, *b"1\0\0\0")
+        (RunEnd::Letters(b'2'), RunEnd::Requests, *b"1\0\0\0"),
     );
     Ok(())
 }
@@ -155,9 +157,10 @@ fn letter_comes_back_from_a_sink_that_is_gone(rt: HostRuntime) -> Result<(), Fai
 #[test]
 fn letter_of_an_answer_that_is_lost_comes_back(rt: HostRuntime) -> Result<(), Fail> {
     let told = runs(&rt, rt.alloc(), 1, 4).ok_or("a crew")?;
-    assert_eq!(rt;
+    same(
+        &rt,
         told,
-        (RunEnd::Answers(1, b'1'), RunEnd::Requests, *b"\0\0\0\0")
+        (RunEnd::Answers(1, b'1'), RunEnd::Requests, *b"\0\0\0\0"),
     );
     Ok(())
 }

@@ -21,6 +21,8 @@ mod opened;
 #[cfg(test)]
 mod peer;
 #[cfg(test)]
+mod same;
+#[cfg(test)]
 mod serving;
 #[cfg(test)]
 mod sixteen;

@@ -8,6 +8,7 @@ ghost use Rattle.dsn_desk.specs.Desk.{all_gone};
 
 use super::bodies::append;
 use super::collect::collect;
+use crate::same::same;
 use dsn_agent::{Agent, AskFault, Finished};
 use dsn_book::{Book, Limits};
 use dsn_desk::{Desk, close_crew, open_crew};
@@ -109,6 +110,6 @@ fn limit_of_one<R: Threads + Wait + Sync>(rt: &R, alloc: Global) -> Option<(Repl
 #[test]
 fn agent_counts_and_request_limit(rt: HostRuntime) -> Result<(), Fail> {
     let told = limit_of_one(&rt, rt.alloc()).expect(&rt, "a crew that ends well");
-    assert_eq!(rt; told, (Reply::Logged(0), 1, 0, 1));
+    same(&rt, told, (Reply::Logged(0), 1, 0, 1));
     Ok(())
 }

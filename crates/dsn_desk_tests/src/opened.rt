@@ -1,4 +1,5 @@
 //! Crews of so many agents, and how many a crew may have.
+use crate::same::same;
 use dsn_agent::Agent;
 use dsn_book::Limits;
 use dsn_desk::{CrewOpenFault, Desk, open_crew};
@@ -26,7 +27,7 @@ fn crew_has_1_to_16_agents(rt: HostRuntime) -> Result<(), Fail> {
             Ok(crew) => u32::from(crew.0.len() != agents as usize),
             Err(fault) => fault.code(),
         };
-        assert_eq!(rt; told, code);
+        same(&rt, told, code);
     }
     Ok(())
 }

@@ -3,6 +3,7 @@ ghost use Rattle.std.specs.Thread.{IsSync};
 
 use super::opened::opened;
 use super::peer::Peer;
+use crate::same::same;
 use dsn_agent::{Agent, Gate, NoGate};
 use dsn_desk::Desk;
 use dsn_device::Plain;
@@ -173,10 +174,10 @@ fn inputs_of(alloc: Global, connections: &[Connection]) -> Result<Vec<&'static [
 
 /// Asserts what became of these connections.
 fn assert_told(rt: &impl Abort, all: &[Told], connections: &[Connection]) {
-    assert_eq!(rt; all.len(), connections.len());
+    same(rt, all.len(), connections.len());
     for (told, (_, end, written)) in all.iter().zip(connections) {
         let came = (told.code, told.frames, told.written.as_slice());
-        assert_eq!(rt; came, (end.0, end.1, *written));
+        same(rt, came, (end.0, end.1, *written));
     }
 }
 
@@ -314,9 +315,9 @@ fn without_desk<R: Clock + Wait>(rt: &R, alloc: Global) -> Option<(Told, Told, u
 fn agent_without_its_collector_answers_nothing(rt: HostRuntime) -> Result<(), Fail> {
     let (first, second, asked, answered) = without_desk(&rt, rt.alloc()).ok_or("a crew")?;
     for told in [first, second] {
-        assert_eq!(rt; told.code, 41);
-        assert_eq!(rt; told.written.len(), 0);
+        same(&rt, told.code, 41);
+        same(&rt, told.written.len(), 0);
     }
-    assert_eq!(rt; (asked, answered), (2, 0));
+    same(&rt, (asked, answered), (2, 0));
     Ok(())
 }

@@ -1,6 +1,7 @@
 //! Sixteen agents, each on a thread of its own, beside their collector.
 use super::bodies::append;
 use super::collect::collect;
+use crate::same::same;
 use dsn_agent::Agent;
 use dsn_book::Limits;
 use dsn_desk::open_crew;
@@ -85,6 +86,6 @@ fn sixteen_of_500<R: Threads + Wait + Sync>(rt: &R, alloc: Global) -> Option<u64
 fn sixteen_agents_of_500_appends(rt: HostRuntime) -> Result<(), Fail> {
     let total = sixteen_of_500(&rt, rt.alloc()).expect(&rt, "each is answered in order");
     // Eight logs, each with the places 0 to 999.
-    assert_eq!(rt; total, 8 * 499_500);
+    same(&rt, total, 8 * 499_500);
     Ok(())
 }

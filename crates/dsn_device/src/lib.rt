@@ -9,6 +9,8 @@ mod fakes;
 mod opaque;
 mod plain;
 mod quiet_writer;
+#[cfg(test)]
+mod same;
 mod source;
 mod stream;
 mod transfer;

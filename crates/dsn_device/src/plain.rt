@@ -5,6 +5,7 @@ ghost use Rattle.dsn_device.specs.Failures.{counted};
 use crate::broken::Broken;
 use crate::drain::Drain;
 use crate::opaque::Opaque;
+use crate::same::same;
 use crate::source::Source;
 use crate::stream::Stream;
 use std::io::{Read, Write};
@@ -181,10 +182,10 @@ mod tests {
             good: 1,
         });
         let mut buffer = [0; 8];
-        assert_eq!(rt; read(&mut source, &mut buffer), (Ok(4), 0));
-        assert_eq!(rt; read(&mut source, &mut buffer), (Err(Broken), 1));
-        assert_eq!(rt; read(&mut source, &mut buffer), (Ok(0), 1));
-        assert_eq!(rt; source.into_inner().rest.len(), 0);
+        same(&rt, read(&mut source, &mut buffer), (Ok(4), 0));
+        same(&rt, read(&mut source, &mut buffer), (Err(Broken), 1));
+        same(&rt, read(&mut source, &mut buffer), (Ok(0), 1));
+        same(&rt, source.into_inner().rest.len(), 0);
     }
 
     /// A device over a writer that takes so many bytes a write, and fails once it has taken so
@@ -212,21 +213,21 @@ mod tests {
     #[test]
     fn failed_writes_are_counted(rt: HostRuntime) {
         let mut drain = drain(rt.alloc(), 3, 3);
-        assert_eq!(rt; write(&mut drain, b"QUIT"), (Ok(3), 0));
-        assert_eq!(rt; write(&mut drain, b"T"), (Err(Broken), 1));
-        assert_eq!(rt; write(&mut drain, b""), (Ok(0), 1));
+        same(&rt, write(&mut drain, b"QUIT"), (Ok(3), 0));
+        same(&rt, write(&mut drain, b"T"), (Err(Broken), 1));
+        same(&rt, write(&mut drain, b""), (Ok(0), 1));
         drain.inner.most = 0;
-        assert_eq!(rt; write(&mut drain, b"T"), (Ok(0), 2));
-        assert_eq!(rt; drain.into_inner().held.as_slice(), b"QUI".as_slice());
+        same(&rt, write(&mut drain, b"T"), (Ok(0), 2));
+        same(&rt, drain.into_inner().held.as_slice(), b"QUI".as_slice());
     }
 
     #[test]
     fn failed_flushes_are_counted(rt: HostRuntime) {
         let mut drain = drain(rt.alloc(), 3, 0);
-        assert_eq!(rt; write(&mut drain, b"T"), (Err(Broken), 1));
-        assert_eq!(rt; flush(&mut drain), (Ok(()), 1));
+        same(&rt, write(&mut drain, b"T"), (Err(Broken), 1));
+        same(&rt, flush(&mut drain), (Ok(()), 1));
         drain.inner.room = 0;
-        assert_eq!(rt; flush(&mut drain), (Err(Broken), 2));
+        same(&rt, flush(&mut drain), (Err(Broken), 2));
     }
 
     #[test]
@@ -237,6 +238,6 @@ mod tests {
             good: 0,
         });
         source.failures = u64::MAX;
-        assert_eq!(rt; read(&mut source, &mut [0; 8]), (Err(Broken), u64::MAX));
+        same(&rt, read(&mut source, &mut [0; 8]), (Err(Broken), u64::MAX));
     }
 }

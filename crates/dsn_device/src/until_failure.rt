@@ -3,6 +3,7 @@ ghost use Rattle.std.specs.Prelude.{◌≡◌, false};
 ghost use Rattle.dsn_device.specs.UntilFailure.{WritesUntilFailure, FlushesUntilFailure};
 
 use crate::drain::Drain;
+use crate::same::same;
 use crate::transfer::send;
 
 /// Whether a drain has failed so far. Texts that are written through it reach the drain up to the
@@ -61,6 +62,10 @@ mod tests {
         writing.write(&mut drain, b"QUIT");
         writing.flush(&mut drain);
         assert!(rt; writing.failed);
-        assert_eq!(rt; drain.into_inner().held.as_slice(), b"QUITQU".as_slice());
+        same(
+            &rt,
+            drain.into_inner().held.as_slice(),
+            b"QUITQU".as_slice(),
+        );
     }
 }

@@ -1,4 +1,5 @@
 //! Answers with their bytes, and bytes that are no answer.
+use crate::same::same;
 use dsn_frame::{Spoken, decode_answer, encode_answer};
 use dsn_outcome::Reply;
 use std::process::Abort;
@@ -28,7 +29,7 @@ const ANSWERS: [(Spoken, u8, [u8; 4]); 13] = [
 /// The frame of an answer has these bytes.
 fn expect_frame(rt: &impl Abort, number: u32, answer: &Spoken, want: &[u8]) {
     let bytes = encode_answer(number, answer);
-    assert_eq!(rt; bytes.as_slice(), want, "{answer:?}");
+    same(rt, (answer, bytes.as_slice()), (answer, want));
 }
 
 /// The frame of an answer has this kind and value, and is read back.
@@ -37,7 +38,7 @@ fn expect_answer(rt: &impl Abort, number: u32, answer: Spoken, kind: u8, value: 
     let [v0, v1, v2, v3] = value;
     let want = [0, 0, 0, 10, 1, kind, n0, n1, n2, n3, v0, v1, v2, v3];
     expect_frame(rt, number, &answer, &want);
-    assert_eq!(rt; decode_answer(&want[4..]).ok(), Some((number, answer)));
+    same(rt, decode_answer(&want[4..]).ok(), Some((number, answer)));
 }
 
 #[test]
@@ -77,7 +78,7 @@ fn bodies_that_are_no_answer(rt: HostRuntime) -> Result<(), Fail> {
         (b"\0\x0b\0\0\0\0\0\0\0\x05\0".as_slice(), 21),
     ] {
         let fault = decode_answer(bytes).err().ok_or("no fault")?;
-        assert_eq!(rt; fault.code(), want, "{bytes:?}");
+        same(&rt, (bytes, fault.code()), (bytes, want));
     }
     Ok(())
 }

@@ -3,6 +3,7 @@ mod bounds;
 mod moments;
 mod near;
 
+use crate::same::same;
 use dsn_frame::decode_request;
 use dsn_outcome::{Body, Service};
 use std::alloc::AllocGlobal;
@@ -106,7 +107,7 @@ fn expect_appends(
     cases: &[(RecipientParts<'_>, u32)],
 ) -> Result<(), Fail> {
     for (parts, want) in cases {
-        assert_eq!(rt; append_refusal(rt, 1, *parts)?, *want);
+        same(rt, append_refusal(rt, 1, *parts)?, *want);
     }
     Ok(())
 }
@@ -117,7 +118,7 @@ fn expect_flushes(
     cases: &[(FlushParts<'_>, u32)],
 ) -> Result<(), Fail> {
     for (parts, want) in cases {
-        assert_eq!(rt; flush_refusal(rt, *parts)?, *want);
+        same(rt, flush_refusal(rt, *parts)?, *want);
     }
     Ok(())
 }
@@ -149,7 +150,7 @@ fn short_bodies(rt: HostRuntime) {
         (b"\x01\x03\0\0\0\0\x01\0\x02K-".as_slice(), 26),
         (b"\x01\x03\0\0\0\0\x04\0\x02K-".as_slice(), 25),
     ] {
-        assert_eq!(rt; refusal(&rt, bytes), want, "{bytes:?}");
+        same(&rt, (bytes, refusal(&rt, bytes)), (bytes, want));
     }
 }
 
@@ -161,7 +162,7 @@ fn one_discard(rt: HostRuntime) -> Result<(), Fail> {
         return Err("no discard")?;
     };
     let told = (number, key.service, key.id.bytes());
-    assert_eq!(rt; told, (0, Service::Bounce, b"K1".as_slice()));
+    same(&rt, told, (0, Service::Bounce, b"K1".as_slice()));
     Ok(())
 }
 
@@ -180,10 +181,14 @@ fn expect_append(rt: &(impl Abort + AllocGlobal)) -> Result<(), Fail> {
     let Body::Append(id, node) = body else {
         return Err("no append")?;
     };
-    assert_eq!(rt; (number, id.bytes()), (0, b"A1B2C3".as_slice()));
+    same(rt, (number, id.bytes()), (0, b"A1B2C3".as_slice()));
     let outcome = node.outcome();
     let texts = (outcome.recipient(), outcome.status().bytes());
-    assert_eq!(rt; texts, (b"bob@example.org".as_slice(), b"5.1.1".as_slice()));
+    same(
+        rt,
+        texts,
+        (b"bob@example.org".as_slice(), b"5.1.1".as_slice()),
+    );
     assert!(rt; outcome.mta().is_none());
     Ok(())
 }
@@ -195,7 +200,7 @@ fn expect_flush(rt: &(impl Abort + AllocGlobal)) -> Result<(), Fail> {
     let Body::Flush(key, draft) = body else {
         return Err("no flush")?;
     };
-    assert_eq!(rt; (number, key.id.bytes()), (1, b"A1B2C3".as_slice()));
+    same(rt, (number, key.id.bytes()), (1, b"A1B2C3".as_slice()));
     assert!(rt; draft.has_return());
     Ok(())
 }
@@ -209,7 +214,7 @@ fn one_append_one_flush(rt: HostRuntime) -> Result<(), Fail> {
 #[test]
 fn a_body_cut_anywhere_is_short(rt: HostRuntime) {
     for end in 0..WHOLE_APPEND.len() {
-        assert_eq!(rt; refusal(&rt, &WHOLE_APPEND[..end]), 23, "{end} bytes");
+        same(&rt, (end, refusal(&rt, &WHOLE_APPEND[..end])), (end, 23));
     }
 }
 
@@ -223,7 +228,11 @@ fn statuses_refused(rt: HostRuntime) -> Result<(), Fail> {
         (b"4.4.7".as_slice(), 0),
     ] {
         let parts = RecipientParts { status, ..APPEND };
-        assert_eq!(rt; append_refusal(&rt, 1, parts)?, want, "{status:?}");
+        same(
+            &rt,
+            (status, append_refusal(&rt, 1, parts)?),
+            (status, want),
+        );
     }
     Ok(())
 }
@@ -241,7 +250,11 @@ fn actions_and_services(rt: HostRuntime) -> Result<(), Fail> {
             status,
             ..APPEND
         };
-        assert_eq!(rt; append_refusal(&rt, service, parts)?, want, "{action}");
+        same(
+            &rt,
+            (action, append_refusal(&rt, service, parts)?),
+            (action, want),
+        );
     }
     Ok(())
 }
@@ -252,6 +265,6 @@ fn a_null_return_path_is_accepted(rt: HostRuntime) -> Result<(), Fail> {
         return_path: b"",
         ..FLUSH
     };
-    assert_eq!(rt; flush_refusal(&rt, parts)?, 0);
+    same(&rt, flush_refusal(&rt, parts)?, 0);
     Ok(())
 }

@@ -1,4 +1,5 @@
 //! Requests to frames and back, in all their shapes.
+use crate::same::same;
 use dsn_frame::{decode_request, encode_request};
 use dsn_outcome::{
     Address, Body, Draft, EnvelopeId, Key, Outcome, Parts, QueueId, RawHeader, Service, Stamp,
@@ -170,8 +171,8 @@ fn frames_and_answers_encoded(rt: HostRuntime) -> Result<(), Fail> {
     let frame = frame_of(&rt, 0, &body)?;
     let want =
         b"\0\0\0\x30\x01\x01\0\0\0\0\x01\0\x06A1B2C3\0\0\0\x0fbob@example.org\x01\0\x055.1.1\0\0\0\0\0\0";
-    assert_eq!(rt; frame.as_slice(), want.as_slice());
-    assert_eq!(rt; goes_and_comes_back(&rt, 0, &body)?, 48);
+    same(&rt, frame.as_slice(), want.as_slice());
+    same(&rt, goes_and_comes_back(&rt, 0, &body)?, 48);
     Ok(())
 }
 
@@ -186,14 +187,14 @@ fn a_flush_and_a_discard_encoded(rt: HostRuntime) -> Result<(), Fail> {
     let frame = frame_of(&rt, 8, &body)?;
     let want =
         b"\0\0\0\x28\x01\x02\0\0\0\x08\x02\0\x01Q\0\0\0\0\x65\x53\xf1\0\0\0\0\0\x65\x53\xe2\xf0\0\x03a@b\0\x02Q1\0\x03h\n\0";
-    assert_eq!(rt; frame.as_slice(), want.as_slice());
+    same(&rt, frame.as_slice(), want.as_slice());
     let key = Key {
         service: Service::Trace,
         id: id(b"K1")?,
     };
     let frame = frame_of(&rt, u32::MAX, &Body::Discard(key))?;
     let want = b"\0\0\0\x0b\x01\x03\xff\xff\xff\xff\x03\0\x02K1";
-    assert_eq!(rt; frame.as_slice(), want.as_slice());
+    same(&rt, frame.as_slice(), want.as_slice());
     Ok(())
 }
 
@@ -206,7 +207,7 @@ fn forget_encoded(rt: HostRuntime) -> Result<(), Fail> {
     let body = Body::Forget(key);
     let frame = frame_of(&rt, 0, &body)?;
     let want = b"\0\0\0\x0b\x02\x04\0\0\0\0\x01\0\x02K1";
-    assert_eq!(rt; frame.as_slice(), want.as_slice());
+    same(&rt, frame.as_slice(), want.as_slice());
     goes_and_comes_back(&rt, 0, &body)?;
     Ok(())
 }
@@ -264,7 +265,7 @@ fn a_longest_append_reads_back(rt: HostRuntime) -> Result<(), Fail> {
         retry_until: None,
     };
     let body = append(&rt, Service::Trace, &long[..32], longest)?;
-    assert_eq!(rt; goes_and_comes_back(&rt, 999_999, &body)?, 2_446);
+    same(&rt, goes_and_comes_back(&rt, 999_999, &body)?, 2_446);
     Ok(())
 }
 

@@ -1,6 +1,7 @@
 //! Frames from readers that give them in pieces, end anywhere and fail anywhere.
 ghost use Rattle.std.specs.Prelude.{Some};
 
+use crate::same::same;
 use dsn_frame::{Frame, LONGEST_BODY, read_frame};
 use dsn_outcome::Plain;
 use std::alloc::AllocGlobal;
@@ -61,7 +62,7 @@ fn expect_body(
     want: &[u8],
 ) -> Result<(), Fail> {
     let frame = next_frame(rt, source)?.ok_or("a frame")?;
-    assert_eq!(rt; frame.body(), want);
+    same(rt, frame.body(), want);
     Ok(())
 }
 
@@ -88,7 +89,7 @@ fn bad_lengths(rt: HostRuntime) {
         (b"\0\0\0\x02a".as_slice(), 13),
         (b"\0\x01\0\0".as_slice(), 13),
     ] {
-        assert_eq!(rt; fault(&rt, input, 100), want, "{input:?}");
+        same(&rt, (input, fault(&rt, input, 100)), (input, want));
     }
 }
 
@@ -106,14 +107,11 @@ fn long_bodies(rt: HostRuntime) -> Result<(), Fail> {
 #[test]
 fn a_reader_that_fails(rt: HostRuntime) {
     for good in 0..7 {
-        assert_eq!(rt; fault(&rt, TWO_FRAMES, good), 14, "after {good} bytes");
+        same(&rt, (good, fault(&rt, TWO_FRAMES, good)), (good, 14));
     }
-    assert_eq!(rt;
-        fault(&rt, TWO_FRAMES, 7),
-        0,
-        "a whole frame asks for no more"
-    );
-    assert_eq!(rt; fault(&rt, b"\0\0\0\0", 4), 12, "a length alone decides");
+    // A whole frame asks for no more, and a length alone decides.
+    same(&rt, fault(&rt, TWO_FRAMES, 7), 0);
+    same(&rt, fault(&rt, b"\0\0\0\0", 4), 12);
 }
 
 /// How many reads it took to read the first frame by so many bytes a call.
@@ -133,8 +131,8 @@ fn a_reader_of_one_byte_a_call(rt: HostRuntime) -> Result<(), Fail> {
     for at in 0..LONGEST_BODY {
         input.push((at % 251) as u8)?;
     }
-    assert_eq!(rt; reads_of(&rt, &input, 1)?, 65_540);
-    assert_eq!(rt; reads_of(&rt, &input, 65_536)?, 2);
-    assert_eq!(rt; reads_of(&rt, b"\0\0\0\x01a", 1)?, 5);
+    same(&rt, reads_of(&rt, &input, 1)?, 65_540);
+    same(&rt, reads_of(&rt, &input, 65_536)?, 2);
+    same(&rt, reads_of(&rt, b"\0\0\0\x01a", 1)?, 5);
     Ok(())
 }

@@ -14,3 +14,5 @@ mod encodings;
 mod frames;
 #[cfg(test)]
 mod requests;
+#[cfg(test)]
+mod same;

@@ -1,4 +1,5 @@
 //! What one frame comes to: a body to be asked, or a refusal.
+use crate::same::same;
 use dsn_frame::next_request;
 use std::test::Fail;
 
@@ -9,12 +10,12 @@ const DISCARD: &[u8] = b"\x01\x03\0\0\0\x03\x01\0\x02K1";
 fn asked_or_refused(rt: HostRuntime) -> Result<(), Fail> {
     let body = next_request(rt.alloc(), 3, DISCARD).ok().ok_or("refused")?;
     let key = body.key().ok_or("a key")?;
-    assert_eq!(rt; key.id.bytes(), b"K1".as_slice());
+    same(&rt, key.id.bytes(), b"K1".as_slice());
     let refusal = next_request(rt.alloc(), 2, DISCARD).err().ok_or("asked")?;
-    assert_eq!(rt; (refusal.code(), refusal.ends()), (46, true));
+    same(&rt, (refusal.code(), refusal.ends()), (46, true));
     let refusal = next_request(rt.alloc(), 2, &DISCARD[..9])
         .err()
         .ok_or("asked")?;
-    assert_eq!(rt; (refusal.code(), refusal.ends()), (23, false));
+    same(&rt, (refusal.code(), refusal.ends()), (23, false));
     Ok(())
 }

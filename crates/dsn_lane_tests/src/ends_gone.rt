@@ -2,6 +2,7 @@
 ghost use Rattle.std.specs.Prelude.{◌≡◌};
 
 use crate::item::Item;
+use crate::same::same;
 use dsn_lane::{LaneEnd, Lost, open_lane};
 use std::alloc::Global;
 use std::sync::Wait;
@@ -25,8 +26,8 @@ fn send_to_a_lane_that_was_left_is_lost(rt: HostRuntime) -> Result<(), Fail> {
     };
     let sent = send_after_leave(&rt, rt.alloc(), item).expect(&rt, "a lane");
     let lost = sent.err().expect(&rt, "it is lost");
-    assert_eq!(rt; lost.item, item);
-    assert_eq!(rt; lost.code(), 41);
+    same(&rt, lost.item, item);
+    same(&rt, lost.code(), 41);
     Ok(())
 }
 
@@ -48,21 +49,23 @@ fn takes_after_ends(rt: &impl Wait, alloc: Global) -> Option<[Result<Item, LaneE
 #[test]
 fn take_after_all_ends_gives_what_waits_and_then_the_end(rt: HostRuntime) -> Result<(), Fail> {
     let [first, second, third] = takes_after_ends(&rt, rt.alloc()).expect(&rt, "a lane");
-    assert_eq!(rt;
+    same(
+        &rt,
         first,
         Ok(Item {
             agent: 1,
-            number: 0
-        })
+            number: 0,
+        }),
     );
-    assert_eq!(rt;
+    same(
+        &rt,
         second,
         Ok(Item {
             agent: 1,
-            number: 1
-        })
+            number: 1,
+        }),
     );
-    assert_eq!(rt; third, Err(LaneEnd));
-    assert_eq!(rt; LaneEnd.code(), 41);
+    same(&rt, third, Err(LaneEnd));
+    same(&rt, LaneEnd.code(), 41);
     Ok(())
 }

@@ -3,6 +3,7 @@ ghost use Rattle.std.specs.Prelude.{◌≡◌, ◌≤◌};
 
 use crate::hands::{last_end, opened};
 use crate::item::{Item, send_next};
+use crate::same::same;
 use dsn_lane::LaneIn;
 use std::alloc::Global;
 use std::sync::Wait;
@@ -66,7 +67,7 @@ fn run<R: Threads + Wait + Clock + Sync>(rt: &R, alloc: Global, capacity: u32) -
 fn full_lane_makes_a_send_wait(rt: HostRuntime) -> Result<(), Fail> {
     for (capacity, seen) in [(3, (3, 4)), (4, (4, 5)), (64, (64, 65))] {
         let ran = run(&rt, rt.alloc(), capacity).expect(&rt, "it runs");
-        assert_eq!(rt; ran, seen);
+        same(&rt, ran, seen);
     }
     Ok(())
 }

@@ -19,4 +19,6 @@ mod one_thread;
 #[cfg(test)]
 mod requests;
 #[cfg(test)]
+mod same;
+#[cfg(test)]
 mod threads;

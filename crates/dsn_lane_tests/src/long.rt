@@ -3,6 +3,7 @@ ghost use Rattle.std.specs.Prelude.{◌≡◌};
 
 use crate::hands::{last_end, opened, put_by, shut};
 use crate::item::send_many;
+use crate::same::same;
 use std::alloc::Global;
 use std::sync::Wait;
 use std::test::Fail;
@@ -34,7 +35,7 @@ fn run<R: Threads + Wait + Sync>(rt: &R, alloc: Global, items: u32) -> Option<(b
 #[test]
 fn million_items_through_one_lane(rt: HostRuntime) -> Result<(), Fail> {
     let ran = run(&rt, rt.alloc(), 1_000_000).expect(&rt, "it runs");
-    assert_eq!(rt; ran, (true, 1_000_000));
+    same(&rt, ran, (true, 1_000_000));
     Ok(())
 }
 
@@ -58,6 +59,6 @@ fn fill(rt: &impl Wait, alloc: Global) -> Option<(u64, u64)> {
 #[test]
 fn largest_lane_holds_1024_items(rt: HostRuntime) -> Result<(), Fail> {
     let counts = fill(&rt, rt.alloc()).expect(&rt, "it runs");
-    assert_eq!(rt; counts, (0, 1024));
+    same(&rt, counts, (0, 1024));
     Ok(())
 }

@@ -1,6 +1,7 @@
 //! Ends of lanes of requests and of answers, each moved into a thread of a scope.
 ghost use Rattle.std.specs.Prelude.{◌≡◌, IfSome, length};
 
+use crate::same::same;
 use dsn_lane::{LaneIn, LaneOut, open_lane};
 use dsn_outcome::{Answer, Body, Key, QueueId, Request, Service};
 use std::alloc::Global;
@@ -84,14 +85,14 @@ fn lane_of_requests(rt: &impl Wait, alloc: Global) -> Option<(LaneIn<Request>, L
 #[test]
 fn request_end_to_another_thread(rt: HostRuntime) -> Result<(), Fail> {
     let (end, _out) = lane_of_requests(&rt, rt.alloc()).expect(&rt, "a lane");
-    assert_eq!(rt; count_elsewhere(&rt, end), Some(1));
+    same(&rt, count_elsewhere(&rt, end), Some(1));
     Ok(())
 }
 
 #[test]
 fn answer_end_to_another_thread(rt: HostRuntime) -> Result<(), Fail> {
     let (_ends, out) = open_lane::<Answer>(&rt, rt.alloc(), 0, 1, 1).expect(&rt, "a lane");
-    assert_eq!(rt; leave_elsewhere(&rt, out), Some(true));
+    same(&rt, leave_elsewhere(&rt, out), Some(true));
     Ok(())
 }
 
@@ -99,9 +100,10 @@ fn answer_end_to_another_thread(rt: HostRuntime) -> Result<(), Fail> {
 fn both_ends_to_another_thread(rt: HostRuntime) -> Result<(), Fail> {
     let (requests, _out) = lane_of_requests(&rt, rt.alloc()).expect(&rt, "a lane");
     let (_ends, answers) = open_lane::<Answer>(&rt, rt.alloc(), 0, 1, 1).expect(&rt, "a lane");
-    assert_eq!(rt;
+    same(
+        &rt,
         agent_elsewhere(&rt, AgentEnds { requests, answers }),
-        Some(1)
+        Some(1),
     );
     Ok(())
 }

@@ -3,6 +3,7 @@ ghost use Rattle.std.specs.Prelude.{◌≡◌};
 
 use crate::hands::{last_end, opened, put_by, shut};
 use crate::item::{Item, send_many, send_next, take_many};
+use crate::same::same;
 use dsn_lane::{LaneIn, LaneOut};
 use std::alloc::Global;
 use std::sync::Wait;
@@ -111,8 +112,8 @@ fn lane_by_one_thread(rt: HostRuntime) -> Result<(), Fail> {
     let sent = [item(0, 0), item(1, 0), item(0, 1)];
     for (takes, waiting) in [(3, 0), (2, 1)] {
         let ran = run_two(&rt, rt.alloc(), takes).expect(&rt, "it runs");
-        assert_eq!(rt; ran.items.as_slice(), &sent[..takes as usize]);
-        assert_eq!(rt; ran.counts, (u64::from(takes), waiting));
+        same(&rt, ran.items.as_slice(), &sent[..takes as usize]);
+        same(&rt, ran.counts, (u64::from(takes), waiting));
     }
     Ok(())
 }
@@ -120,13 +121,13 @@ fn lane_by_one_thread(rt: HostRuntime) -> Result<(), Fail> {
 #[test]
 fn lane_of_sixteen(rt: HostRuntime) -> Result<(), Fail> {
     let ran = run_sixteen(&rt, rt.alloc()).expect(&rt, "it runs");
-    assert_eq!(rt; ran.counts, (16, 0));
-    assert_eq!(rt; ran.items.len(), 16);
+    same(&rt, ran.counts, (16, 0));
+    same(&rt, ran.items.len(), 16);
     for (turn, taken) in ran.items.iter().enumerate() {
-        assert_eq!(rt; *taken, item(15 - turn as u32, 0));
+        same(&rt, *taken, item(15 - turn as u32, 0));
     }
     let ran = run_one(&rt, rt.alloc()).expect(&rt, "it runs");
-    assert_eq!(rt; ran.items.as_slice(), [item(0, 0)].as_slice());
-    assert_eq!(rt; ran.counts, (1, 1));
+    same(&rt, ran.items.as_slice(), [item(0, 0)].as_slice());
+    same(&rt, ran.counts, (1, 1));
     Ok(())
 }

@@ -1,6 +1,7 @@
 //! Requests and answers, with what they hold in boxes, over lanes to another thread.
 ghost use Rattle.std.specs.Prelude.{◌≡◌, length};
 
+use crate::same::same;
 use dsn_lane::open_lane;
 use dsn_outcome::{Answer, Body, Carried, Outcome, Parts, QueueId, Reply, Request, Service};
 use std::alloc::Global;
@@ -60,7 +61,11 @@ fn request_to_another_thread(rt: HostRuntime) -> Result<(), Fail> {
     let Body::Append(_, node) = arrived.body else {
         return Ok(assert!(rt; false, "an append"));
     };
-    assert_eq!(rt; node.outcome().recipient(), b"bob@example.org".as_slice());
+    same(
+        &rt,
+        node.outcome().recipient(),
+        b"bob@example.org".as_slice(),
+    );
     Ok(())
 }
 
@@ -72,6 +77,6 @@ fn answer_to_another_thread(rt: HostRuntime) -> Result<(), Fail> {
         reply: Reply::Sealed(7),
     };
     let arrived = carried(&rt, rt.alloc(), answer).expect(&rt, "it arrives");
-    assert_eq!(rt; arrived, answer);
+    same(&rt, arrived, answer);
     Ok(())
 }

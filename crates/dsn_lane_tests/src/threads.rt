@@ -3,6 +3,7 @@ ghost use Rattle.std.specs.Prelude.{◌≡◌, ◌+◌, ◌≤◌};
 
 use crate::hands::{last_end, opened};
 use crate::item::{Item, counts, send_many, take_many};
+use crate::same::same;
 use dsn_lane::LaneIn;
 use std::alloc::Global;
 use std::sync::Wait;
@@ -61,9 +62,9 @@ fn run<R: Threads + Wait + Sync>(rt: &R, alloc: Global, agents: u32, each: u32) 
 fn two_threads_of_a_thousand(rt: HostRuntime) -> Result<(), Fail> {
     let items = run(&rt, rt.alloc(), 2, 1000).expect(&rt, "it runs");
     let counts = counts(&items).expect(&rt, "each agent's items in order");
-    assert_eq!(rt; counts[0], 1000);
-    assert_eq!(rt; counts[1], 1000);
-    assert_eq!(rt; items.len(), 2000);
+    same(&rt, counts[0], 1000);
+    same(&rt, counts[1], 1000);
+    same(&rt, items.len(), 2000);
     Ok(())
 }
 
@@ -71,7 +72,7 @@ fn two_threads_of_a_thousand(rt: HostRuntime) -> Result<(), Fail> {
 fn sixteen_threads_of_a_hundred(rt: HostRuntime) -> Result<(), Fail> {
     let items = run(&rt, rt.alloc(), 16, 100).expect(&rt, "it runs");
     let counts = counts(&items).expect(&rt, "each agent's items in order");
-    assert_eq!(rt; counts, [100; 16]);
-    assert_eq!(rt; items.len(), 1600);
+    same(&rt, counts, [100; 16]);
+    same(&rt, items.len(), 1600);
     Ok(())
 }

@@ -2,6 +2,7 @@
 ghost use Rattle.std.specs.Prelude.{◌≡◌, IfOk, IsSome};
 
 use super::outcomes::PARTS;
+use crate::same::same;
 use dsn_outcome::{
     Address, Chain, Draft, EnvelopeId, Key, Letter, Letters, MOST_OUTCOMES, Node, Outcome, QueueId,
     RawHeader, Service, Stamp,
@@ -55,13 +56,17 @@ fn letter_of_three(alloc: Global) -> Result<Letter, Fail> {
 
 /// Asserts the texts of a letter, and its envelope id.
 fn expect_texts(rt: &impl Abort, letter: &Letter) {
-    assert_eq!(rt; letter.return_path().bytes(), b"ann@example.com".as_slice());
-    assert_eq!(rt; letter.header().bytes(), b"Subject: hi\n".as_slice());
+    same(
+        rt,
+        letter.return_path().bytes(),
+        b"ann@example.com".as_slice(),
+    );
+    same(rt, letter.header().bytes(), b"Subject: hi\n".as_slice());
     let id = match letter.envelope_id() {
         Some(id) => id.bytes(),
         None => b"",
     };
-    assert_eq!(rt; id, b"QQ 314159".as_slice());
+    same(rt, id, b"QQ 314159".as_slice());
 }
 
 /// Asserts the recipients of a letter, in order.
@@ -69,7 +74,7 @@ fn expect_recipients(rt: &impl Abort, letter: &Letter) -> Result<(), Fail> {
     let mut outcomes = letter.outcomes();
     for wanted in [b"one@example.org", b"two@example.org", b"six@example.org"] {
         let outcome = outcomes.next().ok_or("an outcome is missing")?;
-        assert_eq!(rt; outcome.recipient(), wanted.as_slice());
+        same(rt, outcome.recipient(), wanted.as_slice());
     }
     assert!(rt; outcomes.next().is_none());
     Ok(())
@@ -78,9 +83,9 @@ fn expect_recipients(rt: &impl Abort, letter: &Letter) -> Result<(), Fail> {
 #[test]
 fn a_letter_has_all_that_it_was_sealed_with(rt: HostRuntime) -> Result<(), Fail> {
     let letter = letter_of_three(rt.alloc())?;
-    assert_eq!(rt; letter.key(), key(b"A1B2C3")?);
+    same(&rt, letter.key(), key(b"A1B2C3")?);
     let moments = (letter.moment().seconds(), letter.arrival().seconds());
-    assert_eq!(rt; moments, (1_700_000_000, 1_699_996_400));
+    same(&rt, moments, (1_700_000_000, 1_699_996_400));
     expect_texts(&rt, &letter);
     expect_recipients(&rt, &letter)
 }
@@ -95,7 +100,7 @@ fn a_draft_and_a_chain_tell_what_they_have(rt: HostRuntime) -> Result<(), Fail> 
         assert!(rt; chain.len() < MOST_OUTCOMES);
         chain.push(node);
     }
-    assert_eq!(rt; chain.len(), 3);
+    same(&rt, chain.len(), 3);
     Ok(())
 }
 
@@ -125,14 +130,14 @@ fn push_letters(alloc: Global, letters: &mut Letters, first: u64, past: u64) -> 
 fn expect_popped(rt: &impl Abort, letters: &mut Letters, first: u64, past: u64) {
     for seconds in first..past {
         assert!(rt; !letters.is_empty());
-        assert_eq!(rt; popped(letters), Some(seconds));
+        same(rt, popped(letters), Some(seconds));
     }
 }
 
 #[test]
 fn letters_are_taken_in_order(rt: HostRuntime) -> Result<(), Fail> {
     let mut letters = Letters::new();
-    assert_eq!(rt; popped(&mut letters), None);
+    same(&rt, popped(&mut letters), None);
     // Of each step the moments of the letters that are pushed, and of those that are taken then.
     for (pushed, taken) in [
         ((1, 1), (1, 1)),
@@ -144,10 +149,10 @@ fn letters_are_taken_in_order(rt: HostRuntime) -> Result<(), Fail> {
         push_letters(rt.alloc(), &mut letters, pushed.0, pushed.1)?;
         expect_popped(&rt, &mut letters, taken.0, taken.1);
         let left: u64 = pushed.1.saturating_sub(taken.1);
-        assert_eq!(rt; letters.len(), left);
-        assert_eq!(rt; letters.is_empty(), left == 0);
+        same(&rt, letters.len(), left);
+        same(&rt, letters.is_empty(), left == 0);
     }
-    assert_eq!(rt; popped(&mut letters), None);
+    same(&rt, popped(&mut letters), None);
     Ok(())
 }
 
@@ -157,8 +162,8 @@ fn many_letters_are_freed(rt: HostRuntime) -> Result<(), Fail> {
     for seconds in 0..100_000 {
         letters.push(letter(rt.alloc(), seconds)?);
     }
-    assert_eq!(rt; letters.len(), 100_000);
-    assert_eq!(rt; popped(&mut letters), Some(0));
+    same(&rt, letters.len(), 100_000);
+    same(&rt, popped(&mut letters), Some(0));
     letters.push(letter(rt.alloc(), 100_000)?);
     drop(letters);
     Ok(())
@@ -172,7 +177,7 @@ fn a_full_log_is_freed(rt: HostRuntime) -> Result<(), Fail> {
         assert!(rt; chain.len() < MOST_OUTCOMES);
         chain.push(node);
     }
-    assert_eq!(rt; chain.len(), 1_000);
+    same(&rt, chain.len(), 1_000);
     drop(chain);
     Ok(())
 }

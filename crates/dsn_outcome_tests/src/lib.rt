@@ -9,6 +9,8 @@ mod outcomes;
 #[cfg(test)]
 mod queue_ids;
 #[cfg(test)]
+mod same;
+#[cfg(test)]
 mod stamps;
 #[cfg(test)]
 mod texts;

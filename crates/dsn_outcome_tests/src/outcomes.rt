@@ -1,5 +1,6 @@
 //! Outcomes from their fields, and refusals in their order.
 use super::texts::text_of;
+use crate::same::same;
 use dsn_outcome::{Action, LAST_MOMENT, Outcome, OutcomeFault, Parts, Service, Stamp};
 use std::process::Abort;
 use std::test::Fail;
@@ -44,20 +45,20 @@ fn expect_texts(rt: &impl Abort, outcome: &Outcome, want: &Parts<'_>) {
     let mta = text_or_empty(outcome.mta());
     let diagnostic = text_or_empty(outcome.diagnostic());
     let reason = text_or_empty(outcome.reason());
-    assert_eq!(rt; outcome.recipient(), want.recipient);
-    assert_eq!(rt; original, want.original);
-    assert_eq!(rt; mta, want.mta);
-    assert_eq!(rt; diagnostic, want.diagnostic);
-    assert_eq!(rt; reason, want.reason);
+    same(rt, outcome.recipient(), want.recipient);
+    same(rt, original, want.original);
+    same(rt, mta, want.mta);
+    same(rt, diagnostic, want.diagnostic);
+    same(rt, reason, want.reason);
 }
 
 #[test]
 fn outcomes_keep_their_fields(rt: HostRuntime) -> Result<(), Fail> {
     let node = Outcome::new(rt.alloc(), Service::Bounce, PARTS)?;
     let outcome = node.outcome();
-    assert_eq!(rt; outcome.service(), Service::Bounce);
-    assert_eq!(rt; outcome.action(), Action::Failed);
-    assert_eq!(rt; outcome.status().bytes(), b"5.1.1".as_slice());
+    same(&rt, outcome.service(), Service::Bounce);
+    same(&rt, outcome.action(), Action::Failed);
+    same(&rt, outcome.status().bytes(), b"5.1.1".as_slice());
     let cleaned = Parts {
         diagnostic: b"smtp; 550 no?such user",
         ..PARTS
@@ -84,11 +85,11 @@ fn an_outcome_of_the_longest_texts_is_kept(rt: HostRuntime) -> Result<(), Fail> 
     };
     let node = Outcome::new(rt.alloc(), Service::Bounce, parts)?;
     let outcome = node.outcome();
-    assert_eq!(rt; outcome.recipient(), address.as_slice());
-    assert_eq!(rt; text_or_empty(outcome.original()), address.as_slice());
-    assert_eq!(rt; text_or_empty(outcome.mta()), name.as_slice());
-    assert_eq!(rt; text_or_empty(outcome.diagnostic()), remark.as_slice());
-    assert_eq!(rt; text_or_empty(outcome.reason()), remark.as_slice());
+    same(&rt, outcome.recipient(), address.as_slice());
+    same(&rt, text_or_empty(outcome.original()), address.as_slice());
+    same(&rt, text_or_empty(outcome.mta()), name.as_slice());
+    same(&rt, text_or_empty(outcome.diagnostic()), remark.as_slice());
+    same(&rt, text_or_empty(outcome.reason()), remark.as_slice());
     Ok(())
 }
 
@@ -104,9 +105,13 @@ fn the_two_moments_are_kept(rt: HostRuntime) -> Result<(), Fail> {
         };
         let node = Outcome::new(rt.alloc(), Service::Defer, delayed)?;
         let outcome = node.outcome();
-        assert_eq!(rt; outcome.action(), Action::Delayed);
-        assert_eq!(rt; outcome.last_attempt(), Stamp::new(LAST_MOMENT - seconds));
-        assert_eq!(rt; outcome.retry_until(), Stamp::new(seconds));
+        same(&rt, outcome.action(), Action::Delayed);
+        same(
+            &rt,
+            outcome.last_attempt(),
+            Stamp::new(LAST_MOMENT - seconds),
+        );
+        same(&rt, outcome.retry_until(), Stamp::new(seconds));
     }
     Ok(())
 }
@@ -127,8 +132,12 @@ fn only_a_delayed_recipient_is_tried_again(rt: HostRuntime) -> Result<(), Fail> 
             ..PARTS
         };
         let node = Outcome::new(rt.alloc(), Service::Trace, attempted)?;
-        assert_eq!(rt; node.outcome().last_attempt(), Stamp::new(1_700_000_000));
-        assert_eq!(rt; node.outcome().retry_until(), None);
+        same(
+            &rt,
+            node.outcome().last_attempt(),
+            Stamp::new(1_700_000_000),
+        );
+        same(&rt, node.outcome().retry_until(), None);
         let retried = Parts {
             action,
             status,
@@ -137,7 +146,7 @@ fn only_a_delayed_recipient_is_tried_again(rt: HostRuntime) -> Result<(), Fail> 
         };
         let fault = Outcome::new(rt.alloc(), Service::Trace, retried).err();
         let want = (!fits).then_some(OutcomeFault::RetryUntil);
-        assert_eq!(rt; fault, want, "action {action}");
+        same(&rt, (action, fault), (action, want));
     }
     Ok(())
 }
@@ -206,7 +215,7 @@ fn each_fault_comes_before_later_ones(rt: HostRuntime) -> Result<(), Fail> {
             }
             let parts = spoiled([first, later], long.as_slice());
             let fault = Outcome::new(alloc, Service::Bounce, parts).err();
-            assert_eq!(rt; fault, Some(first), "before {later:?}");
+            same(&rt, (later, fault), (later, Some(first)));
         }
     }
     Ok(())

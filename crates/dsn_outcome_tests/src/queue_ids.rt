@@ -1,4 +1,5 @@
 //! Queue ids beside their bytes: they are in the same order, and equal where those are.
+use crate::same::same;
 use dsn_outcome::QueueId;
 use std::cmp::Ordering;
 use std::process::Abort;
@@ -20,7 +21,7 @@ fn compared_as_slices(left: &[u8], right: &[u8]) -> (Ordering, bool) {
 fn expect_same(rt: &impl Abort, left: &[u8; 32], right: &[u8; 32]) -> Result<(), Fail> {
     for pair in 0..1_024usize {
         let (left, right) = (&left[..pair / 32 + 1], &right[..pair % 32 + 1]);
-        assert_eq!(rt; compared(left, right)?, compared_as_slices(left, right));
+        same(rt, compared(left, right)?, compared_as_slices(left, right));
     }
     Ok(())
 }

@@ -1,4 +1,5 @@
 //! Moments, their dates and their order.
+use crate::same::same;
 use dsn_outcome::{LAST_MOMENT, Stamp};
 
 #[test]
@@ -12,16 +13,16 @@ fn dates(rt: HostRuntime) {
         let Some(stamp) = Stamp::new(seconds) else {
             panic!(rt; "no stamp at {seconds}");
         };
-        assert_eq!(rt; stamp.seconds(), seconds);
+        same(&rt, stamp.seconds(), seconds);
         let text = stamp.date();
-        assert_eq!(rt; text.as_slice(), want, "at {seconds}");
+        same(&rt, (seconds, text.as_slice()), (seconds, want));
     }
 }
 
 #[test]
 fn no_stamp_after_the_year_9999(rt: HostRuntime) {
-    assert_eq!(rt; Stamp::new(253_402_300_800), None);
-    assert_eq!(rt; Stamp::new(u64::MAX), None);
+    same(&rt, Stamp::new(253_402_300_800), None);
+    same(&rt, Stamp::new(u64::MAX), None);
 }
 
 #[test]

@@ -1,4 +1,5 @@
 //! Texts at their bounds: up to them they are kept, past them they are bad.
+use crate::same::same;
 use dsn_outcome::{Address, Clean, EnvelopeId, MtaName, RawHeader, TextFault};
 use std::alloc::Global;
 use std::test::Fail;
@@ -26,7 +27,7 @@ fn address(alloc: Global, len: usize) -> Result<Made, Fail> {
 #[test]
 fn addresses_up_to_256_bytes(rt: HostRuntime) -> Result<(), Fail> {
     for (len, want) in [(1, KEPT), (200, KEPT), (256, KEPT), (257, BAD)] {
-        assert_eq!(rt; address(rt.alloc(), len)?, want, "{len} bytes");
+        same(&rt, (len, address(rt.alloc(), len)?), (len, want));
     }
     Ok(())
 }
@@ -42,7 +43,7 @@ fn mta_name(alloc: Global, len: usize) -> Result<Made, Fail> {
 #[test]
 fn names_of_systems_up_to_255_bytes(rt: HostRuntime) -> Result<(), Fail> {
     for (len, want) in [(1, KEPT), (200, KEPT), (255, KEPT), (256, BAD)] {
-        assert_eq!(rt; mta_name(rt.alloc(), len)?, want, "{len} bytes");
+        same(&rt, (len, mta_name(rt.alloc(), len)?), (len, want));
     }
     Ok(())
 }
@@ -58,7 +59,7 @@ fn envelope_id(alloc: Global, len: usize) -> Result<Made, Fail> {
 #[test]
 fn envelope_ids_up_to_100_bytes(rt: HostRuntime) -> Result<(), Fail> {
     for (len, want) in [(1, KEPT), (60, KEPT), (100, KEPT), (101, BAD)] {
-        assert_eq!(rt; envelope_id(rt.alloc(), len)?, want, "{len} bytes");
+        same(&rt, (len, envelope_id(rt.alloc(), len)?), (len, want));
     }
     Ok(())
 }
@@ -74,7 +75,7 @@ fn clean(alloc: Global, len: usize) -> Result<Made, Fail> {
 #[test]
 fn remarks_up_to_800_bytes(rt: HostRuntime) -> Result<(), Fail> {
     for (len, want) in [(0, KEPT), (500, KEPT), (800, KEPT), (801, BAD)] {
-        assert_eq!(rt; clean(rt.alloc(), len)?, want, "{len} bytes");
+        same(&rt, (len, clean(rt.alloc(), len)?), (len, want));
     }
     Ok(())
 }
@@ -90,7 +91,7 @@ fn raw_header(alloc: Global, len: usize) -> Result<Made, Fail> {
 #[test]
 fn headers_up_to_32768_bytes(rt: HostRuntime) -> Result<(), Fail> {
     for (len, want) in [(0, KEPT), (20_000, KEPT), (32_768, KEPT), (32_769, BAD)] {
-        assert_eq!(rt; raw_header(rt.alloc(), len)?, want, "{len} bytes");
+        same(&rt, (len, raw_header(rt.alloc(), len)?), (len, want));
     }
     Ok(())
 }

@@ -9,6 +9,8 @@ mod open;
 mod parcel;
 mod posted;
 mod posting;
+#[cfg(test)]
+mod same;
 mod sink;
 mod start;
 #[cfg(test)]

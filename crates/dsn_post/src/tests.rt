@@ -2,6 +2,7 @@
 ghost use Rattle.std.specs.Prelude.{◌≡◌, IfOk, IsSome};
 
 use crate::posting::post_all;
+use crate::same::same;
 use crate::{LetterSink, Posted, Sink, end_posting, open_post, start_posting};
 use dsn_device::Plain;
 use dsn_outcome::{
@@ -185,18 +186,18 @@ fn posted<R: Threads + Wait + Sync>(
 fn letters_in_order(rt: HostRuntime) -> Result<(), Fail> {
     let ids = [b"K1".as_slice(), b"K2".as_slice(), b"K3".as_slice()];
     let told = posted(&rt, rt.alloc(), &ids, usize::MAX)?;
-    assert_eq!(rt; (told.end, told.unsent.len()), ((true, true, 3), 0));
+    same(&rt, (told.end, told.unsent.len()), ((true, true, 3), 0));
     let held = outbox_of(rt.alloc(), &ids)?;
-    assert_eq!(rt; told.held.as_slice(), held.as_slice());
+    same(&rt, told.held.as_slice(), held.as_slice());
     Ok(())
 }
 
 #[test]
 fn no_letters_make_an_empty_outbox(rt: HostRuntime) -> Result<(), Fail> {
     let told = posted(&rt, rt.alloc(), &[], usize::MAX)?;
-    assert_eq!(rt; told.end, (true, true, 0));
+    same(&rt, told.end, (true, true, 0));
     let empty = b"EHLO mx.example.net\r\nQUIT\r\n";
-    assert_eq!(rt; told.held.as_slice(), empty.as_slice());
+    same(&rt, told.held.as_slice(), empty.as_slice());
     Ok(())
 }
 
@@ -206,10 +207,10 @@ fn outbox_fails_in_second_letter(rt: HostRuntime) -> Result<(), Fail> {
     let room = outbox_of(rt.alloc(), &ids[..1])?.len();
     let both = outbox_of(rt.alloc(), &ids[..2])?;
     let told = posted(&rt, rt.alloc(), &ids, room)?;
-    assert_eq!(rt; told.end, (true, false, 1));
-    assert_eq!(rt; told.unsent.as_slice(), b"K2K3".as_slice());
+    same(&rt, told.end, (true, false, 1));
+    same(&rt, told.unsent.as_slice(), b"K2K3".as_slice());
     let front = both.get(..room).ok_or("two letters are longer than one")?;
-    assert_eq!(rt; told.held.as_slice(), front);
+    same(&rt, told.held.as_slice(), front);
     Ok(())
 }
 
@@ -219,7 +220,7 @@ fn lane_lost_after_one_letter(rt: HostRuntime) -> Result<(), Fail> {
     hand_all(&rt, rt.alloc(), &mut sink, &[b"K1".as_slice()])?;
     drop(sink);
     let posting = post_all(&rt, site(rt.alloc())?, outbox(rt.alloc(), 10_000), source);
-    assert_eq!(rt; posting.handed, 1);
+    same(&rt, posting.handed, 1);
     assert!(rt; !posting.source.is_marked());
     Ok(())
 }
@@ -229,7 +230,7 @@ fn lane_lost_before_anything_came(rt: HostRuntime) -> Result<(), Fail> {
     let (sink, source) = open_post(&rt, rt.alloc())?;
     drop(sink);
     let posting = post_all(&rt, site(rt.alloc())?, outbox(rt.alloc(), 1000), source);
-    assert_eq!(rt; posting.handed, 0);
+    same(&rt, posting.handed, 0);
     assert!(rt; posting.outgoing.into_outbox().into_inner().held.is_empty());
     Ok(())
 }
@@ -240,7 +241,7 @@ fn sink_without_its_source_gets_its_letter_back(rt: HostRuntime) -> Result<(), F
     drop(source);
     let back = sink.hand(&rt, letter(rt.alloc(), b"K1")?).err();
     let back = back.ok_or("the letter was sent")?;
-    assert_eq!(rt; back.key().id.bytes(), b"K1".as_slice());
+    same(&rt, back.key().id.bytes(), b"K1".as_slice());
     Ok(())
 }
 

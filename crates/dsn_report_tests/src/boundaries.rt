@@ -1,5 +1,6 @@
 //! The boundary's number, beside a search that tries the numbers in turn.
 use crate::letters::{A1B2C3, BOB, Flush, letter};
+use crate::same::same;
 use bstr::ByteSlice;
 use dsn_report::boundary;
 use std::alloc::Global;
@@ -44,8 +45,12 @@ fn is_ruled_out(delimiter: &[u8], header: &[u8]) -> bool {
 fn expect_number(rt: &impl Abort, alloc: Global, flush: Flush<'_>, want: u16) -> Result<(), Fail> {
     let letter = letter(alloc, BOB, flush)?;
     let header = flush.header;
-    assert_eq!(rt; boundary(&letter), want, "{header:?}");
-    assert_eq!(rt; boundary_in_turn(alloc, flush)?, want, "{header:?} in turn");
+    same(rt, (header, boundary(&letter)), (header, want));
+    same(
+        rt,
+        (header, boundary_in_turn(alloc, flush)?),
+        (header, want),
+    );
     Ok(())
 }
 
@@ -200,6 +205,6 @@ fn many_numbers_ruled_out(rt: HostRuntime) -> Result<(), Fail> {
         ..SHORTEST
     };
     let letter = letter(rt.alloc(), BOB, flush)?;
-    assert_eq!(rt; boundary(&letter), 2_520);
+    same(&rt, boundary(&letter), 2_520);
     Ok(())
 }

@@ -1,6 +1,7 @@
 //! The letters and the site of all tests, and which hosts are a site.
 ghost use Rattle.std.specs.Prelude.{◌≡◌, ◌≢◌, [], All};
 
+use crate::same::same;
 use dsn_outcome::{
     Address, Chain, Draft, EnvelopeId, Key, Letter, Outcome, Parts, QueueId, RawHeader, Service,
     Stamp,
@@ -106,12 +107,12 @@ pub(crate) fn site(alloc: Global) -> Result<Site, Fail> {
 #[test]
 fn hosts(rt: HostRuntime) -> Result<(), Fail> {
     let site = Site::new(rt.alloc(), b"mx.example.net")?;
-    assert_eq!(rt; site.bytes(), b"mx.example.net".as_slice());
+    same(&rt, site.bytes(), b"mx.example.net".as_slice());
     assert!(rt; Site::is_valid(b"--help"));
     let fault = Site::new(rt.alloc(), b"a_b")
         .err()
         .ok_or("`a_b` is a host")?;
-    assert_eq!(rt; fault, SiteFault::BadHost);
-    assert_eq!(rt; fault.code(), 51);
+    same(&rt, fault, SiteFault::BadHost);
+    same(&rt, fault.code(), 51);
     Ok(())
 }

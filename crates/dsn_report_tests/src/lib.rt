@@ -12,3 +12,5 @@ mod longest;
 mod notices;
 #[cfg(test)]
 mod outboxes;
+#[cfg(test)]
+mod same;

@@ -2,6 +2,7 @@
 ghost use Rattle.std.specs.Prelude.{◌≡◌, ◌≤◌, All, IfOk, length};
 
 use crate::letters::{A1B2C3, BOB, Flush, Texts, failed, letter, sealed, site};
+use crate::same::same;
 use dsn_outcome::{
     Chain, LONGEST_ADDRESS, LONGEST_CLEAN, LONGEST_HEADER, LONGEST_MTA_NAME, Outcome, Service,
 };
@@ -17,11 +18,11 @@ fn long_hosts(rt: HostRuntime) -> Result<(), Fail> {
     for len in [100, LONGEST_HOST] {
         let text = vec![in rt.alloc(); b'h'; len]?;
         let site = Site::new(rt.alloc(), text.as_slice())?;
-        assert_eq!(rt; site.bytes(), text.as_slice());
+        same(&rt, site.bytes(), text.as_slice());
         let text = notice(rt.alloc(), &site, &letter)?;
         // the host stands in From, in Message-ID, in the words for a person and in Reporting-MTA
         let more = text.len().saturating_sub(least.len());
-        assert_eq!(rt; more, len.saturating_sub(1).saturating_mul(4));
+        same(&rt, more, len.saturating_sub(1).saturating_mul(4));
     }
     let text = vec![in rt.alloc(); b'h'; LONGEST_HOST + 1]?;
     assert!(rt; Site::new(rt.alloc(), text.as_slice()).is_err());
@@ -46,19 +47,20 @@ fn long_headers(rt: HostRuntime) -> Result<(), Fail> {
     let least = notice(rt.alloc(), &site, &bare)?;
     for (lines, rest, len) in [(200, 50, 20_050), (327, 68, LONGEST_HEADER)] {
         let header = header(rt.alloc(), lines, rest)?;
-        assert_eq!(rt; header.len(), len);
+        same(&rt, header.len(), len);
         let flush = Flush {
             header: &header,
             ..A1B2C3
         };
         let letter = letter(rt.alloc(), BOB, flush)?;
-        assert_eq!(rt; boundary(&letter), 0);
+        same(&rt, boundary(&letter), 0);
         let text = notice(rt.alloc(), &site, &letter)?;
         // each line gets a CR, and the last one CR and LF
         let more = text.len().saturating_sub(least.len());
-        assert_eq!(rt;
+        same(
+            &rt,
             more.saturating_sub(PART.len()),
-            len.saturating_add(lines).saturating_add(2)
+            len.saturating_add(lines).saturating_add(2),
         );
     }
     Ok(())
@@ -105,6 +107,6 @@ fn thousand_outcomes_of_the_longest_texts(rt: HostRuntime) -> Result<(), Fail> {
     let text = notice(alloc, &site, &letter)?;
     // 110 bytes of the notice about bob are his; an outcome of the longest texts has 2,791
     let more = text.len().saturating_sub(least.len());
-    assert_eq!(rt; more.saturating_add(110), 2_791_000);
+    same(&rt, more.saturating_add(110), 2_791_000);
     Ok(())
 }

@@ -1,5 +1,6 @@
 //! The text of notices.
 use crate::letters::{A1B2C3, BOB, Flush, Texts, letter, site};
+use crate::same::same;
 use dsn_report::{boundary, notice};
 use std::test::Fail;
 
@@ -10,7 +11,7 @@ fn boundary_collision(rt: HostRuntime) -> Result<(), Fail> {
         ..A1B2C3
     };
     let letter = letter(rt.alloc(), BOB, flush)?;
-    assert_eq!(rt; boundary(&letter), 1);
+    same(&rt, boundary(&letter), 1);
     let text = notice(rt.alloc(), &site(rt.alloc())?, &letter)?;
     let end =
         b"\r\n\r\n--B.A1B2C3.1700000000.0000x\r\nSubject: hi\r\n\r\n--B.A1B2C3.1700000000.0001--\r\n";
@@ -34,7 +35,7 @@ fn all_optional_fields(rt: HostRuntime) -> Result<(), Fail> {
     };
     let letter = letter(rt.alloc(), texts, flush)?;
     let text = notice(rt.alloc(), &site(rt.alloc())?, &letter)?;
-    assert_eq!(rt; text.as_slice(), ALL_FIELDS.as_slice());
+    same(&rt, text.as_slice(), ALL_FIELDS.as_slice());
     Ok(())
 }
 
@@ -49,7 +50,7 @@ fn dots_long_lines_eight_bit(rt: HostRuntime) -> Result<(), Fail> {
         ..A1B2C3
     };
     let letter = letter(rt.alloc(), BOB, flush)?;
-    assert_eq!(rt; boundary(&letter), 0);
+    same(&rt, boundary(&letter), 0);
     let text = notice(rt.alloc(), &site(rt.alloc())?, &letter)?;
     // as it is: the added dots are the outbox's
     let mut end = Vec::new(rt.alloc());

@@ -1,5 +1,6 @@
 //! What a poster writes, and what it gives back where the outbox fails.
 use crate::letters::{A1B2C3, BOB, Flush, letter, site};
+use crate::same::same;
 use dsn_outcome::{Letter, Plain};
 use dsn_report::{Ended, PostFault, Poster};
 use std::alloc::Global;
@@ -51,7 +52,7 @@ fn one_append_one_flush(rt: HostRuntime) -> Result<(), Fail> {
     assert!(rt; poster.post(letter).is_ok());
     let Ended { outbox, whole } = poster.finish();
     assert!(rt; whole);
-    assert_eq!(rt; outbox.into_inner().as_slice(), OUTBOX.as_slice());
+    same(&rt, outbox.into_inner().as_slice(), OUTBOX.as_slice());
     Ok(())
 }
 
@@ -74,15 +75,15 @@ fn outbox_fails_in_second_letter(rt: HostRuntime) -> Result<(), Fail> {
     let mut poster = Poster::new(site(rt.alloc())?, Plain::new(writer));
     assert!(rt; poster.post(first).is_ok());
     let (code, back) = handed_back(poster.post(second)).ok_or("the second letter was posted")?;
-    assert_eq!(rt; code, 31);
-    assert_eq!(rt; back.key().id.bytes(), b"K2".as_slice());
+    same(&rt, code, 31);
+    same(&rt, back.key().id.bytes(), b"K2".as_slice());
     let (code, back) = handed_back(poster.post(third)).ok_or("the third letter was posted")?;
-    assert_eq!(rt; code, 32);
-    assert_eq!(rt; back.key().id.bytes(), b"K3".as_slice());
+    same(&rt, code, 32);
+    same(&rt, back.key().id.bytes(), b"K3".as_slice());
     let Ended { outbox, whole } = poster.finish();
     assert!(rt; !whole);
     let held = outbox.into_inner().held;
-    assert_eq!(rt; held.len(), 21 + FIRST_LETTER + 20);
+    same(&rt, held.len(), 21 + FIRST_LETTER + 20);
     assert!(rt;
         held.as_slice()
             .ends_with(b"\r\n.\r\nMAIL FROM:<>\r\nRCPT T")
@@ -102,20 +103,20 @@ fn nothing_after_the_fault(rt: HostRuntime) -> Result<(), Fail> {
         let mut poster = Poster::new(site(rt.alloc())?, Plain::new(writer));
         let first = handed_back(poster.post(about(rt.alloc(), b"A1B2C3")?));
         // the transaction and its flush come before QUIT
-        assert_eq!(rt;
-            first.is_some(),
-            room <= OUTBOX.len() - 6,
-            "after {room} bytes"
+        same(
+            &rt,
+            (room, first.is_some()),
+            (room, room <= OUTBOX.len() - 6),
         );
         if let Some((code, back)) = first {
-            assert_eq!(rt; code, 31, "after {room} bytes");
+            same(&rt, (room, code), (room, 31));
             let (code, _) = handed_back(poster.post(back)).ok_or("a letter after the fault")?;
-            assert_eq!(rt; code, 32, "after {room} bytes");
+            same(&rt, (room, code), (room, 32));
         }
         let Ended { outbox, whole } = poster.finish();
         assert!(rt; !whole, "after {room} bytes");
         let held = outbox.into_inner().held;
-        assert_eq!(rt; held.as_slice(), &OUTBOX[..room], "after {room} bytes");
+        same(&rt, (room, held.as_slice()), (room, &OUTBOX[..room]));
     }
     Ok(())
 }

@@ -3,6 +3,7 @@ use super::fakes::{EndlessFrames, PieceReader, PieceWriter};
 use super::input::{Ask, BOB, BOUNCE, ONE_MESSAGE, TO_ANN, input_of};
 use super::outboxes::{EMPTY, ONE_NOTICE};
 use super::runs::{PROGRAM, Want, expect, limits_of, run_within};
+use crate::same::same;
 use dsn_outcome::Plain;
 use noticed_lib::{MemoryRun, Site, batch};
 use std::test::Fail;
@@ -126,9 +127,9 @@ fn flushes_without_end(rt: HostRuntime) -> Result<(), Fail> {
     let outbox = Plain::new(Vec::new(rt.alloc()));
     let end = batch(rt.alloc(), &limits, site, &mut source, outbox, &mut notes);
     let lines = b"0 nothing\n1 closed\n2 closed\nfault 47\n";
-    assert_eq!(rt; notes.into_inner().as_slice(), lines.as_slice());
-    assert_eq!(rt; end.outbox.into_inner().as_slice(), EMPTY.as_slice());
-    assert_eq!(rt; (end.fault, end.status), (Some(47), 1));
+    same(&rt, notes.into_inner().as_slice(), lines.as_slice());
+    same(&rt, end.outbox.into_inner().as_slice(), EMPTY.as_slice());
+    same(&rt, (end.fault, end.status), (Some(47), 1));
     Ok(())
 }
 

@@ -19,6 +19,8 @@ mod peer;
 #[cfg(test)]
 mod runs;
 #[cfg(test)]
+mod same;
+#[cfg(test)]
 mod sends;
 #[cfg(test)]
 mod serving;

@@ -5,6 +5,7 @@ use super::input::{
 };
 use super::outboxes::{AFTER_GROUPS, BEFORE_GROUPS, BEFORE_LINES, ONE_NOTICE};
 use super::runs::{PROGRAM, Want, expect_bytes, run_within};
+use crate::same::same;
 use noticed_lib::MemoryRun;
 use std::alloc::Global;
 use std::process::Abort;
@@ -35,7 +36,7 @@ fn one_message<'a>(parts: AppendFields<'a>, texts: FlushTexts<'a>) -> [Ask<'a>; 
 #[test]
 fn one_append_one_flush(rt: HostRuntime) -> Result<(), Fail> {
     let input = input_of(rt.alloc(), &one_message(BOB, TO_ANN))?;
-    assert_eq!(rt; input.bytes.as_slice(), ONE_MESSAGE.as_slice());
+    same(&rt, input.bytes.as_slice(), ONE_MESSAGE.as_slice());
     expect_bytes(&rt, rt.alloc(), ONE_MESSAGE, well(ONE_NOTICE, SEALED))
 }
 
@@ -43,7 +44,7 @@ fn one_append_one_flush(rt: HostRuntime) -> Result<(), Fail> {
 fn expect_ends(rt: &impl Abort, ran: &MemoryRun, outbox: &[u8], notes: &[u8]) {
     assert!(rt; ran.outbox.as_slice().ends_with(outbox));
     assert!(rt; ran.notes.as_slice().ends_with(notes));
-    assert_eq!(rt; ran.status, 0);
+    same(rt, ran.status, 0);
 }
 
 /// The pieces, one after another.
@@ -161,7 +162,7 @@ fn thousand_outcomes(rt: HostRuntime) -> Result<(), Fail> {
     ];
     let outbox = joined(rt.alloc(), &pieces)?;
     let ran = run_within(rt.alloc(), PROGRAM, &log.input.bytes)?;
-    assert_eq!(rt; ran.outbox.len(), outbox.len());
+    same(&rt, ran.outbox.len(), outbox.len());
     expect_ends(&rt, &ran, &outbox, b"999 logged 999\n1000 sealed 1000\n");
     Ok(())
 }

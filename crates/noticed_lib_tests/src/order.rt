@@ -3,6 +3,7 @@ ghost use Rattle.std.specs.Prelude.{Some};
 
 use super::input::ONE_MESSAGE;
 use super::runs::{PROGRAM, limits_of};
+use crate::same::same;
 use dsn_outcome::Plain;
 use noticed_lib::{Site, batch};
 use std::io;
@@ -140,9 +141,9 @@ fn run_noted(rt: &HostRuntime, good: usize) -> Result<(Vec<u8>, usize), Fail> {
 fn a_letter_then_its_line_then_the_next_frame(rt: HostRuntime) -> Result<(), Fail> {
     let (rows, reads) = run_noted(&rt, usize::MAX)?;
     // Two reads a frame, and one that finds the end.
-    assert_eq!(rt; reads, 5);
+    same(&rt, reads, 5);
     // The append and its line; the flush, its letter and its line; the end, and QUIT.
-    assert_eq!(rt; rows.as_slice(), b"rnronro".as_slice());
+    same(&rt, rows.as_slice(), b"rnronro".as_slice());
     Ok(())
 }
 
@@ -150,9 +151,9 @@ fn a_letter_then_its_line_then_the_next_frame(rt: HostRuntime) -> Result<(), Fai
 fn nothing_is_read_after_a_failed_read(rt: HostRuntime) -> Result<(), Fail> {
     for good in 0..5 {
         let (_, reads) = run_noted(&rt, good)?;
-        assert_eq!(rt; reads, good + 1, "after {good} reads");
+        same(&rt, (good, reads), (good, good + 1));
     }
     let (rows, _) = run_noted(&rt, 2)?;
-    assert_eq!(rt; rows.as_slice(), b"rnron".as_slice());
+    same(&rt, rows.as_slice(), b"rnron".as_slice());
     Ok(())
 }

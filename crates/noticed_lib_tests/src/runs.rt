@@ -1,5 +1,6 @@
 //! Runs over bytes in memory, and what they are to come to.
 use super::input::{Ask, input_of};
+use crate::same::same;
 use noticed_lib::{Limits, MemoryRun, Site, batch_bytes};
 use std::alloc::Global;
 use std::process::Abort;
@@ -39,10 +40,14 @@ fn run_limited(alloc: Global, limits: Limits, input: &[u8]) -> Result<MemoryRun,
 
 /// Asserts what a run came to; the case is told where it came to something else.
 pub(super) fn expect(rt: &impl Abort, ran: &MemoryRun, want: &Want<'_>, case: usize) {
-    assert_eq!(rt; ran.notes.as_slice(), want.notes, "case {case}");
-    assert_eq!(rt; ran.outbox.as_slice(), want.outbox, "case {case}");
+    same(rt, (case, ran.notes.as_slice()), (case, want.notes));
+    same(rt, (case, ran.outbox.as_slice()), (case, want.outbox));
     let end = (ran.whole, ran.fault, ran.status);
-    assert_eq!(rt; end, (want.whole, want.fault, want.status), "case {case}");
+    same(
+        rt,
+        (case, end),
+        (case, (want.whole, want.fault, want.status)),
+    );
 }
 
 /// Asserts what a run over these bytes comes to, within the program's limits.

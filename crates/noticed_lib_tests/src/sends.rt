@@ -2,6 +2,7 @@
 use super::fakes::{PieceReader, PieceWriter};
 use super::input::ONE_MESSAGE;
 use super::peer::Peer;
+use crate::same::same;
 use dsn_outcome::Plain;
 use noticed_lib::{SendEnd, send};
 use std::alloc::Global;
@@ -89,9 +90,9 @@ fn sent(rt: &impl Wait, alloc: Global, case: &Case<'_>) -> Sent {
 fn expect_send(rt: &(impl Wait + Abort), alloc: Global, want: &Case<'_>, case: usize) {
     let (end, held, lines) = sent(rt, alloc, want);
     let status = u8::from(want.fault != 0);
-    assert_eq!(rt; end, (want.fault, status, want.writes), "case {case}");
-    assert_eq!(rt; held.as_slice(), front(want.sent), "case {case}");
-    assert_eq!(rt; lines.as_slice(), want.lines, "case {case}");
+    same(rt, (case, end), (case, (want.fault, status, want.writes)));
+    same(rt, (case, held.as_slice()), (case, front(want.sent)));
+    same(rt, (case, lines.as_slice()), (case, want.lines));
 }
 
 /// Asserts what sends come to whose first answer has these bytes: this fault, and no line.

@@ -3,6 +3,7 @@ use super::fakes::PieceWriter;
 use super::input::ONE_MESSAGE;
 use super::outboxes::{EMPTY, ONE_NOTICE};
 use super::text_port::TextPort;
+use crate::same::same;
 use dsn_crew::NoGate;
 use dsn_device::Plain;
 use noticed_lib::{Limits, ServeEnd, Site, serve_ports};
@@ -78,9 +79,9 @@ fn expect<R: Threads + Wait + Sync + Abort>(
     let mut notes = writer(alloc, case.notes_room);
     let end = serve_ports(rt, alloc, site, limits, ports, outbox, &NoGate, &mut notes);
     let ServeEnd { outbox, status } = end;
-    assert_eq!(rt; notes.into_inner().held.as_slice(), case.notes);
-    assert_eq!(rt; outbox.into_inner().held.as_slice(), case.outbox);
-    assert_eq!(rt; status, case.status);
+    same(rt, notes.into_inner().held.as_slice(), case.notes);
+    same(rt, outbox.into_inner().held.as_slice(), case.outbox);
+    same(rt, status, case.status);
     Ok(())
 }
 

@@ -4,6 +4,7 @@ use super::input::{
 };
 use super::outboxes::EMPTY;
 use super::runs::{Want, expect_bytes, expect_run, expect_within, run_within};
+use crate::same::same;
 use noticed_lib::Site;
 use std::alloc::Global;
 use std::process::Abort;
@@ -121,8 +122,8 @@ fn expect_notes_within(
     notes: &[u8],
 ) -> Result<(), Fail> {
     let ran = run_within(alloc, limits, &input_of(alloc, asks)?.bytes)?;
-    assert_eq!(rt; ran.notes.as_slice(), notes);
-    assert_eq!(rt; ran.status, 0);
+    same(rt, ran.notes.as_slice(), notes);
+    same(rt, ran.status, 0);
     Ok(())
 }
 
@@ -285,6 +286,6 @@ fn bounds(rt: HostRuntime) -> Result<(), Fail> {
     let fault = Site::new(rt.alloc(), b"a_b")
         .err()
         .ok_or("`a_b` is a host")?;
-    assert_eq!(rt; fault.code(), 51);
+    same(&rt, fault.code(), 51);
     Ok(())
 }

@@ -2,6 +2,7 @@
 use super::fakes::PieceWriter;
 use super::input::ONE_MESSAGE;
 use super::outboxes::ONE_NOTICE;
+use crate::same::same;
 use dsn_device::Plain;
 use noticed_lib::{Limits, ServeEnd, Site, serve};
 use std::alloc::Global;
@@ -61,10 +62,14 @@ fn agent_serves_max_use_connections(rt: HostRuntime) -> Result<(), Fail> {
     let ServeEnd { outbox, status } = end;
     let mut answers = Vec::new(alloc);
     first.read_to_end(&mut answers)?;
-    assert_eq!(rt; answers.as_slice(), ANSWERS.as_slice());
+    same(&rt, answers.as_slice(), ANSWERS.as_slice());
     let line = b"agent 0 requests 2 connections 2 faults 0\n".as_slice();
-    assert_eq!(rt; notes.into_inner().held.as_slice(), line);
-    assert_eq!(rt; outbox.into_inner().held.as_slice(), ONE_NOTICE.as_slice());
-    assert_eq!(rt; status, 0);
+    same(&rt, notes.into_inner().held.as_slice(), line);
+    same(
+        &rt,
+        outbox.into_inner().held.as_slice(),
+        ONE_NOTICE.as_slice(),
+    );
+    same(&rt, status, 0);
     Ok(())
 }

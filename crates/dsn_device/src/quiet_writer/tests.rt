@@ -2,6 +2,7 @@
 use super::*;
 use crate::fakes::PieceWriter;
 use crate::plain::Plain;
+use crate::same::same;
 use std::test::Fail;
 
 /// Writes three texts and flushes after each. What the writer held is given, and whether it failed.
@@ -25,7 +26,7 @@ fn nothing_after_the_first_failure(rt: HostRuntime) -> Result<(), Fail> {
     for room in 0..12usize {
         let (failed, held) = written(&rt, room)?;
         let told = (failed, held.as_slice());
-        assert_eq!(rt; told, (room < 11, &b"EHLO\nQUIT\n"[..room.min(10)]));
+        same(&rt, told, (room < 11, &b"EHLO\nQUIT\n"[..room.min(10)]));
     }
     Ok(())
 }

@@ -5,6 +5,7 @@ ghost use Rattle.std.specs.Io.KnownBytes.{Appends};
 use super::*;
 use crate::fakes::{PieceConnection, PieceReader, PieceWriter};
 use crate::plain::Plain;
+use crate::same::same;
 use crate::stream::Stream;
 use std::os::unix::net::UnixStream;
 use std::test::Fail;
@@ -28,7 +29,11 @@ fn sends_a_front_up_to_the_failure(rt: HostRuntime) -> Result<(), Fail> {
         for room in 0..TEXT.len() + 1 {
             let (sent, held) = sent_into(&rt, room, most)?;
             let told = (sent, held.as_slice());
-            assert_eq!(rt; told, (room == TEXT.len(), &TEXT[..room]), "by {most}");
+            same(
+                &rt,
+                (most, told),
+                (most, (room == TEXT.len(), &TEXT[..room])),
+            );
         }
     }
     Ok(())
@@ -37,7 +42,7 @@ fn sends_a_front_up_to_the_failure(rt: HostRuntime) -> Result<(), Fail> {
 #[test]
 fn a_write_that_takes_nothing_is_a_failure(rt: HostRuntime) -> Result<(), Fail> {
     let (sent, held) = sent_into(&rt, TEXT.len(), 0)?;
-    assert_eq!(rt; (sent, held.len()), (false, 0));
+    same(&rt, (sent, held.len()), (false, 0));
     Ok(())
 }
 
@@ -48,8 +53,8 @@ fn an_empty_text_makes_no_write(rt: HostRuntime) {
         most: 1,
         room: 0,
     });
-    assert_eq!(rt; send(&mut drain, b""), Ok(()));
-    assert_eq!(rt; send(&mut drain, b"."), Err(Broken));
+    same(&rt, send(&mut drain, b""), Ok(()));
+    same(&rt, send(&mut drain, b"."), Err(Broken));
 }
 
 // What came of filling 8 bytes from a reader that is interrupted once, after `good` calls.
@@ -67,8 +72,12 @@ fn filled_from(good: usize, most: usize, input: &[u8]) -> (Result<usize, Broken>
 #[test]
 fn fills_until_full_or_at_the_end(rt: HostRuntime) {
     for most in 1..10 {
-        assert_eq!(rt; filled_from(100, most, TEXT), (Ok(8), *b"MAIL FRO"));
-        assert_eq!(rt; filled_from(100, most, b"QUIT"), (Ok(4), *b"QUIT\0\0\0\0"));
+        same(&rt, filled_from(100, most, TEXT), (Ok(8), *b"MAIL FRO"));
+        same(
+            &rt,
+            filled_from(100, most, b"QUIT"),
+            (Ok(4), *b"QUIT\0\0\0\0"),
+        );
     }
 }
 
@@ -77,7 +86,7 @@ fn an_interrupted_read_is_a_failure(rt: HostRuntime) {
     // a full buffer asks for no more
     for good in 0..9 {
         let want = if good < 8 { Err(Broken) } else { Ok(8) };
-        assert_eq!(rt; filled_from(good, 1, TEXT).0, want, "after {good} bytes");
+        same(&rt, (good, filled_from(good, 1, TEXT).0), (good, want));
     }
 }
 
@@ -85,7 +94,7 @@ fn an_interrupted_read_is_a_failure(rt: HostRuntime) {
 fn the_end_is_asked_for_once(rt: HostRuntime) {
     for good in 0..6 {
         let want = if good < 5 { Err(Broken) } else { Ok(4) };
-        assert_eq!(rt; filled_from(good, 1, b"QUIT").0, want, "after {good} bytes");
+        same(&rt, (good, filled_from(good, 1, b"QUIT").0), (good, want));
     }
 }
 
@@ -96,7 +105,7 @@ fn an_empty_buffer_makes_no_read(rt: HostRuntime) {
         most: 1,
         good: 0,
     });
-    assert_eq!(rt; fill(&mut source, &mut []), Ok(0));
+    same(&rt, fill(&mut source, &mut []), Ok(0));
 }
 
 // Sends a text and fills a buffer over one device; what was sent stays in it.
@@ -112,14 +121,14 @@ fn a_socket_is_a_stream(rt: HostRuntime) -> Result<(), Fail> {
     let (near, far) = UnixStream::pair(&rt)?;
     let mut near = Plain::new(near);
     let mut far = Plain::new(far);
-    assert_eq!(rt; send(&mut far, b"250 OK\r\n"), Ok(()));
+    same(&rt, send(&mut far, b"250 OK\r\n"), Ok(()));
     let mut buffer = [0; 8];
-    assert_eq!(rt; exchange(&mut near, TEXT, &mut buffer), Ok(8));
-    assert_eq!(rt; buffer.as_slice(), b"250 OK\r\n".as_slice());
+    same(&rt, exchange(&mut near, TEXT, &mut buffer), Ok(8));
+    same(&rt, buffer.as_slice(), b"250 OK\r\n".as_slice());
     drop(near);
     let mut buffer = [0; 16];
-    assert_eq!(rt; fill(&mut far, &mut buffer), Ok(TEXT.len()));
-    assert_eq!(rt; &buffer[..12], TEXT);
+    same(&rt, fill(&mut far, &mut buffer), Ok(TEXT.len()));
+    same(&rt, &buffer[..12], TEXT);
     Ok(())
 }
 
@@ -161,9 +170,9 @@ fn filled_over(stream: &mut Connection) -> Result<usize, Broken> {
 #[test]
 fn one_connection_counts_both_ways(rt: HostRuntime) {
     let mut stream = connection(&rt);
-    assert_eq!(rt; exchanged(&mut stream), (Ok(8), *b"250 OK\r\n"));
-    assert_eq!(rt; sent_over(&mut stream, b"."), Err(Broken));
-    assert_eq!(rt; filled_over(&mut stream), Ok(0));
-    assert_eq!(rt; filled_over(&mut stream), Err(Broken));
-    assert_eq!(rt; stream.into_inner().output.held.as_slice(), TEXT);
+    same(&rt, exchanged(&mut stream), (Ok(8), *b"250 OK\r\n"));
+    same(&rt, sent_over(&mut stream, b"."), Err(Broken));
+    same(&rt, filled_over(&mut stream), Ok(0));
+    same(&rt, filled_over(&mut stream), Err(Broken));
+    same(&rt, stream.into_inner().output.held.as_slice(), TEXT);
 }

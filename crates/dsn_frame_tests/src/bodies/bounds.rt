@@ -1,5 +1,6 @@
 //! Bodies whose fields are as long as they may be, and one byte longer.
 use super::*;
+use crate::same::same;
 
 #[test]
 fn recipient(rt: HostRuntime) -> Result<(), Fail> {
@@ -195,7 +196,7 @@ fn queue_id(rt: HostRuntime) -> Result<(), Fail> {
         (b"012345678901234567890123456789aBc".as_slice(), 26),
     ] {
         let body = head_bytes(&rt, 3, 3, id)?;
-        assert_eq!(rt; refusal(&rt, &body), want, "{id:?}");
+        same(&rt, (id, refusal(&rt, &body)), (id, want));
     }
     Ok(())
 }

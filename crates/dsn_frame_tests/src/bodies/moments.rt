@@ -1,5 +1,6 @@
 //! Appends of version 2: two moments after the reason.
 use super::*;
+use crate::same::same;
 use dsn_frame::encode_request;
 use dsn_outcome::{LAST_MOMENT, Outcome, Parts, QueueId, Stamp};
 
@@ -52,12 +53,12 @@ fn moments_of(rt: &HostRuntime, bytes: &[u8]) -> Result<[Option<u64>; 2], Fail> 
 #[test]
 fn last_attempt_and_retry_until(rt: HostRuntime) -> Result<(), Fail> {
     let body = dated(&rt, 2, DELAYED, &[1_700_000_000, 1_700_432_000])?;
-    assert_eq!(rt; body.len(), 60);
+    same(&rt, body.len(), 60);
     let wire =
         b"\x02\x01\0\0\0\0\x02\0\x02X1\0\0\0\x0fbob@example.org\x02\0\x054.4.1\0\0\0\0\0\0\0\0\0\0\x65\x53\xf1\0\0\0\0\0\x65\x5a\x88\x80";
-    assert_eq!(rt; body.as_slice(), wire.as_slice());
+    same(&rt, body.as_slice(), wire.as_slice());
     let want = [Some(1_700_000_000), Some(1_700_432_000)];
-    assert_eq!(rt; moments_of(&rt, &body)?, want);
+    same(&rt, moments_of(&rt, &body)?, want);
     Ok(())
 }
 
@@ -85,13 +86,13 @@ fn the_moments_of_a_body_are_written_again(rt: HostRuntime) -> Result<(), Fail> 
         let body = Body::Append(id, node);
         let frame = encode_request(rt.alloc(), 0, &body)?;
         let want = if moments == [NONE, NONE] { 1 } else { 2 };
-        assert_eq!(rt; frame.get(4).copied(), Some(want), "{moments:?}");
+        same(&rt, (moments, frame.get(4).copied()), (moments, Some(want)));
         let back = frame.get(4..).ok_or("no body")?;
         let seconds = [
             Stamp::new(moments[0]).map(Stamp::seconds),
             Stamp::new(moments[1]).map(Stamp::seconds),
         ];
-        assert_eq!(rt; moments_of(&rt, back)?, seconds, "{moments:?}");
+        same(&rt, (moments, moments_of(&rt, back)?), (moments, seconds));
     }
     Ok(())
 }
@@ -122,7 +123,11 @@ fn version_two_bounds(rt: HostRuntime) -> Result<(), Fail> {
         (4, spoiled, [253_402_300_800, NONE].as_slice(), 25),
     ] {
         let body = dated(&rt, service, parts, moments)?;
-        assert_eq!(rt; refusal(&rt, &body), want, "{service} {moments:?}");
+        same(
+            &rt,
+            (service, moments, refusal(&rt, &body)),
+            (service, moments, want),
+        );
     }
     Ok(())
 }
@@ -136,7 +141,7 @@ fn moments_at_their_bounds_are_kept(rt: HostRuntime) -> Result<(), Fail> {
         ([LAST_MOMENT, 1], [Some(LAST_MOMENT), Some(1)]),
     ] {
         let body = dated(&rt, 2, DELAYED, &moments)?;
-        assert_eq!(rt; moments_of(&rt, &body)?, want, "{moments:?}");
+        same(&rt, (moments, moments_of(&rt, &body)?), (moments, want));
     }
     Ok(())
 }

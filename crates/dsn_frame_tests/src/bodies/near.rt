@@ -1,5 +1,6 @@
 //! Bodies that are one byte away from a legal one.
 use super::*;
+use crate::same::same;
 
 /// An append of version 1 to `T K1` with every optional text, 41 bytes.
 const APPEND_BODY: &[u8] =
@@ -18,12 +19,12 @@ fn expect<R: Abort + AllocGlobal>(
     legal: &'static [u8],
     changes: &[(usize, u8, u32)],
 ) -> Result<(), Fail> {
-    assert_eq!(rt; refusal(rt, legal), 0);
+    same(rt, refusal(rt, legal), 0);
     for &(at, byte, want) in changes {
         let mut body = Vec::new(rt.alloc());
         body.extend_from_slice(legal)?;
         *body.get_mut(at).ok_or("the place")? = byte;
-        assert_eq!(rt; refusal(rt, &body), want, "{byte} at {at}");
+        same(rt, (byte, at, refusal(rt, &body)), (byte, at, want));
     }
     Ok(())
 }
@@ -167,8 +168,8 @@ fn bodies_with_a_byte_more_or_less(rt: HostRuntime) -> Result<(), Fail> {
         let mut longer = Vec::new(rt.alloc());
         longer.extend_from_slice(legal)?;
         longer.push(0)?;
-        assert_eq!(rt; refusal(&rt, &longer), 24);
-        assert_eq!(rt; refusal(&rt, &legal[..legal.len() - 1]), 23);
+        same(&rt, refusal(&rt, &longer), 24);
+        same(&rt, refusal(&rt, &legal[..legal.len() - 1]), 23);
     }
     Ok(())
 }

@@ -1,13 +1,15 @@
 #!/usr/bin/env python3
 """The gate (`make check`), in three parts: `rt ci` proves every crate and its tests from nothing, builds and runs the tests
-and the programs; tests/support/refused.py tries the wrong edits over the libraries that this built; then the scripts of
-tests/ run on the programs. The last line is 'N passed, M failed', and the status is 1 where anything failed.
+and the programs; tests/support/refused.py tries the wrong edits over the libraries that this builds, beside it and with
+what it leaves of the processors; then the scripts of tests/ run on the programs. The last line is 'N passed, M failed', and
+the status is 1 where anything failed.
 
 It works in a copy of the repository, so that `rt ci` leaves alone the edits, which refused.py tries in fewer checks, and
 so that what was proved here before is neither used nor lost. Logs go to out/, programs to crates/*/out/."""
 import os
 import re
 import shutil
+import signal
 import subprocess
 import sys
 import tempfile
@@ -53,21 +55,28 @@ def copied(room: Path):
     (room / ".git").mkdir()
 
 
-def with_edits(room: Path):
-    """Brings the wrong edits into the copy."""
-    for edits in (ROOT / "crates").glob("*/must-fail"):
-        shutil.copytree(edits, room / "crates" / edits.parent.name / "must-fail")
+class Part:
+    """A part of the gate that runs beside others, and what it says goes into its log."""
 
+    def __init__(self, what: str, words: list, folder: Path, log: Path):
+        self.begun, self.log = time.monotonic(), log
+        print(f"{what} (log: {log.relative_to(ROOT)}) ..", flush=True)
+        with open(log, "wb") as out:
+            environment = {**os.environ, "RT_JOBS": str(jobs())}
+            self.running = subprocess.Popen(words, cwd=folder, env=environment, stdout=out, stderr=subprocess.STDOUT, start_new_session=True)
 
-def ran(words: list, folder: Path, log: Path) -> tuple:
-    """Runs a part of the gate, and tells its minutes: the status, and what it said, which goes into its log."""
-    begun = time.monotonic()
-    with open(log, "wb") as out:
-        status = subprocess.run(words, cwd=folder, env={**os.environ, "RT_JOBS": str(jobs())}, stdout=out, stderr=subprocess.STDOUT, check=False).returncode
-    said = log.read_text(errors="replace")
-    print(said, end="")
-    print(f"== {(time.monotonic() - begun) / 60:.0f} minutes", flush=True)
-    return status, said
+    def ends(self) -> tuple:
+        """Waits for its end, shows what it said, and tells its minutes: the status, and what it said."""
+        status = self.running.wait()
+        said = self.log.read_text(errors="replace")
+        print(f"{said}== {self.log.name}: {(time.monotonic() - self.begun) / 60:.0f} minutes", flush=True)
+        return status, said
+
+    def stop(self):
+        """Ends it, with all that it started."""
+        if self.running.poll() is None:
+            os.killpg(self.running.pid, signal.SIGKILL)
+            self.running.wait()
 
 
 def keep_programs(room: Path):
@@ -90,24 +99,36 @@ def run_scripts() -> list:
     return failed
 
 
+def prove_and_refuse(room: Path, verdict: Verdict) -> bool:
+    """Proves a copy of the repository, tries the wrong edits beside it, and keeps the programs: whether all was proved."""
+    copied(room)
+    log = ROOT / "out/gate.log"
+    proving = Part("proving every crate and its tests from nothing, rt ci", [RT, "ci"], room, log)
+    words = ["nice", "-n", "19", sys.executable, "tests/support/refused.py", "--beside", room, log]
+    refusing = Part("trying the wrong edits beside it", words, ROOT, ROOT / "out/refused.log")
+    try:
+        verdict.count(*proving.ends())
+        if verdict.failed:
+            return False
+        keep_programs(room)
+        verdict.count(*refusing.ends())
+        return True
+    finally:
+        proving.stop()
+        refusing.stop()
+
+
 def main() -> int:
-    verdict, logs = Verdict(), ROOT / "out"
-    logs.mkdir(exist_ok=True)
+    signal.signal(signal.SIGTERM, lambda *_: sys.exit(1))
+    verdict = Verdict()
+    (ROOT / "out").mkdir(exist_ok=True)
     if lacking():
         print(f"make check needs {', '.join(lacking())}")
         verdict.failed = 1
         return verdict.ends()
     with tempfile.TemporaryDirectory(prefix="noticed-gate-") as name:
-        room = Path(name)
-        copied(room)
-        print("proving every crate and its tests from nothing, rt ci (log: out/gate.log) ..", flush=True)
-        verdict.count(*ran([RT, "ci"], room, logs / "gate.log"))
-        if verdict.failed:
+        if not prove_and_refuse(Path(name), verdict):
             return verdict.ends()
-        keep_programs(room)
-        with_edits(room)
-        print("trying the wrong edits (log: out/refused.log) ..", flush=True)
-        verdict.count(*ran([sys.executable, "tests/support/refused.py"], room, logs / "refused.log"))
     begun, failed = time.monotonic(), run_scripts()
     print(f"== {(time.monotonic() - begun) / 60:.0f} minutes; failed scripts: {', '.join(failed) or 'none'}")
     verdict.failed += len(failed)

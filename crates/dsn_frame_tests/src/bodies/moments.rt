@@ -7,35 +7,16 @@ use dsn_outcome::{LAST_MOMENT, Outcome, Parts, QueueId, Stamp};
 /// What stands for no moment.
 const NONE: u64 = u64::MAX;
 
-/// An append of version 2 to the log of this service and `X1`, with these moments.
-fn dated(
-    rt: &HostRuntime,
-    service: u8,
-    parts: RecipientParts<'_>,
-    moments: &[u64],
-) -> Result<Vec<u8>, Fail> {
-    let mut body = vec![in rt.alloc(); 2, 1, 0, 0, 0, 0, service]?;
-    push_text(&mut body, b"X1")?;
-    push_text(&mut body, parts.original)?;
-    push_text(&mut body, parts.recipient)?;
-    body.push(parts.action)?;
-    push_text(&mut body, parts.status)?;
-    push_text(&mut body, parts.mta)?;
-    push_text(&mut body, parts.diagnostic)?;
-    push_text(&mut body, parts.reason)?;
+/// An append of version 2 of a delayed recipient to `D X1`, with these moments.
+fn dated(rt: &HostRuntime, moments: &[u64]) -> Result<Vec<u8>, Fail> {
+    let mut body = Vec::new(rt.alloc());
+    body.extend_from_slice(b"\x02\x01\0\0\0\0\x02\0\x02X1\0\0\0\x0fbob@example.org\x02")?;
+    body.extend_from_slice(b"\0\x054.4.1\0\0\0\0\0\0")?;
     for moment in moments {
         body.extend_from_slice(&moment.to_be_bytes())?;
     }
     Ok(body)
 }
-
-/// A delayed recipient without optional texts.
-const DELAYED: RecipientParts<'static> = RecipientParts {
-    recipient: b"bob@example.org",
-    action: 2,
-    status: b"4.4.1",
-    ..APPEND
-};
 
 /// The two moments of the append that these bytes are.
 fn moments_of(rt: &HostRuntime, bytes: &[u8]) -> Result<[Option<u64>; 2], Fail> {
@@ -52,7 +33,7 @@ fn moments_of(rt: &HostRuntime, bytes: &[u8]) -> Result<[Option<u64>; 2], Fail> 
 
 #[test]
 fn last_attempt_and_retry_until(rt: HostRuntime) -> Result<(), Fail> {
-    let body = dated(&rt, 2, DELAYED, &[1_700_000_000, 1_700_432_000])?;
+    let body = dated(&rt, &[1_700_000_000, 1_700_432_000])?;
     same(&rt, body.len(), 60);
     let wire =
         b"\x02\x01\0\0\0\0\x02\0\x02X1\0\0\0\x0fbob@example.org\x02\0\x054.4.1\0\0\0\0\0\0\0\0\0\0\x65\x53\xf1\0\0\0\0\0\x65\x5a\x88\x80";
@@ -98,41 +79,6 @@ fn the_moments_of_a_body_are_written_again(rt: HostRuntime) -> Result<(), Fail> 
 }
 
 #[test]
-fn version_two_bounds(rt: HostRuntime) -> Result<(), Fail> {
-    let failed = RecipientParts {
-        recipient: b"bob@example.org",
-        status: b"5.1.1",
-        ..APPEND
-    };
-    let spoiled = RecipientParts {
-        recipient: b"<",
-        ..DELAYED
-    };
-    for (service, parts, moments, want) in [
-        (1, failed, [1_700_000_000, 1_700_432_000].as_slice(), 10),
-        (1, failed, [1_700_000_000, NONE].as_slice(), 0),
-        (2, spoiled, [253_402_300_800, NONE].as_slice(), 27),
-        (2, spoiled, [NONE, 253_402_300_800].as_slice(), 27),
-        (2, spoiled, [NONE, 253_402_300_799].as_slice(), 1),
-        (2, DELAYED, [253_402_300_799, 253_402_300_799].as_slice(), 0),
-        (2, DELAYED, [NONE, NONE - 1].as_slice(), 27),
-        (1, failed, [].as_slice(), 23),
-        (1, failed, [NONE].as_slice(), 23),
-        (1, failed, [NONE, NONE].as_slice(), 0),
-        (1, failed, [NONE, NONE, NONE].as_slice(), 24),
-        (4, spoiled, [253_402_300_800, NONE].as_slice(), 25),
-    ] {
-        let body = dated(&rt, service, parts, moments)?;
-        same(
-            &rt,
-            (service, moments, refusal(&rt, &body)),
-            (service, moments, want),
-        );
-    }
-    Ok(())
-}
-
-#[test]
 fn moments_at_their_bounds_are_kept(rt: HostRuntime) -> Result<(), Fail> {
     for (moments, want) in [
         ([NONE, NONE], [None, None]),
@@ -140,7 +86,7 @@ fn moments_at_their_bounds_are_kept(rt: HostRuntime) -> Result<(), Fail> {
         ([NONE, 0], [None, Some(0)]),
         ([LAST_MOMENT, 1], [Some(LAST_MOMENT), Some(1)]),
     ] {
-        let body = dated(&rt, 2, DELAYED, &moments)?;
+        let body = dated(&rt, &moments)?;
         same(&rt, (moments, moments_of(&rt, &body)?), (moments, want));
     }
     Ok(())

@@ -113,11 +113,10 @@ def cut_and_longer() -> list:
 
 def refusal(body: bytes) -> int:
     """The number that the program refuses this body with as its first request, or 0."""
-    first = batch(len(body).to_bytes(4, "big") + body).notes.partition(b"\n")[0]
-    place, what, number = first.split()
-    if place != b"0" or what == b"fault":
+    first = batch(len(body).to_bytes(4, "big") + body).notes.split(b"\n")[0].split()
+    if first[0] != b"0":
         raise ValueError(first)
-    return int(number) if what == b"refused" else ACCEPTED
+    return int(first[2]) if first[1] == b"refused" else ACCEPTED
 
 
 def main():

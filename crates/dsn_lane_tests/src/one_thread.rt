@@ -123,8 +123,8 @@ fn lane_of_sixteen(rt: HostRuntime) -> Result<(), Fail> {
     let ran = run_sixteen(&rt, rt.alloc()).expect(&rt, "it runs");
     same(&rt, ran.counts, (16, 0));
     same(&rt, ran.items.len(), 16);
-    for (turn, taken) in ran.items.iter().enumerate() {
-        same(&rt, *taken, item(15 - turn as u32, 0));
+    for (agent, taken) in (0..16u32).rev().zip(ran.items.iter()) {
+        same(&rt, *taken, item(agent, 0));
     }
     let ran = run_one(&rt, rt.alloc()).expect(&rt, "it runs");
     same(&rt, ran.items.as_slice(), [item(0, 0)].as_slice());

@@ -5,7 +5,6 @@ ghost use Rattle.dsn_device.specs.Failures.{counted};
 use crate::broken::Broken;
 use crate::drain::Drain;
 use crate::opaque::Opaque;
-use crate::same::same;
 use crate::source::Source;
 use crate::stream::Stream;
 use std::io::{Read, Write};
@@ -163,6 +162,7 @@ impl<T: Opaque> Stream for Plain<T> {
 mod tests {
     use super::*;
     use crate::fakes::{PieceReader, PieceWriter};
+    use crate::same::same;
     use std::alloc::Global;
 
     /// What a read came to, and how many failures are counted then.

@@ -3,7 +3,6 @@ ghost use Rattle.std.specs.Prelude.{◌≡◌, false};
 ghost use Rattle.dsn_device.specs.UntilFailure.{WritesUntilFailure, FlushesUntilFailure};
 
 use crate::drain::Drain;
-use crate::same::same;
 use crate::transfer::send;
 
 /// Whether a drain has failed so far. Texts that are written through it reach the drain up to the
@@ -44,6 +43,7 @@ mod tests {
     use super::*;
     use crate::fakes::PieceWriter;
     use crate::plain::Plain;
+    use crate::same::same;
 
     #[test]
     fn nothing_follows_a_failure(rt: HostRuntime) {

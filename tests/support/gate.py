@@ -58,11 +58,11 @@ def copied(room: Path):
 class Part:
     """A part of the gate that runs beside others, and what it says goes into its log."""
 
-    def __init__(self, what: str, words: list, folder: Path, log: Path):
+    def __init__(self, what: str, words: list, folder: Path, log: Path, **more):
         self.begun, self.log = time.monotonic(), log
         print(f"{what} (log: {log.relative_to(ROOT)}) ..", flush=True)
         with open(log, "wb") as out:
-            environment = {**os.environ, "RT_JOBS": str(jobs())}
+            environment = {**os.environ, "RT_JOBS": str(jobs()), **more}
             self.running = subprocess.Popen(words, cwd=folder, env=environment, stdout=out, stderr=subprocess.STDOUT, start_new_session=True)
 
     def ends(self) -> tuple:
@@ -99,13 +99,14 @@ def run_scripts() -> list:
     return failed
 
 
-def prove_and_refuse(room: Path, verdict: Verdict) -> bool:
+def prove_and_refuse(place: Path, verdict: Verdict) -> bool:
     """Proves a copy of the repository, tries the wrong edits beside it, and keeps the programs: whether all was proved."""
+    room, edits, log = place / "repository", place / "edits", ROOT / "out/gate.log"
     copied(room)
-    log = ROOT / "out/gate.log"
+    edits.mkdir()
     proving = Part("proving every crate and its tests from nothing, rt ci", [RT, "ci"], room, log)
     words = ["nice", "-n", "19", sys.executable, "tests/support/refused.py", "--beside", room, log]
-    refusing = Part("trying the wrong edits beside it", words, ROOT, ROOT / "out/refused.log")
+    refusing = Part("trying the wrong edits beside it", words, ROOT, ROOT / "out/refused.log", TMPDIR=str(edits))
     try:
         verdict.count(*proving.ends())
         if verdict.failed:
@@ -126,7 +127,7 @@ def main() -> int:
         print(f"make check needs {', '.join(lacking())}")
         verdict.failed = 1
         return verdict.ends()
-    with tempfile.TemporaryDirectory(prefix="noticed-gate-") as name:
+    with tempfile.TemporaryDirectory(prefix="noticed-gate-", ignore_cleanup_errors=True) as name:
         if not prove_and_refuse(Path(name), verdict):
             return verdict.ends()
     begun, failed = time.monotonic(), run_scripts()

@@ -8,7 +8,7 @@ use Rattle.dsn_outcome.specs.Request.{Request, Body, Bye}
 use Rattle.dsn_outcome.specs.declared.answer.Answer.{Answer}
 use Rattle.dsn_outcome.specs.declared.answer.Reply.{Reply}
 use Rattle.dsn_outcome.specs.declared.answer.Reply.TheVariants.{Gone}
-use Rattle.dsn_outcome.specs.declared.body.Body.{Body as Asked}
+use Rattle.dsn_outcome.specs.declared.body.Body
 use Rattle.dsn_agent.specs.declared.ask_fault.AskFault.{AskFault}
 use Rattle.dsn_agent.specs.declared.ask_fault.AskFault.TheVariants.{Limit, Lost}
 
@@ -56,7 +56,7 @@ after_reply ends body reply =
 
 -- what a body that is sent comes to: the answer to it; or it is not sent, and handed back; or it is
 -- sent, and not answered
-abbrev pub IsExchange : Ends → Body → Ends → Result Answer (Option Asked) → Type 0
+abbrev pub IsExchange : Ends → Body → Ends → Result Answer (Option Body.Body) → Type 0
 IsExchange old body new (Ok answer) =
     (answer ≡ answer_with old answer.reply) × (new ≡ after_reply old body answer.reply)
 IsExchange old body new (Err (Some back)) = (body_of back ≡ body) × (new ≡ old)

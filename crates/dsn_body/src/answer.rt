@@ -2,7 +2,6 @@
 ghost use Rattle.std.specs.Prelude.{◌≡◌, ◌≢◌, ℕ, ◌≤◌, length, true, IfOk, IfErr, IfSome, OnOk, Ok, Some, None};
 ghost use Rattle.std.specs.Int.{w32, from_be_bytes, to_be_bytes};
 ghost use Rattle.dsn_body.specs.Spoken.{FitsAnswer, answer_body, answer_bytes, first_answer_fault, is_without_value, reply_kind, reply_value, spoken_kind, spoken_value};
-ghost use Rattle.dsn_body.specs.declared.spoken.Spoken.{Spoken as Said};
 
 use crate::VERSION;
 use crate::answer_fault::AnswerFault;
@@ -38,7 +37,7 @@ pub fn encode_answer(number: u32, answer: &Spoken) -> [u8; 14]
 pub fn decode_answer(bytes: &[u8]) -> Result<(u32, Spoken), AnswerFault>
     ensures encoded { IfOk result (λ read. bytes.now ≡ answer_body read.0 read.1) }
     ensures fits { IfOk result (λ read. FitsAnswer read.0 read.1) }
-    ensures exact { (number : ℕ) (said : Said) → FitsAnswer number said
+    ensures exact { (number : ℕ) (said : Spoken) → FitsAnswer number said
         → bytes.now ≡ answer_body number said → result ≡ Ok (number, said) }
     ensures accepted { OnOk result (first_answer_fault bytes.now ≡ None) }
     ensures refused { IfErr result (λ fault. first_answer_fault bytes.now ≡ Some fault) }

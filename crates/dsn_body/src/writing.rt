@@ -3,7 +3,8 @@ ghost use Rattle.std.specs.Prelude.{◌≡◌, ◌+◌, ◌<◌, ◌≤◌, ◌^
 ghost use Rattle.std.specs.Int.{w64};
 ghost use Rattle.dsn_body.specs.BodyParts.{head_in, recipient_fields_in, retry_fields_in, flush_fields_in, wire_body_in};
 ghost use Rattle.dsn_body.specs.FrameBody.{frame, longest_body};
-ghost use Rattle.dsn_body.specs.Wire.{Fits as FitsWire, FitsAppend, FitsFlush, FitsHead, FitsOwn, FitsText, number_bytes, text_bytes, head_bytes, append_bytes, retry_bytes, flush_bytes, own_bytes, body_bytes};
+ghost use Rattle.dsn_body.specs.Wire;
+ghost use Rattle.dsn_body.specs.Wire.{FitsAppend, FitsFlush, FitsHead, FitsOwn, FitsText, number_bytes, text_bytes, head_bytes, append_bytes, retry_bytes, flush_bytes, own_bytes, body_bytes};
 
 use crate::parts::{BodyParts, FlushParts, HeadParts, RecipientParts, RetryParts};
 
@@ -138,7 +139,7 @@ fn push_own(out: &mut Vec<u8>, parts: BodyParts<'_>)
 
 /// Adds the frame of a body.
 pub(crate) fn push_frame(out: &mut Vec<u8>, parts: BodyParts<'_>)
-    requires fits { FitsWire (wire_body_in parts) }
+    requires fits { Wire.Fits (wire_body_in parts) }
     requires small { length (body_bytes (wire_body_in parts)) ≤ longest_body }
     requires room { length out.old.items +
         (4 + length (body_bytes (wire_body_in parts))) ≤ vec_capacity out.old }
@@ -152,7 +153,7 @@ pub(crate) fn push_frame(out: &mut Vec<u8>, parts: BodyParts<'_>)
 /// Adds a body.
 #[tactic(auto, using(crate::proofs::EncodingLaws::body_length, crate::proofs::EncodingLaws::head_length), unfolding(crate::specs::Wire::body_bytes))]
 fn push_body(out: &mut Vec<u8>, parts: BodyParts<'_>)
-    requires fits { FitsWire (wire_body_in parts) }
+    requires fits { Wire.Fits (wire_body_in parts) }
     requires room { length out.old.items + length
         (body_bytes (wire_body_in parts)) ≤ vec_capacity out.old }
     ensures added { out.new.items ≡ out.old.items ++ body_bytes (wire_body_in parts.entry) }
@@ -166,7 +167,7 @@ fn push_body(out: &mut Vec<u8>, parts: BodyParts<'_>)
 /// How many bytes a body has.
 #[tactic(auto, using(crate::proofs::EncodingLaws::body_length))]
 pub(crate) fn body_len(parts: BodyParts<'_>) -> usize
-    requires fits { FitsWire (wire_body_in parts) }
+    requires fits { Wire.Fits (wire_body_in parts) }
     ensures { result ≡ length (body_bytes (wire_body_in parts.entry)) }
 {
     9 + parts.head().id.len() + own_len(parts)

@@ -1,6 +1,7 @@
 -- Of private parts: how a run is concluded, from how it was collected, what came of its agents, and
 -- what was posted.
-use Rattle.std.specs.Prelude.{◌≡◌, Bool, true, false, List, [], ◌++◌, All as Each, Result, Ok, Err}
+use Rattle.std.specs.Prelude
+use Rattle.std.specs.Prelude.{◌≡◌, Bool, true, false, List, [], ◌++◌, Result, Ok, Err}
 use Rattle.dsn_book.specs.Book.{Represents}
 use Rattle.dsn_book.specs.Step.{letters_in}
 use Rattle.dsn_outcome.specs.Letter.{Letter}
@@ -53,8 +54,8 @@ pub record HasClosed {W : Type 0} (lines : List AgentLine) (agents : List Ends) 
     (account : Account W) : Type 0 where
   pub all : posted.all ≡ true
   pub account_is : account ≡ account_of lines agents desk posted
-  pub heard : Each (IsHeard desk) agents
-  pub finished : Each IsFinished agents
+  pub heard : Prelude.All (IsHeard desk) agents
+  pub finished : Prelude.All IsFinished agents
   pub only : AreOf agents desk.requests.taken
   pub stands : Represents account.book (history desk)
 

@@ -1,14 +1,14 @@
 //! Bodies for tests.
 ghost use Rattle.std.specs.Prelude.{◌≢◌, IfSome};
 ghost use Rattle.dsn_outcome.specs.Body.{body_of};
-ghost use Rattle.dsn_outcome.specs.Request.{Bye as Goodbye};
+ghost use Rattle.dsn_outcome.specs.Request;
 
 use dsn_outcome::{Address, Body, Draft, Key, Outcome, Parts, QueueId, RawHeader, Service, Stamp};
 use std::alloc::Global;
 
 /// An append of a failed recipient to the log of this message.
 pub(super) fn append(alloc: Global, message: &[u8]) -> Option<Body>
-    ensures { IfSome result (λ body. body_of body ≢ Goodbye) }
+    ensures { IfSome result (λ body. body_of body ≢ Request.Bye) }
 {
     let parts = Parts {
         recipient: b"x@y",
@@ -27,7 +27,7 @@ pub(super) fn append(alloc: Global, message: &[u8]) -> Option<Body>
 
 /// A flush of the log of this message, for its sender.
 pub(super) fn flush(alloc: Global, message: &[u8]) -> Option<Body>
-    ensures { IfSome result (λ body. body_of body ≢ Goodbye) }
+    ensures { IfSome result (λ body. body_of body ≢ Request.Bye) }
 {
     let draft = Draft::new(
         alloc,
@@ -46,7 +46,7 @@ pub(super) fn flush(alloc: Global, message: &[u8]) -> Option<Body>
 
 /// A discard of a log.
 pub(super) fn discard() -> Option<Body>
-    ensures { IfSome result (λ body. body_of body ≢ Goodbye) }
+    ensures { IfSome result (λ body. body_of body ≢ Request.Bye) }
 {
     let id = QueueId::new(b"K1")?;
     Some(Body::Discard(Key {

@@ -1,7 +1,6 @@
 //! Letters on their way to the outbox.
 ghost use Rattle.std.specs.Prelude.{◌≡◌, ℕ, List, [], ◌∷◌, ◌++◌};
 ghost use Rattle.std.specs.Option.{option_to_list};
-ghost use Rattle.dsn_outcome.specs.Letter.{Letter as SealedLog};
 ghost use Rattle.dsn_report.specs.Outgoing.{Delivered, IsOutbox};
 
 use crate::outbox_end::OutboxEnd;
@@ -39,7 +38,7 @@ impl<W: Drain> Outgoing<W> {
 
     /// Posts a letter, or keeps it where the outbox fails or has failed.
     pub fn hand(&mut self, letter: Letter)
-        ensures { (host : List ℕ) (start : W) (letters : List SealedLog)
+        ensures { (host : List ℕ) (start : W) (letters : List _)
             → Delivered W.Drain host start self.old letters
             → Delivered W.Drain host start self.new (letters ++ letter ∷ []) }
     {
@@ -50,7 +49,7 @@ impl<W: Drain> Outgoing<W> {
 
     /// Posts the letter that a request sealed, if it sealed one.
     pub fn hand_any(&mut self, letter: Option<Letter>)
-        ensures { (host : List ℕ) (start : W) (letters : List SealedLog)
+        ensures { (host : List ℕ) (start : W) (letters : List _)
             → Delivered W.Drain host start self.old letters
             → Delivered W.Drain host start self.new (letters ++ option_to_list letter) }
     {
@@ -69,7 +68,7 @@ impl<W: Drain> Outgoing<W> {
 
     /// Ends the outbox.
     pub fn finish(self) -> OutboxEnd<W>
-        ensures { (host : List ℕ) (start : W) (letters : List SealedLog)
+        ensures { (host : List ℕ) (start : W) (letters : List _)
             → Delivered W.Drain host start self letters
             → IsOutbox W.Drain host start result.outbox result.whole result.unsent letters }
     {

@@ -1,7 +1,6 @@
 //! One run of the daemon on one thread: frames in, letters out.
 ghost use Rattle.std.specs.Prelude.{◌≡◌, ℕ, ◌+◌, ◌<◌, ◌≤◌, List, length, Option};
 ghost use Rattle.dsn_outcome.specs.History.{Limits};
-ghost use Rattle.dsn_outcome.specs.Request.{Request as Asked};
 ghost use Rattle.dsn_outcome.specs.Body.{body_of};
 ghost use Rattle.noticed_batch.specs.Run.{Stands, Asks, Answered, most_accepted};
 
@@ -26,7 +25,7 @@ impl<W: Drain> Run<W> {
         requires sealed { self.old.book.sealed ≤ self.old.accepted }
         ensures counted { self.new.accepted ≤ self.old.accepted + 1 }
         ensures sealed { self.new.book.sealed ≤ self.new.accepted }
-        ensures answered { (limits : Limits) (host : List ℕ) (start : W) (requests : List Asked)
+        ensures answered { (limits : Limits) (host : List ℕ) (start : W) (requests : List _)
             → Stands W.Drain limits host start self.old requests
             → length requests < limits.requests
             → Answered W.Drain limits host start self.new requests position bytes.now result }
@@ -46,7 +45,7 @@ impl<W: Drain> Run<W> {
         requires sealed { self.old.book.sealed ≤ self.old.accepted }
         ensures counted { self.new.accepted ≤ self.old.accepted + 1 }
         ensures sealed { self.new.book.sealed ≤ self.new.accepted }
-        ensures asked { (limits : Limits) (host : List ℕ) (start : W) (requests : List Asked)
+        ensures asked { (limits : Limits) (host : List ℕ) (start : W) (requests : List _)
             → Stands W.Drain limits host start self.old requests
             → Asks W.Drain limits host start self.new requests (body_of body) result }
     {

@@ -1,8 +1,10 @@
 #!/usr/bin/env python3
 """Checks examples/noticed.service: its keys, by a parser; what it runs before the daemon, in a folder of this script's
 own; the daemon's arguments, with the program under test; and the whole of it by `systemd-analyze verify` where that is
-installed. And examples/noticed-feed.service: that it follows the outbox of the first, as an account that may read it."""
+installed. And examples/noticed-feed.service: that it follows the outbox of the first, as an account that may read it, and
+is waited for as long as a reply may take."""
 import os
+import re
 import shlex
 import shutil
 import socket
@@ -95,6 +97,9 @@ def check_feeder(checks: Checks, sections: dict):
     checks.true("the feeder: the script", (EXAMPLES / Path(words[1]).name).is_file())
     checks.equal("the feeder: what it follows", [words[2], f"append:{words[3]}"], ["--follow", service["StandardOutput"][0]])
     checks.true("the feeder: a program after it", not words[4].startswith("-"))
+    patience = int(re.search(r"^PATIENCE = (\d+)", (EXAMPLES / "feed.py").read_text(), re.M)[1])
+    minutes = int(given["Service"]["TimeoutStopSec"][0].removesuffix("min"))
+    checks.true("the feeder: its supervisor waits longer than a reply may take", 60 * minutes > patience)
 
 
 def check_verify(checks: Checks, text: str, command: str):

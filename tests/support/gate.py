@@ -63,7 +63,8 @@ class Part:
         print(f"{what} (log: {log.relative_to(ROOT)}) ..", flush=True)
         with open(log, "wb") as out:
             environment = {**os.environ, "RT_JOBS": str(jobs()), **more}
-            self.running = subprocess.Popen(words, cwd=folder, env=environment, stdout=out, stderr=subprocess.STDOUT, start_new_session=True)
+            # A group of processes, to be stopped as one, and no session: the system may weigh sessions alike, whatever their priority.
+            self.running = subprocess.Popen(words, cwd=folder, env=environment, stdout=out, stderr=subprocess.STDOUT, preexec_fn=os.setpgrp)
 
     def ends(self) -> tuple:
         """Waits for its end, shows what it said, and tells its minutes: the status, and what it said."""

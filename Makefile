@@ -72,7 +72,7 @@ check:
 
 # Which functions the wrong edits change that the gate must see refused.
 edits:
-	@PYTHONDONTWRITEBYTECODE=1 python3 tests/support/edits.py
+	@PYTHONDONTWRITEBYTECODE=1 python3 tests/support/wrong_edits.py
 
 # Tries the wrong edits of the crates that CRATES names, or of all, and says which clause refuses each; over what
 # `rt all check` proved here before.

@@ -15,7 +15,7 @@ import time
 from pathlib import Path
 
 sys.path.insert(0, str(Path(__file__).resolve().parents[1] / "tests" / "support"))
-from daemon import Daemon, frames  # noqa: E402
+from daemon_and_clients import Daemon, frames  # noqa: E402
 from running import program  # noqa: E402
 
 LOG = 1000  # outcomes of a log, as many as it takes

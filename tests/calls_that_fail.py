@@ -10,7 +10,7 @@ from pathlib import Path
 from typing import Optional
 
 sys.path.insert(0, str(Path(__file__).parent / "support"))
-from daemon import Daemon, line  # noqa: E402
+from daemon_and_clients import Daemon, line  # noqa: E402
 from formats import sessions  # noqa: E402
 from formats.logs import REFUSED, Limits, Logs  # noqa: E402
 from formats.notices import crlf, mail, outbox  # noqa: E402

@@ -8,7 +8,7 @@ from concurrent.futures import ThreadPoolExecutor
 from pathlib import Path
 
 sys.path.insert(0, str(Path(__file__).parent / "support"))
-from daemon import Daemon, line  # noqa: E402
+from daemon_and_clients import Daemon, line  # noqa: E402
 from formats import sessions  # noqa: E402
 from formats.logs import REFUSED, Limits, Logs  # noqa: E402
 from formats.notices import outbox  # noqa: E402

@@ -7,7 +7,7 @@ import threading
 from pathlib import Path
 
 sys.path.insert(0, str(Path(__file__).parent / "support"))
-from daemon import FRAMES, NOTES, OUTBOX, Daemon, answer, append, asked, flush, frames, heard, is_ended, line  # noqa: E402
+from daemon_and_clients import FRAMES, NOTES, OUTBOX, Daemon, answer, append, asked, flush, frames, heard, is_ended, line  # noqa: E402
 from running import Checks, Ran, empty_outbox  # noqa: E402
 
 

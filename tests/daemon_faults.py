@@ -9,7 +9,7 @@ import tempfile
 from pathlib import Path
 
 sys.path.insert(0, str(Path(__file__).parent / "support"))
-from daemon import FIRST_FRAME, FRAMES, NOTES, OUTBOX, PATIENCE, Daemon, answer, append, asked, closed_pipe, flush, line  # noqa: E402
+from daemon_and_clients import FIRST_FRAME, FRAMES, NOTES, OUTBOX, PATIENCE, Daemon, answer, append, asked, closed_pipe, flush, line  # noqa: E402
 from preloading import built, compare_ends, each_refused, preloading  # noqa: E402
 from running import HOST, Checks, Ran, empty_outbox, run  # noqa: E402
 

@@ -11,7 +11,7 @@ import time
 from pathlib import Path
 
 sys.path.insert(0, str(Path(__file__).parent / "support"))
-from daemon import MOMENT, PATIENCE, line  # noqa: E402
+from daemon_and_clients import MOMENT, PATIENCE, line  # noqa: E402
 from running import EXAMPLES, HOST, Checks, program  # noqa: E402
 
 FRAMES = [sys.executable, str(EXAMPLES / "frames.py"), "-"]

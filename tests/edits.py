@@ -8,7 +8,7 @@ import sys
 from pathlib import Path
 
 sys.path.insert(0, str(Path(__file__).parent / "support"))
-from edits import DEFINITION, crates, edits, items  # noqa: E402
+from wrong_edits import DEFINITION, crates, edits, items  # noqa: E402
 from running import ROOT, Checks  # noqa: E402
 
 FIELD = re.compile(r"&?(?:mut )?\*?self(?:\.\w+)+(?:\(\))*")

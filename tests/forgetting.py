@@ -11,7 +11,7 @@ import sys
 from pathlib import Path
 
 sys.path.insert(0, str(Path(__file__).parent / "support"))
-from daemon import Daemon  # noqa: E402
+from daemon_and_clients import Daemon  # noqa: E402
 from running import Checks, frames_module  # noqa: E402
 
 LOGS, MOST, BOUNCE = 4096, 1_000_000, 1

@@ -17,7 +17,7 @@ import time
 from pathlib import Path
 
 sys.path.insert(0, str(Path(__file__).parent / "support"))
-from daemon import Daemon, heard  # noqa: E402
+from daemon_and_clients import Daemon, heard  # noqa: E402
 from formats.bodies import Refused, decoded  # noqa: E402
 from formats.logs import REFUSED  # noqa: E402
 from formats.notices import SERVICE_LETTERS  # noqa: E402

@@ -10,7 +10,7 @@ import threading
 from pathlib import Path
 
 sys.path.insert(0, str(Path(__file__).parent / "support"))
-from daemon import FIRST_FRAME, FRAMES, NOTES, PATIENCE, answer, closed_pipe, heard  # noqa: E402
+from daemon_and_clients import FIRST_FRAME, FRAMES, NOTES, PATIENCE, answer, closed_pipe, heard  # noqa: E402
 from preloading import built, each_refused  # noqa: E402
 from running import Checks, Ran, run  # noqa: E402
 

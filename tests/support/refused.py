@@ -25,7 +25,7 @@ from dataclasses import dataclass
 from pathlib import Path
 
 sys.path.insert(0, str(Path(__file__).parent))
-from edits import crates, item_with  # noqa: E402
+from wrong_edits import crates, item_with  # noqa: E402
 from jobs import jobs  # noqa: E402
 from running import ROOT  # noqa: E402
 

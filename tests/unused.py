@@ -13,7 +13,7 @@ IMPORT = re.compile(r"^\s*(?:ghost )?(?:pub )?use ([\w.:-]+?)[.:]+\{([^}]*)\}", 
 WHOLE_IMPORT = re.compile(r"^\s*(?:ghost )?(?:pub )?use .*$", re.M)
 COMMENT = re.compile(r"^\s*(?:--|//).*$|\s-- (?=[^\"]*$).*$", re.M)
 PATH = re.compile(r"crate::(specs|proofs)::([\w:]+)::([^\s:,()]+)")
-HEAD = re.compile(r"^(?:(?:abbrev|unfoldable|opaque|pub|record|data|mutual) )*([^\s(){}\[\];:,]+)")
+HEAD = re.compile(r"^(?:(?:abbrev|unfoldable|opaque|pub|record|data|mutual|ruleset) )*([^\s(){}\[\];:,]+)")
 WORD = re.compile(r"[^\s(){}\[\],;.λ\"]+")
 NOT_CITED = {"Lib", "Answers", "Invariants", "Dates"}
 NO_NAME = {"use", "unfolding", "infixl", "infixr", "infix", "mutual", "where", "mod", "module", "pub"}

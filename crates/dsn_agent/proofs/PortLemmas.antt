@@ -328,3 +328,6 @@ service-ends conns agent last line served (Ok finished) bye = record {
 service-ends conns agent last line served (Err fault) bye = record { last = last; served = served; goodbye = tt }
 
 -- ---- what follows for an agent that was heard
+
+-- what the tactics use before an agent's first connection
+pub ruleset served = serves-nothing

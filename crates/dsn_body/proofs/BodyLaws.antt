@@ -3,7 +3,6 @@ use Rattle.std.proofs.Common.{◌≡◌, ℕ, suc, ◌<◌, ◌^◌, ◌⊎◌, 
 use Rattle.std.specs.Int.{w32, w64}
 use Rattle.std.proofs.lemmas.Bool.{eqb-true}
 use Rattle.std.proofs.lemmas.List.{append-nil}
-use Rattle.std.specs.Prelude.{slice_get}
 use Rattle.dsn_body.specs.Wire.{Head, RecipientFields, RetryFields, FlushFields, WireBody, AppendFields, DatedAppendFields, FlushFieldsOf, DiscardFields, ForgetFields, number_bytes, text_bytes, head_bytes, append_bytes, retry_bytes, flush_bytes, body_bytes, FitsText, FitsHead, FitsAppend, FitsRetry, FitsFlush, FitsOwn, Fits, kind_of, own_bytes, head_of, ◌>>=◌, byte_at, number_at, text_at, head_at, append_at, retry_at, append_body_at, flush_at, own_at, body_at}
 use Rattle.dsn_body.proofs.FieldLaws.{IsBytes, bind_some, some_is, Takes, Takes-then, wide32, wide64, number_takes, number_again, text_takes, text_again}
 

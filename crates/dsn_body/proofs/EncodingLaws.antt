@@ -13,8 +13,8 @@ use Rattle.dsn_text.specs.Optional.{is_none_or, unless_empty}
 use Rattle.dsn_outcome.specs.Request.{Body, Append, Flush, Discard, Forget}
 use Rattle.dsn_text.specs.Service.{service_byte, service_of_byte}
 use Rattle.dsn_text.specs.Stamp.{is_moment, last_moment}
-use Rattle.dsn_text.specs.Status.{is_status_code}
-use Rattle.dsn_text.specs.Text.{is_text, is_printable, is_queue_id, is_address, is_mta_name, is_envelope_id, is_remark, clean_text, is_letter_or_digit, is_address_byte, is_visible}
+use Rattle.dsn_text.specs.Status.{is_status_code, longest_status}
+use Rattle.dsn_text.specs.Text.{is_text, is_printable, is_queue_id, is_address, is_mta_name, is_envelope_id, is_remark, clean_text, is_letter_or_digit, is_address_byte, is_visible, longest_queue_id, longest_address, longest_mta_name, longest_envelope_id, longest_clean}
 use Rattle.dsn_text.specs.declared.action.Action.{Action}
 use Rattle.dsn_text.specs.declared.action.Action.TheVariants.{Failed, Delayed, Delivered, Relayed, Expanded}
 use Rattle.dsn_text.specs.declared.key.Key.{Key}
@@ -31,7 +31,22 @@ use Rattle.dsn_body.specs.Wire.{Head, RecipientFields, RetryFields, FlushFields,
 text-short : (test : ℕ → Bool) (least most : ℕ) (text : List ℕ) → is_text test least most text ≡ true → length text ≤ most
 text-short test least most text legal = leb-true _ _ (and_parts _ _ (and_parts _ _ legal).0).1
 
-status-short : (text : List ℕ) → is_status_code text ≡ true → length text ≤ 9
+queue-id-short : (id : List ℕ) → is_queue_id id ≡ true → length id ≤ longest_queue_id
+queue-id-short = text-short is_letter_or_digit 1 longest_queue_id
+
+address-short : (address : List ℕ) → is_address address ≡ true → length address ≤ longest_address
+address-short = text-short is_address_byte 1 longest_address
+
+mta-name-short : (name : List ℕ) → is_mta_name name ≡ true → length name ≤ longest_mta_name
+mta-name-short = text-short is_visible 1 longest_mta_name
+
+envelope-id-short : (id : List ℕ) → is_envelope_id id ≡ true → length id ≤ longest_envelope_id
+envelope-id-short = text-short is_printable 1 longest_envelope_id
+
+remark-short : (remark : List ℕ) → is_remark remark ≡ true → length remark ≤ longest_clean
+remark-short = text-short is_printable 1 longest_clean
+
+status-short : (text : List ℕ) → is_status_code text ≡ true → length text ≤ longest_status
 status-short text legal = length-IsStatusCode text (IsStatusCode-test text legal)
 
 optional-short : (test : List ℕ → Bool) (most : ℕ) → ((text : List ℕ) → test text ≡ true → length text ≤ most) → (text : Option (List ℕ)) → is_none_or test text ≡ true → length (text_or_empty text) ≤ most
@@ -102,8 +117,8 @@ all_fields_for outcome = outcome_fields (fields_for outcome) outcome.last_attemp
 outcome-accepted : (outcome : Outcome) → IsLegalOutcome outcome → first_outcome_fault outcome.service (all_fields_for outcome) ≡ None
 unfolding first_outcome_fault
 outcome-accepted outcome legal =
-    let diagnostic : nat_le (length (text_or_empty outcome.diagnostic)) 800 ≡ true = le-leb _ _ (optional-short is_remark 800 (text-short is_printable 1 800) outcome.diagnostic legal.diagnostic_clean) in
-    let reason : nat_le (length (text_or_empty outcome.reason)) 800 ≡ true = le-leb _ _ (optional-short is_remark 800 (text-short is_printable 1 800) outcome.reason legal.reason_clean) in
+    let diagnostic : nat_le (length (text_or_empty outcome.diagnostic)) longest_clean ≡ true = le-leb _ _ (optional-short is_remark longest_clean remark-short outcome.diagnostic legal.diagnostic_clean) in
+    let reason : nat_le (length (text_or_empty outcome.reason)) longest_clean ≡ true = le-leb _ _ (optional-short is_remark longest_clean remark-short outcome.reason legal.reason_clean) in
     let original = back outcome.original (said is_address refl outcome.original legal.original_legal) in
     let mta = back outcome.mta (said is_mta_name refl outcome.mta legal.mta_legal) in
     rw (legal.recipient_legal, original, legal.original_legal, action-back outcome.action, legal.action_taken, legal.status_legal, legal.class_fits, mta, legal.mta_legal, diagnostic, reason, legal.retry_fits) refl
@@ -124,21 +139,21 @@ outcome-back outcome legal = record {
 
 -- how long they are
 record AreShort (outcome : Outcome) : Type 0 where
-  recipient : length outcome.recipient ≤ 256
-  original : length (text_or_empty outcome.original) ≤ 256
-  status : length outcome.status ≤ 9
-  mta : length (text_or_empty outcome.mta) ≤ 255
-  diagnostic : length (text_or_empty outcome.diagnostic) ≤ 800
-  reason : length (text_or_empty outcome.reason) ≤ 800
+  recipient : length outcome.recipient ≤ longest_address
+  original : length (text_or_empty outcome.original) ≤ longest_address
+  status : length outcome.status ≤ longest_status
+  mta : length (text_or_empty outcome.mta) ≤ longest_mta_name
+  diagnostic : length (text_or_empty outcome.diagnostic) ≤ longest_clean
+  reason : length (text_or_empty outcome.reason) ≤ longest_clean
 
 outcome-short : (outcome : Outcome) → IsLegalOutcome outcome → AreShort outcome
 outcome-short outcome legal = record {
-  recipient = text-short is_address_byte 1 256 outcome.recipient legal.recipient_legal;
-  original = optional-short is_address 256 (text-short is_address_byte 1 256) outcome.original legal.original_legal;
+  recipient = address-short outcome.recipient legal.recipient_legal;
+  original = optional-short is_address longest_address address-short outcome.original legal.original_legal;
   status = status-short outcome.status legal.status_legal;
-  mta = optional-short is_mta_name 255 (text-short is_visible 1 255) outcome.mta legal.mta_legal;
-  diagnostic = optional-short is_remark 800 (text-short is_printable 1 800) outcome.diagnostic legal.diagnostic_clean;
-  reason = optional-short is_remark 800 (text-short is_printable 1 800) outcome.reason legal.reason_clean;
+  mta = optional-short is_mta_name longest_mta_name mta-name-short outcome.mta legal.mta_legal;
+  diagnostic = optional-short is_remark longest_clean remark-short outcome.diagnostic legal.diagnostic_clean;
+  reason = optional-short is_remark longest_clean remark-short outcome.reason legal.reason_clean;
 }
 
 -- ---- lengths
@@ -206,7 +221,11 @@ fields-fit outcome short = record {
   reason = omega (arith, short.reason);
 }
 
-fields-few : (outcome : Outcome) → AreShort outcome → length (append_bytes (fields_for outcome)) ≤ 50000
+-- an action, six lengths of two bytes, and the texts
+abbrev longest_append : ℕ
+longest_append = 13 + (longest_address + (longest_address + (longest_status + (longest_mta_name + (longest_clean + longest_clean)))))
+
+fields-few : (outcome : Outcome) → AreShort outcome → length (append_bytes (fields_for outcome)) ≤ longest_append
 fields-few outcome short =
     omega (arith, append_length (fields_for outcome), short.original, short.recipient, short.status, short.mta, short.diagnostic, short.reason)
 
@@ -232,7 +251,7 @@ undated_written : (number : ℕ) (id : List ℕ) (outcome : Outcome) → number 
 unfolding own_bytes FitsOwn first_own_fault StandsFor
 undated_written number id outcome few legal_id legal no_attempt no_retry =
     let short = outcome-short outcome legal in
-    let id_short = text-short is_letter_or_digit 1 32 id legal_id in
+    let id_short = queue-id-short id legal_id in
     let accepted : first_outcome_fault outcome.service (undated_fields (fields_for outcome)) ≡ None = rw (no_attempt, no_retry) at (outcome-accepted outcome legal) in
     let back_again : IsOutcomeOf outcome.service (undated_fields (fields_for outcome)) outcome = undated-back outcome (outcome-back outcome legal) no_attempt no_retry in record {
       number_is = refl;
@@ -250,7 +269,7 @@ dated_written : (number : ℕ) (id : List ℕ) (outcome : Outcome) → number < 
 unfolding own_bytes FitsOwn first_own_fault StandsFor
 dated_written number id outcome few legal_id legal =
     let short = outcome-short outcome legal in
-    let id_short = text-short is_letter_or_digit 1 32 id legal_id in
+    let id_short = queue-id-short id legal_id in
     let attempt = moment-back outcome.last_attempt legal.last_attempt_dated in
     let retry = moment-back outcome.retry_until legal.retry_until_dated in
     let back_again : IsOutcomeOf outcome.service (dated_fields (fields_for outcome) (retry_fields_for outcome)) outcome = rw (attempt, retry) (outcome-back outcome legal) in record {
@@ -298,9 +317,9 @@ flush-back draft legal =
 pub flush_written : (number : ℕ) (key : Key) (draft : Draft) → number < 2 ^ 32 → is_queue_id key.id ≡ true → IsLegalDraft draft → IsWritten number (Flush key draft) (FlushFieldsOf (head_for 1 number key.service key.id) (flush_fields_for draft))
 unfolding own_bytes FitsOwn first_own_fault StandsFor
 flush_written number key draft few legal_id legal =
-    let id_short = text-short is_letter_or_digit 1 32 key.id legal_id in
-    let path_short = optional-short is_address 256 (text-short is_address_byte 1 256) draft.return_path legal.return_path_legal in
-    let envelope_id_short = optional-short is_envelope_id 100 (text-short is_printable 1 100) draft.envelope_id legal.envelope_id_legal in record {
+    let id_short = queue-id-short key.id legal_id in
+    let path_short = optional-short is_address longest_address address-short draft.return_path legal.return_path_legal in
+    let envelope_id_short = optional-short is_envelope_id longest_envelope_id envelope-id-short draft.envelope_id legal.envelope_id_legal in record {
       number_is = refl;
       known = refl;
       fits = (
@@ -322,7 +341,7 @@ flush_written number key draft few legal_id legal =
 pub discard_written : (number : ℕ) (key : Key) → number < 2 ^ 32 → is_queue_id key.id ≡ true → IsWritten number (Discard key) (DiscardFields (head_for 1 number key.service key.id))
 unfolding own_bytes FitsOwn first_own_fault StandsFor
 discard_written number key few legal_id =
-    let id_short = text-short is_letter_or_digit 1 32 key.id legal_id in record {
+    let id_short = queue-id-short key.id legal_id in record {
       number_is = refl;
       known = refl;
       fits = (record { number = few; id = omega (arith, id_short) }, tt);
@@ -335,7 +354,7 @@ discard_written number key few legal_id =
 pub forget_written : (number : ℕ) (key : Key) → number < 2 ^ 32 → is_queue_id key.id ≡ true → IsWritten number (Forget key) (ForgetFields (head_for 2 number key.service key.id))
 unfolding own_bytes FitsOwn first_own_fault StandsFor
 forget_written number key few legal_id =
-    let id_short = text-short is_letter_or_digit 1 32 key.id legal_id in record {
+    let id_short = queue-id-short key.id legal_id in record {
       number_is = refl;
       known = refl;
       fits = (record { number = few; id = omega (arith, id_short) }, tt);

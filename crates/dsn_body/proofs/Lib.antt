@@ -6,3 +6,4 @@ pub mod Examples
 pub mod Existence
 pub mod FieldLaws
 pub mod RequestLaws
+pub mod Rules

@@ -1,6 +1,6 @@
 -- Requests in bytes: which body some bytes stand for, and why they are refused where they stand for
 -- none (this project's profile, versions 1 and 2).
-use Rattle.std.specs.Prelude.{◌≡◌, ℕ, Bool, true, false, ◌&&◌, ◌==◌, nat_le, List, [], ◌∷◌, length, ◌≤◌, Option, Some, None, is_none, is_some, if◌then◌else◌, slice_get, option_and_then}
+use Rattle.std.specs.Prelude.{◌≡◌, ℕ, ◌+◌, Bool, true, false, ◌&&◌, ◌==◌, nat_le, List, [], ◌∷◌, length, ◌≤◌, Option, Some, None, is_none, is_some, if◌then◌else◌, slice_get, option_and_then}
 use Rattle.std.specs.Option.{option_map, option_map_or}
 use Rattle.dsn_text.specs.Action.{action_byte}
 use Rattle.dsn_outcome.specs.Draft.{Draft}
@@ -9,7 +9,7 @@ use Rattle.dsn_text.specs.Optional.{is_none_or, unless_empty}
 use Rattle.dsn_outcome.specs.Request.{Body, Append, Flush, Discard, Forget, Bye}
 use Rattle.dsn_text.specs.Service.{service_byte, service_of_byte}
 use Rattle.dsn_text.specs.Stamp.{last_moment, is_moment}
-use Rattle.dsn_text.specs.Text.{is_queue_id, is_address, is_envelope_id, longest_header, longest_queue_id}
+use Rattle.dsn_text.specs.Text.{is_queue_id, is_address, is_envelope_id, longest_address, longest_envelope_id, longest_header, longest_queue_id}
 use Rattle.dsn_text.specs.declared.key.Key.{Key}
 use Rattle.dsn_text.specs.declared.service.Service.{Service}
 use Rattle.dsn_body.specs.BodyFault.{outcome_refusal}
@@ -230,15 +230,18 @@ fields_written number (Discard key) = Some (DiscardFields (head_for 1 number key
 fields_written number (Forget key) = Some (ForgetFields (head_for 2 number key.service key.id))
 fields_written number Bye = None
 
--- fields that are written of a body: no check fails, they stand for the body, and a frame holds
--- them: a queue id has at most 32 bytes, and what follows it far less than the 65,536 of a frame (a
--- returned header alone has at most 32,768)
+-- the most bytes that follow the queue id of a written body: a flush's, whose two moments and three
+-- lengths take 22, and each of whose texts is as long as it may be
+abbrev pub longest_own : ℕ
+longest_own = 22 + (longest_address + (longest_envelope_id + longest_header))
+
+-- fields that are written of a body: no check fails, they stand for the body, and a frame holds them
 pub record IsWritten (number : ℕ) (body : Body) (wire : WireBody) : Type 0 where
   pub number_is : (head_of wire).number ≡ number
   pub known : is_known wire ≡ true
   pub fits : Fits wire
   pub id_short : length (head_of wire).id ≤ longest_queue_id
-  pub own_short : length (own_bytes wire) ≤ 60000
+  pub own_short : length (own_bytes wire) ≤ longest_own
   pub accepted : first_field_fault wire ≡ None
   pub stands_for : StandsFor wire body
 

@@ -8,6 +8,19 @@ ghost use Rattle.dsn_body.specs.Wire.{FitsAppend, FitsFlush, FitsHead, FitsOwn, 
 
 use crate::parts::{BodyParts, FlushParts, HeadParts, RecipientParts, RetryParts};
 
+/// Bytes of what every body begins with, beside its queue id: the version, the kind, the number, the
+/// service and the id's length.
+const HEAD_LEN: usize = 9;
+
+/// Bytes of what an append goes on with, beside its texts: the action, and six texts' lengths.
+const APPEND_LEN: usize = 13;
+
+/// Bytes of the two moments of an append of the second version.
+const RETRY_LEN: usize = 16;
+
+/// Bytes of what a flush goes on with, beside its texts: two moments, and three texts' lengths.
+const FLUSH_LEN: usize = 22;
+
 /// Adds bytes, and takes no memory.
 fn push_bytes(out: &mut Vec<u8>, bytes: &[u8])
     requires room { length out.old.items + length bytes.now ≤ vec_capacity out.old }
@@ -79,7 +92,7 @@ fn push_moment(out: &mut Vec<u8>, moment: u64)
 /// Adds what an append of the second version goes on with.
 #[tactic(auto, using(crate::proofs::EncodingLaws::retry_length), unfolding(crate::specs::Wire::retry_bytes))]
 fn push_retry(out: &mut Vec<u8>, parts: RetryParts)
-    requires room { length out.old.items + 16 ≤ vec_capacity out.old }
+    requires room { length out.old.items + RETRY_LEN ≤ vec_capacity out.old }
     ensures added { out.new.items ≡ out.old.items ++ retry_bytes (retry_fields_in parts) }
     ensures capacity { vec_capacity out.old ≤ vec_capacity out.new }
 {
@@ -88,7 +101,7 @@ fn push_retry(out: &mut Vec<u8>, parts: RetryParts)
 }
 
 /// Adds all that an append of the second version goes on with.
-#[tactic(auto, using(crate::proofs::EncodingLaws::dated_length))]
+#[tactic(auto, using(crate::proofs::EncodingLaws::dated_length, crate::proofs::Rules::lengths))]
 fn push_dated_append(out: &mut Vec<u8>, fields: RecipientParts<'_>, dates: RetryParts)
     requires fits { FitsAppend (recipient_fields_in fields) }
     requires room { length out.old.items + length
@@ -170,7 +183,7 @@ pub(crate) fn body_len(parts: BodyParts<'_>) -> usize
     requires fits { Wire.Fits (wire_body_in parts) }
     ensures { result ≡ length (body_bytes (wire_body_in parts.entry)) }
 {
-    9 + parts.head().id.len() + own_len(parts)
+    HEAD_LEN + parts.head().id.len() + own_len(parts)
 }
 
 /// How many bytes an append goes on with in the first version.
@@ -180,7 +193,8 @@ fn append_len(fields: RecipientParts<'_>) -> usize
     ensures same { result ≡ length (append_bytes (recipient_fields_in fields.entry)) }
     ensures small { result < 2 ^ 19 }
 {
-    13 + fields.original.len()
+    APPEND_LEN
+        + fields.original.len()
         + fields.recipient.len()
         + fields.status.len()
         + fields.mta.len()
@@ -197,8 +211,8 @@ fn own_len(parts: BodyParts<'_>) -> usize
 {
     match parts {
         BodyParts::Append(_, fields) => append_len(fields),
-        BodyParts::DatedAppend(_, fields, _) => append_len(fields) + 16,
-        BodyParts::Flush(_, fields) => 22
+        BodyParts::DatedAppend(_, fields, _) => append_len(fields) + RETRY_LEN,
+        BodyParts::Flush(_, fields) => FLUSH_LEN
             + fields.return_path.len()
             + fields.envelope_id.len()
             + fields.header.len(),

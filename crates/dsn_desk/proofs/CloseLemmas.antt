@@ -1,5 +1,5 @@
 -- Closes: each agent that said goodbye was heard to its end, however many there are.
-use Rattle.std.proofs.Common.{◌≡◌, ℕ, ◌+◌, ◌<◌, ◌≤◌, ◌&&◌, not, Bool, true, false, All, Contains, List, [], ◌∷◌, ◌++◌, length, map, refl, ap, sym, ◌∙◌, subst, append_assoc, length-append, arith}
+use Rattle.std.proofs.Common.{◌≡◌, ℕ, ◌<◌, ◌≤◌, ◌&&◌, not, Bool, true, false, All, Contains, List, [], ◌∷◌, ◌++◌, length, map, refl, ap, sym, ◌∙◌, subst, append_assoc, length-append, arith}
 use Rattle.std.proofs.lemmas.Bool.{false≢true}
 use Rattle.std.proofs.lemmas.List.{append-nil, get_or-map, length-map, nil_from_length}
 use Rattle.std.proofs.lemmas.List.Elements.{All-cons, All-head, All-nil, All-tail, All-weaker}
@@ -77,11 +77,6 @@ paired lane crew rest lines left one line same crew_is lines_are =
 pub as_many : (lane : Identity Request) (crew : List Ends) (lines : List (End Answer)) → map place_of crew ≡ map (place_at lane) lines → length crew ≡ length lines
 as_many lane crew lines same = sym (length-map crew place_of) ∙ (ap length same ∙ length-map lines (place_at lane))
 
--- as long as agents are left, ends are
-pub some_left : (lane : Identity Request) (crew rest : List Ends) (lines : List (End Answer)) (one : Ends) → map place_of crew ≡ map (place_at lane) lines → crew ≡ one ∷ rest → 0 < length lines
-some_left lane crew rest lines one same crew_is =
-    let count = as_many lane crew lines same in let long = ap length crew_is in omega arith
-
 -- one agent more is closed
 pub closed_more : (exchanges : List Exchange) (crew rest all : List Ends) (one : Ends) → crew ≡ one ∷ rest → IsAnswered exchanges one → (All (IsAnswered exchanges) crew → All (IsAnswered exchanges) all) → All (IsAnswered exchanges) rest → All (IsAnswered exchanges) all
 closed_more exchanges crew rest all one crew_is closed before left =
@@ -124,15 +119,6 @@ pub room_of_one_lane : (lane : Identity Request) (crew : List Ends) (lines : Lis
 room_of_one_lane lane crew lines room same room_is =
     subst (All (λ (end : End Request). end.lane ≡ lane)) (sym room_is) (to_map (λ (end : End Request). end.lane ≡ lane) (λ (ends : Ends). ends.requests) crew (of_one_lane lane crew lines same))
 
--- they are as many as the lane has agents
-pub all_ends : (desk : Desk) (crew : List Ends) (room : List (End Request)) → IsDesk desk → AreCrew crew desk → room ≡ map (λ (ends : Ends). ends.requests) crew → desk.requests.first + length room ≡ desk.requests.past
-all_ends desk crew room kept same room_is =
-    let count = as_many desk.requests.lane crew desk.answers same in
-    let long = ap length room_is ∙ length-map crew (λ (ends : Ends). ends.requests) in
-    let first = kept.first in
-    let past = kept.past in
-    omega arith
-
 -- each agent was heard
 pub all_heard : (desk : Desk) (crew : List Ends) (room : List (End Request)) → All (IsAnswered (history desk)) crew → room ≡ map (λ (ends : Ends). ends.requests) crew
     → All (λ (end : End Request). IsPrefix (from_agent (λ (request : Request). request.agent) end.agent desk.requests.taken) end.sent) room → All (IsHeard desk) crew
@@ -154,6 +140,3 @@ all_of_crew desk crew kept same =
           ap (λ (agents : List ℕ). slice_index_or agents request.agent request.agent) (same_agents desk.requests.lane crew desk.answers same)
           ∙ (get_or-map (λ (end : End Answer). end.agent) desk.answers request.agent d request.agent inside ∙ kept.lines request.agent d inside)),
     )) desk.requests.taken kept.mine
-
-pub all_finished : (exchanges : List Exchange) (crew : List Ends) → All (IsAnswered exchanges) crew → All IsFinished crew
-all_finished exchanges crew closed = λ k d inside. (closed k d inside).finished

@@ -1,4 +1,5 @@
 pub mod CloseLemmas
 pub mod DeskLemmas
 pub mod OpenLemmas
+pub mod Rules
 pub mod RunLemmas

@@ -1,10 +1,8 @@
 -- Openings: a collector that has taken nothing, and the agents one after another.
 use Rattle.std.proofs.Common.{◌≡◌, ℕ, zero, suc, ◌+◌, ◌-◌, ◌<◌, ◌≤◌, All, List, [], ◌∷◌, ◌++◌, length, map, false, refl, ap, sym, ◌∙◌, subst, length-append, arith}
 use Rattle.std.specs.List.{slice_index_or}
-use Rattle.std.specs.Prelude.{◌↔◌, IsSome, Option, Some, None}
 use Rattle.std.proofs.lemmas.List.{append-nil, map-append}
 use Rattle.std.proofs.lemmas.List.Elements.{All-nil}
-use Rattle.std.proofs.lemmas.Bool.{false≢true}
 use native.Mathlib.Decide.{ℕ_discrete}
 use Rattle.dsn_book.specs.Book.{Book, Represents}
 use Rattle.dsn_lane.specs.Ends.{End, Identity, Out, fresh_ends}
@@ -78,11 +76,6 @@ crew_push limit lane crew crew' ends ends' agent end before pushed lines is =
 pub length-ends : (lane : Identity Request) (first agents : ℕ) → length (fresh_ends lane first agents) ≡ agents
 length-ends lane first zero = refl
 length-ends lane first (suc more) = let rest = length-ends lane (suc first) more in omega arith
-
--- where one is left, there is a next one
-pub none_left : {A : Type 0} (next : Option A) (left : ℕ) → next ≡ None → IsSome next ↔ (0 < left) → 0 < left → ⊥
-none_left None left is some one = absurd (false≢true (some.1 one))
-none_left (Some item) left is some one = absurd cc
 
 -- ---- an opened crew
 

@@ -19,6 +19,7 @@ use std::sync::Wait;
 /// lanes is closed, in room that was taken when the crew was opened. It asks that all agents said
 /// goodbye and the collector has not failed (`Desk::all_gone`); an agent that never started has no
 /// end to give back, so its crew is dropped instead.
+#[tactic(auto, using(crate::proofs::Rules::closing))]
 pub fn close_crew(rt: &impl Wait, crew: Vec<Finished>, desk: Desk) -> CrewShut
     requires crew { AreCrew crew.items desk }
     requires gone { all_gone desk ≡ true }

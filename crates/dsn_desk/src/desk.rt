@@ -129,6 +129,7 @@ impl Desk {
     ///
     /// What [`Desk::take_one`] answers comes where it does; `Letters` where the sink is gone. Then
     /// the collector has failed.
+    #[tactic(auto, using(crate::proofs::Rules::runs))]
     pub fn run<K: Sink>(&mut self, rt: &impl Wait, sink: &mut K) -> Result<(), DeskFault>
         ensures run { IsRun K.takes self.old self.new sink.old sink.new result }
         ensures all { OnOk result (all_gone self.new ≡ true) }
@@ -147,6 +148,7 @@ impl Desk {
     }
 
     /// Takes one request, answers it, and hands on the letter that it sealed.
+    #[tactic(auto, using(crate::proofs::Rules::takes))]
     fn hand_one<K: Sink>(&mut self, rt: &impl Wait, sink: &mut K) -> Result<(), DeskFault>
         requires some_left { all_gone self.old ≡ false }
         requires kept { IsDesk self.old }

@@ -38,6 +38,7 @@ pub fn open_crew(
 }
 
 /// The crew itself.
+#[tactic(auto, using(crate::proofs::Rules::opening))]
 fn open_room(
     rt: &impl Wait,
     alloc: Global,

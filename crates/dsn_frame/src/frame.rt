@@ -77,6 +77,7 @@ pub fn read_frame<S: Source>(alloc: Global, source: &mut S) -> Result<Option<Fra
 }
 
 /// Reads the length of the next frame's body, or none where the input ends before its first byte.
+#[tactic(auto, using(crate::proofs::FrameLaws::length_read))]
 pub(crate) fn read_length<S: Source>(source: &mut S) -> Result<Option<usize>, FrameFault>
     ensures next { IfOk result
         (λ size. ReadsLength (S.remaining source.old) (S.remaining source.new) size) }

@@ -147,12 +147,6 @@ passed_more {T} capacity n old left right is split off =
 abbrev new_token : {T : Type 0} → ℕ → ℕ → ℕ → Token T
 new_token capacity first past = Takes capacity (record { made = past; taken = []; back = fresh 0 first })
 
--- one more agent has an end
-pub made_more : {T : Type 0} (capacity first more : ℕ) (old new : Token T) → old ≡ Takes capacity (record { made = first + more; taken = []; back = fresh 0 first }) → new ≡ after_split old → new ≡ Takes capacity (record { made = first + (more + 1); taken = []; back = fresh 0 first })
-made_more {T} capacity first more old new is split =
-    let next : suc (first + more) ≡ first + (more + 1) = omega arith in
-    split ∙ (ap after_split is ∙ ap (new_token {T = T} capacity first) next)
-
 -- the next agent's end stands behind the others
 pub ends_pushed : {T : Type 0} (lane : Identity T) (capacity first more : ℕ) (token : Token T) (end : End T) (old new : List (End T)) → token ≡ Takes capacity (record { made = first + more; taken = []; back = fresh 0 first }) → end ≡ record { lane = lane; agent = (taking token).made; sent = [] } → old ≡ fresh_ends lane first more → new ≡ old ++ end ∷ [] → new ≡ fresh_ends lane first (more + 1)
 ends_pushed {T} lane capacity first more token end old new is end_is before pushed =

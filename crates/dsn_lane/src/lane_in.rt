@@ -49,6 +49,7 @@ impl<T: Carried> Model for LaneIn<T> {
 impl<T: Carried> LaneIn<T> {
     /// The end of the next agent, whose pass is split off the receiving end's. `NoMemory` comes
     /// only where there is no room for one more end.
+    #[tactic(auto, using(crate::proofs::RuleLemmas::splits))]
     pub(crate) fn split_off(
         sender: &RuledSender<T, Token<T>, LaneRule>,
         pass: &mut Pass<T, Token<T>>,

@@ -67,6 +67,7 @@ impl<T: Carried> LaneOut<T> {
 
     /// Takes the item at the front, and waits while there is none. `LaneEnd` comes once all
     /// sending ends are gone and nothing waits; that it comes then, and not before, isn't proved.
+    #[tactic(auto, using(crate::proofs::EndLemmas::agent_within, crate::proofs::EndLemmas::keeps_receiving))]
     pub fn take(&mut self, rt: &impl Wait) -> Result<T, LaneEnd>
         ensures item { IfOk result (λ item. self.new.taken ≡ self.old.taken ++ item ∷ []) }
         ensures agent { IfOk result

@@ -18,6 +18,7 @@ use std::sync::Wait;
 /// A lane that holds at most `capacity` items, with an end for each of `agents` agents from
 /// `first` on, in their order, and the receiving end. `NoMemory` comes only where memory was
 /// refused.
+#[tactic(auto, using(crate::proofs::EndLemmas::ends_pushed, crate::proofs::RuleLemmas::opens))]
 pub fn open_lane<T: Carried>(
     _rt: &impl Wait,
     alloc: Global,
@@ -52,6 +53,7 @@ pub fn open_lane<T: Carried>(
 }
 
 /// Counts the lane's room: the rule begins with none, and has room for one item more in each turn.
+#[tactic(auto, using(crate::proofs::EndLemmas::room_more, crate::proofs::RuleLemmas::rooms))]
 fn count_room<T: Carried>(
     sender: &RuledSender<T, Token<T>, LaneRule>,
     pass: &mut Pass<T, Token<T>>,
@@ -68,6 +70,7 @@ fn count_room<T: Carried>(
 }
 
 /// Passes over the agents below the first: a pass is split off for each, and joined again unused.
+#[tactic(auto, using(crate::proofs::EndLemmas::passed_more, crate::proofs::RuleLemmas::joins, crate::proofs::RuleLemmas::splits))]
 fn pass_over<T: Carried>(
     sender: &RuledSender<T, Token<T>, LaneRule>,
     pass: &mut Pass<T, Token<T>>,

@@ -1,5 +1,4 @@
 pub mod CellLemmas
-pub mod Checks
 pub mod CloseRule
 mod Examples
 pub mod Forgetting

@@ -113,3 +113,6 @@ legal-IsOutcomeOf service fields outcome passes dated of = record {
   retry_until_dated = rw of.retry_until_is dated.retry_until;
   retry_fits = rw of.retry_until_is (rw of.action_is at passes.retry);
 }
+
+-- what the tactics use of fields that have no fault
+pub ruleset checked = short-none

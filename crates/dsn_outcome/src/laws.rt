@@ -10,6 +10,7 @@ ghost use Rattle.dsn_text.specs.declared.key.Key.{Key};
 /// The close rule: until it is forgotten a closed key stays closed, and its log takes no outcome,
 /// whatever is asked. Each other request about it is answered Closed, and leaves every log, the
 /// held keys and the sealed letters as they were.
+#[tactic(auto, using(crate::proofs::CloseRule::rules_of_closed_logs))]
 pub fn closed_logs_stay_closed()
     ensures stays { (key : Key) (history : List Exchange) → IsClosed key history
         → StaysClosed key history }
@@ -37,12 +38,14 @@ pub fn closed_keys_alone_are_forgotten()
 {}
 
 /// A history's letters are numbered from 0, over all keys and forgettings.
+#[tactic(auto, using(crate::proofs::Forgetting::letters_numbered))]
 pub fn letters_are_numbered()
     ensures { (history : List Exchange) → AreNumbered history }
 {}
 
 /// A history goes through the requests that it was made of, and answers an agent as often as the
 /// agent asked.
+#[tactic(auto, using(crate::proofs::HistoryLaws::requests_of, crate::proofs::HistoryLaws::answers_length))]
 pub fn histories_answer_each_request()
     ensures requests { (limits : Limits) (requests : List Request)
         → map (λ exchange. exchange.request) (history_of limits requests) ≡ requests }

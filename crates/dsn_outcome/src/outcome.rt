@@ -46,6 +46,7 @@ impl Outcome {
     /// The outcome of a service's log that these fields describe, ready to be linked into its
     /// log. The fields are tested, in the order of `OutcomeFault`'s variants, before memory is
     /// taken.
+    #[tactic(auto, using(crate::proofs::OutcomeLemmas::checked))]
     pub fn new(alloc: Global, service: Service, parts: Parts<'_>) -> Result<Box<Node>, OutcomeFault>
         ensures kept { IfOk result
             (λ node. IsOutcomeOf service (fields_of parts.entry) node.value.outcome) }
@@ -193,6 +194,7 @@ fn linked(alloc: Global, outcome: Outcome) -> Result<Box<Node>, OutcomeFault>
 
 /// The action and the status of fields that have no fault, or their first fault. It takes no
 /// memory.
+#[tactic(auto, unfolding(crate::specs::Outcome::first_outcome_fault))]
 fn check(service: Service, parts: Parts<'_>) -> Result<(Action, Status), OutcomeFault>
     ensures none { IfOk result
         (λ found. first_outcome_fault service (fields_of parts.entry) ≡ None) }

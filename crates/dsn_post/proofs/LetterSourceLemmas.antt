@@ -52,3 +52,6 @@ module _ (old new : Out Parcel) (item : Parcel) (letters : List Letter) (kept : 
 
     pub none_kept : new ≡ taken_parcels (source new.lane (letters_of new.taken) true)
     none_kept = at _ none_taken ∙ ap (λ (ls : List Letter). out new.lane 0 1 (parcels_of ls true)) (sym none_letters)
+
+-- what the tactics use where a parcel is taken
+pub ruleset parcels = (none_kept, none_letters, some_kept, some_letters)

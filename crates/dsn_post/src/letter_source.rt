@@ -53,6 +53,7 @@ impl LetterSource {
 
     /// Takes the next letter, and waits while there is none. None comes at the end mark and after
     /// it, and where the sending end is gone.
+    #[tactic(auto, using(crate::proofs::LetterSourceLemmas::parcels))]
     pub(crate) fn take(&mut self, rt: &impl Wait) -> Option<Letter>
         ensures taken { HasTaken self.old self.new result }
         ensures few { IsSome result → length self.new.letters ≤ most_sent }

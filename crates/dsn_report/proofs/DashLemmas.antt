@@ -1,7 +1,7 @@
 -- A header without a dash has no line that begins with two.
-use Rattle.std.proofs.Common.{◌≡◌, ℕ, ◌-◌, zero, suc, cond, Bool, true, false, ◌||◌, List, [], ◌∷◌, ◌++◌, length, get_or, take, drop, codes, refl, sym, ap, ◌∙◌, if◌then◌else◌}
+use Rattle.std.proofs.Common.{◌≡◌, ℕ, ◌-◌, zero, suc, cond, Bool, true, false, List, [], ◌∷◌, length, get_or, take, codes, refl, sym, ap, ◌∙◌, if◌then◌else◌}
 use Rattle.std.specs.Prelude.{◌==◌}
-use Rattle.std.specs.List.{list_any, onto_first, slice_split, before_first}
+use Rattle.std.specs.List.{list_any, onto_first, slice_split}
 use Rattle.std.specs.Str.Lines.{lines, lines_of_parts, strip_carriage_return}
 use Rattle.std.proofs.lemmas.Bool.{false_from_ne_true, false≢true, or_parts, or_from}
 use Rattle.std.proofs.lemmas.Bool.Decides.{Decides-eqb}

@@ -1,6 +1,6 @@
 pub mod BlockLemmas
-mod BoundaryLemmas
 mod BoundaryLaw
+mod BoundaryLemmas
 mod CountLemmas
 mod DashLemmas
 mod DateText
@@ -10,10 +10,11 @@ mod Examples
 mod GrammarLemmas
 pub mod HeaderLemmas
 pub mod LineWriterLemmas
+mod LinesLemmas
 pub mod OutgoingLemmas
+mod PieceLemmas
+mod PlainLemmas
 mod ReaderExamples
 mod RoomLemmas
-mod PlainLemmas
-mod LinesLemmas
-mod PieceLemmas
+pub mod Rules
 pub mod SendLemmas

@@ -7,7 +7,7 @@ use Rattle.std.proofs.lemmas.Bool.{or_parts}
 use Rattle.std.proofs.lemmas.Grind.{flat_map-append}
 use Rattle.std.proofs.lemmas.List.{map-append}
 use Rattle.dsn_device.proofs.UntilFailureLemmas.{writes-none, writes-then}
-use Rattle.dsn_device.specs.QuietWriter.{QuietWriter, Writes}
+use Rattle.dsn_device.specs.QuietWriter.{Writes}
 use Rattle.dsn_device.specs.declared.drain.Drain.{Ghosts as Drain}
 use Rattle.dsn_report.specs.LineWriter.{HasTaken, IsBlock, Settled, Took, Wrote, lines_sent}
 use Rattle.dsn_report.specs.Lines.{text_of_lines, dot_stuffed, begins_with_dot}

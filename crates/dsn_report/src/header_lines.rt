@@ -38,6 +38,7 @@ impl<'a> Iterator for HeaderLines<'a> {
 
 /// A text's first line, and what follows it. A line ends at LF, and a CR before it goes with it.
 #[inline(always)]
+#[tactic(auto, using(crate::proofs::Rules::header))]
 pub(crate) fn first_line(text: &[u8]) -> (&[u8], &[u8])
     ensures { header_lines text.now
         ≡ (if length result.0.now == 0 then [] else result.0.now ∷ header_lines result.1.now) }

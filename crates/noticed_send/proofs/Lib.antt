@@ -1,4 +1,5 @@
 pub mod AskLemmas
 pub mod LawLemmas
+pub mod Rules
 mod SendExamples
 pub mod SendLemmas

@@ -45,6 +45,7 @@ pub fn send<R: Source, S: Stream, N: Drain>(
 }
 
 /// Sends each frame of the input and tells its answer.
+#[tactic(auto, using(crate::proofs::Rules::sends))]
 fn hand_over<R: Source, S: Stream, N: Drain>(
     alloc: Global,
     input: &mut R,

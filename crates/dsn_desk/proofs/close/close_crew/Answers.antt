@@ -1,9 +1,9 @@
 -- Agent by agent, the close gives what each was answered; the close of the request lane gives what was taken of each.
-use Rattle.std.proofs.Common.{rules, ap, sym, subst, ◌∙◌, ◌≡◌, ◌+◌, List, [], ◌∷◌, ◌++◌, length, length-append, map, All, arith}
+use Rattle.std.proofs.Common.{rules, ap, sym, subst, ◌∙◌, ◌≡◌, List, [], ◌∷◌, ◌++◌, length, length-append, map, All, arith}
 use Rattle.std.proofs.lemmas.List.Elements.{All-head, All-tail}
 use mathlib.Core.List.{IsPrefix}
 use Rattle.std.specs.Vec.Iter.{into_iter_items}
-use Rattle.dsn_lane.specs.Ends.{End, Identity}
+use Rattle.dsn_lane.specs.Ends.{End}
 use Rattle.dsn_outcome.specs.Agents.{from_agent}
 use Rattle.dsn_outcome.specs.History.{answers_to}
 use Rattle.dsn_outcome.specs.declared.answer.Answer.{Answer}
@@ -11,8 +11,7 @@ use Rattle.dsn_outcome.specs.Request.{Request}
 use Rattle.dsn_agent.specs.Agent.{Ends}
 use Rattle.dsn_agent.specs.Place.{Place, place_at, place_of}
 use Rattle.dsn_desk.specs.Desk.{Desk, IsDesk, history}
-use Rattle.dsn_desk.proofs.OpenLemmas.{none_left}
-use Rattle.dsn_desk.proofs.CloseLemmas.{IsAnswered, all_ends, all_finished, all_heard, all_of_crew, as_many, closed_more, kept_all, kept_more, lines_answered, none_answered, paired, room_of_one_lane, some_left}
+use Rattle.dsn_desk.proofs.CloseLemmas.{IsAnswered, all_heard, as_many, closed_more, kept_all, kept_more, lines_answered, none_answered, paired}
 use Rattle.dsn_desk.proofs.close.close_crew.Goals as goal
 
 pub loop-finished-init : goal.loop-finished-init
@@ -30,21 +29,6 @@ loop-finished-init g c =
       closed = λ all. subst (All (IsAnswered (history c.args.desk))) gives all;
     }
 
-pub unreachable-requires : goal.unreachable-requires
-unreachable-requires g c =
-    none_left c.next-in-loop-finished.result _ c.in_default.is c.next-in-loop-finished.ensures.variant
-    (let some = some_left _ _ _ _ _ c.loop-finished.invariant.crew c.in-Some.ensures.steps.0 in let len = c.loop-finished.invariant.len in omega arith)
-
-pub close_line-requires : goal.close_line-requires
-close_line-requires g c =
-    let pair = paired _ _ _ _ _ c.in-Some.finished c.in-Some-next.line c.loop-finished.invariant.crew c.in-Some.ensures.steps.0 c.in-Some-next.ensures.items in record {
-      lane = (sym (ap (λ (place : Place). place.answered) pair.0), sym (ap (λ (place : Place). place.agent) pair.0));
-    }
-
-pub push_reserved-requires : goal.push_reserved-requires
-push_reserved-requires g c =
-    let room = c.loop-finished.invariant.room in let long = ap length c.in-Some.ensures.steps.0 in let count = c.loop-finished.room.ok.0 in omega arith
-
 pub loop-finished-preserved : goal.loop-finished-preserved
 loop-finished-preserved g c =
     let pair = paired _ _ _ _ _ c.in-Some.finished c.in-Some-next.line c.loop-finished.invariant.crew c.in-Some.ensures.steps.0 c.in-Some-next.ensures.items in
@@ -61,26 +45,8 @@ loop-finished-preserved g c =
       closed = closed_more _ _ _ _ c.in-Some.finished c.in-Some.ensures.steps.0 (record { finished = c.close_line.ensures.finished; got = subst (IsPrefix c.in-Some.finished.answers.taken) answers c.close_line.ensures.got }) c.loop-finished.invariant.closed;
     }
 
-pub close_lane-requires-clause-lane : goal.close_lane-requires-clause-lane
-close_lane-requires-clause-lane g c =
-    let room = kept_all _ _ _ (search rules) c.loop-finished.invariant.asked in
-    let lane = ap (λ (desk : Desk). desk.requests.lane) c.desk.view_is in
-    subst (λ (it : Identity Request). All (λ (end : End Request). end.lane ≡ it) c.loop-finished.room.items) (sym lane) (room_of_one_lane _ _ _ _ c.requires.crew room)
-
-pub close_lane-requires-clause-all : goal.close_lane-requires-clause-all
-close_lane-requires-clause-all g c =
-    let room = kept_all _ _ _ (search rules) c.loop-finished.invariant.asked in
-    subst (λ (desk : Desk). desk.requests.first + length c.loop-finished.room.items ≡ desk.requests.past) (sym c.desk.view_is) (all_ends c.args.desk _ _ (subst IsDesk c.desk.view_is c.desk.invariant.0) c.requires.crew room)
-
 pub returns-clause-heard : goal.returns-clause-heard
 returns-clause-heard g c =
     let room = kept_all _ _ _ (search rules) c.loop-finished.invariant.asked in
     let taken = subst (λ (desk : Desk). All (λ (end : End Request). IsPrefix (from_agent (λ (request : Request). request.agent) end.agent desk.requests.taken) end.sent) c.loop-finished.room.items) c.desk.view_is c.close_lane.ensures.prefix in
     all_heard c.args.desk _ _ (c.loop-finished.invariant.closed (none_answered _ _ (search rules))) room taken
-
-pub returns-clause-finished : goal.returns-clause-finished
-returns-clause-finished g c =
-    all_finished _ _ (c.loop-finished.invariant.closed (none_answered _ _ (search rules)))
-
-pub returns-clause-only : goal.returns-clause-only
-returns-clause-only g c = all_of_crew c.args.desk c.args.crew.items (subst IsDesk c.desk.view_is c.desk.invariant.0) c.requires.crew

@@ -1,11 +1,8 @@
 use Rattle.std.proofs.Common.{◌∙◌, ◌<◌, sym, arith}
-use Rattle.dsn_frame.proofs.TellingLemmas.{OnErr-is_err, OnOk-is_err}
+use Rattle.dsn_frame.proofs.TellingLemmas.{OnErr-is_err}
 use Rattle.noticed_send.specs.Send.{most_frames}
-use Rattle.noticed_send.proofs.SendLemmas.{counts-of, sent-cut, sent-nothing, sent-one, sent-refused, sent-untold}
+use Rattle.noticed_send.proofs.SendLemmas.{counts-of, sent-cut, sent-refused, sent-untold}
 use Rattle.noticed_send.proofs.client.hand_over.Goals as goal
-
-pub loop-position-init : goal.loop-position-init
-loop-position-init g c = sent-nothing g.R.Source g.S.Source g.S.Drain g.N.Drain _ _ _
 
 pub returns-in-Err : goal.returns-in-Err
 returns-in-Err g c =
@@ -34,17 +31,6 @@ returns-then-is_err g c =
     c.in-Ok.ensures.asked c.in-Ok.ensures.counts
     (rw (← line) (OnErr-is_err c.send.result _ failed c.send.ensures.part))
     (rw failed at (counts-of g.N.Drain.failures g.N.Drain.flushes g.N.Drain.steady _ _ _ c.send.ensures.count c.send.ensures.no_flush c.send.ensures.steady))
-
-pub loop-position-preserved : goal.loop-position-preserved
-loop-position-preserved g c =
-    let told = c.in-Ok-Some.ensures in
-    let read = rw c.in-Ok-Some.field-0-is at told.next in
-    let line = c.bytes.ensures.same ∙ c.answer_line.ensures in
-    let fine = sym c.is_err.ensures.value ∙ c.if-is_err.false in
-    sent-one g.R.Source g.S.Source g.S.Drain g.N.Drain c.loop-position.position _ _ _ _ _ _ _ _ _ c.loop-position.invariant _ c.in-Ok.answer read
-    c.in-Ok.ensures.asked (rw (← line) (OnOk-is_err c.send.result _ fine c.send.ensures.sent))
-    (counts-of g.R.Source.failures g.R.Source.flushes g.R.Source.steady _ _ _ told.count told.no_flush told.steady) c.in-Ok.ensures.counts
-    (rw fine at (counts-of g.N.Drain.failures g.N.Drain.flushes g.N.Drain.steady _ _ _ c.send.ensures.count c.send.ensures.no_flush c.send.ensures.steady))
 
 pub returns : goal.returns
 returns g c =

@@ -1,22 +1,10 @@
 -- A take keeps the rule, and the rule tells the item's agent and number.
-use Rattle.std.proofs.Common.{rules, subst, ◌≤◌, ◌<◌}
-use Rattle.dsn_lane.proofs.EndLemmas.{agent_within, keeps_receiving}
+use Rattle.dsn_lane.proofs.EndLemmas.{keeps_receiving}
 use Rattle.dsn_lane.proofs.RuleLemmas.{takes}
-use Rattle.dsn_lane.specs.Ends.{Out}
 use Rattle.dsn_lane.proofs.lane_out.LaneOut.take.Goals as goal
 
 pub recv_as-requires-clause-rule : goal.recv_as-requires-clause-rule
 recv_as-requires-clause-rule g c = (takes _ _ _ _ _ _ c.self.invariant.1, λ _ _ _ _. tt)
-
-pub invariant_of-self : goal.invariant_of-self
-invariant_of-self g c =
-    let kept = keeps_receiving g.T.Carried.agent g.T.Carried.number _ _ _ _ _ c.self.invariant.1 c.in-Ok.ensures.rule.0 c.in-Ok.ensures.rule.1 c.self.invariant.2 in
-    (search rules, kept.0, kept.1)
-
-pub returns-in-Ok-clause-agent : goal.returns-in-Ok-clause-agent
-returns-in-Ok-clause-agent g c =
-    subst (λ (out : Out g.row.T.Denot). (out.first ≤ g.T.Carried.agent c.in-Ok.item) × (g.T.Carried.agent c.in-Ok.item < out.past)) c.self.view_is
-    (agent_within g.T.Carried.agent g.T.Carried.number _ _ _ _ c.self.invariant.1 c.in-Ok.ensures.rule.1 c.self.invariant.2)
 
 pub returns-in-Ok-clause-numbered : goal.returns-in-Ok-clause-numbered
 returns-in-Ok-clause-numbered g c =

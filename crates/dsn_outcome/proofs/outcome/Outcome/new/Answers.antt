@@ -1,23 +1,8 @@
 use Rattle.std.proofs.Common.{refl, ap}
 use Rattle.dsn_text.specs.Optional.{unless_empty}
 use Rattle.dsn_outcome.specs.Parts.{fields_of}
-use Rattle.dsn_outcome.proofs.OutcomeLemmas.{passes-none, legal-IsOutcomeOf, short-none}
+use Rattle.dsn_outcome.proofs.OutcomeLemmas.{passes-none, legal-IsOutcomeOf}
 use Rattle.dsn_outcome.proofs.outcome.Outcome.new.Goals as goal
-
-pub new-requires-clause-recipient : goal.new-requires-clause-recipient
-new-requires-clause-recipient c = (short-none c.args.service (fields_of c.args.parts) c.in_ok-action.ensures.none).recipient
-
-pub new-requires-clause-original : goal.new-requires-clause-original
-new-requires-clause-original c = (short-none c.args.service (fields_of c.args.parts) c.in_ok-action.ensures.none).original
-
-pub new-requires-clause-mta : goal.new-requires-clause-mta
-new-requires-clause-mta c = (short-none c.args.service (fields_of c.args.parts) c.in_ok-action.ensures.none).mta
-
-pub new-requires-clause-diagnostic : goal.new-requires-clause-diagnostic
-new-requires-clause-diagnostic c = (short-none c.args.service (fields_of c.args.parts) c.in_ok-action.ensures.none).diagnostic
-
-pub new-requires-clause-reason : goal.new-requires-clause-reason
-new-requires-clause-reason c = (short-none c.args.service (fields_of c.args.parts) c.in_ok-action.ensures.none).reason
 
 pub invariant_of-outcome : goal.invariant_of-outcome
 invariant_of-outcome c =

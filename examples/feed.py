@@ -11,17 +11,18 @@ submission program, run once for each notice with `-f <> -- RECIPIENT` after the
 
 With --follow the outbox is a file that grows. Once it was moved away to OUTBOX.TIME, and another one stands under its
 name (that of the next daemon), it is read to its end, and then the next: each of those that were moved away meanwhile,
-in the order of their names, and the one that grows. It ends by SIGTERM or SIGINT, between two notices.
+in the order of their names, and the one that grows. It ends by SIGTERM or SIGINT, once the notice in hand is done.
 
-A notice that is refused for now (a reply 4yz, no server, a lost connection, the status EX_TEMPFAIL of a program) is put
-off: it is tried again once a minute, for four days, while later ones are handed in (RFC 5321 section 4.5.4.1; --retry
-and --give-up say other times, in seconds). One that is refused for good, or for so long, is left out: it must not cause
-another notice. Each of both is said once, by a line on standard error with its key and the reply. Where a hundred wait,
-nothing more is read. What is put off is kept in memory: those that still wait when a signal comes are left out. A
-notice is sent twice where the server took it and its reply was late or lost.
+A notice that is refused for now (a reply 4yz, no server, a lost connection; of a program the status EX_TEMPFAIL, a
+signal that ended it, or that it could not be run) is put off: it is tried again once a minute, for four days, while
+later ones are handed in (RFC 5321 section 4.5.4.1; --retry and --give-up say other times, in seconds). One that is
+refused for good, or for so long, is left out: it must not cause another notice. Each of both is said once, by a line on
+standard error with its key and the reply. Where a hundred wait, nothing more is read. What is put off is kept in
+memory: those that still wait when a signal comes are left out. A notice is sent twice where the server took it and its
+reply was late or lost.
 
 The last line says how many were handed in and how many were left out. The status is 0 where each notice was handed in
-and each outbox was whole, 1 where one was left out or cut short, 2 for wrong arguments.
+and each outbox was whole, 1 where one was left out or cut short or not read to its end, 2 for wrong arguments.
 """
 import argparse
 import contextlib
@@ -83,6 +84,7 @@ class Piped:
 
     def readline(self) -> bytes:
         """The next line once it is whole; what there is of it at the end."""
+        self.pause(0)
         while not self.lines:
             self.pause(0)
             if not select.select([sys.stdin], [], [], PAUSE)[0]:
@@ -227,8 +229,10 @@ class Program:
 
     @staticmethod
     def is_for_now(refused: Exception) -> bool:
-        """Whether another try may succeed: the program said so (sysexits.h), or took too long."""
-        return isinstance(refused, subprocess.TimeoutExpired) or getattr(refused, "returncode", None) == os.EX_TEMPFAIL
+        """Whether another try may succeed: the program said so (sysexits.h), a signal ended it, it took too long, or it could
+        not be run."""
+        status = getattr(refused, "returncode", None)
+        return status is None or status < 0 or status == os.EX_TEMPFAIL
 
     def close(self):
         """Nothing is open between two notices."""
@@ -296,7 +300,7 @@ class Feeder:
         """Hands in the waiting notices whose time has come; they stand in the order of their times."""
         now = time.monotonic()
         for _ in range(len(self.waiting)):
-            if self.waiting[0].due > now:
+            if self.signals or self.waiting[0].due > now:
                 return
             self.hand_in(self.waiting.popleft(), is_new=False)
 

@@ -277,21 +277,42 @@ def removed(checks: Checks, outbox: bytes):
             checks.equal("its end", (running.returncode, said), (1, ["the outbox was cut short", f"{2 * MESSAGES} handed in, 0 left out"]))
 
 
+def submission(room: str, text: str) -> str:
+    """A submission program in this folder, by its text; it begins with the recipient in `last`."""
+    program = Path(room) / "submit"
+    program.write_text(f"#!/bin/sh\nfor last; do :; done\n{text}")
+    program.chmod(0o755)
+    return str(program)
+
+
 def programs(checks: Checks, outbox: bytes):
-    """A submission program is run once for each notice; one that fails is said, and tried again if it says so (75)."""
+    """A submission program is run once for each notice; one that fails is said, and tried again if it says so (75), if a
+    signal ended it, or if it can't be run."""
     with tempfile.TemporaryDirectory() as room:
-        program = Path(room) / "submit"
-        program.write_text(
-            f'#!/bin/sh\nfor last; do :; done\necho "$@" >> {room}/arguments\ncat > {room}/$last\n'
-            f"case $last in *3*) exit 67 ;; *4*) [ -e {room}/again ] || {{ touch {room}/again; exit 75; }} ;; esac\n"
+        text = (
+            f'echo "$@" >> {room}/arguments\ncat > {room}/$last\nonce() {{ [ -e {room}/$1 ] || {{ touch {room}/$1; $2; }}; }}\n'
+            'case $last in *2*) once ended "kill $$" ;; *3*) exit 67 ;; *4*) once again "exit 75" ;; esac\n'
         )
-        program.chmod(0o755)
-        status, said = feed(["--retry", "0.1", str(program), "-i"], outbox)
+        status, said = feed(["--retry", "0.1", submission(room, text), "-i"], outbox)
         checks.equal("a program: end", (status, said[-1:]), (1, ["5 handed in, 1 left out"]))
-        checks.equal("its lines", [it[:14] for it in said[:-1]], ["left out B K3:", "put off B K4: "])
+        checks.equal("its lines", [it[:14] for it in said[:-1]], ["put off B K2: ", "left out B K3:", "put off B K4: "])
         checks.equal("its arguments", (Path(room) / "arguments").read_text().splitlines()[0], "-i -f <> -- sender0@example.com")
         for at, message in enumerate(messages_of(outbox)):
             checks.true("a message", (Path(room) / f"sender{at}@example.com").read_bytes() == message.replace(b"\r\n", b"\n"))
+        status, said = feed(["--retry", "0.1", "--give-up", "0.15", str(Path(room) / "nothing")], outbox)
+        checks.equal("no program: end", (status, said[-1:]), (1, [f"0 handed in, {MESSAGES} left out"]))
+        checks.equal("its lines", sorted({it[:7] for it in said[:-1]}), ["left ou", "put off"])
+
+
+def stopped(checks: Checks, outbox: bytes):
+    """A signal is heeded once the notice in hand is done, though others were read or are due."""
+    with tempfile.TemporaryDirectory() as room:
+        status, said = feed([submission(room, "kill $PPID\n")], outbox)
+        checks.equal("a signal with the first notice", (status, said), (1, ["stopped before the end", "1 handed in, 0 left out"]))
+        text = f'echo >> {room}/tries\n[ "$(wc -l < {room}/tries)" -le {MESSAGES} ] || kill $PPID\nexit 75\n'
+        status, said = feed(["--retry", "0.5", submission(room, text)], outbox)
+        tries = len((Path(room) / "tries").read_text().splitlines())
+        checks.equal("a signal with the first that is due", (status, said[-1:], tries), (1, [f"0 handed in, {MESSAGES} left out"], MESSAGES + 1))
 
 
 def cut(checks: Checks, outbox: bytes):
@@ -316,6 +337,7 @@ def main():
     followed(checks, outbox)
     removed(checks, outbox)
     programs(checks, outbox)
+    stopped(checks, outbox)
     cut(checks, outbox)
     for words in ([], ["--nonsense", "localhost:25"], ["--follow", "outbox"], ["--retry", "soon", "localhost:25"]):
         checks.equal(f"arguments {words}", feed(words, outbox)[0], 2)

@@ -181,9 +181,9 @@ pub record ServesSoFar (conns : Option (List Conn)) (old : Agent) (now : Option 
   pub good : line.port_failed ≡ false
 
 -- no connection was served so far
-pub serves-nothing : (conns : Option (List Conn)) (agent : Agent) (requests : ℕ) → requests ≡ length agent.ends.requests.sent
+pub serves_nothing : (conns : Option (List Conn)) (agent : Agent) (requests : ℕ) → requests ≡ length agent.ends.requests.sent
     → ServesSoFar conns agent conns agent (record { requests = requests; connections = 0; faults = 0; port_failed = false }) 0
-serves-nothing conns agent requests is = record {
+serves_nothing conns agent requests is = record {
   sessions = [];
   follow = tt;
   over = port-begun conns;
@@ -328,6 +328,3 @@ service-ends conns agent last line served (Ok finished) bye = record {
 service-ends conns agent last line served (Err fault) bye = record { last = last; served = served; goodbye = tt }
 
 -- ---- what follows for an agent that was heard
-
--- what the tactics use before an agent's first connection
-pub ruleset served = serves-nothing

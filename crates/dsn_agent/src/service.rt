@@ -40,7 +40,7 @@ pub fn serve_port<P: Port + Drop, G: Gate>(
 
 /// Serves the connections of a port until it is done or has failed, the collector is found gone, or
 /// as many connections were served as an agent serves.
-#[tactic(auto, using(crate::proofs::PortLemmas::served))]
+#[tactic(auto, using(crate::proofs::PortLemmas::serves_nothing))]
 fn serve_connections<P: Port, G: Gate>(
     rt: &impl Wait,
     alloc: Global,

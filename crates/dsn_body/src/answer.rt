@@ -120,6 +120,7 @@ fn answer_from(kind: u8, value: u32) -> Option<Spoken>
 }
 
 /// The number that four bytes are, the highest first.
+#[tactic(auto, using(std::proofs::lemmas::Nat::be_bytes_4))]
 fn number_in(bytes: &[u8]) -> u32
     requires { length bytes.now ≡ 4 }
     ensures value { result ≡ from_be_bytes w32 bytes.now }

@@ -14,11 +14,6 @@ use Rattle.dsn_agent.specs.declared.port_end.PortEnd.{PortEnd}
 abbrev pub EndedSoFar : List (Option PortEnd) → List (Option PortEnd) → List AgentLine → List Ends → Type 0
 EndedSoFar whole left lines agents = (l : List AgentLine) (a : List Ends) → AreEnded left l a → AreEnded whole (lines ++ l) (agents ++ a)
 
-pub ended_begun : (whole left : List (Option PortEnd)) (lines : List AgentLine) (agents : List Ends) → left ≡ whole → lines ≡ [] → agents ≡ [] → EndedSoFar whole left lines agents
-ended_begun whole left lines agents same no_lines no_agents = λ l a ended.
-    subst (λ (ls : List AgentLine). AreEnded whole (ls ++ l) (agents ++ a)) (sym no_lines)
-    (subst (λ (es : List Ends). AreEnded whole l (es ++ a)) (sym no_agents) (subst (λ (ends : List (Option PortEnd)). AreEnded ends l a) same ended))
-
 pub ended_more : (whole left then : List (Option PortEnd)) (lines lines' : List AgentLine) (agents agents' : List Ends) (line : AgentLine) (agent : Ends) (end : Option PortEnd) → left ≡ end ∷ then → end ≡ Some (record { line = line; finished = Some agent })
     → lines' ≡ lines ++ line ∷ [] → agents' ≡ agents ++ agent ∷ [] → EndedSoFar whole left lines agents → EndedSoFar whole then lines' agents'
 ended_more whole left then lines lines' agents agents' line agent end left_is end_is lines_are agents_are so_far = λ l a ended.

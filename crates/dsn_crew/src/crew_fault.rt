@@ -17,7 +17,7 @@ pub struct CrewFault<W> {
     pub cause: CrewCause,
     /// The outbox.
     pub outbox: W,
-    /// The letters that came to the poster and are not in the outbox, in order, and then the one
+    /// The letters that came to the poster and could not be written, in order, and then the one
     /// that the collector still held.
     pub unsent: Letters,
     desk: Option<Snapshot<Desk>>,

@@ -17,6 +17,7 @@ pub(crate) enum Gathered {
 
 impl Gathered {
     /// Puts together what came of each agent.
+    #[tactic(auto, using(crate::proofs::GatheredLemmas::ended_all))]
     pub(crate) fn of(
         ends: Vec<Option<PortEnd>>,
         lines: Vec<AgentLine>,

@@ -73,9 +73,9 @@ crew_push limit lane crew crew' ends ends' agent end before pushed lines is =
     ∙ ((λ i. before i ++ is i ∷ [])
     ∙ (sym (map-append (opened_agent limit lane) ends (end ∷ [])) ∙ ap (map (opened_agent limit lane)) (sym lines)))
 
-pub length-ends : (lane : Identity Request) (first agents : ℕ) → length (fresh_ends lane first agents) ≡ agents
-length-ends lane first zero = refl
-length-ends lane first (suc more) = let rest = length-ends lane (suc first) more in omega arith
+pub length_ends : (lane : Identity Request) (first agents : ℕ) → length (fresh_ends lane first agents) ≡ agents
+length_ends lane first zero = refl
+length_ends lane first (suc more) = let rest = length_ends lane (suc first) more in omega arith
 
 -- ---- an opened crew
 

@@ -1,10 +1,6 @@
 -- Which lemmas the tactics use, by what they prove with them.
-use Rattle.dsn_desk.proofs.OpenLemmas.{length-ends}
 use Rattle.dsn_desk.proofs.CloseLemmas.{all_of_crew, kept_all, room_of_one_lane}
 use Rattle.dsn_desk.proofs.RunLemmas.{run_none, run_then, took_fault, took_lost, took_none}
-
--- a crew that is opened, agent after agent
-pub ruleset opening = length-ends
 
 -- a crew that is closed, an agent's ends after another's
 pub ruleset closing = (all_of_crew, kept_all, room_of_one_lane)

@@ -38,7 +38,7 @@ pub fn open_crew(
 }
 
 /// The crew itself.
-#[tactic(auto, using(crate::proofs::Rules::opening))]
+#[tactic(auto, using(crate::proofs::OpenLemmas::length_ends))]
 fn open_room(
     rt: &impl Wait,
     alloc: Global,

@@ -171,6 +171,7 @@ pub(crate) fn fill_frame<S: Source>(
 }
 
 /// The number that four bytes are, the highest first.
+#[tactic(auto, using(std::proofs::lemmas::Nat::be_bytes_4))]
 fn number_in(bytes: &[u8]) -> u32
     requires { length bytes.now ≡ length_prefix }
     ensures value { result ≡ from_be_bytes w32 bytes.now }

@@ -82,8 +82,8 @@ pub record AreShort (fields : Fields) : Type 0 where
   pub diagnostic : length fields.diagnostic ≤ longest_clean
   pub reason : length fields.reason ≤ longest_clean
 
-pub short-none : (service : Service) (fields : Fields) → first_outcome_fault service fields ≡ None → AreShort fields
-short-none service fields none =
+pub short_none : (service : Service) (fields : Fields) → first_outcome_fault service fields ≡ None → AreShort fields
+short_none service fields none =
     let passes = passes-none service fields none in
     record {
       recipient = length-is_text _ _ _ fields.recipient passes.recipient;
@@ -113,6 +113,3 @@ legal-IsOutcomeOf service fields outcome passes dated of = record {
   retry_until_dated = rw of.retry_until_is dated.retry_until;
   retry_fits = rw of.retry_until_is (rw of.action_is at passes.retry);
 }
-
--- what the tactics use of fields that have no fault
-pub ruleset checked = short-none

@@ -46,7 +46,7 @@ impl Outcome {
     /// The outcome of a service's log that these fields describe, ready to be linked into its
     /// log. The fields are tested, in the order of `OutcomeFault`'s variants, before memory is
     /// taken.
-    #[tactic(auto, using(crate::proofs::OutcomeLemmas::checked))]
+    #[tactic(auto, using(crate::proofs::OutcomeLemmas::short_none))]
     pub fn new(alloc: Global, service: Service, parts: Parts<'_>) -> Result<Box<Node>, OutcomeFault>
         ensures kept { IfOk result
             (λ node. IsOutcomeOf service (fields_of parts.entry) node.value.outcome) }

@@ -5,6 +5,7 @@ use crate::finished::Finished;
 /// What came of an agent that served its port.
 #[derive(Drop)]
 pub struct PortEnd {
+    /// What the agent did, up to its goodbye.
     pub line: AgentLine,
     /// The agent, once it said goodbye and was heard; none where a lane was lost.
     pub finished: Option<Finished>,

@@ -55,10 +55,11 @@ abbrev pub or_else : {F : Type 0} → Option F → Option F → Option F
 or_else (Some fault) later = Some fault
 or_else None later = later
 
--- the moment that a number of a version 2 append stands for: all ones are none
+-- the number that stands for no moment: all ones
 abbrev pub no_moment : ℕ
 no_moment = 18_446_744_073_709_551_615
 
+-- the moment that a number of a version 2 append stands for
 abbrev pub moment_if_any : ℕ → Option ℕ
 moment_if_any seconds = if seconds == no_moment then None else Some seconds
 
@@ -235,7 +236,8 @@ fields_written number Bye = None
 abbrev pub longest_own : ℕ
 longest_own = 22 + (longest_address + (longest_envelope_id + longest_header))
 
--- fields that are written of a body: no check fails, they stand for the body, and a frame holds them
+-- fields that are written of a body: no check fails, they stand for the body, and a frame holds
+-- them
 pub record IsWritten (number : ℕ) (body : Body) (wire : WireBody) : Type 0 where
   pub number_is : (head_of wire).number ≡ number
   pub known : is_known wire ≡ true

@@ -127,8 +127,8 @@ impl Desk {
     /// Takes the agents' requests, answers each, and hands on the letters that they seal, until all
     /// agents have said goodbye.
     ///
-    /// What [`Desk::take_one`] answers comes where it does; `Letters` where the sink is gone. Then
-    /// the collector has failed.
+    /// What [`Desk::take_one`] answers comes where it does; `Letters` where the sink is gone or
+    /// takes no more. Then the collector has failed.
     #[tactic(auto, using(crate::proofs::Rules::runs))]
     pub fn run<K: Sink>(&mut self, rt: &impl Wait, sink: &mut K) -> Result<(), DeskFault>
         ensures run { IsRun K.takes self.old self.new sink.old sink.new result }

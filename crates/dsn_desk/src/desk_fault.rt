@@ -9,11 +9,11 @@ use dsn_outcome::Letter;
 /// Why a collector stopped. A letter that was sealed and not handed on comes back.
 #[derive(Drop)]
 pub enum DeskFault {
-    /// The agents are gone, or the collector failed before.
+    /// The agents are gone, the collector failed before, or 4,294,967,295 requests were taken.
     Requests,
     /// This agent is gone, and its answer is lost. The letter that the answer tells of comes back.
     Answers(u32, Option<Letter>),
-    /// The sink is gone.
+    /// The sink is gone, or takes no more letters.
     Letters(Letter),
 }
 

@@ -10,7 +10,7 @@ pub enum FrameFault {
     /// Memory for the body was refused.
     #[error("out of memory")]
     NoMemory,
-    /// The frame declares more than 65,536 bytes.
+    /// The frame declares a body of more than 65,536 bytes.
     #[error("the frame is longer than 65,536 bytes")]
     TooLong,
     /// The frame declares no byte.
@@ -25,7 +25,7 @@ pub enum FrameFault {
 }
 
 impl FrameFault {
-    /// The number of the refusal, 9 or 11 to 14, as notes tell it.
+    /// The number of the fault, 9 or 11 to 14, as notes tell it.
     pub fn code(&self) -> u32
         ensures { result ≡ frame_fault_code self.now }
     {

@@ -21,7 +21,7 @@ most_waiting = 1024
 abbrev pub most_sent : ℕ
 most_sent = 4294967295
 
--- the number of the refusal where the other side of a lane is gone
+-- the number of the fault where the other side of a lane is gone
 abbrev pub lost_code : ℕ
 lost_code = 41
 

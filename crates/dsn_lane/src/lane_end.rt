@@ -10,7 +10,7 @@ use thiserror::Error;
 pub struct LaneEnd;
 
 impl LaneEnd {
-    /// The number of the refusal, 41.
+    /// The number of the fault, 41.
     pub fn code(&self) -> u32
         ensures { result ≡ lost_code }
     {

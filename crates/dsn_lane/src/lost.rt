@@ -10,7 +10,7 @@ pub struct Lost<T> {
 }
 
 impl<T> Lost<T> {
-    /// The number of the refusal, 41.
+    /// The number of the fault, 41.
     pub fn code(&self) -> u32
         ensures { result ≡ lost_code }
     {

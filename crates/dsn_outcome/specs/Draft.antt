@@ -24,7 +24,7 @@ pub record IsLegalDraft (draft : Draft) : Type 0 where
   pub envelope_id_legal : IsTrue (is_none_or is_envelope_id draft.envelope_id)
   pub header_short : length draft.header ≤ longest_header
 
--- the first fault of a draft's texts, if they have one
+-- what is asked of a draft's texts, in the order in which a refusal names it
 abbrev pub draft_checks : List ℕ → List ℕ → List ℕ → List (Bool × DraftFault)
 draft_checks header return_path envelope_id =
     (nat_le (length header) longest_header, Header)
@@ -32,6 +32,7 @@ draft_checks header return_path envelope_id =
     ∷ (is_none_or is_envelope_id (unless_empty envelope_id), EnvelopeId)
     ∷ []
 
+-- the first fault of a draft's texts, if they have one
 abbrev pub first_draft_fault : List ℕ → List ℕ → List ℕ → Option DraftFault
 first_draft_fault header return_path envelope_id =
     first_failed (draft_checks header return_path envelope_id)

@@ -14,7 +14,7 @@ pub enum PostFault {
 }
 
 impl PostFault {
-    /// The number of the fault, as a program prints it: 31 or 32.
+    /// The number of the fault: 31, or 32, which stays in the library.
     pub fn code(&self) -> u32
         ensures { result ≡ post_fault_code self.now }
     {

@@ -79,7 +79,8 @@ impl<W> Poster<W> {
 
 impl<W: Drain> Poster<W> {
     /// Writes the letter's notice, after the greeting if that isn't written, and then flushes the
-    /// outbox, once. After a fault every later call is refused with `Failed`. It takes no memory.
+    /// outbox, once. `Write` comes where the outbox fails now, and `Failed` from every later call;
+    /// the letter comes back. It takes no memory.
     #[tactic(auto, unfolding(crate::specs::Poster::post_text))]
     pub fn post(&mut self, letter: Letter) -> Result<(), PostFault>
         ensures sent { OnOk result

@@ -5,8 +5,8 @@ ghost use Rattle.dsn_report.specs.Boundary.{boundary_numbers, four_digits, is_de
 
 use crate::header_lines::{HeaderLines, LINE_ROOM, show_line};
 
-/// One number more than a header can rule out: a line that rules one out has at least ten bytes
-/// and an end, and 32,768 bytes hold no more than 2,979 such lines.
+/// More numbers than a header can rule out. What is proved is 2,979: a line that rules one out has
+/// at least ten bytes and an end. (The shortest has twelve, so 2,520 is the most.)
 pub(crate) const NUMBERS: usize = 2_980;
 
 /// Which numbers the returned lines of a header rule out, for boundaries that begin so.

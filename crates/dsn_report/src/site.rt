@@ -7,7 +7,7 @@ use std::alloc::Global;
 use std::marker::Model;
 use thiserror::Error;
 
-/// The longest host name, in bytes (RFC 1035 section 2.3.4).
+/// The longest host name, in bytes (RFC 5321 section 4.5.3.1.2).
 pub const LONGEST_HOST: usize = 255;
 
 /// Why a site is refused.
@@ -22,7 +22,7 @@ pub enum SiteFault {
 }
 
 impl SiteFault {
-    /// The number of the refusal, as a program prints it: 51 or 9.
+    /// The number of the refusal: 9, or 51, for which the program has no line.
     pub fn code(&self) -> u32
         ensures { result ≡ site_fault_code self.now }
     {
@@ -59,7 +59,8 @@ impl Site {
         1 <= host.len() && host.len() <= LONGEST_HOST && has_host_bytes(host)
     }
 
-    /// The site of a host name. Memory is taken only for a host name.
+    /// The site of a host name. `BadHost` comes where it is none, `NoMemory` only where memory for
+    /// it was refused.
     pub fn new(alloc: Global, host: &[u8]) -> Result<Site, SiteFault>
         ensures kept { IfOk result (λ site. site ≡ host.now) }
         ensures legal { IsOk result → IsHost host.now }

@@ -37,7 +37,8 @@ impl Address {
         has_form(text, 1, LONGEST_ADDRESS, Alphabet::AddressBytes)
     }
 
-    /// Keeps a text that can be an address, and takes memory only for such a text.
+    /// Keeps a text that can be an address. `Bad` comes where it can't be one,
+    /// `NoMemory` only where memory for it was refused.
     pub fn new(alloc: Global, text: &[u8]) -> Result<Address, TextFault>
         ensures kept { IfOk result (λ kept. kept ≡ text.now) }
         ensures legal { IsOk result → IsAddress text.now }

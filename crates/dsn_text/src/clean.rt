@@ -36,7 +36,7 @@ impl Clean {
     }
 
     /// Keeps a text that is short enough, with `?` for each byte that isn't printable, a tab
-    /// too. It takes memory only for such a text.
+    /// too. `Bad` comes where it is too long, `NoMemory` only where memory for it was refused.
     pub fn new(alloc: Global, text: &[u8]) -> Result<Clean, TextFault>
         ensures kept { IfOk result (λ kept. kept ≡ clean_text text.now) }
         ensures legal { IsOk result → length text.now ≤ LONGEST_CLEAN }

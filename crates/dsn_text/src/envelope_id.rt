@@ -36,7 +36,8 @@ impl EnvelopeId {
         has_form(text, 1, LONGEST_ENVELOPE_ID, Alphabet::Printable)
     }
 
-    /// Keeps a text that can be an envelope id, and takes memory only for such a text.
+    /// Keeps a text that can be an envelope id. `Bad` comes where it can't be one,
+    /// `NoMemory` only where memory for it was refused.
     pub fn new(alloc: Global, text: &[u8]) -> Result<EnvelopeId, TextFault>
         ensures kept { IfOk result (λ kept. kept ≡ text.now) }
         ensures legal { IsOk result → IsEnvelopeId text.now }

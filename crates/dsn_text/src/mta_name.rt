@@ -35,7 +35,8 @@ impl MtaName {
         has_form(text, 1, LONGEST_MTA_NAME, Alphabet::Visible)
     }
 
-    /// Keeps a text that can be a mail system's name, and takes memory only for such a text.
+    /// Keeps a text that can be a mail system's name. `Bad` comes where it can't be one,
+    /// `NoMemory` only where memory for it was refused.
     pub fn new(alloc: Global, text: &[u8]) -> Result<MtaName, TextFault>
         ensures kept { IfOk result (λ kept. kept ≡ text.now) }
         ensures legal { IsOk result → IsMtaName text.now }

@@ -34,7 +34,8 @@ impl RawHeader {
         text.len() <= LONGEST_HEADER
     }
 
-    /// Keeps a text that is short enough, byte for byte. It takes memory only for such a text.
+    /// Keeps a text that is short enough, byte for byte. `Bad` comes where it is too long,
+    /// `NoMemory` only where memory for it was refused.
     pub fn new(alloc: Global, text: &[u8]) -> Result<RawHeader, TextFault>
         ensures kept { IfOk result (λ kept. kept ≡ text.now) }
         ensures legal { IsOk result → length text.now ≤ LONGEST_HEADER }

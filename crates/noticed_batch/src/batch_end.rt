@@ -9,7 +9,9 @@ pub struct BatchEnd<W> {
     /// Whether the outbox has the notice of each sealed log, and its end.
     pub whole: bool,
     /// The number of the fault that ended the run: 9, 11 to 14, 46 or 47 of the reading, or 33
-    /// where a line of the notes could not be written; none where all went well.
+    /// where a line of the notes could not be written; none where the reading ended well and no
+    /// line was lost. An outbox that failed is told by `whole`, and open logs that could not be
+    /// listed by `status` alone.
     pub fault: Option<u32>,
     /// The letters that could not be written, in order.
     pub unsent: Letters,

@@ -26,7 +26,7 @@ longest_reply = 30
 abbrev pub longest_key_start : ℕ
 longest_key_start = 10
 
--- how many bytes a key in words has at most: a letter, a space, and a queue ID of 32
+-- how many bytes a key in words has at most: a letter, a space, and a queue id of 32
 abbrev pub longest_key : ℕ
 longest_key = 34
 

@@ -18,7 +18,7 @@ use std::sync::Wait;
 /// How many frames may be sent: as many as a daemon takes on one connection.
 const MOST_FRAMES: u32 = 1_000_000;
 
-/// Sends the frames of `input` over `stream`, each in one write and the next one only after the
+/// Sends the frames of `input` over `stream`, each as one text and the next one only after the
 /// last answer, and tells each answer in a line of `notes`. The first fault ends it, and nothing
 /// is read or written after it; an answer out of turn has no line. It makes no flush. Memory is
 /// taken only to read a frame or an answer that is longer than any before it.

@@ -8,7 +8,7 @@ use arrayvec::ArrayString;
 use dsn_crew::AgentLine;
 use itoa::Buffer;
 
-/// The most bytes that the line of an agent has.
+/// Room for the line of an agent, in bytes: it has 118 at most.
 const LINE_ROOM: usize = 128;
 
 /// The line of what an agent did.

@@ -14,33 +14,46 @@ SHELL := /bin/sh
 .SHELLFLAGS := -euc
 .ONESHELL:
 .DELETE_ON_ERROR:
-.PHONY: all build demo check edits refused bench planted install clean
+.PHONY: all build demo check boot edits refused bench planted install clean
 
 all: build
 
 build: $(NOTICED)
 
-# The proved program. `rt run` proves what changed, builds and runs it, here on an empty input.
-# (The touch tells make that an unchanged program is up to date.)
+# Runs `rt run -- ARGUMENTS` in the folder of a crate, which proves what changed, builds the program and runs it, on an
+# empty input. What `rt` says goes to a log, and each crate is named once, when the log gets to it. Used as
+# $(call prove,CRATE,ARGUMENTS,LOG): the status is that of `rt`, and where it isn't 0 the log is shown.
+define prove
+mkdir -p out
+echo "proving and building $@ (log: $(3)); each crate is named as it is proved .."
+{ (cd crates/$(1) && "$(RT)" run -- $(2)) < /dev/null 2>&1 && echo 0 > $(3).status || echo "$$?" > $(3).status; } | tee $(3) | {
+    named=
+    while IFS= read -r line; do
+        case $$line in
+            "checked "*::* | "fn "*::* | "crate "*:*) crate=$${line#* }; crate=$${crate%%:*} ;;
+            *) continue ;;
+        esac
+        case " $$named " in *" $$crate "*) continue ;; esac
+        named="$$named $$crate"
+        echo "  $$(date +%T) $$crate"
+    done
+}
+read -r status < $(3).status
+if [ "$$status" != 0 ]; then
+    cat $(3)
+    echo "$@ could not be proved or built"
+    exit "$$status"
+fi
+endef
+
+# The proved program. (The touch tells make that an unchanged program is up to date.)
 $(NOTICED): $(SOURCES) crates.txt HANDLES
-	@mkdir -p out
-	echo "proving and building $@ (log: out/build.log) .."
-	if ! (cd crates/noticed && "$(RT)" run -- batch mx.example.net) < /dev/null > out/build.log 2>&1; then
-	    cat out/build.log
-	    echo "the program could not be proved or built"
-	    exit 1
-	fi
+	@$(call prove,noticed,batch mx.example.net,out/build.log)
 	touch $@
 
 # The same for the program that the scripts run to refuse a crew, or a call, its memory and threads, and to measure a crew.
 $(PROBE): $(SOURCES) crates.txt HANDLES
-	@mkdir -p out
-	echo "proving and building $@ (log: out/probe.log) .."
-	if ! (cd crates/$(@F) && "$(RT)" run -- $$(cat args)) < /dev/null > out/probe.log 2>&1; then
-	    cat out/probe.log
-	    echo "$@ could not be proved or built"
-	    exit 1
-	fi
+	@$(call prove,probe,$$(cat args),out/probe.log)
 	touch $@
 
 # A run of `batch`, with its standard output and standard error each under a heading of its own; then a daemon with two
@@ -70,6 +83,10 @@ check:
 	@command -v python3 > /dev/null || { echo "make check needs python3"; echo "0 passed, 1 failed"; exit 1; }
 	exec python3 tests/support/gate.py
 
+# Boots a systemd of its own with the installed units, as root; not part of `make check`.
+boot: $(NOTICED)
+	@NOTICED="$(CURDIR)/$(NOTICED)" PYTHONDONTWRITEBYTECODE=1 python3 tests/boot.py out/boot
+
 # Which functions the wrong edits change that the gate must see refused.
 edits:
 	@PYTHONDONTWRITEBYTECODE=1 python3 tests/support/wrong_edits.py
@@ -94,8 +111,10 @@ planted: $(NOTICED)
 install: $(NOTICED)
 	@install -D -m 755 $(NOTICED) "$(DESTDIR)$(PREFIX)/bin/noticed"
 	install -D -m 644 docs/noticed.8 "$(DESTDIR)$(PREFIX)/share/man/man8/noticed.8"
-	for it in docs/FORMATS.md docs/DEPLOY.md docs/REFUSALS.md examples/noticed.service examples/noticed-feed.service \
-	    examples/feed.py examples/frames.py examples/agent.c examples/one-bounce.frames; do
+	for it in docs/FORMATS.md docs/DEPLOY.md docs/FEEDER.md docs/REFUSALS.md examples/noticed.service \
+	    examples/noticed-feed.service examples/noticed-run.sh examples/feed.py examples/feed_mailers.py \
+	    examples/feed_outbox.py examples/feed_state.py examples/frames.py examples/client.py examples/agent.c \
+	    examples/one-bounce.frames; do
 	    install -D -m 644 "$$it" "$(DESTDIR)$(PREFIX)/share/doc/noticed/$${it##*/}"
 	done
 	echo "installed $(DESTDIR)$(PREFIX)/bin/noticed, its manual page and $(DESTDIR)$(PREFIX)/share/doc/noticed"

@@ -6,7 +6,8 @@ from pathlib import Path
 sys.path.insert(0, str(Path(__file__).parent / "support"))
 from running import EXAMPLES, Checks, Ran, empty_outbox, run  # noqa: E402
 
-USAGE = b"usage: noticed batch HOST | serve SOCKET HOST AGENTS MAX-USE | send SOCKET\n"
+USAGE = b"usage: noticed batch HOST | serve [--idle SECONDS] [--end-on-fault] [--log] SOCKET HOST AGENTS MAX-USE | stop SOCKET | send SOCKET\n"
+PATH = b"the path of the socket must have 1 to 107 bytes\n"
 HOST = "mx.example.net"
 SOCKET = "/nonexistent/noticed.socket"
 
@@ -49,7 +50,20 @@ WRONG = {
     "serve with an empty host": ["serve", SOCKET, "", "2", "1"],
     "serve with a host of 256 bytes": ["serve", SOCKET, "a" * 256, "2", "1"],
     "serve with a socket that is no UTF-8": ["serve", b"\xff", HOST, "2", "1"],
+    "serve with an unknown option": ["serve", "--verbose", SOCKET, HOST, "2", "1"],
+    "serve with an option after its socket": ["serve", SOCKET, "--log", HOST, "2", "1"],
+    "serve with an option at its end": ["serve", SOCKET, HOST, "2", "1", "--log"],
+    "serve with a log twice": ["serve", "--log", "--log", SOCKET, HOST, "2", "1"],
+    "serve with an end on a fault twice": ["serve", "--end-on-fault", "--end-on-fault", SOCKET, HOST, "2", "1"],
+    "serve with two idle limits": ["serve", "--idle", "1", "--idle", "1", SOCKET, HOST, "2", "1"],
+    "serve with an idle limit without seconds": ["serve", "--idle", SOCKET, HOST, "2", "1"],
+    "serve with an idle limit in one word": ["serve", "--idle=1", SOCKET, HOST, "2", "1"],
+    "serve with an option and no socket": ["serve", "--end-on-fault", "--log", HOST, "2"],
     "SERVE in capitals": ["SERVE", SOCKET, HOST, "2", "1"],
+    "stop with nothing": ["stop"],
+    "stop with a word too many": ["stop", SOCKET, HOST],
+    "stop with an option": ["stop", "--log", SOCKET],
+    "stop with a socket that is no UTF-8": ["stop", b"/\xff"],
     "send with nothing": ["send"],
     "send with a word too many": ["send", SOCKET, HOST],
     "send with an empty word too many": ["send", SOCKET, ""],
@@ -63,17 +77,26 @@ NO_NUMBERS = [
 ]
 NO_AGENTS = [*NO_NUMBERS, "17", "100", "016"]
 NO_USES = [*NO_NUMBERS, "1000001", "01000000", "4294967296"]
+NO_SECONDS = [*NO_NUMBERS, "86401", "4294967296"]
 
-# right, but no socket can be bound there, or nobody listens: fault 61, and nothing on standard output
+# a socket's path that is empty, or longer than the system takes
+NO_PATHS = ["", "s" * 108, "/" + "s" * 300]
+
+# right, but no socket can be bound there, or nobody listens: fault 61 with the path and the system's words, and nothing
+# on standard output
 RIGHT = {
     "one agent, one connection": ["serve", SOCKET, HOST, "1", "1"],
     "the most of both": ["serve", SOCKET, HOST, "16", "1000000"],
     "a host like an option": ["serve", SOCKET, "--help", "2", "1"],
+    "an idle limit": ["serve", "--idle", "86400", SOCKET, HOST, "2", "1"],
+    "all options": ["serve", "--log", "--idle", "1", "--end-on-fault", SOCKET, HOST, "2", "1"],
     "a socket like an option": ["send", "--help"],
     "a client": ["send", SOCKET],
+    "a stop": ["stop", SOCKET],
+    "a stop of a socket like an option": ["stop", "--log"],
 }
 
-# hosts that look like something else: there are no options, so each is a host name
+# hosts that look like something else: `batch` has no options, so each is a host name
 ODD_HOSTS = ["-h", "--help", "--", "-", ".", "..", "0", "a", "A" * 255]
 
 
@@ -83,10 +106,16 @@ def main():
     wrong = dict(WRONG)
     wrong |= {f"{it!r} agents": ["serve", SOCKET, HOST, it, "1"] for it in NO_AGENTS}
     wrong |= {f"{it!r} connections": ["serve", SOCKET, HOST, "2", it] for it in NO_USES}
+    wrong |= {f"{it!r} seconds": ["serve", "--idle", it, SOCKET, HOST, "2", "1"] for it in NO_SECONDS}
     for what, words in wrong.items():
         checks.equal(what, run(words, given), Ran(b"", USAGE, 2))
+    for path in NO_PATHS:
+        for words in (["serve", path, HOST, "2", "1"], ["stop", path], ["send", path]):
+            checks.equal(f"{words[0]} with a path of {len(path)} bytes", run(words, given), Ran(b"", PATH, 2))
     for what, words in RIGHT.items():
-        checks.equal(what, run(words, given), Ran(b"", b"fault 61\n", 1))
+        path = SOCKET if SOCKET in words else words[-1]
+        why = "No such file or directory (os error 2)"
+        checks.equal(what, run(words, given), Ran(b"", f"fault 61\n{path}: {why}\n".encode(), 1))
     for host in ODD_HOSTS:
         checks.equal(f"batch {host[:20]}", run(["batch", host]), Ran(empty_outbox(host), b"", 0))
     print(f"  {len(wrong)} wrong, {len(RIGHT) + len(ODD_HOSTS)} odd and right")

@@ -9,38 +9,48 @@ import tempfile
 from pathlib import Path
 
 sys.path.insert(0, str(Path(__file__).parent / "support"))
-from daemon_and_clients import FIRST_FRAME, FRAMES, NOTES, OUTBOX, PATIENCE, Daemon, answer, append, asked, closed_pipe, flush, line  # noqa: E402
+from daemon_and_clients import FIRST_FRAME, FRAMES, NOTES, OUTBOX, PATIENCE, Daemon, answer, append, asked, closed_pipe, flush, line, socket_fault  # noqa: E402
 from preloading import built, compare_ends, each_refused, preloading  # noqa: E402
 from running import HOST, Checks, Ran, empty_outbox, run  # noqa: E402
 
 MOST = 200  # growths of a run; more than this and the sweep is broken
-UNBOUND = Ran(b"", b"fault 61\n", 1)
+IN_USE = "Address already in use (os error 98)"
+NOT_THERE = "No such file or directory (os error 2)"
+NO_FOLDER = "Not a directory (os error 20)"
+TOO_MANY = "Too many open files (os error 24)"
+TOO_LONG = Ran(b"", b"the path of the socket must have 1 to 107 bytes\n", 2)
 UNBEGUN = Ran(b"", b"fault 9\n", 1)
 REFUSED = Ran(b"", b"fault 42\n", 1)
 
 
+def unbound(path: str, why: str) -> Ran:
+    """The end of a daemon that couldn't have its socket."""
+    return Ran(b"", socket_fault(path, why), 1)
+
+
 def sockets(checks: Checks):
-    """A socket that can't be bound: nothing on standard output, and what stood there before stays."""
+    """A socket that can't be bound (61): nothing on standard output, and what stood there before stays."""
     with tempfile.TemporaryDirectory() as room:
         taken = Path(room) / "taken"
         taken.write_bytes(b"kept")
         longest = room + "/" + "s" * (107 - len(room) - 1)
         paths = {
-            "a file that exists": str(taken),
-            "a folder that isn't there": f"{room}/none/socket",
-            "a folder": room,
-            "a path of 108 bytes": longest + "s",
-            "a path of 300 bytes": longest + "s" * 193,
-            "a folder under a file": f"{taken}/socket",
+            "a file that exists": (str(taken), IN_USE),
+            "a folder that isn't there": (f"{room}/none/socket", NOT_THERE),
+            "a folder": (room, IN_USE),
+            "a folder under a file": (f"{taken}/socket", NO_FOLDER),
         }
-        for what, path in paths.items():
-            checks.equal(what, run(["serve", path, HOST, "2", "1"], timeout=PATIENCE), UNBOUND)
+        for what, (path, why) in paths.items():
+            checks.equal(what, run(["serve", path, HOST, "2", "1"], timeout=PATIENCE), unbound(path, why))
+        for length in (0, 108, 300):
+            path = (longest + "s" * 193)[:length]
+            checks.equal(f"a path of {length} bytes", run(["serve", path, HOST, "2", "1"], timeout=PATIENCE), TOO_LONG)
         checks.equal("the file is as it was", taken.read_bytes(), b"kept")
         with Daemon(1, 1, longest) as daemon:
             checks.equal("a path of 107 bytes", daemon.send(), Ran(NOTES, b"", 0))
-            checks.equal("a second daemon on it", run(["serve", longest, HOST, "1", "1"], timeout=PATIENCE), UNBOUND)
+            checks.equal("a second daemon on it", run(["serve", longest, HOST, "1", "1"], timeout=PATIENCE), unbound(longest, IN_USE))
             checks.equal("its daemon", daemon.end(), Ran(OUTBOX, line(0, 2), 0))
-        checks.equal("a daemon where one has ended", run(["serve", longest, HOST, "1", "1"], timeout=PATIENCE), UNBOUND)
+        checks.equal("a daemon where one has ended", run(["serve", longest, HOST, "1", "1"], timeout=PATIENCE), unbound(longest, IN_USE))
         os.unlink(longest)
         with Daemon(1, 1, longest) as daemon:
             checks.equal("once its file is removed", daemon.send(), Ran(NOTES, b"", 0))
@@ -104,14 +114,17 @@ def descriptors(count: int):
 
 
 def few_descriptors(checks: Checks):
-    """None for a connection beside the socket's; and one for two agents. The ports that failed are told once."""
+    """One for the socket alone, which takes two; none for a connection beside these; and one for two agents. The ports
+    that failed are told once."""
     with Daemon(2, 1, preexec_fn=descriptors(4)) as daemon:
-        notes = line(0, 0, 0) + line(1, 0, 0) + b"fault 61\n"
-        checks.equal("none for a connection", daemon.end(), Ran(empty_outbox(), notes, 1))
+        checks.equal("one for the socket", daemon.end(), unbound(daemon.path, TOO_MANY))
     with Daemon(2, 1, preexec_fn=descriptors(5)) as daemon:
+        notes = line(0, 0, 0) + line(1, 0, 0) + socket_fault(daemon.path, TOO_MANY)
+        checks.equal("none for a connection", daemon.end(), Ran(empty_outbox(), notes, 1))
+    with Daemon(2, 1, preexec_fn=descriptors(6)) as daemon:
         checks.equal("one for two agents, the client", daemon.send(), Ran(NOTES, b"", 0))
-        ended = daemon.end()
-        checks.true("its notes", ended.notes in (line(0, 2) + line(1, 0, 0) + b"fault 61\n", line(0, 0, 0) + line(1, 2) + b"fault 61\n"))
+        ended, fault = daemon.end(), socket_fault(daemon.path, TOO_MANY)
+        checks.true("its notes", ended.notes in (line(0, 2) + line(1, 0, 0) + fault, line(0, 0, 0) + line(1, 2) + fault))
         checks.equal("its outbox", (ended.outbox, ended.status), (OUTBOX, 1))
 
 

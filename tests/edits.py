@@ -2,7 +2,7 @@
 """Each public call that can be wrong has a wrong edit that the gate must see refused (crates/*/must-fail/): an edit of the
 call itself, or of a function of its crate that it stands on. Calls of one type share one, and a call that only gives a
 field back needs none. A law is about definitions, so its crate has an edit of one. What else stands for a call is named
-here, with its edit. `make edits` lists all edits by the functions that they change."""
+here, with its edit, or with its test where no contract speaks of it. `make edits` lists all edits by the functions that they change."""
 import re
 import sys
 from pathlib import Path
@@ -25,6 +25,12 @@ STAND_FOR = {
     ("dsn_desk", "CrewOpenFault"): "refusals-share-a-number",
     ("dsn_frame", "FrameRef"): "frame-lent-from-the-wrong-place",
     ("noticed_notes", "fault_line"): "unsent-letter-told-as-a-fault",
+    ("noticed_serve", "WatchedOutbox"): "outbox-drops-what-it-takes",
+}
+
+# Types whose calls no contract says anything of: what they do is the system's, and a script tests it.
+TESTED = {
+    ("noticed_serve", "SocketWatch"): "stop.py",
 }
 
 
@@ -82,7 +88,9 @@ def main():
         for shape, call, own in public_calls(crate):
             edit = STAND_FOR.get((crate, shape))
             another = edit and list((ROOT / "crates").glob(f"*/must-fail/{edit}.edit"))
-            checks.true(f"{crate}: {call} has an edit, or one that stands for it", own or another)
+            test = TESTED.get((crate, shape))
+            tested = test and (ROOT / "tests" / test).exists()
+            checks.true(f"{crate}: {call} has an edit, one that stands for it, or a test", own or another or tested)
     checks.done()
 
 

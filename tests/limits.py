@@ -1,6 +1,7 @@
 #!/usr/bin/env python3
 """Takes the program to each of its limits and one step further: 4,096 keys, 1,000 outcomes in a log, 1,000,000
-frames; and letters that are longer than the program's buffers, up to the longest that it can make."""
+frames; letters that are longer than the program's buffers, up to the longest that it can make; and many letters, after
+which logs are open."""
 import sys
 from itertools import chain
 from pathlib import Path
@@ -9,6 +10,7 @@ sys.path.insert(0, str(Path(__file__).parent / "support"))
 from running import HOST, Checks, batch, empty_outbox, frames_module  # noqa: E402
 
 LOGS, ENTRIES, FRAMES = 4096, 1000, 1_000_000
+LETTERS, OPEN = 1000, 1000
 BUFFER = 65_536  # bytes of each of the program's buffers
 BOUNCE, FAILED, STATUS = 1, 1, b"5.1.1"
 
@@ -98,12 +100,28 @@ def letters(checks: Checks):
     checks.true("its beginning", ran.outbox.startswith(f"EHLO {HOST}\r\nMAIL FROM:<>\r\n".encode()))
 
 
+def letters_and_open_logs(checks: Checks):
+    """After 1,000 letters all logs that are open are listed."""
+    given, answers = [], []
+    for at in range(LETTERS):
+        given += [frames.append(2 * at, BOUNCE, b"S%d" % at, b"x@y", FAILED, STATUS), frames.flush(2 * at + 1, BOUNCE, b"S%d" % at)]
+        answers += [b"%d logged 0" % (2 * at), b"%d sealed 1" % (2 * at + 1)]
+    for at in range(OPEN):
+        given.append(frames.append(2 * LETTERS + at, BOUNCE, queue_id(at), b"x@y", FAILED, STATUS))
+        answers.append(b"%d logged 0" % (2 * LETTERS + at))
+    ran = batch(b"".join(given))
+    checks.equal(f"{LETTERS:,} letters, then open logs: notes", ran.notes.splitlines(), answers + [b"open B %s 1" % queue_id(it) for it in range(OPEN)])
+    checks.equal("status", ran.status, 0)
+    checks.equal("letters", ran.outbox.count(b"\r\nMessage-ID: "), LETTERS)
+
+
 def main():
     checks = Checks("limits: each limit of the program and one step further, and long letters")
     keys(checks)
     outcomes(checks)
     requests(checks)
     letters(checks)
+    letters_and_open_logs(checks)
     checks.done()
 
 

@@ -1,5 +1,6 @@
 #!/usr/bin/env python3
-"""Checks that an outbox that failed once gets nothing more, though it works again: not by a later letter, and not at the end.
+"""Checks that an outbox that failed once gets nothing more, though it works again: not by a later letter, and not at the end;
+in `batch` and in a daemon.
 
 The outbox is a pipe that doesn't block and is full at the first letter, so that its write fails; then it is emptied.
 """
@@ -9,9 +10,12 @@ import sys
 from pathlib import Path
 
 sys.path.insert(0, str(Path(__file__).parent / "support"))
+from daemon_and_clients import Daemon, answer, asked, line  # noqa: E402
 from running import HOST, LIMIT, Checks, frames_module, program  # noqa: E402
 
 FRAMES = frames_module()
+ON_THE_WAY = 18  # letters that a daemon may not have tried to write though their flushes are answered
+LOGGED, SEALED = 1, 7
 
 
 def full_pipe():
@@ -28,12 +32,19 @@ def full_pipe():
     return reading, writing, filled
 
 
+def empty(reading: int, filled: int):
+    """Takes out of the pipe what filled it."""
+    held = 0
+    while held < filled:
+        held += len(os.read(reading, filled - held))
+
+
 def message(number: int, queue_id: bytes, header: bytes) -> bytes:
     """The frames of one message, the first of them with this number."""
     return FRAMES.append(number, 1, queue_id, b"x@y", 1, b"5.0.0") + FRAMES.flush(number + 1, 1, queue_id, header=header)
 
 
-def check(checks: Checks, what: str, header: bytes):
+def check_batch(checks: Checks, what: str, header: bytes):
     """Runs three messages, empties the outbox after the first of them, and looks at what reaches it then."""
     reading, writing, filled = full_pipe()
     ran = subprocess.Popen([program(), "batch", HOST], stdin=subprocess.PIPE, stdout=writing, stderr=subprocess.PIPE)
@@ -41,9 +52,7 @@ def check(checks: Checks, what: str, header: bytes):
     ran.stdin.write(message(0, b"K1", header))
     ran.stdin.flush()
     notes = ran.stderr.readline() + ran.stderr.readline()
-    held = 0
-    while held < filled:
-        held += len(os.read(reading, filled - held))
+    empty(reading, filled)
     ran.stdin.write(message(2, b"K2", header) + message(4, b"K3", b""))
     ran.stdin.close()
     notes += ran.stderr.read()
@@ -54,10 +63,32 @@ def check(checks: Checks, what: str, header: bytes):
     checks.equal(f"{what}: status", ran.wait(timeout=LIMIT), 1)
 
 
+def check_daemon(checks: Checks, what: str, header: bytes):
+    """The same of a daemon, whose letters are written beside their answers: the first one was tried once so many more are
+    answered that they can't all be on their way. Then the outbox is emptied, and two messages follow."""
+    reading, writing, filled = full_pipe()
+    before, after = ON_THE_WAY + 2, 2
+    with Daemon(1, 1, stdout=writing) as daemon:
+        os.close(writing)
+        with daemon.connect() as client:
+            for at in range(before + after):
+                if at == before:
+                    empty(reading, filled)
+                wanted = answer(LOGGED, 2 * at) + answer(SEALED, 2 * at + 1, 1)
+                checks.equal(f"{what}: letter {at} is sealed", asked(client, message(2 * at, b"K%d" % at, header), 2), wanted)
+        ended = daemon.end()
+    with os.fdopen(reading, "rb") as outbox:
+        checks.equal(f"{what}: the outbox after its failure", outbox.read(), b"")
+    unsent = b"".join(b"unsent B K%d\n" % at for at in range(before + after))
+    checks.equal(f"{what}: notes", ended.notes, line(0, 2 * (before + after)) + b"fault 31\n" + unsent)
+    checks.equal(f"{what}: status", ended.status, 1)
+
+
 def main():
     checks = Checks("an outbox that fails once and then works gets nothing more")
-    check(checks, "short letters", b"")
-    check(checks, "letters of 33 KiB", 32 * (1023 * b"a" + b"\n"))
+    for what, header in (("short letters", b""), ("letters of 33 KiB", 32 * (1023 * b"a" + b"\n"))):
+        check_batch(checks, f"batch, {what}", header)
+        check_daemon(checks, f"a daemon, {what}", header)
     checks.done()
 
 

@@ -10,12 +10,12 @@ import threading
 from pathlib import Path
 
 sys.path.insert(0, str(Path(__file__).parent / "support"))
-from daemon_and_clients import FIRST_FRAME, FRAMES, NOTES, PATIENCE, answer, closed_pipe, heard  # noqa: E402
+from daemon_and_clients import FIRST_FRAME, FRAMES, NOTES, PATIENCE, answer, closed_pipe, heard, socket_fault  # noqa: E402
 from preloading import built, each_refused  # noqa: E402
 from running import Checks, Ran, run  # noqa: E402
 
 MOST = 100  # growths of a run; more than this and the sweep is broken
-UNCONNECTED = Ran(b"", b"fault 61\n", 1)
+TOO_LONG = Ran(b"", b"the path of the socket must have 1 to 107 bytes\n", 2)
 
 
 class Answering:
@@ -98,16 +98,23 @@ def answers(checks: Checks):
 
 
 def connections(checks: Checks):
-    """No daemon; one that closes at once; and that what is sent is the input, a frame after each answer."""
+    """No daemon (61); one that closes at once; and that what is sent is the input, a frame after each answer."""
     with tempfile.TemporaryDirectory() as room:
         unheard = socket.socket(socket.AF_UNIX, socket.SOCK_STREAM)
         unheard.bind(f"{room}/unheard")
         Path(room, "file").write_bytes(b"")
-        for what, path in (("no socket", "/none"), ("a socket that nobody listens on", "/unheard"), ("a file", "/file"), ("a folder", "")):
-            checks.equal(what, run(["send", room + path], FRAMES), UNCONNECTED)
+        refused = "Connection refused (os error 111)"
+        unconnected = {
+            "no socket": ("/none", "No such file or directory (os error 2)"),
+            "a socket that nobody listens on": ("/unheard", refused),
+            "a file": ("/file", refused),
+            "a folder": ("", refused),
+        }
+        for what, (path, why) in unconnected.items():
+            checks.equal(what, run(["send", room + path], FRAMES), Ran(b"", socket_fault(room + path, why), 1))
         unheard.close()
     for what, path in (("an empty path", ""), ("a path of 108 bytes", "/" + "s" * 107), ("a path of 300 bytes", "s" * 300)):
-        checks.equal(what, run(["send", path], FRAMES), UNCONNECTED)
+        checks.equal(what, run(["send", path], FRAMES), TOO_LONG)
     with Answering([]) as daemon:
         ended = run(["send", daemon.path], FRAMES)
         # the connection may be closed before the frame is written, while it is, or before the answer is read

@@ -11,6 +11,7 @@ from pathlib import Path
 from running import EXAMPLES, HOST, Ran, frames_module, program, run
 
 PATIENCE = 10  # seconds that a daemon or a client may take for one step
+PIECE = 32_768  # bytes that are written to a socket at once: less than its buffer holds
 MOMENT = 0.002  # seconds between two looks at something that is about to happen
 
 FRAMES = (EXAMPLES / "one-bounce.frames").read_bytes()
@@ -41,16 +42,21 @@ def flush(number: int, message: bytes = b"Q1") -> bytes:
     return frames.flush(number, 1, message)
 
 
+def socket_fault(path: str, why: str) -> bytes:
+    """What standard error has where a socket can't be had: the fault, the path, and what the system said."""
+    return f"fault 61\n{path}: {why}\n".encode()
+
+
 class Daemon:
     """`noticed serve` with so many agents and connections, on a socket in a folder that is removed at the end. Its
     outputs go to files, unless `stdout` or `stderr` say otherwise; a daemon that is still there at the end is killed."""
 
-    def __init__(self, agents: int, uses: int, path=None, **how):
+    def __init__(self, agents: int, uses: int, path=None, options=(), **how):
         self.room = tempfile.TemporaryDirectory(prefix="noticed-")
         self.path = str(path or Path(self.room.name) / "socket")
         self.files = {it: open(Path(self.room.name) / it, "w+b") for it in ("stdout", "stderr")}
         streams = {"stdin": subprocess.DEVNULL, **self.files, **how}
-        words = [program(), "serve", self.path, HOST, str(agents), str(uses)]
+        words = [program(), "serve", *options, self.path, HOST, str(agents), str(uses)]
         self.running = subprocess.Popen(words, **streams)
 
     def __enter__(self):
@@ -136,6 +142,18 @@ def asked(client: socket.socket, given: bytes, answers: int = 1) -> bytes:
     """The bytes of so many answers to these frames."""
     client.sendall(given)
     return heard(client, 14 * answers)
+
+
+def answers_to(client: socket.socket, given: list) -> bytes:
+    """The bytes of the answers to many frames, which are written in pieces: so many at once as a socket's buffers hold, and
+    the answers are read before the next piece, so that neither side waits for ever for the other to read."""
+    heard_so_far, piece = [], max(1, PIECE // max(map(len, given), default=1))
+    for at in range(0, len(given), piece):
+        part = given[at : at + piece]
+        heard_so_far.append(asked(client, b"".join(part), len(part)))
+        if len(heard_so_far[-1]) < 14 * len(part):
+            break
+    return b"".join(heard_so_far)
 
 
 def is_ended(client: socket.socket) -> bool:

@@ -1,6 +1,7 @@
 //! The arguments: which command they name, and what it is given.
 use crate::refusal::Refusal;
 use dsn_report::{Site, SiteFault};
+use noticed_lib::WatchOptions;
 use std::alloc::Global;
 use std::env;
 use std::env::Args;
@@ -13,6 +14,15 @@ const MOST_AGENTS: u32 = 16;
 /// The most connections of an agent.
 const MOST_USE: u32 = 1_000_000;
 
+/// The longest idle limit, in seconds.
+const MOST_IDLE: u32 = 86_400;
+
+/// The longest path of a socket that the system takes, in bytes.
+const LONGEST_PATH: usize = 107;
+
+/// How many words `serve` has after its options.
+const SERVE_WORDS: usize = 4;
+
 /// What the arguments ask for.
 #[derive(Drop)]
 pub(crate) enum Command {
@@ -21,8 +31,13 @@ pub(crate) enum Command {
         /// The site that the host names.
         site: Site,
     },
-    /// `serve SOCKET HOST AGENTS MAX-USE`.
+    /// `serve [OPTION].. SOCKET HOST AGENTS MAX-USE`.
     Serve(Serving),
+    /// `stop SOCKET`.
+    Stop {
+        /// The path of the socket.
+        socket: String,
+    },
     /// `send SOCKET`.
     Send {
         /// The path of the socket.
@@ -35,12 +50,16 @@ pub(crate) enum Command {
 pub(crate) struct Serving {
     /// The path of the socket.
     pub(crate) socket: String,
+    /// The host's name.
+    pub(crate) host: String,
     /// The site that the host names.
     pub(crate) site: Site,
     /// How many agents there are, 1 to 16.
     pub(crate) agents: u32,
     /// How many connections each agent serves, 1 to 1,000,000.
     pub(crate) max_use: u32,
+    /// What its watch is told to do.
+    pub(crate) options: WatchOptions,
 }
 
 /// The command that the arguments name.
@@ -55,7 +74,12 @@ pub(crate) fn command_of(rt: &HostRuntime) -> Result<Command, Refusal> {
     match command.as_str() {
         "batch" => batch_arguments(rt.alloc(), words),
         "serve" => serve_arguments(rt.alloc(), words),
-        "send" => send_arguments(words),
+        "stop" => Ok(Command::Stop {
+            socket: socket_argument(words)?,
+        }),
+        "send" => Ok(Command::Send {
+            socket: socket_argument(words)?,
+        }),
         _ => Err(Refusal::Usage),
     }
 }
@@ -69,8 +93,9 @@ fn batch_arguments(alloc: Global, mut words: Args) -> Result<Command, Refusal> {
     Ok(Command::Batch { site })
 }
 
-/// The arguments `SOCKET HOST AGENTS MAX-USE` of `serve`.
+/// The arguments `[OPTION].. SOCKET HOST AGENTS MAX-USE` of `serve`.
 fn serve_arguments(alloc: Global, mut words: Args) -> Result<Command, Refusal> {
+    let options = serve_options(&mut words)?;
     let (Some(socket), Some(host)) = (words.next(), words.next()) else {
         return Err(Refusal::Usage);
     };
@@ -78,19 +103,55 @@ fn serve_arguments(alloc: Global, mut words: Args) -> Result<Command, Refusal> {
         return Err(Refusal::Usage);
     };
     Ok(Command::Serve(Serving {
-        socket,
         agents: number_of(&agents, MOST_AGENTS)?,
         max_use: number_of(&max_use, MOST_USE)?,
         site: site_of(alloc, &host)?,
+        socket: socket_of(socket)?,
+        host,
+        options,
     }))
 }
 
-/// The argument `SOCKET` of `send`.
-fn send_arguments(mut words: Args) -> Result<Command, Refusal> {
+/// The options of `serve`, each given once at most. They are the words before its last four, so
+/// that a socket, say, may have the name of an option.
+fn serve_options(words: &mut Args) -> Result<WatchOptions, Refusal> {
+    let mut options = WatchOptions {
+        idle_limit: None,
+        ends_on_fault: false,
+        logs: false,
+    };
+    for _ in SERVE_WORDS..words.len() {
+        if words.len() <= SERVE_WORDS {
+            break;
+        }
+        let option = words.next().ok_or(Refusal::Usage)?;
+        match option.as_str() {
+            "--idle" if options.idle_limit.is_none() => {
+                let seconds = words.next().ok_or(Refusal::Usage)?;
+                options.idle_limit = Some(number_of(&seconds, MOST_IDLE)?);
+            }
+            "--end-on-fault" if !options.ends_on_fault => options.ends_on_fault = true,
+            "--log" if !options.logs => options.logs = true,
+            _ => return Err(Refusal::Usage),
+        }
+    }
+    Ok(options)
+}
+
+/// The argument `SOCKET` of `stop` and `send`.
+fn socket_argument(mut words: Args) -> Result<String, Refusal> {
     match (words.next(), words.next()) {
-        (Some(socket), None) => Ok(Command::Send { socket }),
+        (Some(socket), None) => socket_of(socket),
         _ => Err(Refusal::Usage),
     }
+}
+
+/// The path of a socket. An empty one would be bound to a name that every account gets to.
+fn socket_of(path: String) -> Result<String, Refusal> {
+    if path.is_empty() || path.len() > LONGEST_PATH {
+        return Err(Refusal::SocketPath);
+    }
+    Ok(path)
 }
 
 /// The number from 1 to `most` that a word is in decimal, without leading zeros.

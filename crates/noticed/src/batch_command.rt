@@ -1,6 +1,6 @@
 //! The command `batch`.
+use crate::buffer::{ROOM, let_go};
 use crate::refusal::Refusal;
-use crate::room::ROOM;
 use dsn_outcome::Plain;
 use dsn_report::Site;
 use noticed_lib::{BatchEnd, Limits, batch};
@@ -31,8 +31,6 @@ pub(crate) fn run_batch(rt: &HostRuntime, site: Site) -> Result<u8, Refusal> {
         unsent: _,
         status,
     } = end;
-    // After a fault the buffer may hold a part of a letter that was handed back: it is let go
-    // here, since a buffer that is dropped would write it.
-    let _ = outbox.into_inner().into_parts();
+    let_go(outbox.into_inner());
     Ok(status)
 }

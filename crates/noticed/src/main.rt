@@ -3,43 +3,65 @@
 
 mod arguments;
 mod batch_command;
+mod buffer;
 mod refusal;
-mod room;
 mod send_command;
 mod serve_command;
+mod socket_fault;
+mod standard_streams;
+mod stop_command;
 
 use arguments::{Command, command_of};
 use batch_command::run_batch;
 use refusal::Refusal;
 use send_command::run_send;
 use serve_command::run_serve;
+use standard_streams::take_closed_streams;
 use std::process::ExitCode;
+use stop_command::run_stop;
 
 /// The line that wrong arguments print on standard error.
-const USAGE: &str = "usage: noticed batch HOST | serve SOCKET HOST AGENTS MAX-USE | send SOCKET";
+const USAGE: &str =
+    "usage: noticed batch HOST | serve [--idle SECONDS] [--end-on-fault] [--log] SOCKET HOST AGENTS MAX-USE | stop SOCKET | send SOCKET";
 
 fn main(rt: HostRuntime) -> ExitCode {
-    let done = match command_of(&rt) {
+    let done = match begin(&rt) {
         Ok(Command::Batch { site }) => run_batch(&rt, site),
-        Ok(Command::Serve(serving)) => {
-            run_serve(&rt, rt.alloc(), serving, rt.stdout(), rt.stderr())
-        }
+        Ok(Command::Serve(serving)) => run_serve(&rt, &rt, serving),
+        Ok(Command::Stop { socket }) => run_stop(&rt, rt.alloc(), &socket),
         Ok(Command::Send { socket }) => run_send(&rt, &rt, &socket),
         Err(refusal) => Err(refusal),
     };
-    match done {
-        Ok(status) => ExitCode::from(status),
-        Err(Refusal::Usage) => {
+    ExitCode::from(match done {
+        Ok(status) => status,
+        Err(refusal) => tell_refusal(&rt, &refusal),
+    })
+}
+
+/// Sees to the standard streams, and then reads what the arguments ask for.
+fn begin(rt: &HostRuntime) -> Result<Command, Refusal> {
+    take_closed_streams(rt)?;
+    command_of(rt)
+}
+
+/// Tells why a run doesn't begin, on standard error. It tells the status.
+fn tell_refusal(rt: &HostRuntime, refusal: &Refusal) -> u8 {
+    match refusal {
+        Refusal::Usage => {
             let _ = eprintln!(rt; "{USAGE}");
-            ExitCode::from(2)
+            2
         }
-        Err(Refusal::NoMemory) => {
+        Refusal::SocketPath => {
+            let _ = eprintln!(rt; "the path of the socket must have 1 to 107 bytes");
+            2
+        }
+        Refusal::NoMemory => {
             let _ = eprintln!(rt; "fault 9");
-            ExitCode::from(1)
+            1
         }
-        Err(Refusal::NoSocket) => {
-            let _ = eprintln!(rt; "fault 61");
-            ExitCode::from(1)
+        Refusal::NoStream(error) => {
+            let _ = eprintln!(rt; "a standard stream is closed: {error}");
+            1
         }
     }
 }

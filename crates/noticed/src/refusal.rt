@@ -1,12 +1,15 @@
 //! Why a run doesn't begin.
+use std::io;
 
 /// Why a run doesn't begin.
-#[derive(Clone, Copy, PartialEq, Eq)]
+#[derive(Drop)]
 pub(crate) enum Refusal {
     /// The arguments are wrong.
     Usage,
+    /// The path of the socket is empty, or longer than the system takes.
+    SocketPath,
     /// The memory to begin was refused.
     NoMemory,
-    /// The socket could not be had.
-    NoSocket,
+    /// A standard stream is closed, and its descriptor could not be taken.
+    NoStream(io::Error),
 }

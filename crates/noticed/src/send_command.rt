@@ -1,7 +1,8 @@
 //! The command `send`: the frames of standard input to a daemon's socket, and its answers to
 //! standard output.
+use crate::buffer::ROOM;
 use crate::refusal::Refusal;
-use crate::room::ROOM;
+use crate::socket_fault::tell_socket_fault;
 use dsn_outcome::Plain;
 use noticed_lib::send;
 use std::io::BufReader;
@@ -15,7 +16,10 @@ pub(crate) fn run_send(rt: &HostRuntime, waiting: &impl Wait, socket: &str) -> R
     let reader = BufReader::with_capacity(rt.alloc(), ROOM, rt.stdin()).map_err(
         |_| Refusal::NoMemory,
     )?;
-    let connection = UnixStream::connect(rt, socket).map_err(|_| Refusal::NoSocket)?;
+    let connection = match UnixStream::connect(rt, socket) {
+        Ok(connection) => connection,
+        Err(error) => return Ok(tell_socket_fault(rt, socket, &error)),
+    };
     let mut input = Plain::new(reader);
     let mut stream = Plain::new(connection);
     let mut lines = Plain::new(rt.stdout());

@@ -7,4 +7,7 @@ pub use dsn_frame::Spoken;
 pub use dsn_report::Site;
 pub use noticed_batch::{BatchEnd, MemoryRun, batch, batch_bytes};
 pub use noticed_send::{SendEnd, SendFault, send};
-pub use noticed_serve::{ServeEnd, serve, serve_ports};
+pub use noticed_serve::{
+    NoWatch, ServeEnd, SocketWatch, Watch, WatchOptions, WatchedOutbox, serve, serve_ports,
+    serve_watched,
+};

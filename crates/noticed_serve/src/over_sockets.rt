@@ -1,11 +1,14 @@
 //! The run of the daemon over a listening socket.
 ghost use Rattle.std.specs.Prelude.{◌≡◌, All, length, IfOk};
+ghost use Rattle.dsn_book.specs.Limits.{limits_of};
 ghost use Rattle.noticed_serve.specs.Serve.{IsSocketServe};
 
+use crate::no_watch::NoWatch;
 use crate::over_ports::serve_ports;
 use crate::serve_end::ServeEnd;
 use crate::socket_port::SocketPort;
 use crate::telling::tell_fault;
+use crate::watch::Watch;
 use dsn_book::Limits;
 use dsn_crew::{CrewCause, NoGate};
 use dsn_device::Drain;
@@ -32,19 +35,63 @@ pub fn serve<R: Threads + Wait + Sync, W: Drain + Drop + Send, N: Drain>(
 ) -> ServeEnd<W>
     ensures { IsSocketServe W.Drain N.Drain site limits agents outbox notes.old notes.new result }
 {
-    match socket_ports(alloc, listener, agents, max_use) {
+    let watch = NoWatch;
+    serve_socket(
+        rt, alloc, listener, &watch, site, limits, agents, max_use, outbox, notes,
+    )
+}
+
+/// Serves with the program's limits, under a watch: each agent is done also once the watch finds
+/// that the run is to end. Else it is as [`serve`].
+pub fn serve_watched<R: Threads + Wait + Sync, H: Watch + Sync, W: Drain + Drop + Send, N: Drain>(
+    rt: &R,
+    alloc: Global,
+    listener: &UnixListener,
+    watch: &H,
+    site: Site,
+    agents: u32,
+    max_use: u32,
+    outbox: W,
+    notes: &mut N,
+) -> ServeEnd<W>
+    ensures { IsSocketServe W.Drain N.Drain site (limits_of 4096 1000 1000000) agents outbox
+        notes.old notes.new result }
+{
+    let limits = Limits::of_program();
+    serve_socket(
+        rt, alloc, listener, watch, site, limits, agents, max_use, outbox, notes,
+    )
+}
+
+/// Serves what connects to `listener`, with these limits and under this watch.
+fn serve_socket<R: Threads + Wait + Sync, H: Watch + Sync, W: Drain + Drop + Send, N: Drain>(
+    rt: &R,
+    alloc: Global,
+    listener: &UnixListener,
+    watch: &H,
+    site: Site,
+    limits: Limits,
+    agents: u32,
+    max_use: u32,
+    outbox: W,
+    notes: &mut N,
+) -> ServeEnd<W>
+    ensures { IsSocketServe W.Drain N.Drain site limits agents outbox notes.old notes.new result }
+{
+    match socket_ports(alloc, listener, watch, agents, max_use) {
         Ok(ports) => serve_ports(rt, alloc, site, limits, ports, outbox, &NoGate, notes),
         Err(NoMemory) => tell_fault(alloc, CrewCause::Refused, outbox, Letters::new(), notes),
     }
 }
 
 /// So many ports over one listener.
-fn socket_ports<'a>(
+fn socket_ports<'a, H>(
     alloc: Global,
     listener: &'a UnixListener,
+    watch: &'a H,
     agents: u32,
     max_use: u32,
-) -> Result<Vec<SocketPort<'a>>, NoMemory>
+) -> Result<Vec<SocketPort<'a, H>>, NoMemory>
     ensures count { IfOk result (λ ports. length ports.items ≡ agents) }
     ensures uses { IfOk result (λ ports. All (λ port. port.left ≡ max_use) ports.items) }
 {
@@ -52,6 +99,7 @@ fn socket_ports<'a>(
     for _ in 0..agents {
         ports.push_reserved(SocketPort {
             listener,
+            watch,
             left: max_use,
         });
     }

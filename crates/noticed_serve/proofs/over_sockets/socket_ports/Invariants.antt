@@ -3,7 +3,7 @@ use Rattle.std.proofs.Common.{All, ◌≡◌, ◌≤◌, length, vec_capacity}
 use Rattle.noticed_serve.proofs.over_sockets.socket_ports.Given as goal
 
 abbrev pub invariant-loop : goal.invariant-loop
-invariant-loop l = record {
+invariant-loop g l = record {
   count : length l.ports.items ≡ l.counter;
   uses : All (λ port. port.left ≡ l.fn.max_use) l.ports.items;
   room : l.agents ≤ vec_capacity l.ports;

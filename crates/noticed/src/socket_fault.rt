@@ -1,0 +1,18 @@
+//! A socket that could not be had.
+use std::io;
+use std::io::Eprint;
+
+/// The exit status of a run that could not have its socket.
+const FAULT: u8 = 1;
+
+/// Tells that a socket could not be had, and what the system said of it. It tells the status.
+pub(crate) fn tell_socket_fault(rt: &impl Eprint, path: &str, error: &io::Error) -> u8 {
+    let _ = eprintln!(rt; "fault 61");
+    tell_socket_error(rt, path, error);
+    FAULT
+}
+
+/// Tells what the system said of a socket.
+pub(crate) fn tell_socket_error(rt: &impl Eprint, path: &str, error: &io::Error) {
+    let _ = eprintln!(rt; "{path}: {error}");
+}

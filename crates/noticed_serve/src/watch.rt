@@ -1,0 +1,38 @@
+//! What looks after a run of the daemon over a socket.
+use std::io;
+
+/// Looks after a run over a socket: it says when the run is to end before its last connection, and
+/// hears of what happens in it. No contract says what it answers.
+pub trait Watch {
+    /// Whether a connection looks up each second while it waits for its client: for the run's end,
+    /// and for a client that says nothing. Else it waits for as long as its client takes.
+    fn looks_up(&self) -> bool;
+
+    /// After how many seconds a client that says nothing is cut off, if ever.
+    fn idle_limit(&self) -> Option<u32>;
+
+    /// Finds out whether the run is to end.
+    fn look(&self);
+
+    /// Whether the run was found to be ending: its agents finish the request in hand, and take no
+    /// further connection.
+    fn is_ending(&self) -> bool;
+
+    /// Whether a line is wanted for what happens.
+    fn logs(&self) -> bool;
+
+    /// Writes a line, if lines are wanted.
+    fn log(&self, line: &str);
+
+    /// Hears that a connection could not be accepted.
+    fn accept_failed(&self, error: &io::Error);
+
+    /// Hears that a connection was refused, since the run is ending.
+    fn connection_refused(&self);
+
+    /// Hears that a client was cut off, since it said nothing for so many seconds.
+    fn client_cut_off(&self, seconds: u32);
+
+    /// Hears that the outbox could not be written or flushed. It hears so once.
+    fn outbox_failed(&self, error: &io::Error);
+}

@@ -1,0 +1,127 @@
+#!/usr/bin/env python3
+"""Checks `serve --log`: a line on standard error for what happens, when it happens, before the notes; and
+`serve --end-on-fault`: a daemon whose outbox can't be written ends at once, in order. Without them neither."""
+import os
+import subprocess
+import sys
+import time
+from pathlib import Path
+
+sys.path.insert(0, str(Path(__file__).parent / "support"))
+from daemon_and_clients import MOMENT, OUTBOX, PATIENCE, Daemon, answer, append, asked, flush, is_ended, line  # noqa: E402
+from running import HOST, Checks, frames_module, program, run  # noqa: E402
+
+LOG = ("--log",)
+FULL = b"fault 31: No space left on device (os error 28)\n"
+
+frames = frames_module()
+
+
+def said(daemon: Daemon, size: int) -> bytes:
+    """Standard error once it has so many bytes."""
+    began = time.monotonic()
+    path = Path(daemon.room.name) / "stderr"
+    while path.stat().st_size < size and time.monotonic() - began < PATIENCE:
+        time.sleep(MOMENT)
+    return path.read_bytes()
+
+
+def start(daemon: Daemon, agents: int, uses: int) -> bytes:
+    """The lines of a start, with the host that examples have."""
+    return f"listening on {daemon.path} for {HOST}: {agents} agents, {uses} connections each\nthe host's name {HOST} is one for examples\n".encode()
+
+
+def notices(checks: Checks):
+    """A line for each notice, once it is written; none for a flush that makes none."""
+    with Daemon(1, 2, options=LOG) as daemon:
+        begun = start(daemon, 1, 2)
+        daemon.listens()
+        checks.equal("the start", said(daemon, len(begun)), begun)
+        daemon.send()
+        first = begun + b"notice B.A1B2C3.0 to <ann@example.com>\n"
+        checks.equal("the first notice, before the end", said(daemon, len(first)), first)
+        longest = b"a" * 256
+        with daemon.connect() as client:
+            asked(client, append(0, b"K" * 32) + frames.flush(1, 1, b"K" * 32, return_path=longest), 2)
+            asked(client, frames.flush(2, 1, b"K2"))
+        second = b"notice B." + b"K" * 32 + b".1 to <" + longest + b">\n"
+        ended = daemon.end()
+        checks.equal("all lines, and then the notes", ended.notes, first + second + line(0, 5, 2))
+        checks.equal("the outbox begins as it does without a log", ended.outbox[: len(OUTBOX) - 6], OUTBOX[:-6])
+
+
+def each_notice(checks: Checks):
+    """Two hundred notices of one connection: a line each, in order."""
+    with Daemon(1, 1, options=LOG) as daemon:
+        with daemon.connect() as client:
+            for at in range(200):
+                name = b"M%d" % at
+                asked(client, append(2 * at, name) + flush(2 * at + 1, name), 2)
+        lines = [it for it in daemon.end().notes.splitlines() if it.startswith(b"notice")]
+        checks.equal("two hundred notices", lines, [b"notice B.M%d.%d to <ann@example.com>" % (at, at) for at in range(200)])
+
+
+def other_hosts(checks: Checks):
+    """A host's name that isn't one for examples has no line."""
+    with Daemon(1, 1, options=LOG) as daemon:
+        daemon.stop()
+        path = daemon.path + ".other"
+        words = [program(), "serve", "--log", path, "mx.sincewagon.net", "1", "1"]
+        with subprocess.Popen(words, stdout=subprocess.DEVNULL, stderr=subprocess.PIPE) as other:
+            told = other.stderr.readline()
+            run(["stop", path])
+            rest = other.stderr.read()
+        checks.equal("a host of its own", told, f"listening on {path} for mx.sincewagon.net: 1 agents, 1 connections each\n".encode())
+        checks.true("and nothing of examples", b"examples" not in rest)
+
+
+def stops(checks: Checks):
+    """The stop has a line, and so has a client that is cut off for its silence."""
+    with Daemon(1, 10, options=(*LOG, "--idle", "1")) as daemon:
+        with daemon.connect() as client:
+            checks.true("a silent client", is_ended(client))
+        run(["stop", daemon.path])
+        told = daemon.end().notes
+        checks.true("it is told as cut off", b"\nclient cut off: silent for 1 s\n" in told)
+        checks.true("the stop is told", b"\nending: the socket's file is gone\n" in told)
+
+
+def full_outbox(checks: Checks):
+    """The fault has a line at once; the run goes on, as without a log."""
+    with open("/dev/full", "wb") as full, Daemon(1, 1, options=LOG, stdout=full) as daemon:
+        with daemon.connect() as client:
+            asked(client, append(0) + flush(1), 2)
+            begun = start(daemon, 1, 1)
+            checks.equal("the fault at once", said(daemon, len(begun + FULL)), begun + FULL)
+            checks.equal("the run goes on", asked(client, append(2, b"K2") + flush(3, b"K2"), 2), answer(1, 2) + answer(7, 3, 1))
+        ended = daemon.end()
+        checks.equal("the notes tell it too", (ended.notes, ended.status), (begun + FULL + line(0, 4) + b"fault 31\nunsent B Q1\nunsent B K2\n", 1))
+
+
+def ends_on_a_fault(checks: Checks):
+    """With `--end-on-fault` the daemon ends, though its agents wait for connections, or for clients that say nothing."""
+    with open("/dev/full", "wb") as full, Daemon(4, 1000, options=("--end-on-fault", *LOG), stdout=full) as daemon:
+        with daemon.connect() as silent, daemon.connect() as client:
+            asked(client, append(0) + flush(1), 2)
+            checks.true("the client is let go", is_ended(client))
+            checks.true("a silent one too", is_ended(silent))
+        began = time.monotonic()
+        ended = daemon.end()
+        checks.true("at once", time.monotonic() - began < 3)
+        checks.true("the end is told", b"\nending: the outbox could not be written\n" in ended.notes)
+        checks.true("what is unsent is named", ended.notes.endswith(b"fault 31\nunsent B Q1\n") and ended.status == 1)
+        checks.true("the socket's file stays", os.path.exists(daemon.path))
+    with Daemon(1, 1, options=("--end-on-fault",)) as daemon:
+        daemon.send()
+        ended = daemon.end()
+        checks.equal("without a fault nothing changes", (ended.outbox, ended.notes, ended.status), (OUTBOX, line(0, 2), 0))
+
+
+def main():
+    checks = Checks("log: a line for what happens, when it happens; an end at once where the outbox can't be written")
+    for check in (notices, each_notice, other_hosts, stops, full_outbox, ends_on_a_fault):
+        check(checks)
+    checks.done()
+
+
+main()

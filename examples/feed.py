@@ -10,138 +10,47 @@ server (SMTP, RFC 5321), over one connection that is made anew where the server 
 submission program, run once for each notice with `-f <> -- RECIPIENT` after them and the message on its input.
 
 With --follow the outbox is a file that grows. Once it was moved away to OUTBOX.TIME, and another one stands under its
-name (that of the next daemon), it is read to its end, and then the next: each of those that were moved away meanwhile,
-in the order of their names, and the one that grows. It ends by SIGTERM or SIGINT, once the notice in hand is done.
+name (that of the next daemon), it is read to its end, and then the next: first each OUTBOX.* that isn't done, in the
+order of their names, also those of before the feeder's start. What became of each notice is kept in a state file
+(feed.OUTBOX.state beside the outbox, or --state), so that a feeder that is started anew goes on where it was. It ends by
+SIGTERM or SIGINT, once the notice in hand is done. --done says what becomes of an outbox that was moved away and of which
+no notice waits: it is kept, removed or renamed to done.OUTBOX.TIME.
 
-A notice that is refused for now (a reply 4yz, no server, a lost connection; of a program the status EX_TEMPFAIL, a
-signal that ended it, or that it could not be run) is put off: it is tried again once a minute, for four days, while
+A notice that is refused for now (a reply 4yz, no server, a lost connection; of a program any status but 64, 65 and 67,
+a signal that ended it, or that it could not be run) is put off: it is tried again once a minute, for four days, while
 later ones are handed in (RFC 5321 section 4.5.4.1; --retry and --give-up say other times, in seconds). One that is
 refused for good, or for so long, is left out: it must not cause another notice. Each of both is said once, by a line on
-standard error with its key and the reply. Where a hundred wait, nothing more is read. What is put off is kept in
-memory: those that still wait when a signal comes are left out. A notice is sent twice where the server took it and its
-reply was late or lost.
+standard error with its key and the reply. Of a pipe what is put off is kept in memory: where a hundred wait nothing more
+is read, and those that still wait when a signal comes are left out. A notice is sent twice where it was taken and its
+reply was late or lost, or the feeder was killed before it had written that down.
 
-The last line says how many were handed in and how many were left out. The status is 0 where each notice was handed in
-and each outbox was whole, 1 where one was left out or cut short or not read to its end, 2 for wrong arguments.
+The last line says how many were handed in, how many were left out, and how many wait for the next start. The status is
+0 where none was left out and each outbox was whole, 1 where one was left out or cut short or not read to its end, 2 for
+wrong arguments, 3 where nothing could be done: another feeder is at work, or a file can't be used. FEEDER.md has more.
 """
 import argparse
 import contextlib
 import glob
+import hashlib
 import os
 import re
-import select
 import signal
-import smtplib
-import subprocess
+import stat
 import sys
 import time
 from collections import deque
-from dataclasses import dataclass
+from typing import Optional
+
+sys.dont_write_bytecode = True
+from feed_mailers import Program, Refused, Server  # noqa: E402
+from feed_outbox import CutShort, Growing, Notice, Piped, Text, host_of, next_notice  # noqa: E402
+from feed_state import PAUSE, Record, State, Stopped, Unusable, Waiting, lock, say, sync_folder  # noqa: E402
 
 PATIENCE = 600  # seconds that a reply may take: the longest is that to a message's end (RFC 5321 section 4.5.3.2.6)
-CLOSING = 421  # the reply of a server that closes the connection, for instance after a long pause (section 3.8)
-PAUSE = 0.2  # seconds between two looks at a file that grows
 RETRY = 60  # seconds between two tries of a notice that was refused for now
-GIVE_UP = 4 * 86400  # seconds for which one is tried (RFC 5321 section 4.5.4.1)
-MOST_WAITING = 100  # notices that wait for another try before no more is read
-
-
-@dataclass
-class Notice:
-    """One mail transaction of an outbox: whom it is for, and the message without the dots of the transfer."""
-
-    recipient: str
-    message: bytes
-
-    def key(self) -> str:
-        """The service's letter and the queue id, from the Message-ID."""
-        found = re.search(rb"^Message-ID: <([BDT])\.([^.]+)\.", self.message, re.MULTILINE)
-        return " ".join(it.decode() for it in found.groups()) if found else "?"
-
-
-@dataclass
-class Waiting:
-    """A notice that isn't handed in yet: when it is tried next, and until when (seconds of time.monotonic)."""
-
-    notice: Notice
-    due: float
-    until: float
-
-
-class CutShort(Exception):
-    """The outbox ended before its QUIT."""
-
-
-class Stopped(Exception):
-    """A signal came while nothing was in hand."""
-
-
-class Piped:
-    """An outbox on standard input, read line by line as it comes. `pause` waits so many seconds."""
-
-    def __init__(self, pause):
-        self.pause, self.begun, self.lines = pause, b"", deque()
-
-    def readline(self) -> bytes:
-        """The next line once it is whole; what there is of it at the end."""
-        self.pause(0)
-        while not self.lines:
-            self.pause(0)
-            if not select.select([sys.stdin], [], [], PAUSE)[0]:
-                continue
-            came = os.read(sys.stdin.fileno(), 65536)
-            if not came:
-                line, self.begun = self.begun, b""
-                return line
-            *lines, self.begun = (self.begun + came).split(b"\n")
-            self.lines.extend(it + b"\n" for it in lines)
-        return self.lines.popleft()
-
-
-class Growing:
-    """An outbox in a file, read line by line as it grows; it is at its end once another file has the path of the one
-    that grows. `pause` waits so many seconds."""
-
-    def __init__(self, path: str, name: str, pause):
-        self.path, self.pause, self.begun, self.file = path, pause, b"", None
-        while self.file is None:
-            with contextlib.suppress(FileNotFoundError):
-                self.file = open(name, "rb")
-            self.pause(0 if self.file else PAUSE)
-
-    def readline(self) -> bytes:
-        """The next line once it is whole; what there is of it at the end."""
-        while True:
-            is_last = self.is_replaced()
-            self.begun += self.file.readline()
-            is_whole = self.begun.endswith(b"\n")
-            self.pause(0 if is_whole or is_last else PAUSE)
-            if is_whole or is_last:
-                line, self.begun = self.begun, b""
-                return line
-
-    def is_named(self, name: str) -> bool:
-        """Whether this is the file of that name."""
-        return os.path.samestat(os.stat(name), os.fstat(self.file.fileno()))
-
-    def is_replaced(self) -> bool:
-        """Whether another file grows now, so that nothing more is written to this one."""
-        try:
-            return not self.is_named(self.path)
-        except FileNotFoundError:
-            return False
-
-    def next_name(self, done: set) -> str:
-        """Waits until another file grows, and gives the name of the outbox after this one: the first of those that were
-        moved away and aren't done, or that of the one that grows. What it passes over or gives is done."""
-        while not self.is_replaced():
-            self.pause(PAUSE)
-        for name in moved_away(self.path):
-            if name not in done:
-                done.add(name)
-                if not self.is_named(name):
-                    return name
-        return self.path
+GIVE_UP = 4 * 86400  # seconds for which one is tried (section 4.5.4.1)
+MOST_WAITING = 100  # notices of a pipe that wait for another try before no more is read
+AT_ONCE = 8  # waiting notices that are tried before the next new one
 
 
 def moved_away(path: str) -> list:
@@ -149,216 +58,344 @@ def moved_away(path: str) -> list:
     return sorted(glob.glob(glob.escape(path) + ".*"))
 
 
-def line_of(stream) -> bytes:
-    """The next line without its CRLF."""
-    line = stream.readline()
-    if not line.endswith(b"\r\n"):
-        raise CutShort
-    return line[:-2]
+def stands(name: str) -> Optional[tuple]:
+    """What tells whether a file is the one of before: its inode number, size and time. None where there is none."""
+    try:
+        found = os.stat(name)
+    except FileNotFoundError:
+        return None
+    return found.st_ino, found.st_size, found.st_mtime_ns
 
 
-def data_of(stream) -> bytes:
-    """A message up to the line of one dot, with the dot taken off that other lines begin with."""
-    lines = []
-    while (line := line_of(stream)) != b".":
-        lines.append(line.removeprefix(b".") + b"\r\n")
-    return b"".join(lines)
-
-
-def notices_of(stream):
-    """The notices of an outbox, each as soon as it is whole."""
-    recipient = ""
-    while (line := line_of(stream)) != b"QUIT":
-        if line.startswith(b"RCPT TO:<"):
-            recipient = line[9:-1].decode()
-        elif line == b"DATA":
-            yield Notice(recipient, data_of(stream))
-        elif not line.startswith((b"EHLO ", b"MAIL FROM:<>")):
-            raise CutShort
-
-
-class Server:
-    """A mail server, with a connection that is made when the first notice comes."""
-
-    def __init__(self, address: str):
-        self.host, _, self.port = address.rpartition(":")
-        self.connection = None
-
-    def send(self, notice: Notice):
-        """Hands in one notice from the null sender. The connection of the one before is used if the server still answers
-        there. It is asked first, since a notice whose reply was lost may have been taken: it isn't sent again at once."""
-        if not self.answers():
-            self.connection = smtplib.SMTP(self.host, int(self.port), timeout=PATIENCE)
-        try:
-            self.connection.sendmail("", [notice.recipient], notice.message)
-        except (smtplib.SMTPServerDisconnected, smtplib.SMTPResponseException) as lost:
-            if getattr(lost, "smtp_code", CLOSING) == CLOSING:
-                self.connection = None
-            raise
-
-    def answers(self) -> bool:
-        """Whether there is a connection whose server doesn't close it."""
-        try:
-            return self.connection is not None and self.connection.noop()[0] != CLOSING
-        except smtplib.SMTPServerDisconnected:
-            return False
-
-    @staticmethod
-    def is_for_now(refused: Exception) -> bool:
-        """Whether another try may succeed: a reply 4yz, or none (RFC 5321 section 4.2.1)."""
-        reply = reply_of(refused)
-        return reply[0] < 500 if reply else not isinstance(refused, smtplib.SMTPNotSupportedError)
-
-    def close(self):
-        """Ends the connection, if one is open and the server still there."""
-        if self.connection is not None:
-            with contextlib.suppress(smtplib.SMTPException, OSError):
-                self.connection.quit()
-
-
-class Program:
-    """A local submission program with the options of sendmail."""
-
-    def __init__(self, words: list):
-        self.words = words
-
-    def send(self, notice: Notice):
-        """Runs the program on one notice; it takes lines that end with LF alone."""
-        words = [*self.words, "-f", "<>", "--", notice.recipient]
-        subprocess.run(words, input=notice.message.replace(b"\r\n", b"\n"), check=True, timeout=PATIENCE)
-
-    @staticmethod
-    def is_for_now(refused: Exception) -> bool:
-        """Whether another try may succeed: the program said so (sysexits.h), a signal ended it, it took too long, or it could
-        not be run."""
-        status = getattr(refused, "returncode", None)
-        return status is None or status < 0 or status == os.EX_TEMPFAIL
-
-    def close(self):
-        """Nothing is open between two notices."""
-
-
-def reply_of(refused: Exception):
-    """A server's reply, its code and its text, if there was one."""
-    if isinstance(refused, smtplib.SMTPRecipientsRefused):
-        return next(iter(refused.recipients.values()))
-    if isinstance(refused, smtplib.SMTPResponseException):
-        return refused.smtp_code, refused.smtp_error
-    return None
-
-
-def tell(what: str, notice: Notice, refused):
-    """Says what came of a notice, and why: the server's reply where there is one."""
-    reply = reply_of(refused)
-    why = f"{reply[0]} {reply[1].decode(errors='replace')}" if reply else str(refused)
-    print(f"{what} {notice.key()}: {why}".replace("\n", " "), file=sys.stderr, flush=True)
+def place_of(descriptor: int) -> tuple:
+    """The same of an open file."""
+    found = os.fstat(descriptor)
+    return found.st_ino, found.st_size, found.st_mtime_ns
 
 
 class Feeder:
-    """Hands the notices of outboxes to a mailer, and counts what comes of them."""
+    """Hands the notices of outboxes to a mailer, and keeps what becomes of them."""
 
-    def __init__(self, mailer, retry: float, give_up: float):
-        self.mailer, self.retry, self.give_up = mailer, retry, give_up
-        self.waiting, self.signals = deque(), []
+    def __init__(self, given, mailer):
+        self.given, self.mailer, self.path = given, mailer, given.follow
+        self.signals = []
         for it in (signal.SIGTERM, signal.SIGINT):
             signal.signal(it, lambda number, _: self.signals.append(number))
-        self.handed, self.left_out, self.cut = 0, 0, 0
+        self.state = State(given.state, lambda: bool(self.signals))
+        self.waiting = deque(sorted((it for of in self.state.records.values() for it in of.waiting.values()), key=lambda it: it.since))
+        self.handed, self.left_out, self.cut, self.passed = 0, 0, 0, {}
 
-    def feed(self, stream):
+    def feed(self, source):
         """Hands in each notice of an outbox, to its QUIT or its end."""
         try:
-            for notice in notices_of(stream):
-                now = time.monotonic()
-                self.hand_in(Waiting(notice, now, now + self.give_up), is_new=True)
-                self.try_again()
-                while len(self.waiting) >= MOST_WAITING:
+            while True:
+                self.pause(0)
+                notice = next_notice(source)
+                if notice is None:
+                    break
+                self.hand_in(source, notice)
+                while isinstance(source, Piped) and len(self.waiting) >= MOST_WAITING:
                     self.pause(PAUSE)
         except CutShort:
             self.cut += 1
-            print("the outbox was cut short", file=sys.stderr, flush=True)
+            say("the outbox was cut short")
+            self.state.note(source.record, "cut")
 
-    def hand_in(self, it: Waiting, is_new: bool):
-        """Hands in one notice, puts it off, or leaves it out."""
-        try:
-            self.mailer.send(it.notice)
-            self.handed += 1
-        except (smtplib.SMTPException, subprocess.SubprocessError, OSError) as refused:
-            it.due = time.monotonic() + self.retry
-            if not self.mailer.is_for_now(refused) or it.due > it.until:
-                self.leave_out(it.notice, refused)
-                return
-            if is_new:
-                tell("put off", it.notice, refused)
+    def hand_in(self, source, notice: Notice):
+        """Hands in a notice that was just read, puts it off, or leaves it out."""
+        record, start, since = source.record, source.record.position, time.time()
+        refused, message_id = self.refused(notice), notice.message_id()
+        digest, text = source.taken()
+        if refused is None:
+            self.state.note(record, "handed", source.at, digest)
+        elif self.is_last_try(refused, since):
+            self.leave_out(message_id, refused)
+            self.state.note(record, "left", source.at, digest)
+        else:
+            tell("put off", message_id, refused)
+            self.state.note(record, "waits", start, source.at, digest, f"{since:.3f}", message_id)
+            it = record.waiting[start]
+            it.due, it.text = time.monotonic() + self.given.retry, text
             self.waiting.append(it)
 
-    def leave_out(self, notice: Notice, refused):
+    def refused(self, notice: Notice) -> Optional[Refused]:
+        """Hands in a notice: why it was refused, if it was."""
+        try:
+            self.mailer.send(notice)
+        except Refused as refused:
+            return refused
+        self.handed += 1
+        return None
+
+    def is_last_try(self, refused: Refused, since: float) -> bool:
+        """Whether a notice that was first refused then isn't tried again."""
+        return not refused.for_now or time.time() + self.given.retry > since + self.given.give_up
+
+    def leave_out(self, message_id: str, why):
         """A notice that isn't tried again."""
         self.left_out += 1
-        tell("left out", notice, refused)
+        tell("left out", message_id, why)
 
-    def try_again(self):
-        """Hands in the waiting notices whose time has come; they stand in the order of their times."""
-        now = time.monotonic()
-        for _ in range(len(self.waiting)):
-            if self.signals or self.waiting[0].due > now:
-                return
-            self.hand_in(self.waiting.popleft(), is_new=False)
+    def try_again(self) -> bool:
+        """Hands in some waiting notices whose time has come; they stand in the order of their times. Whether any."""
+        tried = 0
+        while self.waiting and tried < AT_ONCE and not self.signals and self.waiting[0].due <= time.monotonic():
+            self.once_more(self.waiting.popleft())
+            tried += 1
+        return tried > 0
+
+    def once_more(self, it: Waiting):
+        """Hands in a waiting notice, puts it off again, or leaves it out."""
+        record = self.state.records.get(it.number)
+        if record is None or record.waiting.get(it.start) is not it:
+            return
+        try:
+            notice = self.reread(record, it)
+        except OSError as why:
+            refused = Refused(str(why))
+        else:
+            refused = self.refused(notice) if notice else Refused("its outbox is gone", for_now=False)
+        if refused is not None and not self.is_last_try(refused, it.since):
+            it.due = time.monotonic() + self.given.retry
+            self.waiting.append(it)
+            return
+        if refused is not None:
+            self.leave_out(it.message_id, refused)
+        self.state.note(record, "settled", it.start, "left" if refused else "handed")
+        self.finish(record)
+
+    def reread(self, record: Record, it: Waiting) -> Optional[Notice]:
+        """A waiting notice, from its place; None where its outbox isn't there any more."""
+        if it.text is not None:
+            return next_notice(Text(it.text))
+        name = None if record.file else self.name_of(record)
+        if name is None and record.file is None:
+            return None
+        with contextlib.nullcontext(record.file) if record.file else open(name, "rb") as file:
+            text = Text(os.pread(file.fileno(), it.end - it.start, it.start))
+            text.host = host_of(file)
+        with contextlib.suppress(CutShort):
+            notice = next_notice(text)
+            return notice if notice and notice.message_id() == it.message_id else None
+        return None
+
+    def name_of(self, record: Record) -> Optional[str]:
+        """The name that an outbox has now."""
+        for name in (record.name, self.path, *moved_away(self.path)) if self.path else ():
+            found = stands(name)
+            if found and found[0] == record.inode:
+                record.name = name
+                return name
+        return None
 
     def pause(self, seconds: float):
-        """Waits so long, and then tries again what is due; after a signal it goes no further."""
+        """Tries again what is due, or waits so long; after a signal it goes no further."""
         if self.signals:
             raise Stopped
-        if seconds:
-            time.sleep(seconds)
-        self.try_again()
+        if self.try_again() or not seconds:
+            return
+        self.mailer.rest()
+        time.sleep(seconds)
+
+    def finish(self, record: Record):
+        """Removes or renames an outbox that was moved away and read to its end, once no notice of it waits. One that was
+        cut, or of which a notice was left out, is never removed."""
+        if self.given.done == "keep" or record.end is None or record.waiting or not self.path:
+            return
+        name = self.name_of(record)
+        if name is None or name == self.path or stands(name) != (record.inode, *record.end):
+            return
+        try:
+            if self.given.done == "remove" and not record.left and not record.cut:
+                os.unlink(name)
+            else:
+                os.rename(name, done_name(name))
+            sync_folder(name)
+        except OSError as why:
+            say(f"{name} stays where it is: {why.strerror}")
+            return
+        self.state.note(record, "gone")
+
+    def forget(self, record: Record):
+        """Lets go what is known of an outbox that isn't there any more; what waits of it is left out."""
+        if record.end is None and record.position:
+            self.cut += 1
+            say(f"an outbox is gone of which {record.position} bytes were read")
+        for it in list(record.waiting.values()):
+            self.leave_out(it.message_id, "its outbox is gone")
+        self.state.note(record, "gone")
+
+    def recognised(self, file, name: str):
+        """What is known of an outbox, by its inode number and its bytes, and the sum over what was read of it."""
+        inode, *rest = place_of(file.fileno())
+        for record in [it for it in self.state.records.values() if it.inode == inode]:
+            read = record.is_of(file, *rest)
+            if read is not None:
+                record.name = name
+                return record, read
+            self.forget(record)
+        record = self.state.begin(inode)
+        record.name = name
+        return record, hashlib.sha256()
+
+    def opened(self, name: str):
+        """The record of an outbox that isn't read to its end yet, its file opened and locked, and the sum over what was read
+        of it; None for one that is, or that is none, or that can't be read."""
+        now = stands(name)
+        if now is None or self.passed.get(name) == now:
+            return None
+        try:
+            if stat.S_ISREG(os.stat(name).st_mode):
+                return self.opened_file(name, now)
+            say(f"{name} is no outbox, and is left alone")
+        except FileNotFoundError:
+            return None
+        except OSError as why:
+            if name == self.path:
+                raise
+            say(f"{name} is left alone: {why.strerror}")
+        self.passed[name] = now
+        return None
+
+    def opened_file(self, name: str, now: tuple):
+        """The same of a file."""
+        with contextlib.ExitStack() as undo:
+            file = undo.enter_context(open(name, "rb"))
+            begins = os.pread(file.fileno(), 5, 0)
+            if not b"EHLO ".startswith(begins):
+                say(f"{name} is no outbox, and is left alone")
+                self.passed[name] = now
+                return None
+            record, read = self.recognised(file, name)
+            if record.end is None:
+                lock(file, name)
+                undo.pop_all()
+                record.file = file
+                return record, read
+            self.finish(record)
+            self.passed[name] = now
+        return None
+
+    def next_outbox(self):
+        """Waits for an outbox that isn't read to its end: the first of those that were moved away, else the one that grows,
+        unless it was moved away meanwhile."""
+        while True:
+            grows = stands(self.path)
+            for name in moved_away(self.path):
+                if found := self.opened(name):
+                    return found
+            now = stands(self.path)
+            if now and grows and now[0] == grows[0] and (found := self.opened(self.path)):
+                return found
+            self.pause(PAUSE)
+
+    def is_replaced(self, record: Record) -> bool:
+        """Whether another file grows now, so that nothing more is written to this one."""
+        found = stands(self.path)
+        return found is not None and found[0] != record.inode
+
+    def follow(self):
+        """Hands in the notices of a file that grows, and then of the next ones, until a signal comes."""
+        there = {it[0] for it in map(stands, (self.path, *moved_away(self.path))) if it}
+        for record in [it for it in self.state.records.values() if it.inode not in there]:
+            self.forget(record)
+        with contextlib.suppress(Stopped):
+            while True:
+                record, read = self.next_outbox()
+                self.feed(Growing(record, read, lambda it=record: self.is_replaced(it), self.pause))
+                self.ends(record)
+                record.file.close()
+                record.file = None
+
+    def ends(self, record: Record):
+        """Keeps that an outbox was read to its end."""
+        self.state.note(record, "done", *place_of(record.file.fileno())[1:])
+        self.finish(record)
 
     def feed_input(self):
         """Hands in the notices of standard input, and then what still waits, until a signal comes."""
         try:
-            self.feed(Piped(self.pause))
+            if stat.S_ISREG(os.fstat(0).st_mode):
+                self.feed_file(open(0, "rb", closefd=False))
+            else:
+                self.feed(Piped(self.state.begin(0), self.pause))
             while self.waiting:
                 self.pause(PAUSE)
         except Stopped:
             self.cut += 1
-            print("stopped before the end", file=sys.stderr, flush=True)
+            say("stopped before the end")
 
-    def follow(self, path: str):
-        """Hands in the notices of a file that grows, and then of the next ones, until a signal comes."""
-        with contextlib.suppress(Stopped):
-            name, done = path, set(moved_away(path))
-            while True:
-                outbox = Growing(path, name, self.pause)
-                self.feed(outbox)
-                name = outbox.next_name(done)
+    def feed_file(self, file):
+        """Hands in the notices of a file that doesn't grow, from where the state has it."""
+        lock(file, "standard input")
+        record, read = self.recognised(file, "")
+        record.file = file
+        if record.end is None:
+            self.feed(Growing(record, read, lambda: True, self.pause))
+            self.ends(record)
 
     def end(self) -> int:
-        """Leaves out what still waits, ends the mailer, says the counts, and gives the exit status."""
-        for it in self.waiting:
-            self.leave_out(it.notice, "the feeder ended before another try")
+        """Leaves out what still waits where no state keeps it, ends the mailer, says the counts, and gives the exit status."""
+        waits = [it for of in self.state.records.values() for it in of.waiting.values()]
+        if self.state.path is None:
+            for it in waits:
+                self.leave_out(it.message_id, "the feeder ended before another try")
+            waits = []
         self.mailer.close()
-        print(f"{self.handed} handed in, {self.left_out} left out", file=sys.stderr)
-        return 1 if self.left_out or self.cut else 0
+        say(f"{self.handed} handed in, {self.left_out} left out" + (f", {len(waits)} wait" if waits else ""))
+        return 1 if self.left_out or self.cut or self.state.is_behind else 0
+
+
+def tell(what: str, message_id: str, why):
+    """Says what came of a notice, by the service's letter and the queue id, and why."""
+    say(f"{what} {' '.join(message_id.split('.')[:2])}: {why}")
+
+
+def done_name(name: str) -> str:
+    """A name for an outbox that is done, which none has yet."""
+    folder, base = os.path.split(name)
+    for at in range(1, 1_000_000):
+        made = os.path.join(folder, f"done.{base}" + (f".{at}" if at > 1 else ""))
+        if not os.path.lexists(made):
+            return made
+    raise FileExistsError(17, "each name is taken")
 
 
 def options():
     """The command line."""
     reader = argparse.ArgumentParser(description=__doc__.split("\n", maxsplit=1)[0], usage="%(prog)s [OPTION]... HOST:PORT | PROGRAM [WORD]...")
     reader.add_argument("--follow", metavar="OUTBOX", help="a file that grows, in place of standard input")
+    reader.add_argument("--state", metavar="FILE", help="where it is kept what became of each notice (with --follow feed.OUTBOX.state beside OUTBOX)")
+    reader.add_argument("--done", choices=("keep", "remove", "rename"), help="with --follow: what becomes of an outbox that is done (keep)")
     reader.add_argument("--retry", type=float, default=RETRY, metavar="SECONDS", help="between two tries of a notice (%(default)s)")
     reader.add_argument("--give-up", type=float, default=GIVE_UP, metavar="SECONDS", help="for which one is tried (%(default)s)")
     reader.add_argument("mailer", nargs=argparse.REMAINDER, help=argparse.SUPPRESS)
     given = reader.parse_args()
     if not given.mailer:
         reader.error("no mail server and no program named")
+    if given.follow is None and given.done is not None:
+        reader.error("--done is of --follow")
+    if given.follow is None and given.state is not None and not stat.S_ISREG(os.fstat(0).st_mode):
+        reader.error("--state is of a file")
+    if given.follow is not None and given.state is None:
+        folder, base = os.path.split(given.follow)
+        given.state = os.path.join(folder, f"feed.{base}.state")
+    given.done = given.done or "keep"
     return given
 
 
 def main():
     given = options()
     is_server = len(given.mailer) == 1 and re.fullmatch(r"[^/]*:[0-9]+", given.mailer[0])
-    feeder = Feeder(Server(given.mailer[0]) if is_server else Program(given.mailer), given.retry, given.give_up)
-    feeder.follow(given.follow) if given.follow else feeder.feed_input()
-    sys.exit(feeder.end())
+    try:
+        feeder = Feeder(given, Server(given.mailer[0], given.retry, PATIENCE) if is_server else Program(given.mailer, PATIENCE))
+        feeder.follow() if given.follow else feeder.feed_input()
+        sys.exit(feeder.end())
+    except Stopped:
+        sys.exit(1)
+    except (Unusable, OSError) as why:
+        say(f"feed.py: {why}")
+        sys.exit(3)
 
 
 if __name__ == "__main__":

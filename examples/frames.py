@@ -107,28 +107,38 @@ def moment_of(word: str) -> int:
     return int(time.time()) if word == "now" else int(word)
 
 
+def request_of_line(line: str) -> tuple:
+    """What one line of a description asks: the request, its number (None for a dot), and its fields as append, flush, discard
+    and forget take them."""
+    kind, *words = words_of(line)
+    named = {"append": 6, "flush": 3, "discard": 3, "forget": 3}.get(kind)
+    if named is None or len(words) < named:
+        raise ValueError("not a request")
+    fixed, options = words[:named], dict(it.partition("=")[::2] for it in words[named:])
+    number = None if fixed[0] == "." else int(fixed[0])
+    fields = {"service": SERVICES.get(fixed[1]) or int(fixed[1]), "queue_id": unescaped(fixed[2])}
+    if kind == "append":
+        fields |= {"recipient": unescaped(fixed[3]), "action": ACTIONS.get(fixed[4]) or int(fixed[4]), "status": unescaped(fixed[5])}
+        fields |= {name: moment_of(options.pop(it)) for it, name in (("attempt", "last_attempt"), ("retry", "retry_until")) if it in options}
+    elif kind == "flush":
+        fields |= {it: moment_of(options.pop(it)) for it in ("moment", "arrival") if it in options}
+    elif options:
+        raise ValueError(f"a {kind} has nothing after the queue id")
+    return kind, number, fields | {"return_path" if it == "return" else it: unescaped(value) for it, value in options.items()}
+
+
+def frame_of(kind: str, number: int, fields: dict) -> bytes:
+    """The frame of a request with these fields."""
+    return {"append": append, "flush": flush, "discard": discard, "forget": forget}[kind](number, **fields)
+
+
 def frame_of_line(line: str, place: int) -> bytes:
     """The frame that one line of a description stands for, at this place among the frames."""
     kind, *words = words_of(line)
     if kind == "hex":
         return bytes.fromhex("".join(words))
-    named = {"append": 6, "flush": 3, "discard": 3, "forget": 3}.get(kind)
-    if named is None or len(words) < named:
-        raise ValueError("not a request")
-    fixed, options = words[:named], dict(it.partition("=")[::2] for it in words[named:])
-    number, service, queue_id = place if fixed[0] == "." else int(fixed[0]), SERVICES.get(fixed[1]) or int(fixed[1]), unescaped(fixed[2])
-    if kind == "append":
-        recipient, action, status = unescaped(fixed[3]), ACTIONS.get(fixed[4]) or int(fixed[4]), unescaped(fixed[5])
-        times = {name: moment_of(options.pop(it)) for it, name in (("attempt", "last_attempt"), ("retry", "retry_until")) if it in options}
-        texts = {it: unescaped(value) for it, value in options.items()}
-        return append(number, service, queue_id, recipient, action, status, **times, **texts)
-    if kind == "flush":
-        times = {it: moment_of(options.pop(it)) for it in ("moment", "arrival") if it in options}
-        texts = {"return_path" if it == "return" else it: unescaped(value) for it, value in options.items()}
-        return flush(number, service, queue_id, **times, **texts)
-    if options:
-        raise ValueError(f"a {kind} has nothing after the queue id")
-    return (forget if kind == "forget" else discard)(number, service, queue_id)
+    kind, number, fields = request_of_line(line)
+    return frame_of(kind, place if number is None else number, fields)
 
 
 def frames_in(lines):

@@ -7,9 +7,7 @@ import socket
 import subprocess
 import sys
 import tempfile
-import threading
 import time
-from collections import Counter
 from pathlib import Path
 
 try:
@@ -18,98 +16,11 @@ except ImportError:
     Controller = None
 
 sys.path.insert(0, str(Path(__file__).parent / "support"))
-from running import EXAMPLES, LIMIT, Checks, batch, frames_module  # noqa: E402
+from feeding import FEED, MailServer, StrictServer, comes_to, feed, messages_of, outbox_for, outbox_of, submission  # noqa: E402
+from running import LIMIT, Checks  # noqa: E402
 
-FEED = [sys.executable, str(EXAMPLES / "feed.py")]
 MESSAGES = 6
 SOON = ["--retry", "0.5", "--give-up", "2"]  # so that each is tried four times at most
-
-frames = frames_module()
-
-
-def outbox_of(messages: int) -> bytes:
-    """An outbox of so many notices, each for a sender of its own; returned headers have lines that begin with a dot."""
-    made = b""
-    for at in range(messages):
-        made += frames.append(2 * at, 1, b"K%d" % at, b"bob@example.org", 1, b"5.1.1")
-        made += frames.flush(2 * at + 1, 1, b"K%d" % at, return_path=b"sender%d@example.com" % at, header=b".dots\n..\n.\n")
-    return batch(made).outbox
-
-
-def messages_of(outbox: bytes) -> list:
-    """The messages of an outbox as a receiver has them (RFC 5321 section 4.5.2)."""
-    parts = outbox.split(b"\r\nDATA\r\n")[1:]
-    lines = [part[: part.index(b"\r\n.\r\n")].split(b"\r\n") for part in parts]
-    return [b"".join(line.removeprefix(b".") + b"\r\n" for line in it) for it in lines]
-
-
-class MailServer:
-    """A mail server that takes connections until it is closed: it refuses each recipient of a set, or each one's first
-    tries (450), hangs up after so many messages, in place of its first replies to them or not, or gives up the
-    connection (421), and keeps what it was told and given."""
-
-    def __init__(self, refused=(), hangs_up_after=None, closes_after=None, greylists=0, lost_replies=0, port=0):
-        self.refused, self.hangs_up_after, self.closes_after = refused, hangs_up_after, closes_after
-        self.lost_replies = lost_replies
-        self.greylists, self.tries = greylists, Counter()
-        self.taken, self.commands = [], []
-        self.listener = socket.create_server(("127.0.0.1", port))
-        self.address = "127.0.0.1:%d" % self.listener.getsockname()[1]
-        threading.Thread(target=self.accept, daemon=True).start()
-
-    def accept(self):
-        while True:
-            try:
-                connection, _ = self.listener.accept()
-            except OSError:
-                return
-            with connection, connection.makefile("rwb") as stream:
-                self.serve(stream)
-
-    def serve(self, stream):
-        """One connection: a reply to each command before the next is read."""
-        recipient, given = b"", 0
-        self.say(stream, b"220 test")
-        while line := stream.readline():
-            command = line.strip()
-            self.commands.append(command)
-            if given == self.closes_after:
-                self.say(stream, b"421 closing")
-                return
-            if command.upper().startswith(b"RCPT TO:<"):
-                recipient = command[9:-1]
-                self.say(stream, self.reply_to(recipient))
-            elif command.upper() == b"DATA":
-                self.say(stream, b"354 go on")
-                text = b"".join(iter(stream.readline, b".\r\n"))
-                lines = text.split(b"\r\n")[:-1]
-                self.taken.append((recipient, b"".join(it.removeprefix(b".") + b"\r\n" for it in lines)))
-                given += 1
-                if len(self.taken) <= self.lost_replies:
-                    return
-                self.say(stream, b"250 taken")
-                if given == self.hangs_up_after:
-                    return
-            else:
-                self.say(stream, b"221 bye" if command.upper() == b"QUIT" else b"250 ok")
-
-    def reply_to(self, recipient: bytes) -> bytes:
-        """The reply to RCPT."""
-        self.tries[recipient] += 1
-        if recipient in self.refused:
-            return b"550 5.1.1 no such user"
-        return b"450 4.2.0 try again" if self.tries[recipient] <= self.greylists else b"250 ok"
-
-    @staticmethod
-    def say(stream, reply: bytes):
-        stream.write(reply + b"\r\n")
-        stream.flush()
-
-
-def feed(words, outbox: bytes):
-    """Runs the feeder on an outbox: its status and what it says."""
-    ran = subprocess.run([*FEED, *words], input=outbox, capture_output=True, timeout=LIMIT, check=False)
-    return ran.returncode, ran.stderr.decode().splitlines()
 
 
 def servers(checks: Checks, outbox: bytes):
@@ -227,15 +138,6 @@ def real_server(checks: Checks, outbox: bytes):
         checks.true("aiosmtpd: the null sender", handler.senders <= {"", "<>"})
 
 
-def comes_to(count, wanted: int) -> bool:
-    """Whether a count comes to a number in time."""
-    for _ in range(1000):
-        if count() >= wanted:
-            return count() == wanted
-        time.sleep(0.01)
-    return False
-
-
 def followed(checks: Checks, outbox: bytes):
     """A file that grows is handed in as it does; then the next one of its name; a signal ends it."""
     server, first_end = MailServer(), outbox.index(b"\r\n.\r\n") + 5
@@ -257,8 +159,8 @@ def followed(checks: Checks, outbox: bytes):
 
 
 def removed(checks: Checks, outbox: bytes):
-    """An outbox that was moved away is handed in also where the one before it was removed; one that was moved away before
-    the feeder began is not."""
+    """An outbox that was moved away is handed in also where the one before it was removed, and so is one that was moved away
+    before the feeder began."""
     server = MailServer()
     with tempfile.TemporaryDirectory() as room:
         path = Path(room) / "outbox"
@@ -271,18 +173,10 @@ def removed(checks: Checks, outbox: bytes):
             other.write_bytes(outbox)
             other.rename(path.with_suffix(".1"))
             path.write_bytes(outbox)
-            checks.true("the one that was moved away, and the one that grows", comes_to(lambda: len(server.taken), 2 * MESSAGES))
+            checks.true("the one that was moved away, and the one that grows", comes_to(lambda: len(server.taken), 3 * MESSAGES))
             running.send_signal(signal.SIGTERM)
             said = running.communicate(timeout=LIMIT)[1].splitlines()
-            checks.equal("its end", (running.returncode, said), (1, ["the outbox was cut short", f"{2 * MESSAGES} handed in, 0 left out"]))
-
-
-def submission(room: str, text: str) -> str:
-    """A submission program in this folder, by its text; it begins with the recipient in `last`."""
-    program = Path(room) / "submit"
-    program.write_text(f"#!/bin/sh\nfor last; do :; done\n{text}")
-    program.chmod(0o755)
-    return str(program)
+            checks.equal("its end", (running.returncode, said), (1, ["the outbox was cut short", f"{3 * MESSAGES} handed in, 0 left out"]))
 
 
 def programs(checks: Checks, outbox: bytes):
@@ -302,6 +196,109 @@ def programs(checks: Checks, outbox: bytes):
         status, said = feed(["--retry", "0.1", "--give-up", "0.15", str(Path(room) / "nothing")], outbox)
         checks.equal("no program: end", (status, said[-1:]), (1, [f"0 handed in, {MESSAGES} left out"]))
         checks.equal("its lines", sorted({it[:7] for it in said[:-1]}), ["left ou", "put off"])
+
+
+STATUSES = {64: False, 65: False, 67: False, **dict.fromkeys((1, 2, 66, 68, 69, 70, 71, 72, 73, 74, 75, 76, 77, 78, 126, 127, 255), True)}
+
+
+def statuses(checks: Checks):
+    """A program's status is a refusal for good where another try can't change it, and for now with any other."""
+    outbox = outbox_for([b"status%d@example.com" % it for it in STATUSES])
+    with tempfile.TemporaryDirectory() as room:
+        text = f'status=${{last%@*}}\n[ -e {room}/$last ] && exit\ntouch {room}/$last\nexit "${{status#status}}"\n'
+        program = submission(room, text)
+        status, said = feed(["--retry", "0.1", program], outbox)
+        wanted = [f"{'put off' if put_off else 'left out'} B K{at}: {program} ended with status {it}" for at, (it, put_off) in enumerate(STATUSES.items())]
+        later = sum(STATUSES.values())
+        checks.equal("statuses of a program", (status, said), (1, [*wanted, f"{later} handed in, {len(STATUSES) - later} left out"]))
+
+
+PATHS = {  # of the outbox: what a program is given, or None where it can't be
+    b"ann@example.com": "ann@example.com",
+    b"a:b@example.com": '"a:b"@example.com',
+    b"ann(x)@example.com": '"ann(x)"@example.com',
+    b"bea,ann@example.com": '"bea,ann"@example.com',
+    b"x:bea@example.com,ann@example.com;root@example.com": '"x:bea@example.com,ann@example.com;root"@example.com',
+    b'"a,b"@example.com': '"a,b"@example.com',
+    b'"a\\"b"@example.com': '"a\\"b"@example.com',
+    b'a"b\\c@example.com': '"a\\"b\\\\c"@example.com',
+    b"-n@example.com": '"-n"@example.com',
+    b".a..b.@example.com": '".a..b."@example.com',
+    b"a!b%c@example.com": "a!b%c@example.com",
+    b"ann@[192.0.2.1]": "ann@[192.0.2.1]",
+    b"postmaster": "postmaster",
+    b"a@example.com,b": None,
+    b"x:ann": None,
+    b"-oQ/tmp": None,
+    b"a|b": None,
+    b"ann@": None,
+}
+
+
+def paths(checks: Checks):
+    """The path of RCPT is what the outbox has, byte for byte; a program is given it such that it is one address."""
+    outbox, server = outbox_for(list(PATHS)), MailServer()
+    checks.equal("paths: end", feed([server.address], outbox), (0, [f"{len(PATHS)} handed in, 0 left out"]))
+    checks.equal("paths", [it for it in server.commands if it.upper().startswith(b"RCPT")], [b"RCPT TO:<" + it + b">" for it in PATHS])
+    taken = [it for it in PATHS.values() if it is not None]
+    with tempfile.TemporaryDirectory() as room:
+        status, said = feed([submission(room, f'printf "%s\\n" "$last" >> {room}/last\n')], outbox)
+        checks.equal("paths for a program", (Path(room) / "last").read_text().splitlines(), taken)
+        left_out = [f"left out B K{at}: a program can't be told this address" for at, it in enumerate(PATHS.values()) if it is None]
+        checks.equal("its end", (status, said[-1:]), (1, [f"{len(taken)} handed in, {len(left_out)} left out"]))
+        checks.equal("what it can't be told", [it[: it.rindex(":")] for it in said[:-1]], left_out)
+
+
+def strict_servers(checks: Checks, outbox: bytes):
+    """A server is told nothing that it need not know, and nothing between two notices. Where it closes before it has a
+    message, the notice is sent on a new connection at once; where it closes later, the notice is put off."""
+    wanted = [(b"sender%d@example.com" % at, it) for at, it in enumerate(messages_of(outbox))]
+    server = StrictServer()
+    checks.equal("a strict server: end", feed([server.address], outbox), (0, [f"{MESSAGES} handed in, 0 left out"]))
+    checks.equal("what it is told", [it.split()[0].upper() for it in server.commands], [b"EHLO", *[b"MAIL", b"RCPT", b"DATA"] * MESSAGES, b"QUIT"])
+    checks.equal("connections", server.connections, 1)
+    for how in ("closes", "hangs_up"):
+        for word in ("MAIL", "RCPT", "DATA"):
+            with tempfile.NamedTemporaryFile() as file:
+                first_end = outbox.index(b"\r\n.\r\n") + 5
+                server = StrictServer()
+                with subprocess.Popen([*FEED, server.address], stdin=subprocess.PIPE, stderr=file) as running:
+                    running.stdin.write(outbox[:first_end])
+                    running.stdin.flush()
+                    checks.true("the first", comes_to(lambda it=server: len(it.taken), 1))
+                    getattr(server, how)[word] = 1
+                    running.stdin.write(outbox[first_end:])
+                    running.stdin.close()
+                    running.wait(timeout=LIMIT)
+                checks.equal(f"{how} at {word}", Path(file.name).read_text(), f"{MESSAGES} handed in, 0 left out\n")
+                checks.true("what it was given", server.taken == wanted and server.connections == 2)
+        for word in ("EHLO", "end"):
+            server = StrictServer(**{how: {word: 1}})
+            status, said = feed(["--retry", "0.3", server.address], outbox)
+            checks.equal(f"{how} at {word}: end", (status, said[-1:]), (0, [f"{MESSAGES} handed in, 0 left out"]))
+            checks.true("the first is put off", said[0].startswith("put off B K0: ") and sorted(server.taken) == wanted)
+
+
+def hundreds(checks: Checks):
+    """However many notices of a file wait, those after them are handed in; of a pipe a hundred wait."""
+    count, slow = 130, {b"sender%d@example.com" % at for at in range(120)}
+    outbox = outbox_of(count)
+    with tempfile.TemporaryDirectory() as room:
+        path = Path(room) / "outbox"
+        path.write_bytes(outbox)
+        for words, stdin in ((["--follow", str(path)], subprocess.DEVNULL), ([], path.open("rb")), ([], subprocess.PIPE)):
+            server = MailServer()
+            server.reply_to = lambda path: b"450 4.2.0 try again" if path in slow else b"250 ok"
+            with subprocess.Popen([*FEED, *words, server.address], stdin=stdin, stderr=subprocess.DEVNULL) as running:
+                if stdin == subprocess.PIPE:
+                    running.stdin.write(outbox)
+                    running.stdin.close()
+                    time.sleep(2)
+                    checks.equal("a hundred of a pipe wait", len([it for it in server.commands if it.startswith(b"RCPT")]), 100)
+                else:
+                    checks.true(f"those after a hundred and twenty {words[:1]}", comes_to(lambda it=server: len(it.taken), count - len(slow)))
+                running.send_signal(signal.SIGTERM)
+                running.wait(timeout=LIMIT)
 
 
 def stopped(checks: Checks, outbox: bytes):
@@ -337,6 +334,10 @@ def main():
     followed(checks, outbox)
     removed(checks, outbox)
     programs(checks, outbox)
+    statuses(checks)
+    paths(checks)
+    strict_servers(checks, outbox)
+    hundreds(checks)
     stopped(checks, outbox)
     cut(checks, outbox)
     for words in ([], ["--nonsense", "localhost:25"], ["--follow", "outbox"], ["--retry", "soon", "localhost:25"]):

@@ -1,0 +1,201 @@
+"""What the scripts that run examples/feed.py share: outboxes, a small mail server, submission programs, and the feeder."""
+import contextlib
+import os
+import signal
+import socket
+import subprocess
+import sys
+import threading
+import time
+from collections import Counter
+from pathlib import Path
+
+from running import EXAMPLES, LIMIT, batch, frames_module
+
+FEEDER = os.environ.get("FEEDER") or str(EXAMPLES / "feed.py")
+FEED = [sys.executable, FEEDER]
+
+frames = frames_module()
+
+
+def outbox_of(messages: int, names: bytes = b"K") -> bytes:
+    """An outbox of so many notices, each for a sender of its own; returned headers have lines that begin with a dot."""
+    return outbox_for([b"sender%d@example.com" % at for at in range(messages)], names)
+
+
+def outbox_for(senders: list, names: bytes = b"K") -> bytes:
+    """An outbox of a notice for each of these senders, of messages whose queue ids begin so."""
+    made = b""
+    for at, sender in enumerate(senders):
+        made += frames.append(2 * at, 1, names + b"%d" % at, b"bob@example.org", 1, b"5.1.1")
+        made += frames.flush(2 * at + 1, 1, names + b"%d" % at, return_path=sender, header=b".dots\n..\n.\n")
+    return batch(made).outbox
+
+
+def messages_of(outbox: bytes) -> list:
+    """The messages of an outbox as a receiver has them (RFC 5321 section 4.5.2)."""
+    parts = outbox.split(b"\r\nDATA\r\n")[1:]
+    lines = [part[: part.index(b"\r\n.\r\n")].split(b"\r\n") for part in parts]
+    return [b"".join(line.removeprefix(b".") + b"\r\n" for line in it) for it in lines]
+
+
+class MailServer:
+    """A mail server that takes connections until it is closed: it refuses each recipient of a set, or each one's first
+    tries (450), hangs up after so many messages, in place of its first replies to them or not, or gives up the
+    connection (421), and keeps what it was told and given."""
+
+    def __init__(self, refused=(), hangs_up_after=None, closes_after=None, greylists=0, lost_replies=0, port=0):
+        self.refused, self.hangs_up_after, self.closes_after = refused, hangs_up_after, closes_after
+        self.lost_replies = lost_replies
+        self.greylists, self.tries = greylists, Counter()
+        self.taken, self.commands = [], []
+        self.listener = socket.create_server(("127.0.0.1", port))
+        self.address = "127.0.0.1:%d" % self.listener.getsockname()[1]
+        threading.Thread(target=self.accept, daemon=True).start()
+
+    def accept(self):
+        while True:
+            try:
+                connection, _ = self.listener.accept()
+            except OSError:
+                return
+            with contextlib.suppress(OSError, EOFError), connection, connection.makefile("rwb") as stream:
+                self.serve(stream)
+
+    def serve(self, stream):
+        """One connection: a reply to each command before the next is read."""
+        recipient, given = b"", 0
+        self.say(stream, b"220 test")
+        while line := stream.readline():
+            command = line.strip()
+            self.commands.append(command)
+            if given == self.closes_after:
+                self.say(stream, b"421 closing")
+                return
+            if command.upper().startswith(b"RCPT TO:<"):
+                recipient = command[9:-1]
+                self.say(stream, self.reply_to(recipient))
+            elif command.upper() == b"DATA":
+                self.say(stream, b"354 go on")
+                self.taken.append((recipient, self.message(stream)))
+                given += 1
+                if len(self.taken) <= self.lost_replies:
+                    return
+                self.say(stream, b"250 taken")
+                if given == self.hangs_up_after:
+                    return
+            else:
+                self.say(stream, b"221 bye" if command.upper() == b"QUIT" else b"250 ok")
+
+    def reply_to(self, recipient: bytes) -> bytes:
+        """The reply to RCPT."""
+        self.tries[recipient] += 1
+        if recipient in self.refused:
+            return b"550 5.1.1 no such user"
+        return b"450 4.2.0 try again" if self.tries[recipient] <= self.greylists else b"250 ok"
+
+    @staticmethod
+    def message(stream) -> bytes:
+        """A message up to its line of one dot; EOFError where the client leaves before."""
+        lines = []
+        while (line := stream.readline()) != b".\r\n":
+            if not line:
+                raise EOFError
+            lines.append(line.removeprefix(b"."))
+        return b"".join(lines)
+
+    @staticmethod
+    def say(stream, reply: bytes):
+        stream.write(reply + b"\r\n")
+        stream.flush()
+
+
+class StrictServer(MailServer):
+    """A mail server that knows EHLO, MAIL, RCPT, DATA and QUIT alone: at any other command it hangs up. Each of its replies
+    has two lines. So many times it closes (421), or hangs up (no reply), in place of its reply to a word; `end` is that of
+    a message's end."""
+
+    def __init__(self, closes=(), hangs_up=(), port=0):
+        self.closes, self.hangs_up, self.connections = Counter(closes), Counter(hangs_up), 0
+        super().__init__(port=port)
+
+    def serve(self, stream):
+        self.connections += 1
+        self.say(stream, b"220 test")
+        while line := stream.readline():
+            self.commands.append(line.strip())
+            self.one(stream, line.strip())
+
+    def one(self, stream, command: bytes):
+        """A command and its reply, and after DATA the message."""
+        word = command.split()[0].decode().upper()
+        if word not in ("EHLO", "MAIL", "RCPT", "DATA", "QUIT"):
+            self.say(stream, b"500 what")
+            raise EOFError
+        if word == "RCPT":
+            self.recipient = command[9:-1]
+        self.answer(stream, word, {"DATA": b"354", "QUIT": b"221"}.get(word, b"250"))
+        if word == "DATA":
+            message = self.message(stream)
+            self.answer(stream, "end", b"250")
+            self.taken.append((self.recipient, message))
+
+    def answer(self, stream, word: str, code: bytes):
+        """A reply, unless the connection ends here."""
+        for ends, reply in ((self.closes, b"421-bye\r\n421 now"), (self.hangs_up, b"")):
+            if ends[word] > 0:
+                ends[word] -= 1
+                if reply:
+                    self.say(stream, reply)
+                raise EOFError
+        self.say(stream, code + b"-more\r\n" + code + b" ok")
+
+
+def feed(words, outbox: bytes):
+    """Runs the feeder on an outbox: its status and what it says."""
+    ran = subprocess.run([*FEED, *words], input=outbox, capture_output=True, timeout=LIMIT, check=False)
+    return ran.returncode, ran.stderr.decode().splitlines()
+
+
+def comes_to(count, wanted: int) -> bool:
+    """Whether a count comes to a number in time."""
+    for _ in range(1000):
+        if count() >= wanted:
+            return count() == wanted
+        time.sleep(0.01)
+    return False
+
+
+def submission(room: str, text: str) -> str:
+    """A submission program in this folder, by its text; it begins with the recipient in `last`."""
+    program = Path(room) / "submit"
+    program.write_text(f"#!/bin/sh\nfor last; do :; done\n{text}")
+    program.chmod(0o755)
+    return str(program)
+
+
+def feed_file(words, path):
+    """Runs the feeder on a file as its standard input: its status and what it says."""
+    with open(path, "rb") as outbox:
+        ran = subprocess.run([*FEED, *words], stdin=outbox, capture_output=True, timeout=LIMIT, check=False)
+    return ran.returncode, ran.stderr.decode().splitlines()
+
+
+class Following:
+    """A feeder that follows an outbox, until it is stopped."""
+
+    def __init__(self, path, *words, **how):
+        self.running = subprocess.Popen([*FEED, "--follow", str(path), *words], stderr=subprocess.PIPE, text=True, **how)
+
+    def __enter__(self):
+        return self
+
+    def __exit__(self, *_):
+        self.running.kill()
+        self.running.wait()
+
+    def end(self, number=signal.SIGTERM):
+        """Sends it a signal: its status and what it said."""
+        self.running.send_signal(number)
+        said = self.running.communicate(timeout=LIMIT)[1].splitlines()
+        return self.running.returncode, said

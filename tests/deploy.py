@@ -1,8 +1,7 @@
 #!/usr/bin/env python3
-"""Runs what docs/DEPLOY.md describes, in a folder of this script's own: two daemons one after another, each on a new
-outbox that the unit's commands make, messages written in words and sent by `noticed send`, and the feeder, which
-follows the outbox and hands each notice to a submission program."""
-import shlex
+"""Runs what docs/DEPLOY.md describes, in a folder of this script's own: examples/noticed-run.sh, which runs one daemon
+after another, each on a new outbox; messages written in words and sent by `noticed send`; and the feeder, which follows
+the outbox and hands each notice to a submission program."""
 import signal
 import subprocess
 import sys
@@ -17,14 +16,6 @@ from running import EXAMPLES, HOST, Checks, program  # noqa: E402
 FRAMES = [sys.executable, str(EXAMPLES / "frames.py"), "-"]
 FEED = [sys.executable, str(EXAMPLES / "feed.py")]
 SUBMIT = '#!/bin/sh\nfor last; do :; done\ncat > "$last.part" && mv "$last.part" "$last"\n'
-
-
-def before_a_start(room: Path):
-    """Runs what the unit runs before a daemon."""
-    unit = (EXAMPLES / "noticed.service").read_text()
-    for command in (it.partition("=")[2] for it in unit.splitlines() if it.startswith("ExecStartPre=")):
-        words = [it.replace("$$", "$").replace("%%", "%").replace("/run/noticed", str(room)) for it in shlex.split(command)]
-        subprocess.run(words, cwd=room, check=True, timeout=PATIENCE)
 
 
 def until(holds) -> bool:
@@ -46,20 +37,47 @@ def sent(room: Path, requests: str) -> list:
             return sending.communicate(timeout=PATIENCE)[0].decode().splitlines()
 
 
+def next_run(room: Path, before: int) -> int:
+    """Waits until another outbox than that one has begun and its daemon takes connections: that outbox."""
+    if not until(lambda: inode(room / "outbox") not in (None, before) and inode(room / "socket")):
+        return before
+    return inode(room / "outbox")
+
+
+def inode(path: Path):
+    """A file's number, None where there is none."""
+    try:
+        return path.stat().st_ino
+    except FileNotFoundError:
+        return None
+
+
 def one_run(checks: Checks, room: Path, message: str):
-    """A daemon of one agent and two connections, and its clients: one bounces a message, one is late."""
-    before_a_start(room)
-    words = [program(), "serve", str(room / "socket"), HOST, "1", "2"]
-    with (room / "outbox").open("ab") as outbox, subprocess.Popen(words, stdout=outbox, stderr=subprocess.PIPE) as daemon:
-        checks.true("the socket is there", until((room / "socket").exists))
-        requests = f'append . bounce {message} bob@example.org failed 5.1.1 "reason=no such user"\nflush . bounce {message} return={message}@example.com moment=now arrival=now\n'
-        checks.equal(f"{message}: answers", sent(room, requests), ["0 logged 0", "1 sealed 1"])
-        checks.true(f"{message}: its notice comes", until((room / f"{message}@example.com").exists))
-        checks.equal(f"{message}: a late outcome", sent(room, f"append . bounce {message} joe@example.org failed 5.1.1\n"), ["0 closed"])
-        notes = daemon.communicate(timeout=PATIENCE)[1]
-    checks.equal(f"{message}: notes and status", (notes, daemon.returncode), (line(0, 3, 2), 0))
+    """The clients of a daemon of one agent and two connections: one bounces a message, one is late."""
+    requests = f'append . bounce {message} bob@example.org failed 5.1.1 "reason=no such user"\nflush . bounce {message} return={message}@example.com moment=now arrival=now\n'
+    checks.equal(f"{message}: answers", sent(room, requests), ["0 logged 0", "1 sealed 1"])
+    checks.true(f"{message}: its notice comes", until((room / f"{message}@example.com").exists))
+    checks.equal(f"{message}: a late outcome", sent(room, f"append . bounce {message} joe@example.org failed 5.1.1\n"), ["0 closed"])
     notice = (room / f"{message}@example.com").read_bytes()
     checks.true(f"{message}: the notice", notice.startswith(b"From: Mail Delivery System <MAILER-DAEMON@") and b"\n    no such user\n" in notice)
+
+
+def two_runs(checks: Checks, room: Path):
+    """Two daemons one after another, and a third that is stopped before its first client."""
+    words = ["sh", str(EXAMPLES / "noticed-run.sh"), program(), "socket", HOST, "1", "2"]
+    with (room / "notes").open("wb") as notes, subprocess.Popen(words, cwd=room, stdin=subprocess.DEVNULL, stderr=notes) as running:
+        outbox = None
+        try:
+            for message in ("M1", "M2"):
+                outbox = next_run(room, outbox)
+                one_run(checks, room, message)
+            next_run(room, outbox)
+        finally:
+            running.send_signal(signal.SIGTERM)
+        checks.equal("the status of a stop", running.wait(timeout=PATIENCE), 0)
+    # the connections of the stop itself come before the removal of the file, or after it
+    wanted = [2 * line(0, 3, 2) + line(0, 0, stops) for stops in (0, 1)]
+    checks.true("notes", (room / "notes").read_bytes() in wanted)
 
 
 def main():
@@ -70,12 +88,13 @@ def main():
         (room / "submit").chmod(0o755)
         words = [*FEED, "--follow", "outbox", "./submit"]
         with subprocess.Popen(words, cwd=room, stderr=subprocess.PIPE) as feeding:
-            for message in ("M1", "M2"):
-                one_run(checks, room, message)
-            feeding.send_signal(signal.SIGTERM)
+            try:
+                two_runs(checks, room)
+            finally:
+                feeding.send_signal(signal.SIGTERM)
             said = feeding.communicate(timeout=PATIENCE)[1]
         checks.equal("the feeder", (feeding.returncode, said), (0, b"2 handed in, 0 left out\n"))
-        checks.equal("outboxes", len(list(room.glob("outbox*"))), 2)
+        checks.equal("outboxes", len(list(room.glob("outbox*"))), 3)
     checks.done()
 
 

@@ -1,35 +1,43 @@
 #!/usr/bin/env python3
-"""Checks examples/noticed.service: its keys, by a parser; what it runs before the daemon, in a folder of this script's
-own; the daemon's arguments, with the program under test; and the whole of it by `systemd-analyze verify` where that is
-installed. And examples/noticed-feed.service: that it follows the outbox of the first, as an account that may read it, and
-is waited for as long as a reply may take."""
+"""Checks examples/noticed.service without systemd: its keys, by a parser; its steps in systemd's own order (the outputs
+are opened, then the folders are made, then the commands run), in a folder of this script's own with nothing there; the
+modes and owners that come of it; the runs that follow one another, and their ends; and the whole of it by
+`systemd-analyze verify` where that is installed. As root the daemon runs as an account of its own, and others try to get
+at its socket and its outbox. And examples/noticed-feed.service: that it follows the outbox of the first, as an account
+that may read it, and is waited for as long as a reply may take. tests/boot.py tries both under systemd."""
 import os
 import re
 import shlex
 import shutil
-import socket
+import signal
+import stat
 import subprocess
 import sys
 import tempfile
+import time
+from dataclasses import dataclass
 from pathlib import Path
 
 sys.path.insert(0, str(Path(__file__).parent / "support"))
-from running import EXAMPLES, Checks, Ran, program, run  # noqa: E402
+from daemon_and_clients import FRAMES, MOMENT, NOTES, OUTBOX, PATIENCE  # noqa: E402
+from running import EXAMPLES, HOST, ROOT, Checks, Ran, empty_outbox, program  # noqa: E402
 
 UNIT = EXAMPLES / "noticed.service"
 FEEDER = EXAMPLES / "noticed-feed.service"
-SOCKET = "/run/noticed/socket"
+DAEMON, AGENT, STRANGER = 64801, 64802, 64803  # accounts that no machine has; the daemon's group has its number
 WANTED = {
     "User": ["noticed"],
     "Group": ["noticed"],
-    "UMask": ["0007"],
     "RuntimeDirectory": ["noticed"],
     "RuntimeDirectoryMode": ["0750"],
     "StateDirectory": ["noticed"],
+    "StateDirectoryMode": ["0700"],
     "WorkingDirectory": ["/var/lib/noticed"],
-    "StandardOutput": ["append:/var/lib/noticed/outbox"],
     "StandardError": ["journal"],
+    "LogRateLimitIntervalSec": ["0"],
     "Restart": ["always"],
+    "KillMode": ["mixed"],
+    "KillSignal": ["SIGTERM"],
     "NoNewPrivileges": ["yes"],
     "ProtectSystem": ["strict"],
     "RestrictAddressFamilies": ["AF_UNIX"],
@@ -53,6 +61,138 @@ def words_of(command: str) -> list:
     return [it.replace("$$", "$").replace("%%", "%") for it in shlex.split(command)]
 
 
+def seconds_of(time_span: str) -> int:
+    """The seconds of one of systemd's time spans, of one number and one unit."""
+    number, unit = re.fullmatch(r"(\d+)(s|min|)", time_span).groups()
+    return int(number) * (60 if unit == "min" else 1)
+
+
+@dataclass
+class Machine:
+    """A folder that stands for a machine where the unit was never started: `make install` was done, and there is nothing
+    in /run and /var/lib. With `account` the daemon's commands run as an account of its own."""
+
+    room: Path
+    service: dict
+    account: bool
+
+    def __post_init__(self):
+        self.room.chmod(0o777)
+        for folder in ("run", "var/lib"):
+            (self.room / folder).mkdir(parents=True)
+        words = ["make", "--silent", f"--old-file={program()}", "install", f"NOTICED={program()}", f"DESTDIR={self.room}", "PREFIX=/usr/local"]
+        subprocess.run(words, cwd=ROOT, stdout=subprocess.DEVNULL, check=True, timeout=PATIENCE)
+
+    def path(self, name: str) -> Path:
+        """Where a path of the unit is on this machine."""
+        return self.room / name.lstrip("/")
+
+    def here(self, command: str) -> list:
+        """The words of a command of the unit, with this machine's paths."""
+        return [re.sub(r"(?<![\w/])/(?=(run|var|usr/local)/)", f"{self.room}/", it) for it in words_of(command)]
+
+    def one(self, key: str, default: str = "") -> str:
+        """The value of a key that stands once."""
+        return self.service.get(key, [default])[-1]
+
+    def output(self, key: str):
+        """What systemd makes of a standard output: it opens it before it makes the folders."""
+        kind, _, name = self.one(key, "journal").partition(":")
+        return open(self.path(name) if name else self.room / f"{kind}.{key}", "ab")
+
+    def folders(self):
+        """Makes the folders as systemd does, which sets the mode of one that is there too."""
+        for key, where in (("RuntimeDirectory", "run"), ("StateDirectory", "var/lib")):
+            folder = self.room / where / self.one(key)
+            folder.mkdir(exist_ok=True)
+            folder.chmod(int(self.one(f"{key}Mode", "0755"), 8))
+            if self.account:
+                os.chown(folder, DAEMON, DAEMON)
+
+    def begin(self, command: str) -> subprocess.Popen:
+        """Begins a command of the unit, in systemd's order. FileNotFoundError where systemd has status 209 or 200."""
+        with self.output("StandardOutput") as out, self.output("StandardError") as notes:
+            self.folders()
+            how = {"user": DAEMON, "group": DAEMON, "extra_groups": []} if self.account else {}
+            how["umask"] = int(self.one("UMask", "0022"), 8)
+            return subprocess.Popen(self.here(command), stdin=subprocess.DEVNULL, stdout=out, stderr=notes, cwd=self.path(self.one("WorkingDirectory")), **how)
+
+    def start(self, command: str) -> subprocess.Popen:
+        """Runs what comes before the daemon, and begins this command."""
+        for before in self.service.get("ExecStartPre", []):
+            self.begin(before).wait(timeout=PATIENCE)
+        return self.begin(command)
+
+    @property
+    def socket(self) -> Path:
+        return self.room / "run/noticed/socket"
+
+    @property
+    def outbox(self) -> Path:
+        return self.room / "var/lib/noticed/outbox"
+
+    def outboxes(self) -> list:
+        """The outboxes of runs before, in their order."""
+        return [it.read_bytes() for it in sorted(self.outbox.parent.glob("outbox.*"))]
+
+    def notes(self) -> bytes:
+        """What the daemon and its script wrote to the journal."""
+        return (self.room / "journal.StandardError").read_bytes()
+
+    def send(self, given: bytes = FRAMES, account: int = AGENT, groups=(DAEMON,)) -> Ran:
+        """Runs `noticed send` as an account with these groups."""
+        how = {"user": account, "group": account, "extra_groups": groups} if self.account else {}
+        words = [str(self.room / "usr/local/bin/noticed"), "send", str(self.socket)]
+        ended = subprocess.run(words, input=given, capture_output=True, check=False, timeout=PATIENCE, **how)
+        return Ran(ended.stdout, ended.stderr, ended.returncode)
+
+    def shell(self, command: str, account: int) -> int:
+        """The status of a shell's command as an account of the daemon's group."""
+        words = ["sh", "-c", command]
+        return subprocess.run(words, cwd=self.room, capture_output=True, check=False, timeout=PATIENCE, user=account, group=account, extra_groups=[DAEMON]).returncode
+
+
+def until(holds) -> bool:
+    """Waits until something holds."""
+    began = time.monotonic()
+    while not holds():
+        if time.monotonic() - began > PATIENCE:
+            return False
+        time.sleep(MOMENT)
+    return True
+
+
+def listens(machine: Machine) -> bool:
+    """Whether a daemon listens on the socket."""
+    with open("/proc/net/unix", encoding="ascii") as sockets:
+        return any(it.split()[3] == "00010000" for it in sockets if it.rstrip().endswith(f" {machine.socket}"))
+
+
+def is_next(machine: Machine, before: int) -> bool:
+    """Whether another outbox than that one has begun, and its run listens."""
+    try:
+        return machine.outbox.stat().st_ino != before and listens(machine)
+    except FileNotFoundError:
+        return False
+
+
+def mode_of(path: Path) -> str:
+    """A file's kind and mode, as `ls` writes it."""
+    return stat.filemode(path.lstat().st_mode)
+
+
+def has_accounts() -> bool:
+    """Whether commands can be run as other accounts here."""
+    if os.geteuid():
+        print("  not run as root: nobody else tries to get at the outbox")
+        return False
+    try:
+        return subprocess.run(["true"], check=False, user=DAEMON, group=DAEMON, extra_groups=[AGENT]).returncode == 0
+    except (OSError, subprocess.SubprocessError):
+        print("  no other accounts can be taken here: nobody else tries to get at the outbox")
+        return False
+
+
 def check_keys(checks: Checks, sections: dict):
     """The sections, and the keys that the daemon leans on."""
     checks.equal("sections", list(sections), ["Unit", "Service", "Install"])
@@ -60,31 +200,148 @@ def check_keys(checks: Checks, sections: dict):
     for key, value in WANTED.items():
         checks.equal(key, service.get(key), value)
     checks.equal("the count of starts has no limit", sections["Unit"].get("StartLimitIntervalSec"), ["0"])
-    checks.equal("the socket is removed before", service["ExecStartPre"][0], f"/bin/rm -f {SOCKET}")
+    checks.true("a daemon that fails is started anew after seconds", seconds_of(service["RestartSec"][0].replace("200ms", "0")) >= 2)
+    checks.true("a folder is made before it is written to", not any("/noticed/" in it for it in service.get("StandardOutput", [])))
+    command = " ".join(service["ExecStart"])
+    for option in ("--idle 300", "--end-on-fault", "--log"):
+        checks.true(f"the daemon has {option}", f" {option}" in command)
 
 
-def check_outboxes(checks: Checks, command: str):
-    """An outbox that has something is moved away, an empty one isn't, and a new one is made each time."""
-    with tempfile.TemporaryDirectory() as room:
-        outbox = Path(room) / "outbox"
-        for at, kept in ((b"", 0), (b"first", 1), (b"", 1), (b"second", 2)):
-            outbox.write_bytes(at)
-            before = outbox.stat().st_ino
-            with outbox.open("ab") as out:
-                subprocess.run(words_of(command), cwd=room, stdout=out, check=True, timeout=20)
-            moved = sorted(Path(room).glob("outbox.*"))
-            checks.equal(f"outboxes kept after {at}", len(moved), kept)
-            checks.true("a new outbox", outbox.read_bytes() == b"" and (not at or outbox.stat().st_ino != before))
-        checks.equal("what is kept, in the order of time", [it.read_bytes() for it in moved], [b"first", b"second"])
+def short(command: str) -> str:
+    """The unit's command with one agent of two connections in place of eight of five hundred."""
+    return command.replace(f"{HOST} 8 500", f"{HOST} 1 2")
 
 
-def check_arguments(checks: Checks, command: str):
-    """The daemon takes its arguments, on a socket where another process is bound."""
-    words = words_of(command)
-    checks.equal("the command", words[1:3], ["serve", SOCKET])
-    with tempfile.TemporaryDirectory() as room, socket.socket(socket.AF_UNIX) as taken:
-        taken.bind(f"{room}/socket")
-        checks.equal("its arguments", run(["serve", f"{room}/socket", *words[3:]], timeout=20), Ran(b"", b"fault 61\n", 1))
+def begun(checks: Checks, machine: Machine, command: str):
+    """The unit's first start, where nothing is there; None where it fails."""
+    try:
+        daemon = machine.start(command)
+    except FileNotFoundError as why:
+        checks.true(f"a first start on a machine with nothing there ({why})", False)
+        return None
+    checks.true("a first start on a machine with nothing there", until(lambda: listens(machine)) and daemon.poll() is None)
+    return daemon
+
+
+def check_modes(checks: Checks, machine: Machine):
+    """Who may do what with the folders, the socket and the outbox."""
+    paths = [machine.socket.parent, machine.socket, machine.outbox.parent, machine.outbox]
+    checks.equal("modes", [mode_of(it) for it in paths], ["drwxr-x---", "srwxrwx---", "drwx------", "-rw-------"])
+    if machine.account:
+        checks.equal("owners", {(it.stat().st_uid, it.stat().st_gid) for it in paths}, {(DAEMON, DAEMON)})
+        checks.equal("an account that isn't in the group", machine.send(account=STRANGER, groups=[]).status, 1)
+
+
+def check_others(checks: Checks, machine: Machine):
+    """What an agent's account can't do, though it is in the group that may connect."""
+    tries = {
+        "read the outbox": f"cat {machine.outbox}",
+        "cut the outbox": f": > {machine.outbox}",
+        "list the outboxes": f"ls {machine.outbox.parent}",
+        "remove the socket": f"rm {machine.socket}",
+        "move the socket": f"mv {machine.socket} {machine.socket}.stopping",
+        "put a file beside the socket": f": > {machine.socket}.mine",
+        "stop the daemon": f"{machine.room}/usr/local/bin/noticed stop {machine.socket}",
+    }
+    for what, command in tries.items():
+        checks.true(f"an agent can't {what}", machine.shell(command, AGENT) != 0)
+    checks.true("the daemon's account can read the outbox", machine.shell(f"cat {machine.outbox}", DAEMON) == 0)
+
+
+def check_access(checks: Checks, machine: Machine, command: str):
+    """A first start as the unit has it, and who can do what then."""
+    daemon = begun(checks, machine, command)
+    if not daemon:
+        return
+    try:
+        check_modes(checks, machine)
+        checks.equal("an agent's account sends a message", machine.send(), Ran(NOTES, b"", 0))
+        if machine.account:
+            check_others(checks, machine)
+        checks.true("the daemon is still there", daemon.poll() is None and listens(machine))
+    finally:
+        daemon.send_signal(signal.SIGTERM)
+        daemon.wait(timeout=PATIENCE)
+
+
+def check_runs(checks: Checks, machine: Machine, command: str):
+    """Two runs to their last connections, each with an outbox of its own, and the next begins at once; then a stop."""
+    daemon = begun(checks, machine, short(command))
+    if not daemon:
+        return
+    try:
+        for runs in (1, 2):
+            first = machine.outbox.stat().st_ino
+            checks.equal("an agent's account sends a message", machine.send(), Ran(NOTES, b"", 0))
+            checks.equal("the run's last connection", machine.send(b""), Ran(b"", b"", 0))
+            checks.true("the next run begins", until(lambda: is_next(machine, first)))
+            checks.equal("the outboxes of runs before", machine.outboxes(), [OUTBOX] * runs)
+        check_stop(checks, machine, daemon)
+    finally:
+        daemon.kill()
+        daemon.wait()
+
+
+def check_stop(checks: Checks, machine: Machine, daemon: subprocess.Popen):
+    """A signal to the script ends the run in order: its outbox has its QUIT, and what is open is named."""
+    checks.equal("an outcome that nobody flushes", machine.send(FRAMES[:52]).outbox, b"0 logged 0\n")
+    daemon.send_signal(signal.SIGTERM)
+    checks.equal("the status of an orderly stop", daemon.wait(timeout=PATIENCE), 0)
+    checks.equal("the outbox of a run that was stopped", machine.outbox.read_bytes(), empty_outbox())
+    checks.true("what is open is named", b"open B A1B2C3 1\n" in machine.notes())
+    checks.equal("no socket is left", sorted(it.name for it in machine.socket.parent.iterdir()), [])
+
+
+def end_of(machine: Machine, command: str):
+    """Starts the unit and waits for its end: the status, or why it could not be started."""
+    try:
+        return machine.start(command).wait(timeout=PATIENCE)
+    except OSError as why:
+        return why
+
+
+def stand_in(machine: Machine, script: str):
+    """Puts a shell's script in the place of the program."""
+    path = machine.room / "usr/local/bin/noticed"
+    path.unlink()
+    path.write_text(f"#!/bin/sh\n{script}\n")
+    path.chmod(0o755)
+
+
+def check_failures(checks: Checks, machine: Machine, command: str):
+    """A run that fails ends the script with its status, and the next begins after one of status 0."""
+    machine.socket.mkdir(parents=True)
+    checks.equal("a folder has the socket's name", end_of(machine, command), 1)
+    machine.socket.rmdir()
+    mark = machine.room / "mark"
+    for says, status, wanted in (("echo said", 1, 1), ("", 3, 3), ("", 0, 4), ("kill -9 $$", 0, 137)):
+        mark.unlink(missing_ok=True)
+        stand_in(machine, f"test -e {mark} && exit 4\n: > {mark}\n{says}\nexit {status}")
+        checks.equal(f"a run of status {status} {says}", end_of(machine, command), wanted)
+    checks.equal("an outbox with nothing in it isn't kept", machine.outboxes(), [b"said\n"])
+
+
+def check_second(checks: Checks, machine: Machine, command: str):
+    """No daemon begins beside another in one folder, and one that can't be asked to stop is ended by a signal."""
+    stand_in(machine, '[ "$1" = stop ] && exit 1\nexec sleep 60')
+    try:
+        daemon = machine.start(command)
+    except OSError as why:
+        checks.true(f"a first script ({why})", False)
+        return
+    try:
+        checks.true("a run that says nothing", until(machine.outbox.exists))
+        checks.equal("a second script in the same folder", end_of(machine, command), 1)
+        checks.true("says why", b"another daemon has its outbox in " in machine.notes())
+    finally:
+        daemon.send_signal(signal.SIGTERM)
+        checks.equal("a run that can't be asked to stop", daemon.wait(timeout=PATIENCE), 128 + signal.SIGTERM)
+
+
+def check_installed(checks: Checks, machine: Machine, *commands: str):
+    """Each file that the units name is one that `make install` puts there."""
+    named = [it for command in commands for it in words_of(command) if it.startswith("/usr/local/")]
+    checks.equal("files that the units name and that aren't installed", [it for it in named if not machine.path(it).is_file()], [])
 
 
 def check_feeder(checks: Checks, sections: dict):
@@ -95,37 +352,38 @@ def check_feeder(checks: Checks, sections: dict):
         checks.equal(f"the feeder: {key}", given["Service"].get(key), service[key])
     words = words_of(given["Service"]["ExecStart"][0])
     checks.true("the feeder: the script", (EXAMPLES / Path(words[1]).name).is_file())
-    checks.equal("the feeder: what it follows", [words[2], f"append:{words[3]}"], ["--follow", service["StandardOutput"][0]])
-    checks.true("the feeder: a program after it", not words[4].startswith("-"))
+    checks.equal("the feeder: what it follows", words[words.index("--follow") + 1], f"{service['WorkingDirectory'][0]}/outbox")
     patience = int(re.search(r"^PATIENCE = (\d+)", (EXAMPLES / "feed.py").read_text(), re.M)[1])
-    minutes = int(given["Service"]["TimeoutStopSec"][0].removesuffix("min"))
-    checks.true("the feeder: its supervisor waits longer than a reply may take", 60 * minutes > patience)
+    checks.true("the feeder: its supervisor waits longer than a reply may take", seconds_of(given["Service"]["TimeoutStopSec"][0]) > patience)
 
 
-def check_verify(checks: Checks, text: str, command: str):
-    """What systemd itself says of it, with the program under test in its place."""
+def check_verify(checks: Checks, text: str):
+    """What systemd itself says of it."""
     if not shutil.which("systemd-analyze"):
-        print("  systemd-analyze isn't installed: the keys alone were checked")
+        print("  systemd-analyze isn't installed (Debian's package systemd): the keys alone were checked")
         return
     with tempfile.TemporaryDirectory() as room:
         unit = Path(room) / UNIT.name
-        lines = [it for it in text.splitlines() if not it.startswith("Documentation=")]
-        unit.write_text("\n".join(lines).replace(words_of(command)[0], program()) + "\n")
+        unit.write_text("\n".join(it for it in text.splitlines() if not it.startswith("Documentation=")) + "\n")
         words = ["systemd-analyze", "verify", "--man=no", str(unit)]
         verified = subprocess.run(words, capture_output=True, text=True, check=False, timeout=60, env={**os.environ, "LC_ALL": "C"})
         checks.equal("systemd-analyze verify", (verified.returncode, verified.stdout + verified.stderr), (0, ""))
 
 
 def main():
-    checks = Checks("unit: the systemd units of examples/")
+    checks = Checks("unit: the systemd units of examples/, and the steps of the daemon's without systemd")
     text = UNIT.read_text()
     sections = sections_of(text)
+    account = has_accounts()
     check_keys(checks, sections)
-    check_outboxes(checks, sections["Service"]["ExecStartPre"][1])
     (command,) = sections["Service"]["ExecStart"]
-    check_arguments(checks, command)
+    for check in (check_access, check_runs, check_failures, check_second):
+        with tempfile.TemporaryDirectory(prefix="noticed-") as name:
+            check(checks, Machine(Path(name), sections["Service"], account), command)
+    with tempfile.TemporaryDirectory(prefix="noticed-") as name:
+        check_installed(checks, Machine(Path(name), sections["Service"], account), command, *sections_of(FEEDER.read_text())["Service"]["ExecStart"])
     check_feeder(checks, sections)
-    check_verify(checks, text, command)
+    check_verify(checks, text)
     checks.done()
 
 

@@ -1,0 +1,346 @@
+#!/usr/bin/env python3
+"""Boots a real systemd in a container, does there what docs/DEPLOY.md has a new administrator do, and checks what comes
+of it: the units start where nothing is there, an agent's account gets its notice made and can't read it, runs follow one
+another, a stop and a reboot are orderly, and a daemon that can't start isn't tried too often.
+
+    make build && python3 tests/boot.py out/boot        # or: make boot
+    NOTICED=/path/to/noticed python3 tests/boot.py FOLDER
+
+It needs root and Debian's packages systemd-container and debootstrap. FOLDER is Debian's base system: debootstrap makes it
+the first time, in a minute or two and 300 MB. A run takes about a minute, on an overlay over FOLDER, which it leaves as it
+is. Without a FOLDER, as in `make check`, it boots nothing. tests/unit.py takes the unit's steps without systemd."""
+import os
+import re
+import shutil
+import signal
+import subprocess
+import sys
+import tempfile
+import time
+from pathlib import Path
+
+sys.path.insert(0, str(Path(__file__).parent / "support"))
+from daemon_and_clients import FIRST_FRAME, FRAMES, NOTES, OUTBOX  # noqa: E402
+from running import ROOT, Checks, empty_outbox, program  # noqa: E402
+
+PACKAGES = {"systemd-nspawn": "systemd-container", "debootstrap": "debootstrap", "nsenter": "util-linux", "make": "make"}
+SYSTEM = "systemd,systemd-sysv,dbus,python3"
+PATIENCE = 60  # seconds that one step in the container may take
+MOMENT = 0.05  # seconds between two looks
+CONNECTIONS = 4000  # what the unit's daemon serves
+INSTALLED = "/usr/local/share/doc/noticed"
+SOCKET, OUTBOXES = "/run/noticed/socket", "/var/lib/noticed"
+MODES = [f"{mode} noticed noticed" for mode in ("drwxr-x---", "srwxrwx---", "drwx------", "-rw-------")]
+SENDMAIL = "#!/bin/sh\ncat > /var/lib/noticed/handed-in.part && mv /var/lib/noticed/handed-in.part /var/lib/noticed/handed-in\n"
+USE_UP = f"""
+import socket
+for _ in range({CONNECTIONS}):
+    try:
+        with socket.socket(socket.AF_UNIX) as it:
+            it.connect("{SOCKET}")
+    except OSError:
+        break
+"""
+
+
+def lacking() -> list:
+    """The packages that are missing here."""
+    return [package for tool, package in PACKAGES.items() if not shutil.which(tool)]
+
+
+def suite() -> str:
+    """The suite of this machine's Debian, so that the program finds a C library that it can use."""
+    found = re.search(r"^VERSION_CODENAME=(\w+)", Path("/etc/os-release").read_text(), re.M)
+    return found[1] if found else "bookworm"
+
+
+def make_system(folder: Path):
+    """Makes Debian's base system in a folder, unless it is there."""
+    if (folder / "made").exists():
+        return
+    print(f"  debootstrap makes Debian {suite()} in {folder} ..", flush=True)
+    folder.mkdir(parents=True, exist_ok=True)
+    with open(folder / "debootstrap.log", "wb") as log:
+        words = ["debootstrap", "--variant=minbase", f"--include={SYSTEM}", suite(), str(folder / "system")]
+        subprocess.run(words, stdout=log, stderr=log, check=True)
+    (folder / "made").touch()
+
+
+def until(holds, patience=PATIENCE) -> bool:
+    """Waits until something holds."""
+    began = time.monotonic()
+    while not holds():
+        if time.monotonic() - began > patience:
+            return False
+        time.sleep(MOMENT)
+    return True
+
+
+class Container:
+    """A container over a base system: what is written in it goes to memory, stays over a reboot, and is gone at the end."""
+
+    def __init__(self, system: Path):
+        self.room = Path(tempfile.mkdtemp(prefix="noticed-boot-"))
+        self.root, self.mounts, self.running = self.room / "root", [], None
+        try:
+            self.mount("tmpfs", "tmpfs", self.room, "mode=755")
+            for it in ("root", "upper", "work"):
+                (self.room / it).mkdir()
+            self.mount("overlay", "overlay", self.root, f"lowerdir={system},upperdir={self.room}/upper,workdir={self.room}/work")
+        except BaseException:
+            self.__exit__()
+            raise
+
+    def mount(self, kind: str, device: str, folder: Path, options: str):
+        subprocess.run(["mount", "-t", kind, "-o", options, device, str(folder)], check=True)
+        self.mounts.append(folder)
+
+    def boot(self) -> bool:
+        """Boots it, and waits until systemd has started what it starts."""
+        words = ["systemd-nspawn", "--quiet", "--boot", f"--directory={self.root}", "--machine=noticed-boot", "--private-network", "--console=pipe"]
+        if not Path("/run/systemd/system").is_dir():
+            words += ["--register=no", "--keep-unit"]  # no systemd runs on this machine that could be asked for a scope
+        with open(self.room / "console", "wb") as console:
+            self.running = subprocess.Popen(words, stdin=subprocess.DEVNULL, stdout=console, stderr=console, start_new_session=True)
+        wanted = ("running", "degraded")
+        return until(lambda: self.leader() and self.said("systemctl", "is-system-running") in wanted)
+
+    def __enter__(self):
+        return self
+
+    def __exit__(self, *_):
+        if self.running and self.running.poll() is None:
+            self.running.terminate()
+            try:
+                self.running.wait(timeout=PATIENCE)
+            except subprocess.TimeoutExpired:
+                os.kill(self.leader(), signal.SIGKILL)  # the first of its processes: the others end with it
+                self.running.wait()
+        for folder in reversed(self.mounts):
+            subprocess.run(["umount", str(folder)], check=False)
+        self.room.rmdir()
+
+    def leader(self) -> int:
+        """The process of the container's systemd, 0 where there is none now."""
+        children = Path(f"/proc/{self.running.pid}/task/{self.running.pid}/children").read_text().split()
+        return int(children[0]) if children else 0
+
+    def reboot(self) -> bool:
+        """Has systemd end all and turn the machine off, and boots it anew. (`systemctl reboot` is the same to the units;
+        systemd-nspawn can't begin anew on each machine.)"""
+        self.run("systemctl", "poweroff")
+        self.running.wait(timeout=PATIENCE)
+        return self.boot()
+
+    def run(self, *words, given=b"") -> subprocess.CompletedProcess:
+        """Runs a command in the container."""
+        entering = ["nsenter", f"--target={self.leader()}", "--all", "--", *words]
+        return subprocess.run(entering, input=given, capture_output=True, check=False, timeout=PATIENCE)
+
+    def said(self, *words, given=b"") -> str:
+        """What a command in the container wrote to its standard output."""
+        return self.run(*words, given=given).stdout.decode().strip()
+
+    def sent(self, given: bytes, account="agent") -> bytes:
+        """What `noticed send` answers an account of the container."""
+        return self.run("runuser", "-u", account, "--", "noticed", "send", SOCKET, given=given).stdout
+
+    def file(self, name: str) -> Path:
+        """A file of the container's disk, as it is seen from here."""
+        return self.root / name.lstrip("/")
+
+    def modes(self) -> list:
+        """The modes and owners of the socket, the outbox and their folders."""
+        return self.said("stat", "--format=%A %U %G", "/run/noticed", SOCKET, OUTBOXES, f"{OUTBOXES}/outbox").splitlines()
+
+    def outbox(self) -> bytes:
+        """The outbox that grows, as far as it has come."""
+        path = self.file(f"{OUTBOXES}/outbox")
+        return path.read_bytes() if path.exists() else b""
+
+    def outboxes(self) -> list:
+        """The outboxes of runs before, in their order."""
+        return [it.read_bytes() for it in sorted(self.file(OUTBOXES).glob("outbox.*"))]
+
+    def listens(self) -> bool:
+        """Waits until an agent's account can connect, which takes one of the daemon's connections."""
+        return until(lambda: self.run("runuser", "-u", "agent", "--", "noticed", "send", SOCKET).returncode == 0, 20)
+
+    def shows(self, key: str) -> str:
+        """A property of the daemon's unit."""
+        return self.said("systemctl", "show", "--value", f"--property={key}", "noticed")
+
+
+def blocks() -> list:
+    """The indented blocks of docs/DEPLOY.md, each as its lines."""
+    found = [[]]
+    for line in (ROOT / "docs/DEPLOY.md").read_text().splitlines():
+        if line.startswith("    ") or (not line and found[-1]):
+            found[-1].append(line[4:])
+        elif found[-1]:
+            found.append([])
+    return ["\n".join(it).rstrip() + "\n" for it in found if it]
+
+
+def block(start: str) -> str:
+    """The one block of docs/DEPLOY.md that begins so."""
+    (found,) = [it for it in blocks() if it.startswith(start)]
+    return found
+
+
+def install(it: Container):
+    """`make install`, and the steps of docs/DEPLOY.md up to the start of the units, as they stand there."""
+    words = ["make", "--silent", f"--old-file={program()}", "install", f"NOTICED={program()}", f"DESTDIR={it.root}", "PREFIX=/usr/local"]
+    subprocess.run(words, cwd=ROOT, stdout=subprocess.DEVNULL, check=True)
+    for name in ("agent", "stranger"):
+        it.run("useradd", "--system", name).check_returncode()
+    steps = block("groupadd ").replace("AGENT", "agent") + block("cd /usr/local/share/doc/noticed\ncp ").replace("editor ", "test -w ")
+    it.run("sh", "-c", f"set -e\n{steps.partition(' && systemctl enable')[0]}").check_returncode()
+    it.file("/usr/sbin/sendmail").write_text(SENDMAIL)
+    it.file("/usr/sbin/sendmail").chmod(0o755)
+
+
+def check_first_start(checks: Checks, it: Container):
+    """The unit comes up where nothing is there, and an agent's account has a notice made that it can't read."""
+    checks.equal("systemctl start", it.run("systemctl", "start", "noticed").stderr, b"")
+    checks.true("a socket is listened on", it.listens())
+    checks.equal("systemctl is-active", it.said("systemctl", "is-active", "noticed"), "active")
+    checks.equal("modes and owners", it.modes(), MODES)
+    checks.equal("an agent's answers", it.sent(FRAMES), NOTES)
+    notice = OUTBOX.removesuffix(b"QUIT\r\n")
+    checks.true("the notice stands in the outbox", until(lambda: it.outbox() == notice, 10))
+    checks.equal("an account that isn't in the group", it.sent(FRAMES, "stranger"), b"")
+    for command in (f"cat {OUTBOXES}/outbox", f"ls {OUTBOXES}", f"rm {SOCKET}", f"noticed stop {SOCKET}"):
+        checks.true(f"an agent can't {command}", it.run("runuser", "-u", "agent", "--", *command.split()).returncode != 0)
+    checks.true("a line for the notice", "notice B.A1B2C3." in it.said("journalctl", "--unit=noticed", "--output=cat"))
+
+
+def check_next_run(checks: Checks, it: Container):
+    """After its last connection a daemon is followed by another at once, which has an outbox of its own."""
+    before = len(it.outboxes())
+    checks.equal("connections to the last", it.run("runuser", "-u", "agent", "--", "python3", "-c", USE_UP).stderr, b"")
+    began = time.monotonic()
+    checks.true("the next run has begun", until(lambda: len(it.outboxes()) > before, 10) and it.listens())
+    checks.true("it began at once", time.monotonic() - began < 2)
+    checks.equal("the unit wasn't started anew", it.shows("NRestarts"), "0")
+    checks.equal("an agent's answers of the next run", it.sent(FRAMES), NOTES)
+
+
+def check_by_hand(checks: Checks, it: Container):
+    """A message by hand, as docs/DEPLOY.md has it; and `noticed stop`, after which the next run begins at once."""
+    asked = "cd /usr/local/share/doc/noticed\n" + block("$ python3 examples/frames.py - <<'END'").replace("$ python3 examples/", "python3 ")
+    script, _, answers = asked.partition("END\n0 ")
+    checks.equal("a message by hand", it.said("runuser", "-u", "agent", "--", "sh", "-c", f"{script}END\n"), f"0 {answers}".strip())
+    before = len(it.outboxes())
+    checks.equal("noticed stop", it.run("runuser", "-u", "noticed", "--", "noticed", "stop", SOCKET).returncode, 0)
+    checks.true("the next run begins at once", until(lambda: len(it.outboxes()) > before, 2) and it.listens())
+    checks.equal("the unit is still the same", it.shows("NRestarts"), "0")
+
+
+def check_run_file(checks: Checks, it: Container):
+    """The `run` file of docs/DEPLOY.md, without systemd: a first start where nothing is there, and an orderly stop."""
+    it.run("systemctl", "stop", "noticed", "noticed-feed")
+    it.run("rm", "-rf", "/run/noticed", OUTBOXES)
+    it.file("/root/run").write_text(block("#!/bin/sh\n"))
+    words = ["nsenter", f"--target={it.leader()}", "--all", "--", "sh", "-c", "echo $$ > /root/pid; exec sh /root/run"]
+    with subprocess.Popen(words, stdin=subprocess.DEVNULL, stdout=subprocess.PIPE) as running:
+        try:
+            checks.true("the run file: it listens", it.listens())
+            checks.equal("the run file: modes and owners", it.modes(), MODES)
+            checks.equal("the run file: an agent's answers", it.sent(FRAMES), NOTES)
+        finally:
+            it.run("sh", "-c", "kill -TERM $(cat /root/pid)")
+        notes = running.communicate(timeout=PATIENCE)[0]
+    checks.equal("the run file: an orderly stop", (running.returncode, it.outbox()), (0, OUTBOX))
+    checks.true("the run file: its notes", b"notice B.A1B2C3.0 to " in notes)
+
+
+def check_killed(checks: Checks, it: Container):
+    """A daemon that was killed is started anew after seconds, with an outbox of its own."""
+    checks.equal("an agent's answers before the daemon is killed", it.sent(FRAMES), NOTES)
+    checks.true("the outbox has something", until(it.outbox, 10))
+    before, began = len(it.outboxes()), time.monotonic()
+    it.run("systemctl", "kill", "--signal=KILL", "noticed")
+    checks.true("the daemon is back", until(lambda: len(it.outboxes()) > before, 30) and it.listens())
+    checks.true("after seconds", 2 < time.monotonic() - began < 20)
+    checks.equal("the unit was started anew", it.shows("NRestarts"), "1")
+
+
+def check_stop(checks: Checks, it: Container):
+    """`systemctl stop` is orderly: the outbox has its QUIT, what is open is named, and no socket is left."""
+    checks.equal("an outcome that nobody flushes", it.sent(FRAMES[:FIRST_FRAME]), b"0 logged 0\n")
+    began = time.monotonic()
+    checks.equal("systemctl stop", it.run("systemctl", "stop", "noticed").returncode, 0)
+    checks.true("it took no long time", time.monotonic() - began < 10)
+    checks.equal("the unit's result", (it.shows("Result"), it.shows("ActiveState")), ("success", "inactive"))
+    checks.equal("the outbox has its QUIT", it.outbox(), empty_outbox())
+    checks.true("the journal names what is open", "open B A1B2C3 1" in it.said("journalctl", "--unit=noticed", "--output=cat").splitlines())
+    checks.true("no socket is left", it.run("test", "-e", SOCKET).returncode)
+
+
+def check_fails(checks: Checks, it: Container):
+    """Where a folder has the socket's name the daemon can't start: it is tried each few seconds, until it can."""
+    it.run("systemctl", "reset-failed", "noticed")
+    it.run("mkdir", "-p", SOCKET)
+    before = int(it.shows("NRestarts") or 0)
+    it.run("systemctl", "start", "noticed")
+    time.sleep(13)
+    checks.true("it is tried again, and not too often", 1 <= int(it.shows("NRestarts")) - before <= 4)
+    it.run("rmdir", SOCKET)
+    checks.true("it starts once it can", until(lambda: it.run("test", "-S", SOCKET).returncode == 0, 15) and it.listens())
+
+
+def check_reboot(checks: Checks, it: Container):
+    """A reboot is orderly, and the daemon is there after it, with an outbox of its own; and the mode of its folder is the
+    unit's, also where it was another."""
+    checks.equal("systemctl enable", it.run("systemctl", "enable", "noticed", "noticed-feed").returncode, 0)
+    checks.equal("an agent's answers before the reboot", it.sent(FRAMES), NOTES)
+    before = len(it.outboxes())
+    it.run("chmod", "0755", OUTBOXES)
+    checks.true("the container is up again", it.reboot() and it.listens())
+    checks.equal("the daemon after the reboot", it.said("systemctl", "is-active", "noticed"), "active")
+    outboxes = it.outboxes()
+    checks.equal("the outbox of before the reboot", outboxes[before:], [OUTBOX])
+    checks.equal("the folder's mode", it.said("stat", "--format=%A", OUTBOXES), "drwx------")
+    checks.equal("units that failed", it.said("systemctl", "list-units", "--failed", "--plain", "--no-legend", "noticed*"), "")
+
+
+def check_feeder(checks: Checks, it: Container):
+    """The feeder's unit hands in what is sealed after the reboot."""
+    checks.equal("an agent's answers after the reboot", it.sent(FRAMES), NOTES)
+    checks.equal("the feeder after the reboot", it.said("systemctl", "is-active", "noticed-feed"), "active")
+    handed_in = it.file(f"{OUTBOXES}/handed-in")
+    checks.true("the notice is handed in", until(lambda: handed_in.exists() and b"<B.A1B2C3." in handed_in.read_bytes(), 15))
+
+
+def check_all(checks: Checks, it: Container):
+    """Each part, with what the journal says where one fails; the first only, where the unit doesn't start."""
+    parts = (check_first_start, check_next_run, check_by_hand, check_killed, check_stop, check_fails, check_reboot, check_feeder, check_run_file)
+    for check in parts:
+        failed = checks.failed
+        check(checks, it)
+        if checks.failed > failed:
+            print(it.said("journalctl", "--unit=noticed*", "--no-pager", "--lines=30"))
+        if checks.failed and check is check_first_start:
+            return
+
+
+def main():
+    checks = Checks("boot: the units under a systemd of their own")
+    if len(sys.argv) != 2:
+        print("  skipped: python3 tests/boot.py FOLDER boots a Debian that it makes in FOLDER")
+        checks.done()
+    if os.geteuid() or lacking():
+        print(f"  skipped: it needs {' and '.join(['root'] * bool(os.geteuid()) + lacking())}")
+        checks.done()
+    signal.signal(signal.SIGTERM, lambda *_: sys.exit(1))
+    folder = Path(sys.argv[1]).resolve()
+    make_system(folder)
+    with Container(folder / "system") as it:
+        checks.true("the container boots", it.boot())
+        install(it)
+        check_all(checks, it)
+    checks.done()
+
+
+main()

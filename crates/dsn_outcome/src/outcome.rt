@@ -1,5 +1,5 @@
 //! What became of one recipient (RFC 3464 section 2.3).
-ghost use Rattle.std.specs.Prelude.{◌≡◌, IsTrue, IfOk, IfErr, unwrap_or};
+ghost use Rattle.std.specs.Prelude.{◌≡◌, [], IsTrue, IfOk, IfErr, unwrap_or};
 ghost use Rattle.dsn_text.specs.Action.{action_of_byte};
 
 use crate::node::Node;
@@ -53,6 +53,7 @@ impl Outcome {
         ensures accepted { IfOk result
             (λ node. first_outcome_fault service (fields_of parts.entry) ≡ None) }
         ensures legal { IfOk result (λ node. IsLegalOutcome node.value.outcome) }
+        ensures unlinked { IfOk result (λ node. node.value.linked ≡ []) }
         ensures refused { IfErr result
             (λ fault. fault
             ≡ unwrap_or
@@ -180,6 +181,7 @@ fn linked(alloc: Global, outcome: Outcome) -> Result<Box<Node>, OutcomeFault>
     requires { IsLegalOutcome outcome }
     ensures kept { IfOk result (λ node. node.value.outcome ≡ outcome) }
     ensures legal { IfOk result (λ node. IsLegalOutcome node.value.outcome) }
+    ensures unlinked { IfOk result (λ node. node.value.linked ≡ []) }
     ensures memory { IfErr result (λ fault. fault ≡ OutcomeFault.NoMemory) }
 {
     let node = Node {

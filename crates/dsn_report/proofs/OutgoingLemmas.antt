@@ -8,14 +8,15 @@ use Rattle.std.proofs.lemmas.List.{append-nil}
 use Rattle.dsn_outcome.specs.Letter.{Letter}
 use Rattle.dsn_device.specs.Failures.{counted}
 use Rattle.dsn_device.specs.Flushes.{flushed, flushed_times}
-use Rattle.dsn_device.specs.UntilFailure.{WrittenAndFlushed, counts_failure}
+use Rattle.dsn_device.specs.UntilFailure.{Lost, WrittenAndFlushed, counts_failure}
+use Rattle.dsn_device.specs.UntilFailure as until
 use Rattle.dsn_device.specs.declared.drain.Drain.{Ghosts as Drain}
 use Rattle.dsn_device.specs.Transfer.{AppendsFront}
-use Rattle.dsn_device.proofs.TransferLemmas.{AppendsFront-all}
+use Rattle.dsn_device.proofs.TransferLemmas.{Appends-part, AppendsFront-all}
 use Rattle.dsn_report.specs.declared.post_fault.PostFault.{PostFault}
 use Rattle.dsn_report.specs.Outbox.{greeting, goodbye, mail_transaction, outbox_of}
 use Rattle.dsn_report.specs.Poster.{Poster, post_text, finish_text, post_fault, letter_handed_back}
-use Rattle.dsn_report.specs.Outgoing.{written_of, are_some, AppendsAtLeast, FrontWritten, StaysSteady, Delivered, IsOutbox}
+use Rattle.dsn_report.specs.Outgoing.{written_of, are_some, AppendsAtLeast, FailedIn, in_text, at_flush, FrontWritten, StaysSteady, Delivered, IsOutbox}
 
 pub flat_map-more : {A : Type 0} (f : A → List ℕ) (xs : List A) (x : A) → flat_map f (xs ++ x ∷ []) ≡ flat_map f xs ++ f x
 flat_map-more f [] x = append-nil (f x)
@@ -80,6 +81,19 @@ once-flushed drain false false old new text good well made = (made.once, made.pa
 once-flushed drain true b old new text good well made = absurd (not-both true refl good)
 once-flushed drain false true old new text good well made = absurd (not-both true refl well)
 
+-- what failed now was lost
+lost-now : {W : Type 0} (drain : Drain W) (a b : Bool) (old new : W) (text : List ℕ) → a ≡ false → b ≡ true → WrittenAndFlushed drain a b old new text → Lost drain old new text
+lost-now drain false true old new text good failed made = made
+lost-now drain true b old new text good failed made = absurd (not-both true refl good)
+lost-now drain false false old new text good failed made = absurd (not-both false failed refl)
+
+-- a text that was lost after another one was written and flushed so many times
+failed-in : {W : Type 0} (drain : Drain W) (start old new : W) (times : ℕ) (least text : List ℕ) → Appends (drain.contents start) (drain.contents old) least → drain.flushes old ≡ flushed_times times (drain.flushes start) → Lost drain old new text → FailedIn drain start new times (least ++ text)
+failed-in drain start old new times least text all flushes (until.in_text part none) =
+    in_text (Appends-part (drain.contents start) (drain.contents old) (drain.contents new) least text all part) (none ∙ flushes)
+failed-in drain start old new times least text all flushes (until.at_flush whole once) =
+    at_flush (Appends-trans (drain.contents start) (drain.contents old) (drain.contents new) least text all whole) (once ∙ ap flushed flushes)
+
 -- what is steady through two steps is steady through both
 stays-steady : {W : Type 0} (drain : Drain W) (a b c : W) → StaysSteady drain a b → StaysSteady drain b c → StaysSteady drain a c
 stays-steady drain a b c first second steady =
@@ -115,8 +129,8 @@ module _ {W : Type 0} (drain : Drain W) (host : List ℕ) (start : W) (old new :
       }
 
   -- the first letter that could not be written
-  first-lost : old.failed ≡ false → AppendsFront (drain.contents old.outbox) (drain.contents new.outbox) (post_text old letter) → new.host ≡ old.host → drain.failures new.outbox ≡ counts_failure old.failed true (drain.failures old.outbox) → FrontWritten drain start (record { poster = new; unsent = unsent ++ letter ∷ [] }) (letters ++ letter ∷ [])
-  first-lost good front same_host count =
+  first-lost : old.failed ≡ false → AppendsFront (drain.contents old.outbox) (drain.contents new.outbox) (post_text old letter) → WrittenAndFlushed drain old.failed new.failed old.outbox new.outbox (post_text old letter) → new.failed ≡ true → new.host ≡ old.host → drain.failures new.outbox ≡ counts_failure old.failed true (drain.failures old.outbox) → FrontWritten drain start (record { poster = new; unsent = unsent ++ letter ∷ [] }) (letters ++ letter ∷ [])
+  first-lost good front made failed same_host count =
       let all = before.while_good good in
       let first = none-where letters old.greeted all.greeted_is in record {
         posted = letters;
@@ -125,6 +139,7 @@ module _ {W : Type 0} (drain : Drain W) (host : List ℕ) (start : W) (old new :
         unsent_is = rw all.none_unsent refl;
         split = refl;
         written = rw (same_host, ← all.greeted_is, ← post_text-after old letters letter first) (Appends-least (drain.contents start) (drain.contents old.outbox) (drain.contents new.outbox) _ _ all.written front);
+        lost = rw (same_host, ← post_text-after old letters letter first) (failed-in drain start old.outbox new.outbox (length letters) _ _ all.written all.flushes (lost-now drain old.failed new.failed old.outbox new.outbox _ good failed made));
         count = rw good at count ∙ ap (counted true) all.good;
       }
 
@@ -138,20 +153,21 @@ module _ {W : Type 0} (drain : Drain W) (host : List ℕ) (start : W) (old new :
         unsent_is = rw some.unsent_is refl;
         split = rw some.split (append_assoc some.posted (some.failed ∷ some.later) (letter ∷ []));
         written = rw same some.written;
+        lost = rw same some.lost;
         count = rw same some.count;
       }
 
-  any-lost : (failed : Bool) → old.failed ≡ failed → AppendsFront (drain.contents old.outbox) (drain.contents new.outbox) (post_text old letter) → (old.failed ≡ true → new ≡ old) → new.host ≡ old.host → drain.failures new.outbox ≡ counts_failure old.failed true (drain.failures old.outbox) → FrontWritten drain start (record { poster = new; unsent = unsent ++ letter ∷ [] }) (letters ++ letter ∷ [])
-  any-lost true is front nothing same_host count = later-lost is (nothing is)
-  any-lost false is front nothing same_host count = first-lost is front same_host count
+  any-lost : (failed : Bool) → old.failed ≡ failed → AppendsFront (drain.contents old.outbox) (drain.contents new.outbox) (post_text old letter) → WrittenAndFlushed drain old.failed new.failed old.outbox new.outbox (post_text old letter) → new.failed ≡ true → (old.failed ≡ true → new ≡ old) → new.host ≡ old.host → drain.failures new.outbox ≡ counts_failure old.failed true (drain.failures old.outbox) → FrontWritten drain start (record { poster = new; unsent = unsent ++ letter ∷ [] }) (letters ++ letter ∷ [])
+  any-lost true is front made now nothing same_host count = later-lost is (nothing is)
+  any-lost false is front made now nothing same_host count = first-lost is front made now same_host count
 
   -- one letter more could not be written
-  pub hand-err : (fault : PostFault) → fault ≡ post_fault old.failed letter → AppendsFront (drain.contents old.outbox) (drain.contents new.outbox) (post_text old letter) → (old.failed ≡ true → new ≡ old) → new.failed ≡ true → new.host ≡ old.host → drain.failures new.outbox ≡ counts_failure old.failed true (drain.failures old.outbox) → StaysSteady drain old.outbox new.outbox → Delivered drain host start (record { poster = new; unsent = unsent ++ letter_handed_back fault ∷ [] }) (letters ++ letter ∷ [])
-  hand-err fault is front nothing failed same_host count steady =
+  pub hand-err : (fault : PostFault) → fault ≡ post_fault old.failed letter → AppendsFront (drain.contents old.outbox) (drain.contents new.outbox) (post_text old letter) → WrittenAndFlushed drain old.failed new.failed old.outbox new.outbox (post_text old letter) → (old.failed ≡ true → new ≡ old) → new.failed ≡ true → new.host ≡ old.host → drain.failures new.outbox ≡ counts_failure old.failed true (drain.failures old.outbox) → StaysSteady drain old.outbox new.outbox → Delivered drain host start (record { poster = new; unsent = unsent ++ letter_handed_back fault ∷ [] }) (letters ++ letter ∷ [])
+  hand-err fault is front made nothing failed same_host count steady =
       let back : letter_handed_back fault ≡ letter = ap letter_handed_back is ∙ handed_back old.failed letter in record {
         host_kept = same_host ∙ before.host_kept;
         while_good = λ good. absurd (not-both new.failed failed good);
-        after_fault = λ _. rw back (any-lost old.failed refl front nothing same_host count);
+        after_fault = λ _. rw back (any-lost old.failed refl front made failed nothing same_host count);
         steady = stays-steady drain start old.outbox new.outbox before.steady steady;
       }
 
@@ -172,6 +188,7 @@ module _ {W : Type 0} (drain : Drain W) (host : List ℕ) (start : W) (old : Pos
         count = rw good at count ∙ ap (counted (not whole)) all.good;
         flushes = λ done. (once-flushed drain old.failed (not whole) old.outbox outbox _ good (ap not done) made).0 ∙ ap flushed all.flushes;
         passed_on = λ done. (once-flushed drain old.failed (not whole) old.outbox outbox _ good (ap not done) made).1;
+        lost = λ part. rw (all.none_unsent, ← before.host_kept, ← ends) (failed-in drain start old.outbox outbox (length letters) _ _ all.written all.flushes (lost-now drain old.failed (not whole) old.outbox outbox _ good (ap not part) made));
         steady = stays-steady drain start old.outbox outbox before.steady steady;
       }
 
@@ -186,6 +203,7 @@ module _ {W : Type 0} (drain : Drain W) (host : List ℕ) (start : W) (old : Pos
         count = rw (nothing.0, nothing.1) some.count;
         flushes = λ done. absurd (not-both whole done nothing.1);
         passed_on = λ done. absurd (not-both whole done nothing.1);
+        lost = λ _. rw (nothing.0, some.unsent_is, ← before.host_kept) some.lost;
         steady = stays-steady drain start old.outbox outbox before.steady steady;
       }
 

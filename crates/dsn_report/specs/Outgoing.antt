@@ -4,6 +4,7 @@ use Rattle.std.specs.Io.KnownBytes.{Appends}
 use Rattle.std.specs.List.{flat_map}
 use Rattle.dsn_device.specs.Failures.{counted}
 use Rattle.dsn_device.specs.Flushes.{flushed, flushed_times}
+use Rattle.dsn_device.specs.Transfer.{AppendsPart}
 use Rattle.dsn_device.specs.declared.drain.Drain
 use Rattle.dsn_outcome.specs.Letter.{Letter}
 use Rattle.dsn_report.specs.Outbox.{greeting, mail_transaction, outbox_of}
@@ -26,6 +27,17 @@ pub record AppendsAtLeast (old new : Option (List ℕ)) (least text : List ℕ) 
   pub split : text ≡ (least ++ more) ++ unsent
   pub appended : Appends old new (least ++ more)
 
+-- how an outbox failed that was flushed so many times before: within this text, and then it was not
+-- flushed again; or at the one flush after all of it
+pub data FailedIn {W : Type 0} (drain : Drain.Ghosts W) (start end : W) (times : ℕ)
+    (text : List ℕ) : Type 0 where
+  in_text : AppendsPart (drain.contents start) (drain.contents end) text
+      → drain.flushes end ≡ flushed_times times (drain.flushes start)
+      → FailedIn drain start end times text
+  at_flush : Appends (drain.contents start) (drain.contents end) text
+      → drain.flushes end ≡ flushed (flushed_times times (drain.flushes start))
+      → FailedIn drain start end times text
+
 -- whether there are letters
 abbrev pub are_some : List Letter → Bool
 are_some [] = false
@@ -47,8 +59,8 @@ pub record AllWritten {W : Type 0} (drain : Drain.Ghosts W) (start : W) (out : O
   pub flushes : drain.flushes out.poster.outbox
       ≡ flushed_times (length letters) (drain.flushes start)
 
--- after a failure the letters before the failed one are written, and a front of it; the rest of
--- them are kept
+-- after a failure the letters before the failed one are written, each of them flushed, and a front of
+-- it; the rest of them are kept
 pub record FrontWritten {W : Type 0} (drain : Drain.Ghosts W) (start : W) (out : Outgoing W)
     (letters : List Letter) : Type 0 where
   pub posted : List Letter
@@ -58,6 +70,8 @@ pub record FrontWritten {W : Type 0} (drain : Drain.Ghosts W) (start : W) (out :
   pub split : letters ≡ posted ++ (failed ∷ later)
   pub written : AppendsAtLeast (drain.contents start) (drain.contents out.poster.outbox)
       (written_of out.poster.host (are_some posted) posted)
+      (written_of out.poster.host true (posted ++ failed ∷ []))
+  pub lost : FailedIn drain start out.poster.outbox (length posted)
       (written_of out.poster.host true (posted ++ failed ∷ []))
   pub count : drain.failures out.poster.outbox ≡ counted true (drain.failures start)
 
@@ -77,7 +91,8 @@ pub record Delivered {W : Type 0} (drain : Drain.Ghosts W) (host : List ℕ) (st
 -- how an outbox ended: with the whole text of all letters; or after a failure with the mails of all
 -- letters before those that are unsent, and a front of what follows; the device failed once where
 -- it isn't whole, and else not; a whole one was flushed once for each letter and once at its end,
--- after all of its text
+-- after all of its text, and another one once for each letter before those that are unsent, and
+-- once more where it failed at a flush
 pub record IsOutbox {W : Type 0} (drain : Drain.Ghosts W) (host : List ℕ) (start end : W) (whole : Bool)
     (unsent letters : List Letter) : Type 0 where
   pub posted : List Letter
@@ -91,4 +106,6 @@ pub record IsOutbox {W : Type 0} (drain : Drain.Ghosts W) (host : List ℕ) (sta
   pub flushes : whole ≡ true
       → drain.flushes end ≡ flushed (flushed_times (length letters) (drain.flushes start))
   pub passed_on : whole ≡ true → drain.unflushed end ≡ false
+  pub lost : whole ≡ false
+      → FailedIn drain start end (length posted) (text_until host posted unsent)
   pub steady : StaysSteady drain start end

@@ -8,7 +8,7 @@ returns-in-Err g c = λ host start letters delivered.
     let before = subst (λ out. Delivered g.W.Drain host start out letters) (sym c.self.view_is) delivered in
     let made = c.in-Err.ensures in
     rw (c.push.ensures, c.into_letter.ensures)
-    (hand-err _ host start _ _ _ letters c.args.letter before c.in-Err.fault made.fault made.front made.nothing made.failed made.host made.count made.steady)
+    (hand-err _ host start _ _ _ letters c.args.letter before c.in-Err.fault made.fault made.front made.flushed made.nothing made.failed made.host made.count made.steady)
 
 pub returns-in_default : goal.returns-in_default
 returns-in_default g c = λ host start letters delivered.

@@ -7,11 +7,10 @@ import socket
 import subprocess
 import sys
 import tempfile
-import time
 from pathlib import Path
 
 sys.path.insert(0, str(Path(__file__).parent / "support"))
-from daemon_and_clients import FRAMES, MOMENT, NOTES, PATIENCE, Daemon, answer, asked  # noqa: E402
+from daemon_and_clients import FRAMES, NOTES, PATIENCE, Daemon, answer, asked, until  # noqa: E402
 from running import HOST, Checks, program  # noqa: E402
 
 STREAMS = (0, 1, 2)
@@ -40,8 +39,10 @@ def daemons(checks: Checks):
                 running = subprocess.Popen(without(streams, ["serve", path, HOST, "1", "1"]), stdin=null, stdout=null, stderr=null)
             with socket.socket(socket.AF_UNIX) as client:
                 client.settimeout(PATIENCE)
-                while client.connect_ex(path):
-                    time.sleep(MOMENT)
+                if not until(lambda: client.connect_ex(path) == 0):
+                    checks.true(f"without {streams}: a daemon", False)
+                    running.kill()
+                    continue
                 checks.equal(f"without {streams}: the answers", asked(client, FRAMES, 2), answer(1) + answer(7, 1, 1))
                 checks.equal(f"without {streams}: sockets", sockets_of(running.pid), [])
                 client.shutdown(socket.SHUT_WR)

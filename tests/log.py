@@ -2,28 +2,17 @@
 """Checks `serve --log`: a line on standard error for what happens, when it happens, before the notes; and
 `serve --end-on-fault`: a daemon whose outbox can't be written ends at once, in order. Without them neither."""
 import os
-import subprocess
 import sys
-import time
 from pathlib import Path
 
 sys.path.insert(0, str(Path(__file__).parent / "support"))
-from daemon_and_clients import MOMENT, OUTBOX, PATIENCE, Daemon, answer, append, asked, flush, is_ended, line  # noqa: E402
-from running import HOST, Checks, frames_module, program, run  # noqa: E402
+from daemon_and_clients import OUTBOX, Daemon, answer, append, asked, flush, is_ended, line  # noqa: E402
+from running import HOST, Checks, frames_module, run  # noqa: E402
 
 LOG = ("--log",)
 FULL = b"fault 31: No space left on device (os error 28)\n"
 
 frames = frames_module()
-
-
-def said(daemon: Daemon, size: int) -> bytes:
-    """Standard error once it has so many bytes."""
-    began = time.monotonic()
-    path = Path(daemon.room.name) / "stderr"
-    while path.stat().st_size < size and time.monotonic() - began < PATIENCE:
-        time.sleep(MOMENT)
-    return path.read_bytes()
 
 
 def start(daemon: Daemon, agents: int, uses: int) -> bytes:
@@ -36,10 +25,10 @@ def notices(checks: Checks):
     with Daemon(1, 2, options=LOG) as daemon:
         begun = start(daemon, 1, 2)
         daemon.listens()
-        checks.equal("the start", said(daemon, len(begun)), begun)
+        checks.equal("the start", daemon.said(len(begun)), begun)
         daemon.send()
         first = begun + b"notice B.A1B2C3.0 to <ann@example.com>\n"
-        checks.equal("the first notice, before the end", said(daemon, len(first)), first)
+        checks.equal("the first notice, before the end", daemon.said(len(first)), first)
         longest = b"a" * 256
         with daemon.connect() as client:
             asked(client, append(0, b"K" * 32) + frames.flush(1, 1, b"K" * 32, return_path=longest), 2)
@@ -62,17 +51,18 @@ def each_notice(checks: Checks):
 
 
 def other_hosts(checks: Checks):
-    """A host's name that isn't one for examples has no line."""
-    with Daemon(1, 1, options=LOG) as daemon:
-        daemon.stop()
-        path = daemon.path + ".other"
-        words = [program(), "serve", "--log", path, "mx.sincewagon.net", "1", "1"]
-        with subprocess.Popen(words, stdout=subprocess.DEVNULL, stderr=subprocess.PIPE) as other:
-            told = other.stderr.readline()
-            run(["stop", path])
-            rest = other.stderr.read()
-        checks.equal("a host of its own", told, f"listening on {path} for mx.sincewagon.net: 1 agents, 1 connections each\n".encode())
-        checks.true("and nothing of examples", b"examples" not in rest)
+    """A host's name that isn't one for examples has no line; others that are have one."""
+    with Daemon(1, 1, options=LOG, host="mx.sincewagon.net") as daemon:
+        daemon.listens()
+        run(["stop", daemon.path])
+        told = daemon.end().notes.splitlines()
+        checks.equal("a host of its own", told[0], f"listening on {daemon.path} for mx.sincewagon.net: 1 agents, 1 connections each".encode())
+        checks.true("and nothing of examples", not any(b"examples" in it for it in told))
+    for host in ("mx.test", "mx.localhost"):
+        with Daemon(1, 1, options=LOG, host=host) as daemon:
+            daemon.listens()
+            run(["stop", daemon.path])
+            checks.true(f"{host} is for examples", f"\nthe host's name {host} is one for examples\n".encode() in daemon.end().notes)
 
 
 def stops(checks: Checks):
@@ -92,7 +82,7 @@ def full_outbox(checks: Checks):
         with daemon.connect() as client:
             asked(client, append(0) + flush(1), 2)
             begun = start(daemon, 1, 1)
-            checks.equal("the fault at once", said(daemon, len(begun + FULL)), begun + FULL)
+            checks.equal("the fault at once", daemon.said(len(begun + FULL)), begun + FULL)
             checks.equal("the run goes on", asked(client, append(2, b"K2") + flush(3, b"K2"), 2), answer(1, 2) + answer(7, 3, 1))
         ended = daemon.end()
         checks.equal("the notes tell it too", (ended.notes, ended.status), (begun + FULL + line(0, 4) + b"fault 31\nunsent B Q1\nunsent B K2\n", 1))
@@ -105,9 +95,7 @@ def ends_on_a_fault(checks: Checks):
             asked(client, append(0) + flush(1), 2)
             checks.true("the client is let go", is_ended(client))
             checks.true("a silent one too", is_ended(silent))
-        began = time.monotonic()
         ended = daemon.end()
-        checks.true("at once", time.monotonic() - began < 3)
         checks.true("the end is told", b"\nending: the outbox could not be written\n" in ended.notes)
         checks.true("what is unsent is named", ended.notes.endswith(b"fault 31\nunsent B Q1\n") and ended.status == 1)
         checks.true("the socket's file stays", os.path.exists(daemon.path))

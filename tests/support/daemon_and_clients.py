@@ -10,7 +10,7 @@ from pathlib import Path
 
 from running import EXAMPLES, HOST, Ran, frames_module, program, run
 
-PATIENCE = 10  # seconds that a daemon or a client may take for one step
+PATIENCE = 60  # seconds that a daemon or a client may take for one step, on a slow and busy machine; more is a hang
 PIECE = 32_768  # bytes that are written to a socket at once: less than its buffer holds
 MOMENT = 0.002  # seconds between two looks at something that is about to happen
 
@@ -42,6 +42,22 @@ def flush(number: int, message: bytes = b"Q1") -> bytes:
     return frames.flush(number, 1, message)
 
 
+def until(holds) -> bool:
+    """Waits until something holds; false where it takes too long."""
+    began = time.monotonic()
+    while not holds():
+        if time.monotonic() - began > PATIENCE:
+            return False
+        time.sleep(MOMENT)
+    return True
+
+
+def is_listened_on(path) -> bool:
+    """Whether somebody listens on a socket: its flags in /proc/net/unix are 00010000."""
+    with open("/proc/net/unix", encoding="ascii") as sockets:
+        return any(it.split()[3] == "00010000" for it in sockets if it.rstrip().endswith(f" {path}"))
+
+
 def socket_fault(path: str, why: str) -> bytes:
     """What standard error has where a socket can't be had: the fault, the path, and what the system said."""
     return f"fault 61\n{path}: {why}\n".encode()
@@ -51,12 +67,12 @@ class Daemon:
     """`noticed serve` with so many agents and connections, on a socket in a folder that is removed at the end. Its
     outputs go to files, unless `stdout` or `stderr` say otherwise; a daemon that is still there at the end is killed."""
 
-    def __init__(self, agents: int, uses: int, path=None, options=(), **how):
+    def __init__(self, agents: int, uses: int, path=None, options=(), host=HOST, **how):
         self.room = tempfile.TemporaryDirectory(prefix="noticed-")
         self.path = str(path or Path(self.room.name) / "socket")
         self.files = {it: open(Path(self.room.name) / it, "w+b") for it in ("stdout", "stderr")}
         streams = {"stdin": subprocess.DEVNULL, **self.files, **how}
-        words = [program(), "serve", *options, self.path, HOST, str(agents), str(uses)]
+        words = [program(), "serve", *options, self.path, host, str(agents), str(uses)]
         self.running = subprocess.Popen(words, **streams)
 
     def __enter__(self):
@@ -85,18 +101,17 @@ class Daemon:
                     raise ConnectionRefusedError from why
                 time.sleep(MOMENT)
 
+    def has_begun(self) -> bool:
+        """Whether the socket is listened on and a second thread runs: by then the daemon knows its socket's file."""
+        try:
+            return is_listened_on(self.path) and len(os.listdir(f"/proc/{self.running.pid}/task")) > 1
+        except FileNotFoundError:
+            return False
+
     def listens(self) -> bool:
-        """Waits until the socket is there and is listened on, without a connection; false where the daemon has ended."""
-        began = time.monotonic()
-        while time.monotonic() - began < PATIENCE:
-            with open("/proc/net/unix", encoding="ascii") as sockets:
-                # flags 00010000: listening
-                if any(it.split()[3] == "00010000" for it in sockets if it.rstrip().endswith(" " + self.path)):
-                    return True
-            if self.running.poll() is not None:
-                return False
-            time.sleep(MOMENT)
-        return False
+        """Waits until the daemon serves, without a connection; false where it has ended."""
+        until(lambda: self.has_begun() or self.running.poll() is not None)
+        return self.running.poll() is None
 
     def send(self, given: bytes = FRAMES, **how) -> Ran:
         """Runs `noticed send` on these frames, once the daemon listens."""
@@ -105,12 +120,13 @@ class Daemon:
 
     def has_written(self, size: int) -> bool:
         """Waits until the outbox has so many bytes: a letter is written beside the answer of its flush."""
-        began = time.monotonic()
-        while os.fstat(self.files["stdout"].fileno()).st_size < size:
-            if time.monotonic() - began > PATIENCE:
-                return False
-            time.sleep(MOMENT)
-        return True
+        return until(lambda: os.fstat(self.files["stdout"].fileno()).st_size >= size)
+
+    def said(self, size: int) -> bytes:
+        """Standard error once it has so many bytes."""
+        path = Path(self.room.name) / "stderr"
+        until(lambda: path.stat().st_size >= size)
+        return path.read_bytes()
 
     def end(self) -> Ran:
         """Waits for the daemon's end: what it wrote, and its status."""
@@ -122,7 +138,7 @@ class Daemon:
         return Ran(*written, status)
 
     def stop(self) -> Ran:
-        """Stops the daemon by a signal."""
+        """Ends the daemon by a signal, which it doesn't handle."""
         self.running.send_signal(signal.SIGTERM)
         return self.end()
 

@@ -1,22 +1,29 @@
 #!/usr/bin/env python3
 """Stops daemons by `noticed stop`: agents finish what they have in hand and take no further connection, the outbox is
-finished, the notes name what is open, the socket's file is gone, and nothing that was answered is lost."""
+finished, the notes name what is open, the socket's file is gone, and nothing that was answered is lost. A daemon that has
+the path by then goes on. A daemon whose file is removed ends too; one that is halted for a while (SIGSTOP) loses nobody."""
 import contextlib
 import os
 import re
 import shutil
+import signal
+import socket
 import subprocess
 import sys
+import tempfile
 import threading
 import time
 from pathlib import Path
 
 sys.path.insert(0, str(Path(__file__).parent / "support"))
-from daemon_and_clients import OUTBOX, PATIENCE, Daemon, answer, append, asked, flush, heard, is_ended, line, socket_fault  # noqa: E402
+from daemon_and_clients import OUTBOX, PATIENCE, Daemon, answer, append, asked, flush, heard, is_ended, line, socket_fault, until  # noqa: E402
 from running import Checks, Ran, empty_outbox, program, run  # noqa: E402
 
 NOBODY = 65534
 STOPPED = Ran(b"", b"", 0)
+LONGEST = (65_536).to_bytes(4, "big")  # the beginning of the longest frame
+GAP = 0.5  # seconds between two bytes of a client that holds a stop up
+HALT = 0.3  # seconds that a daemon is halted
 
 
 def stop(daemon: Daemon) -> Ran:
@@ -24,15 +31,23 @@ def stop(daemon: Daemon) -> Ran:
     return run(["stop", daemon.path], timeout=PATIENCE)
 
 
+def stopping(path: str) -> subprocess.Popen:
+    """Begins `noticed stop` on a socket."""
+    return subprocess.Popen([program(), "stop", path], stdout=subprocess.PIPE, stderr=subprocess.PIPE)
+
+
+def ran(started: subprocess.Popen) -> Ran:
+    """What a command that was begun gave at its end."""
+    return Ran(*started.communicate(timeout=PATIENCE), started.returncode)
+
+
 def no_clients(checks: Checks):
-    """A daemon whose agents all wait for a connection ends at once."""
+    """A daemon whose agents all wait for a connection ends."""
     for agents in (1, 2, 16):
         with Daemon(agents, 1000) as daemon:
             daemon.listens()
-            began = time.monotonic()
             checks.equal(f"{agents} idle agents", stop(daemon), STOPPED)
             ended = daemon.end()
-            checks.true(f"{agents} idle agents: at once", time.monotonic() - began < 2)
             checks.equal(f"{agents} idle agents: its outbox", (ended.outbox, ended.status), (empty_outbox(), 0))
             checks.true(f"{agents} idle agents: the socket's file is gone", not os.path.exists(daemon.path))
 
@@ -50,23 +65,26 @@ def open_logs(checks: Checks):
 
 
 def held_connections(checks: Checks):
-    """A client that is between two frames is let go within seconds; one in the middle of a frame is answered first."""
+    """A client that is between two frames is let go; one in the middle of a frame is answered first. Pieces of the frame
+    that came before the stop aren't counted."""
     with Daemon(3, 1000) as daemon:
         waiting, writing, last = daemon.connect(), daemon.connect(), daemon.connect()
         checks.equal("a client that waits", asked(waiting, append(0)), answer(1))
-        frame = append(0, b"Q2")
-        writing.sendall(frame[:20])
+        frame = append(0, b"Q" * 32, b"x" * 100)
+        for at in range(40):
+            writing.sendall(frame[at : at + 1])
+            time.sleep(0.01)
         checks.equal("a third one", asked(last, append(0, b"Q3")), answer(1))
-        with subprocess.Popen([program(), "stop", daemon.path]) as stopping:
+        with stopping(daemon.path) as stop_:
             checks.true("the client that waits is let go", is_ended(waiting))
             checks.true("so is the third", is_ended(last))
-            checks.equal("the stop waits for the one in a frame", stopping.poll(), None)
-            writing.sendall(frame[20:])
+            checks.equal("the stop waits for the one in a frame", stop_.poll(), None)
+            writing.sendall(frame[40:])
             checks.equal("the one in the middle of a frame is answered", heard(writing, 14), answer(1))
             checks.true("and then let go", is_ended(writing))
-            checks.equal("the stop", stopping.wait(timeout=PATIENCE), 0)
+            checks.equal("the stop", ran(stop_), STOPPED)
         ended = daemon.end()
-        checks.equal("open logs", re.findall(rb"^open B (\w+) 1$", ended.notes, re.M), [b"Q1", b"Q2", b"Q3"])
+        checks.equal("open logs", re.findall(rb"^open B (\w+) 1$", ended.notes, re.M), [b"Q1", b"Q3", b"Q" * 32])
         checks.equal("no fault", (b"faults 0" in ended.notes, b"faults 1" in ended.notes, ended.status), (True, False, 0))
 
 
@@ -75,10 +93,32 @@ def silent_in_a_frame(checks: Checks):
     with Daemon(1, 1000) as daemon:
         with daemon.connect() as client:
             client.sendall(append(0)[:20])
-            with subprocess.Popen([program(), "stop", daemon.path]) as stopping:
-                checks.equal("silent in a frame: the stop", stopping.wait(timeout=2 * PATIENCE), 0)
+            checks.equal("silent in a frame: the stop", stop(daemon), STOPPED)
         ended = daemon.end()
         checks.equal("silent in a frame: a fault", (ended.notes, ended.status), (line(0, 0, 1, 1), 0))
+
+
+def slow_in_a_frame(checks: Checks):
+    """A client that sends a byte now and then can't hold a stop up: it would need nine hours for its frame. (It could
+    before a daemon counted the pieces of a frame: each byte was the end of a silence.)"""
+    with Daemon(1, 1000) as daemon:
+        with daemon.connect() as client:
+            client.sendall(LONGEST)
+            with stopping(daemon.path) as stop_:
+                began, sent = time.monotonic(), 0
+                with contextlib.suppress(ConnectionError):
+                    while stop_.poll() is None and time.monotonic() - began < PATIENCE:
+                        client.sendall(b"\0")
+                        sent += 1
+                        time.sleep(GAP)
+                in_time = stop_.poll() is not None or until(lambda: stop_.poll() is not None)
+                checks.true("slow in a frame: the stop ends", in_time and time.monotonic() - began < PATIENCE)
+                checks.true(f"slow in a frame: {sent} bytes were sent", sent > 1)
+                if not in_time:
+                    stop_.kill()
+                checks.equal("slow in a frame: the stop", ran(stop_), STOPPED)
+        ended = daemon.end()
+        checks.equal("slow in a frame: a fault", (ended.notes, ended.status), (line(0, 0, 1, 1), 0))
 
 
 def busy_client(checks: Checks):
@@ -97,8 +137,7 @@ def busy_client(checks: Checks):
 
         asking = threading.Thread(target=ask_on)
         asking.start()
-        while len(answered) < 100:
-            time.sleep(0.01)
+        checks.true("a busy client is at work", until(lambda: len(answered) >= 100))
         checks.equal("a busy client", stop(daemon), STOPPED)
         asking.join(timeout=PATIENCE)
         ended = daemon.end()
@@ -119,15 +158,14 @@ def at_load(checks: Checks):
                         got = asked(client, append(0, name) + flush(1, name), 2)
                 except (ConnectionError, FileNotFoundError):
                     return
-                if len(got) == 28:
+                if got == answer(1) + answer(7, 1, 1):
                     with seeing:
                         sealed.add(name)
 
         clients = [threading.Thread(target=bounce, args=(it,)) for it in range(8)]
         for it in clients:
             it.start()
-        while len(sealed) < 200:
-            time.sleep(0.01)
+        checks.true("at load: clients are at work", until(lambda: len(sealed) >= 200))
         stopped = stop(daemon)
         ended = daemon.end()
         for it in clients:
@@ -168,6 +206,80 @@ def no_daemon(checks: Checks):
         checks.true("the file is left", os.path.exists(daemon.path))
 
 
+def two_stops(checks: Checks):
+    """Two stops at once: one of them at least goes well, and the other goes well too or finds no daemon any more. The
+    daemon ends in order. (Before a file that is gone was fine, the later one could end with 61 though it had connected.)"""
+    for agents in (1, 2, 16, 1, 2, 16):
+        with Daemon(agents, 1000) as daemon:
+            daemon.listens()
+            with stopping(daemon.path) as one, stopping(daemon.path) as other:
+                both = [ran(one), ran(other)]
+            ended = daemon.end()
+            late = [Ran(b"", socket_fault(daemon.path, why), 1) for why in ("No such file or directory (os error 2)", "Connection refused (os error 111)")]
+            checks.true(f"two stops of {agents} agents: {both}", STOPPED in both and all(it in (STOPPED, *late) for it in both))
+            checks.equal(f"two stops of {agents} agents: the outbox", (ended.outbox, ended.status), (empty_outbox(), 0))
+            checks.true(f"two stops of {agents} agents: no fault", b"fault 61" not in ended.notes)
+
+
+def sleeps(process: subprocess.Popen, sockets: int) -> bool:
+    """Whether a process waits for something, and has so many sockets."""
+    try:
+        room = Path(f"/proc/{process.pid}")
+        links = [os.readlink(it) for it in (room / "fd").iterdir()]
+        return sum(it.startswith("socket:") for it in links) == sockets and (room / "stat").read_text().rpartition(")")[2].split()[0] == "S"
+    except FileNotFoundError:
+        return False
+
+
+@contextlib.contextmanager
+def held_stop(checks: Checks, path: str):
+    """A `noticed stop` that waits in its third connect: a listener of this script's own accepted the first, and has room for
+    one more. Once the listener is closed the stop goes on, and the system looks the path up anew."""
+    with socket.socket(socket.AF_UNIX) as listener:
+        listener.settimeout(PATIENCE)
+        listener.bind(path)
+        listener.listen(0)
+        with stopping(path) as stop_:
+            with listener.accept()[0]:
+                checks.true("a stop waits to connect", until(lambda: sleeps(stop_, 3)))
+                yield stop_, listener
+            if stop_.poll() is None:
+                stop_.kill()
+
+
+def another_daemon(checks: Checks):
+    """Where another daemon has the path by the time that a stop gets to its removal, the stop ends well, and that daemon
+    goes on. (Before a stop looked whose file it was, it removed that daemon's.)"""
+    with tempfile.TemporaryDirectory() as room:
+        path = f"{room}/socket"
+        with held_stop(checks, path) as (stop_, listener):
+            os.unlink(path)
+            with Daemon(1, 1000, path) as daemon:
+                daemon.listens()
+                its = os.stat(path).st_ino
+                listener.close()
+                checks.equal("another daemon: the stop", ran(stop_), STOPPED)
+                checks.true("another daemon: its file stays", os.path.exists(path) and os.stat(path).st_ino == its)
+                with daemon.connect() as client:
+                    checks.equal("another daemon goes on", asked(client, append(0)), answer(1))
+                checks.equal("another daemon: a stop of its own", stop(daemon), STOPPED)
+                checks.equal("another daemon: its end", daemon.end().status, 0)
+
+
+def ends_by_itself(checks: Checks):
+    """A daemon that ends while a stop connects to it is what the stop wants: with its file there, or gone. (Before, the
+    file that is gone was a fault.)"""
+    with tempfile.TemporaryDirectory() as room:
+        for gone in (False, True):
+            path = f"{room}/{gone}"
+            with held_stop(checks, path) as (stop_, listener):
+                if gone:
+                    os.unlink(path)
+                listener.close()
+                checks.equal(f"a daemon that has just ended, its file gone: {gone}", ran(stop_), STOPPED)
+            checks.true(f"the file is removed ({gone})", not os.path.exists(path))
+
+
 def removed_file(checks: Checks):
     """A daemon whose socket's file is removed by hand ends too: nobody could reach it any more."""
     with Daemon(2, 1000) as daemon:
@@ -179,9 +291,94 @@ def removed_file(checks: Checks):
         checks.equal("the daemon ends", (ended.outbox, ended.status), (empty_outbox(), 0))
 
 
+def removed_from_idle(checks: Checks):
+    """So does one that has no client at all, and one whose path another file has. (Before idle agents looked, such a
+    daemon went on until it was killed.)"""
+    for agents in (1, 16):
+        for another in (False, True):
+            about = f"a removed file of {agents} idle agents, another there: {another}"
+            with Daemon(agents, 1000) as daemon:
+                daemon.listens()
+                if another:
+                    Path(daemon.path + ".new").touch()
+                    os.replace(daemon.path + ".new", daemon.path)
+                else:
+                    os.unlink(daemon.path)
+                notes = b"".join(line(it, 0, 0) for it in range(agents))
+                checks.equal(about, daemon.end(), Ran(empty_outbox(), notes, 0))
+                checks.equal(f"{about}: it stays", os.path.exists(daemon.path), another)
+
+
+def is_halted(daemon: Daemon) -> bool:
+    """Whether each thread of a daemon is halted."""
+    threads = Path(f"/proc/{daemon.running.pid}/task").glob("*/stat")
+    return all(it.read_text().rpartition(")")[2].split()[0] == "T" for it in threads)
+
+
+def halt(daemon: Daemon):
+    """Halts a daemon three times (SIGSTOP, SIGCONT), which interrupts each call that has a time limit (signal(7))."""
+    for _ in range(3):
+        daemon.running.send_signal(signal.SIGSTOP)
+        until(lambda: is_halted(daemon))
+        time.sleep(HALT)
+        daemon.running.send_signal(signal.SIGCONT)
+        until(lambda: not is_halted(daemon))
+        time.sleep(HALT)
+
+
+def interrupted(checks: Checks):
+    """Nobody is cut off and no agent is lost where a daemon is halted: two clients wait, between frames and in the middle
+    of one, and two agents are idle. (Before, an interrupted read was a fault of its connection.)"""
+    with Daemon(4, 1000) as daemon:
+        waiting, writing = daemon.connect(), daemon.connect()
+        checks.equal("interrupted: a client", asked(waiting, append(0)), answer(1))
+        writing.sendall(append(0)[:20])
+        halt(daemon)
+        checks.equal("interrupted between frames", asked(waiting, append(1)), answer(1, 1, 1))
+        checks.equal("interrupted in a frame", asked(writing, append(0)[20:]), answer(1, 0, 2))
+        halt(daemon)
+        for it in (waiting, writing):
+            it.close()
+        with contextlib.ExitStack() as clients:
+            later = [clients.enter_context(daemon.connect()) for _ in range(4)]
+            checks.equal("each agent serves a later client", [asked(it, append(0)) for it in later], [answer(1, 0, it) for it in (3, 4, 5, 6)])
+        checks.equal("interrupted: the stop", stop(daemon), STOPPED)
+        ended = daemon.end()
+        checks.equal("interrupted: faults", (re.findall(rb" faults (\d+)$", ended.notes, re.M), ended.status), ([b"0"] * 4, 0))
+        checks.equal("interrupted: the outbox", ended.outbox, empty_outbox())
+
+
+def interrupted_answers(checks: Checks):
+    """A client that reads late has all its answers, though the daemon was halted while it waited to write them."""
+    given = [append(it, b"K%d" % (it % 50)) for it in range(20_000)]
+    with Daemon(1, 1) as daemon:
+        with daemon.connect() as client:
+            client.settimeout(1)
+            text, sent = memoryview(b"".join(given)), 0
+            with contextlib.suppress(TimeoutError):
+                while sent < len(text):
+                    sent += client.send(text[sent : sent + 4096])
+            checks.true("both sides wait to write", sent < len(text))
+            halt(daemon)
+            client.settimeout(PATIENCE)
+            ends = [0]
+            for it in given:
+                ends.append(ends[-1] + len(it))
+            whole = sum(end <= sent for end in ends[1:])
+            got = heard(client, 14 * whole)
+            checks.true(f"{whole} answers", got == b"".join(answer(1, it, it // 50) for it in range(whole)))
+            client.sendall(text[sent : ends[whole + 1]])
+            checks.equal("one more", heard(client, 14), answer(1, whole, whole // 50))
+        ended = daemon.end()
+        checks.true("late answers: no fault", ended.notes.startswith(line(0, whole + 1)) and ended.status == 0)
+
+
 def main():
     checks = Checks("stop: daemons that are idle, at work or held by clients end in order, and lose nothing")
-    for check in (no_clients, open_logs, held_connections, silent_in_a_frame, busy_client, at_load, not_allowed, no_daemon, removed_file):
+    for check in (
+        *(no_clients, open_logs, held_connections, silent_in_a_frame, slow_in_a_frame, busy_client, at_load, not_allowed, no_daemon),
+        *(two_stops, another_daemon, ends_by_itself, removed_file, removed_from_idle, interrupted, interrupted_answers),
+    ):
         check(checks)
     checks.done()
 

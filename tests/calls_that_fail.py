@@ -1,7 +1,8 @@
 #!/usr/bin/env python3
 """Lets each read and each write of the program's devices fail in turn, by a small library that is preloaded
 (tests/support/fail.c, compiled here with gcc): with an error, interrupted, and as a write that takes no byte. What came
-before stands, what is lost is told, and nothing comes after, as a plain reading of docs/FORMATS.md has it."""
+before stands, what is lost is told, and nothing comes after, as a plain reading of docs/FORMATS.md has it. A daemon's
+accept, or a read or write of its connections, that is interrupted is made again, and nobody sees it."""
 import errno
 import socket
 import sys
@@ -10,7 +11,7 @@ from pathlib import Path
 from typing import Optional
 
 sys.path.insert(0, str(Path(__file__).parent / "support"))
-from daemon_and_clients import Daemon, line  # noqa: E402
+from daemon_and_clients import Daemon, line, socket_fault  # noqa: E402
 from formats import sessions  # noqa: E402
 from formats.logs import REFUSED, Limits, Logs  # noqa: E402
 from formats.notices import crlf, mail, outbox  # noqa: E402
@@ -132,20 +133,35 @@ def serve(library: Path, given: bytes, call: str, at: int, error: int, short: in
         return conversation(daemon, given), daemon.end()
 
 
+def expected(given: bytes, error: int, **fails):
+    """What such a session gives: as if nothing had been, where the call was interrupted."""
+    return served(given) if error == errno.EINTR else served(given, **fails)
+
+
 def check_connection(checks: Checks, library: Path):
     """Each read of a connection fails in turn, where each gives a byte, and each write of an answer: the session ends
-    there, and what was logged and sealed stands."""
+    there, and what was logged and sealed stands. After an interruption it goes on."""
     given = (EXAMPLES / "one-bounce.frames").read_bytes()
     for about, error in list(FAILS.items())[:2]:
         for at in range(1, len(given) + 3):
-            wanted = served(given[: at - 1], broken=at <= len(given) + 1)
+            reads = given if error == errno.EINTR else given[: at - 1]
+            wanted = expected(reads, error, broken=at <= len(given) + 1)
             checks.equal(f"{about} at read {at} of a connection", serve(library, given, "read:socket", at, error, 1), wanted)
     given = messages()
     for about, error in FAILS.items():
         for at in range(1, 32):
             found = serve(library, given, "write:socket", at, error)
-            checks.equal(f"{about} at answer {at}", found, served(given, room=at - 1))
+            checks.equal(f"{about} at answer {at}", found, expected(given, error, room=at - 1))
     print("  a connection: 109 reads, each failed twice, and 30 answers, each failed three times")
+
+
+def check_accept(checks: Checks, library: Path):
+    """The first accept of a daemon fails: its agent accepts no more (61). After an interruption it does."""
+    given = (EXAMPLES / "one-bounce.frames").read_bytes()
+    checks.equal("an interrupted accept", serve(library, given, "accept:socket", 1, errno.EINTR), served(given))
+    with Daemon(1, 1, env=failing(library, "accept:socket", 1, errno.EMFILE)) as daemon:
+        notes = line(0, 0, 0) + socket_fault(daemon.path, "Too many open files (os error 24)")
+        checks.equal("an accept that fails", daemon.end(), Ran(outbox(HOST.encode(), []), notes, 1))
 
 
 def main():
@@ -156,6 +172,7 @@ def main():
         check_outbox(checks, library)
         check_notes(checks, library)
         check_connection(checks, library)
+        check_accept(checks, library)
     checks.done()
 
 

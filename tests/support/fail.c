@@ -1,7 +1,7 @@
-/* Preloaded into a program (LD_PRELOAD), it lets one call fail: of the calls that FAIL names (read or write, a colon, and
-   a descriptor's number or the word socket, for all sockets) the one whose number, from 1, is in FAIL_AT. It answers the
-   error of the number FAIL_WITH; a write that FAIL_WITH is 0 for takes no byte. With SHORT, no read of such a descriptor
-   gives more bytes than that. */
+/* Preloaded into a program (LD_PRELOAD), it lets one call fail: of the calls that FAIL names (read, write or accept, a
+   colon, and a descriptor's number or the word socket, for all sockets) the one whose number, from 1, is in FAIL_AT. It
+   answers the error of the number FAIL_WITH; a write that FAIL_WITH is 0 for takes no byte. With SHORT, no read of such a
+   descriptor gives more bytes than that. */
 #define _GNU_SOURCE
 #include <dlfcn.h>
 #include <errno.h>
@@ -90,4 +90,20 @@ ssize_t send(int descriptor, const void *text, size_t size, int flags)
     if (is_named("write", descriptor) && fails())
         return errno ? -1 : 0;
     return real(descriptor, text, size, flags);
+}
+
+int accept(int descriptor, struct sockaddr *from, socklen_t *size)
+{
+    static int (*real)(int, struct sockaddr *, socklen_t *);
+    if (!real)
+        real = (int (*)(int, struct sockaddr *, socklen_t *))dlsym(RTLD_NEXT, "accept");
+    return is_named("accept", descriptor) && fails() ? -1 : real(descriptor, from, size);
+}
+
+int accept4(int descriptor, struct sockaddr *from, socklen_t *size, int flags)
+{
+    static int (*real)(int, struct sockaddr *, socklen_t *, int);
+    if (!real)
+        real = (int (*)(int, struct sockaddr *, socklen_t *, int))dlsym(RTLD_NEXT, "accept4");
+    return is_named("accept", descriptor) && fails() ? -1 : real(descriptor, from, size, flags);
 }

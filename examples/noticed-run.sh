@@ -6,24 +6,28 @@
 # Each run has an outbox of its own, the file `outbox`, which this account alone may read (mode 0600). That of the run
 # before is moved to outbox.TIME, if it has something. The socket is for the account and its group (mode 0770).
 # After a run that ended with status 0 the next begins at once. After another this script ends with the run's status,
-# and the supervisor starts it anew after some seconds. On SIGTERM, SIGINT or SIGHUP it has the run end in order
-# (`noticed stop`), and ends with its status.
+# and the supervisor starts it anew after some seconds.
+#
+# On SIGTERM, SIGINT or SIGHUP it has the run end in order, by removing the socket, and waits for that: up to half a
+# minute, and longer where the outbox can't be written on. It kills nothing. Its status is then that of the run: 0 where
+# all went well, or where no run was there; 1 where the outbox failed, say, whether before the signal or after it.
+# The daemon itself ignores these signals. So one that goes to all processes (Ctrl-C, the end of a login, a shutdown
+# without systemd, `systemctl kill`) ends the run in order too, and doesn't lose the logs that are open. To `kill` the
+# daemon alone does nothing, therefore: use `noticed stop`, or SIGKILL.
 set -u
 
 program=$1 socket=$2 host=$3 agents=$4 uses=$5
 shift 5
-stopping=
+daemon='' stopping=''
 
+# Removes the socket until the daemon has ended: one that has only just begun has none yet.
 end_run() {
     trap '' TERM INT HUP
     stopping=yes
-    # A daemon that has only just begun has no socket yet.
-    for try in 1 2 3 4 5; do
-        kill -0 "${!:-none}" 2> /dev/null || exit 0
-        "$program" stop "$socket" && return
+    while [ "$daemon" ] && kill -0 "$daemon" 2> /dev/null; do
+        rm -f -- "$socket"
         sleep 0.2
     done
-    kill "$!"
 }
 
 # Each daemon holds the lock too: where this script was killed and its daemon wasn't, none is started beside it.
@@ -36,13 +40,14 @@ while [ -z "$stopping" ]; do
     rm -f -- "$socket" || exit 1
     if [ -s outbox ]; then mv outbox "outbox.$(date +%s.%N)" || exit 1; fi
     rm -f outbox || exit 1
-    (umask 007 && exec "$program" serve "$@" "$socket" "$host" "$agents" "$uses") >> outbox &
-    wait "$!"
+    (trap '' TERM INT HUP && umask 007 && exec "$program" serve "$@" "$socket" "$host" "$agents" "$uses") >> outbox &
+    daemon=$!
+    # A signal may have come before `daemon` was set.
+    [ -z "$stopping" ] || end_run
+    wait "$daemon"
     status=$?
-    # A signal ends the first `wait`, and `end_run` has run.
-    if [ "$stopping" ] && [ "$status" -gt 128 ]; then
-        wait "$!"
-        status=$?
-    fi
+    # A signal ends the first `wait`, and `end_run` has run by then. The daemon doesn't end by one of these.
+    case $stopping$status in yes129 | yes130 | yes143) wait "$daemon"; status=$? ;; esac
+    daemon=''
     [ "$status" = 0 ] || exit "$status"
 done

@@ -6,26 +6,15 @@ import signal
 import subprocess
 import sys
 import tempfile
-import time
 from pathlib import Path
 
 sys.path.insert(0, str(Path(__file__).parent / "support"))
-from daemon_and_clients import MOMENT, PATIENCE, line  # noqa: E402
+from daemon_and_clients import PATIENCE, line, until  # noqa: E402
 from running import EXAMPLES, HOST, Checks, program  # noqa: E402
 
 FRAMES = [sys.executable, str(EXAMPLES / "frames.py"), "-"]
 FEED = [sys.executable, str(EXAMPLES / "feed.py")]
 SUBMIT = '#!/bin/sh\nfor last; do :; done\ncat > "$last.part" && mv "$last.part" "$last"\n'
-
-
-def until(holds) -> bool:
-    """Waits until something holds."""
-    began = time.monotonic()
-    while not holds():
-        if time.monotonic() - began > PATIENCE:
-            return False
-        time.sleep(MOMENT)
-    return True
 
 
 def sent(room: Path, requests: str) -> list:
@@ -37,19 +26,9 @@ def sent(room: Path, requests: str) -> list:
             return sending.communicate(timeout=PATIENCE)[0].decode().splitlines()
 
 
-def next_run(room: Path, before: int) -> int:
-    """Waits until another outbox than that one has begun and its daemon takes connections: that outbox."""
-    if not until(lambda: inode(room / "outbox") not in (None, before) and inode(room / "socket")):
-        return before
-    return inode(room / "outbox")
-
-
-def inode(path: Path):
-    """A file's number, None where there is none."""
-    try:
-        return path.stat().st_ino
-    except FileNotFoundError:
-        return None
+def next_run(checks: Checks, room: Path, runs: int):
+    """Waits until so many runs have begun, each of which says what it listens on."""
+    checks.true(f"run {runs} begins", until(lambda: (room / "notes").read_bytes().count(b"listening on socket ") == runs))
 
 
 def one_run(checks: Checks, room: Path, message: str):
@@ -64,20 +43,19 @@ def one_run(checks: Checks, room: Path, message: str):
 
 def two_runs(checks: Checks, room: Path):
     """Two daemons one after another, and a third that is stopped before its first client."""
-    words = ["sh", str(EXAMPLES / "noticed-run.sh"), program(), "socket", HOST, "1", "2"]
+    words = ["sh", str(EXAMPLES / "noticed-run.sh"), program(), "socket", HOST, "1", "2", "--log"]
     with (room / "notes").open("wb") as notes, subprocess.Popen(words, cwd=room, stdin=subprocess.DEVNULL, stderr=notes) as running:
-        outbox = None
         try:
-            for message in ("M1", "M2"):
-                outbox = next_run(room, outbox)
+            for runs, message in ((1, "M1"), (2, "M2")):
+                next_run(checks, room, runs)
                 one_run(checks, room, message)
-            next_run(room, outbox)
+            next_run(checks, room, 3)
         finally:
             running.send_signal(signal.SIGTERM)
         checks.equal("the status of a stop", running.wait(timeout=PATIENCE), 0)
-    # the connections of the stop itself come before the removal of the file, or after it
-    wanted = [2 * line(0, 3, 2) + line(0, 0, stops) for stops in (0, 1)]
-    checks.true("notes", (room / "notes").read_bytes() in wanted)
+    told = (room / "notes").read_bytes().splitlines(keepends=True)
+    checks.equal("the agents", [it for it in told if it.startswith(b"agent ")], [*2 * [line(0, 3, 2)], line(0, 0, 0)])
+    checks.equal("faults", [it for it in told if it.startswith((b"fault ", b"open ", b"unsent "))], [])
 
 
 def main():

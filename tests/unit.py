@@ -1,11 +1,12 @@
 #!/usr/bin/env python3
 """Checks examples/noticed.service without systemd: its keys, by a parser; its steps in systemd's own order (the outputs
 are opened, then the folders are made, then the commands run), in a folder of this script's own with nothing there; the
-modes and owners that come of it; the runs that follow one another, and their ends; and the whole of it by
+modes and owners that come of it; the runs that follow one another, and their ends, by signals too; and the whole of it by
 `systemd-analyze verify` where that is installed. As root the daemon runs as an account of its own, and others try to get
 at its socket and its outbox. And examples/noticed-feed.service: that it follows the outbox of the first, as an account
 that may read it, and is waited for as long as a reply may take. tests/boot.py tries both under systemd."""
 import os
+import random
 import re
 import shlex
 import shutil
@@ -19,7 +20,7 @@ from dataclasses import dataclass
 from pathlib import Path
 
 sys.path.insert(0, str(Path(__file__).parent / "support"))
-from daemon_and_clients import FRAMES, MOMENT, NOTES, OUTBOX, PATIENCE  # noqa: E402
+from daemon_and_clients import FIRST_FRAME, FRAMES, NOTES, OUTBOX, PATIENCE, is_listened_on, until  # noqa: E402
 from running import EXAMPLES, HOST, ROOT, Checks, Ran, empty_outbox, program  # noqa: E402
 
 UNIT = EXAMPLES / "noticed.service"
@@ -114,7 +115,7 @@ class Machine:
         with self.output("StandardOutput") as out, self.output("StandardError") as notes:
             self.folders()
             how = {"user": DAEMON, "group": DAEMON, "extra_groups": []} if self.account else {}
-            how["umask"] = int(self.one("UMask", "0022"), 8)
+            how |= {"umask": int(self.one("UMask", "0022"), 8), "start_new_session": True}
             return subprocess.Popen(self.here(command), stdin=subprocess.DEVNULL, stdout=out, stderr=notes, cwd=self.path(self.one("WorkingDirectory")), **how)
 
     def start(self, command: str) -> subprocess.Popen:
@@ -152,20 +153,9 @@ class Machine:
         return subprocess.run(words, cwd=self.room, capture_output=True, check=False, timeout=PATIENCE, user=account, group=account, extra_groups=[DAEMON]).returncode
 
 
-def until(holds) -> bool:
-    """Waits until something holds."""
-    began = time.monotonic()
-    while not holds():
-        if time.monotonic() - began > PATIENCE:
-            return False
-        time.sleep(MOMENT)
-    return True
-
-
 def listens(machine: Machine) -> bool:
     """Whether a daemon listens on the socket."""
-    with open("/proc/net/unix", encoding="ascii") as sockets:
-        return any(it.split()[3] == "00010000" for it in sockets if it.rstrip().endswith(f" {machine.socket}"))
+    return is_listened_on(machine.socket)
 
 
 def is_next(machine: Machine, before: int) -> bool:
@@ -284,7 +274,7 @@ def check_runs(checks: Checks, machine: Machine, command: str):
 
 def check_stop(checks: Checks, machine: Machine, daemon: subprocess.Popen):
     """A signal to the script ends the run in order: its outbox has its QUIT, and what is open is named."""
-    checks.equal("an outcome that nobody flushes", machine.send(FRAMES[:52]).outbox, b"0 logged 0\n")
+    checks.equal("an outcome that nobody flushes", machine.send(FRAMES[:FIRST_FRAME]).outbox, b"0 logged 0\n")
     daemon.send_signal(signal.SIGTERM)
     checks.equal("the status of an orderly stop", daemon.wait(timeout=PATIENCE), 0)
     checks.equal("the outbox of a run that was stopped", machine.outbox.read_bytes(), empty_outbox())
@@ -321,21 +311,100 @@ def check_failures(checks: Checks, machine: Machine, command: str):
     checks.equal("an outbox with nothing in it isn't kept", machine.outboxes(), [b"said\n"])
 
 
+def stand_in_daemon(machine: Machine, before: str = "", after: str = ""):
+    """Puts a shell's script in the place of the program that ends once its socket is removed, with what else it does."""
+    finds_it = 'for it; do case $it in */socket) socket=$it ;; esac; done'
+    stand_in(machine, f'test "$1" = serve || exit 9\n{finds_it}\n{before}\n: > "$socket"\nwhile test -e "$socket"; do sleep 0.05; done\n{after}')
+
+
+def handles(process: subprocess.Popen) -> bool:
+    """Whether a process handles SIGTERM by now."""
+    found = re.search(r"^SigCgt:\s*(\w+)", Path(f"/proc/{process.pid}/status").read_text(encoding="ascii"), re.M)
+    return bool(int(found[1], 16) >> (signal.SIGTERM - 1) & 1)
+
+
+def is_free(machine: Machine) -> bool:
+    """Whether nobody holds the lock: the script has ended, and its daemon."""
+    words = ["flock", "--nonblock", str(machine.outbox.parent / "lock"), "true"]
+    return subprocess.run(words, check=False, timeout=PATIENCE).returncode == 0
+
+
 def check_second(checks: Checks, machine: Machine, command: str):
-    """No daemon begins beside another in one folder, and one that can't be asked to stop is ended by a signal."""
-    stand_in(machine, '[ "$1" = stop ] && exit 1\nexec sleep 60')
+    """No daemon begins beside another in one folder, and one that takes its time to end is waited for, and not killed."""
+    stand_in_daemon(machine, after="sleep 6\necho ended")
     try:
         daemon = machine.start(command)
     except OSError as why:
         checks.true(f"a first script ({why})", False)
         return
     try:
-        checks.true("a run that says nothing", until(machine.outbox.exists))
+        checks.true("a run that says nothing", until(machine.socket.exists))
         checks.equal("a second script in the same folder", end_of(machine, command), 1)
         checks.true("says why", b"another daemon has its outbox in " in machine.notes())
     finally:
         daemon.send_signal(signal.SIGTERM)
-        checks.equal("a run that can't be asked to stop", daemon.wait(timeout=PATIENCE), 128 + signal.SIGTERM)
+        checks.equal("a run that takes six seconds to end", daemon.wait(timeout=PATIENCE), 0)
+    checks.equal("it came to its end", (machine.outbox.read_bytes(), is_free(machine)), (b"ended\n", True))
+
+
+def check_statuses(checks: Checks, machine: Machine, command: str):
+    """The status of a script that was stopped is that of its run, which may have failed before the signal or after it; and
+    a daemon that has its socket late is ended all the same."""
+    for status in (0, 1, 3, 128 + signal.SIGKILL):
+        stand_in_daemon(machine, after=f"exit {status}" if status < 128 else "kill -KILL $$")
+        daemon = machine.start(command)
+        checks.true("a run to be stopped", until(machine.socket.exists))
+        daemon.send_signal(signal.SIGTERM)
+        checks.equal(f"a stop of a run that ends with {status}", daemon.wait(timeout=PATIENCE), status)
+        stand_in_daemon(machine, after=f"exit {status}")
+        if status in (1, 3):
+            daemon = machine.start(command)
+            checks.true("a run that fails", until(machine.socket.exists))
+            machine.socket.unlink()
+            daemon.send_signal(signal.SIGTERM)
+            checks.equal(f"a run that fails with {status} as it is stopped", daemon.wait(timeout=PATIENCE), status)
+    mark = machine.outbox.parent / "mark"
+    stand_in_daemon(machine, before=f": > {mark}\nsleep 1")
+    daemon = machine.start(command)
+    checks.true("a run that has no socket yet", until(mark.exists))
+    daemon.send_signal(signal.SIGTERM)
+    checks.equal("a stop of a run that has no socket yet", daemon.wait(timeout=PATIENCE), 0)
+    checks.true("nothing is left", is_free(machine) and not machine.socket.exists())
+
+
+def check_moments(checks: Checks, machine: Machine, command: str):
+    """A signal at any moment, also between two runs, ends the script with status 0, and no daemon is left."""
+    dice = random.Random(20261125)
+    for what in ("exit 0", ""):
+        stand_in_daemon(machine, before=what)
+        ends = []
+        for _ in range(15):
+            daemon = machine.start(command)
+            checks.true("the script handles signals", until(lambda: handles(daemon)))
+            time.sleep(dice.random() / 20)
+            daemon.send_signal(signal.SIGTERM)
+            ends.append((daemon.wait(timeout=PATIENCE), is_free(machine)))
+        checks.equal(f"stops at any moment {what}", ends, [(0, True)] * 15)
+
+
+def check_all_signalled(checks: Checks, machine: Machine, command: str):
+    """A signal to the daemon alone does nothing, and one to all processes ends the run in order, as that to the script."""
+    for it in (signal.SIGTERM, signal.SIGINT, signal.SIGHUP):
+        script = begun(checks, machine, command)
+        if not script:
+            return
+        try:
+            checks.equal(f"{it.name}: an outcome that nobody flushes", machine.send(FRAMES[:FIRST_FRAME]).outbox, b"0 logged 0\n")
+            for child in Path(f"/proc/{script.pid}/task/{script.pid}/children").read_text(encoding="ascii").split():
+                os.kill(int(child), it)
+            checks.equal(f"{it.name} to the daemon does nothing", machine.send(FRAMES[:FIRST_FRAME]).outbox, b"0 logged 1\n")
+            os.killpg(script.pid, it)
+            checks.equal(f"{it.name} to all processes: the status", script.wait(timeout=PATIENCE), 0)
+            checks.equal(f"{it.name} to all processes: the outbox", machine.outbox.read_bytes(), empty_outbox())
+        finally:
+            script.kill()
+            script.wait()
+    checks.equal("what is open is named each time", machine.notes().count(b"open B A1B2C3 2\n"), 3)
 
 
 def check_installed(checks: Checks, machine: Machine, *commands: str):
@@ -377,7 +446,7 @@ def main():
     account = has_accounts()
     check_keys(checks, sections)
     (command,) = sections["Service"]["ExecStart"]
-    for check in (check_access, check_runs, check_failures, check_second):
+    for check in (check_access, check_runs, check_failures, check_second, check_statuses, check_moments, check_all_signalled):
         with tempfile.TemporaryDirectory(prefix="noticed-") as name:
             check(checks, Machine(Path(name), sections["Service"], account), command)
     with tempfile.TemporaryDirectory(prefix="noticed-") as name:

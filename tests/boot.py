@@ -241,7 +241,7 @@ def check_run_file(checks: Checks, it: Container):
     """The `run` file of docs/DEPLOY.md, without systemd: a first start where nothing is there, and an orderly stop."""
     it.run("systemctl", "stop", "noticed", "noticed-feed")
     it.run("rm", "-rf", "/run/noticed", OUTBOXES)
-    it.file("/root/run").write_text(block("#!/bin/sh\n"))
+    it.file("/root/run").write_text(block("#!/bin/sh\nexec 2>&1\ninstall "))
     words = ["nsenter", f"--target={it.leader()}", "--all", "--", "sh", "-c", "echo $$ > /root/pid; exec sh /root/run"]
     with subprocess.Popen(words, stdin=subprocess.DEVNULL, stdout=subprocess.PIPE) as running:
         try:

@@ -3,6 +3,7 @@
 finished, the notes name what is open, the socket's file is gone, and nothing that was answered is lost. A daemon that has
 the path by then goes on. A daemon whose file is removed ends too; one that is halted for a while (SIGSTOP) loses nobody."""
 import contextlib
+import fcntl
 import os
 import re
 import shutil
@@ -11,6 +12,7 @@ import socket
 import subprocess
 import sys
 import tempfile
+import termios
 import threading
 import time
 from pathlib import Path
@@ -34,6 +36,11 @@ def stop(daemon: Daemon) -> Ran:
 def stopping(path: str) -> subprocess.Popen:
     """Begins `noticed stop` on a socket."""
     return subprocess.Popen([program(), "stop", path], stdout=subprocess.PIPE, stderr=subprocess.PIPE)
+
+
+def is_read(client: socket.socket) -> bool:
+    """Waits until the daemon has read all that a client sent: none of it stands in a queue (SIOCOUTQ, unix(7))."""
+    return until(lambda: not int.from_bytes(fcntl.ioctl(client, termios.TIOCOUTQ, bytes(4)), sys.byteorder))
 
 
 def ran(started: subprocess.Popen) -> Ran:
@@ -73,7 +80,7 @@ def held_connections(checks: Checks):
         frame = append(0, b"Q" * 32, b"x" * 100)
         for at in range(40):
             writing.sendall(frame[at : at + 1])
-            time.sleep(0.01)
+            is_read(writing)
         checks.equal("a third one", asked(last, append(0, b"Q3")), answer(1))
         with stopping(daemon.path) as stop_:
             checks.true("the client that waits is let go", is_ended(waiting))
@@ -93,6 +100,7 @@ def silent_in_a_frame(checks: Checks):
     with Daemon(1, 1000) as daemon:
         with daemon.connect() as client:
             client.sendall(append(0)[:20])
+            checks.true("silent in a frame: it has begun", is_read(client))
             checks.equal("silent in a frame: the stop", stop(daemon), STOPPED)
         ended = daemon.end()
         checks.equal("silent in a frame: a fault", (ended.notes, ended.status), (line(0, 0, 1, 1), 0))
@@ -104,6 +112,7 @@ def slow_in_a_frame(checks: Checks):
     with Daemon(1, 1000) as daemon:
         with daemon.connect() as client:
             client.sendall(LONGEST)
+            checks.true("slow in a frame: it has begun", is_read(client))
             with stopping(daemon.path) as stop_:
                 began, sent = time.monotonic(), 0
                 with contextlib.suppress(ConnectionError):
@@ -333,6 +342,7 @@ def interrupted(checks: Checks):
         waiting, writing = daemon.connect(), daemon.connect()
         checks.equal("interrupted: a client", asked(waiting, append(0)), answer(1))
         writing.sendall(append(0)[:20])
+        checks.true("interrupted: a frame has begun", is_read(writing))
         halt(daemon)
         checks.equal("interrupted between frames", asked(waiting, append(1)), answer(1, 1, 1))
         checks.equal("interrupted in a frame", asked(writing, append(0)[20:]), answer(1, 0, 2))

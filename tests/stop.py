@@ -106,6 +106,20 @@ def silent_in_a_frame(checks: Checks):
         checks.equal("silent in a frame: a fault", (ended.notes, ended.status), (line(0, 0, 1, 1), 0))
 
 
+def silent_between_frames(checks: Checks):
+    """A client that has said nothing for longer than a stop's ten seconds, between two frames, is let go as any other: no
+    fault, with a longer idle limit and without one."""
+    for options in ((), ("--idle", "300")):
+        with Daemon(1, 1000, options=options) as daemon:
+            with daemon.connect() as client:
+                checks.equal(f"silent between frames {options}: a client", asked(client, append(0)), answer(1))
+                time.sleep(12)
+                checks.equal(f"silent between frames {options}: the stop", stop(daemon), STOPPED)
+                checks.true(f"silent between frames {options}: it is let go", is_ended(client))
+            ended = daemon.end()
+            checks.equal(f"silent between frames {options}: no fault", (re.findall(rb" faults (\d+)$", ended.notes, re.M), ended.status), ([b"0"], 0))
+
+
 def slow_in_a_frame(checks: Checks):
     """A client that sends a byte now and then can't hold a stop up: it would need nine hours for its frame. (It could
     before a daemon counted the pieces of a frame: each byte was the end of a silence.)"""
@@ -386,7 +400,7 @@ def interrupted_answers(checks: Checks):
 def main():
     checks = Checks("stop: daemons that are idle, at work or held by clients end in order, and lose nothing")
     for check in (
-        *(no_clients, open_logs, held_connections, silent_in_a_frame, slow_in_a_frame, busy_client, at_load, not_allowed, no_daemon),
+        *(no_clients, open_logs, held_connections, silent_in_a_frame, silent_between_frames, slow_in_a_frame, busy_client, at_load, not_allowed, no_daemon),
         *(two_stops, another_daemon, ends_by_itself, removed_file, removed_from_idle, interrupted, interrupted_answers),
     ):
         check(checks)

@@ -1,15 +1,16 @@
 -- Serve: a run over ports that don't tell their connections, whatever they are.
-use Rattle.std.proofs.Common.{◌≡◌, ℕ, suc, List, [], ◌∷◌, length, replicate, inl, inr, subst}
+use Rattle.std.proofs.Common.{◌≡◌, ℕ, suc, ◌<◌, ◌⊎◌, List, [], ◌∷◌, length, replicate, inl, inr, refl, subst}
 use Rattle.std.proofs.lemmas.List.{length-replicate}
 use Rattle.std.specs.Prelude.{None}
 use Rattle.dsn_agent.specs.Agent.{Ends}
-use Rattle.dsn_crew.specs.Crew.{Account, AreAgentAccounts, IsAccount, IsAgentAccount}
+use Rattle.dsn_crew.specs.Crew.{Account, AreAgentAccounts, IsAccount, IsAgentAccount, most_ports}
+use Rattle.dsn_crew.specs.declared.crew_cause.CrewCause.TheVariants.{PortCount}
 use Rattle.dsn_agent.specs.declared.agent_line.AgentLine.{AgentLine}
 use Rattle.dsn_agent.specs.declared.port.Port.{Ghosts as Port}
 use Rattle.dsn_device.specs.declared.drain.Drain.{Ghosts as Drain}
 use Rattle.dsn_outcome.specs.History.{Limits}
 use Rattle.dsn_outcome.specs.Request.{Request}
-use Rattle.noticed_serve.specs.Serve.{IsServe, untold_port}
+use Rattle.noticed_serve.specs.Serve.{IsServe, TellsFault, untold_port}
 use Rattle.noticed_serve.specs.declared.serve_end.ServeEnd.{ServeEnd}
 
 module _ {P S : Type 0} (port : Port P S) (untold : (one : P) → port.conns one ≡ None) (limits : Limits) where
@@ -49,3 +50,12 @@ module _ {P S W N : Type 0} (port : Port P S) (untold : (one : P) → port.conns
     counted = rw (length-replicate (length ports)) faulted.counted;
     told = faulted.told;
   })
+
+-- a run that was refused for the number of its agents
+pub serve-refused : {W N : Type 0} (drain : Drain W) (notes_device : Drain N) (host : List ℕ) (limits : Limits) (agents : ℕ) (start : W) (notes later : N) (end : ServeEnd W) → (agents ≡ 0) ⊎ (most_ports < agents) → TellsFault notes_device PortCount start [] notes later end → IsServe untold_port drain notes_device host limits (replicate agents tt) start notes later end
+serve-refused drain notes_device host limits agents start notes later end few told = inr (record {
+  fault = record { cause = PortCount; outbox = start; unsent = []; taken = [] };
+  crew = (refl, refl, refl);
+  counted = (λ is. rw (length-replicate agents) few, λ is. refl);
+  told = told;
+})

@@ -67,10 +67,11 @@ module _ {P S W N : Type 0} (port : Port P S) (drain : Drain W) (notes_device : 
 abbrev pub untold_port : Port (Unit {0}) (Unit {0})
 untold_port = record { conns = λ port. None }
 
--- a run over so many ports of a socket; or one that found no memory for their list, so that nothing
--- began
+-- a run over so many ports of a socket; or one for 1 to `most_ports` of them that found no memory for
+-- their list, so that nothing began
 abbrev pub IsSocketServe : {W N : Type 0} → Drain W → Drain N → List ℕ → Limits → ℕ → W → N → N
     → ServeEnd W → Type 0
 IsSocketServe drain notes_device host limits agents start notes later end =
     IsServe untold_port drain notes_device host limits (replicate agents tt) start notes later end
-    ⊎ TellsFault notes_device Refused start [] notes later end
+    ⊎ (((1 ≤ agents) × (agents ≤ most_ports))
+    × TellsFault notes_device Refused start [] notes later end)

@@ -1,6 +1,7 @@
 //! The run of the daemon over a listening socket.
-ghost use Rattle.std.specs.Prelude.{◌≡◌, All, length, IfOk};
+ghost use Rattle.std.specs.Prelude.{◌≡◌, ◌≤◌, ◌<◌, ◌⊎◌, All, length, true, false, IfOk};
 ghost use Rattle.dsn_book.specs.Limits.{limits_of};
+ghost use Rattle.dsn_crew.specs.Crew.{most_ports};
 ghost use Rattle.noticed_serve.specs.Serve.{IsSocketServe};
 
 use crate::no_watch::NoWatch;
@@ -19,9 +20,13 @@ use std::os::unix::net::UnixListener;
 use std::sync::Wait;
 use std::thread::Threads;
 
+/// How many agents a crew has at most.
+const MOST_AGENTS: u32 = 16;
+
 /// Serves what connects to `listener` by a crew of `agents` agents, as [`serve_ports`] does. All of
 /// them accept on the one listener, and each is done once it has served `max_use` connections; its
-/// port fails where an accept fails. Refused memory for the ports is told as the crew's is (42).
+/// port fails where an accept fails. Where there are not 1 to 16 agents that is told (43) before
+/// any memory is taken; refused memory for the ports is told as the crew's is (42).
 pub fn serve<R: Threads + Wait + Sync, W: Drain + Drop + Send, N: Drain>(
     rt: &R,
     alloc: Global,
@@ -78,10 +83,21 @@ fn serve_socket<R: Threads + Wait + Sync, H: Watch + Sync, W: Drain + Drop + Sen
 ) -> ServeEnd<W>
     ensures { IsSocketServe W.Drain N.Drain site limits agents outbox notes.old notes.new result }
 {
+    if !is_crew(agents) {
+        return tell_fault(alloc, CrewCause::PortCount, outbox, Letters::new(), notes);
+    }
     match socket_ports(alloc, listener, watch, agents, max_use) {
         Ok(ports) => serve_ports(rt, alloc, site, limits, ports, outbox, &NoGate, notes),
         Err(NoMemory) => tell_fault(alloc, CrewCause::Refused, outbox, Letters::new(), notes),
     }
+}
+
+/// Whether a crew may have so many agents.
+fn is_crew(agents: u32) -> bool
+    ensures crew { result ≡ true → (1 ≤ agents) × (agents ≤ most_ports) }
+    ensures none { result ≡ false → (agents ≡ 0) ⊎ (most_ports < agents) }
+{
+    agents >= 1 && agents <= MOST_AGENTS
 }
 
 /// So many ports over one listener.

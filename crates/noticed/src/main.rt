@@ -60,7 +60,7 @@ fn tell_refusal(rt: &HostRuntime, refusal: &Refusal) -> u8 {
             1
         }
         Refusal::NoStream(error) => {
-            let _ = eprintln!(rt; "a standard stream is closed: {error}");
+            let _ = eprintln!(rt; "the standard streams could not be seen to: {error}");
             1
         }
     }

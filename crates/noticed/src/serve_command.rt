@@ -92,6 +92,7 @@ fn is_example(host: &str) -> bool {
         ".example.org",
         ".example",
         ".invalid",
+        ".localhost",
         ".test",
     ]
     .iter()

@@ -2,9 +2,10 @@
 use crate::refusal::Refusal;
 use crate::socket_fault::tell_socket_fault;
 use std::alloc::Global;
-use std::fs::Files;
+use std::fs::{Files, Metadata};
 use std::io::{Eprint, ErrorKind, Read};
 use std::net::Net;
+use std::os::unix::fs::MetadataExt;
 use std::os::unix::net::UnixStream;
 use std::{fs, io};
 
@@ -28,6 +29,7 @@ pub(crate) fn run_stop<R: Files + Net + Eprint>(
 /// Connects as often as it takes, removes the socket's file, which the daemon looks for, and waits
 /// for the end of the last connection.
 fn stop<R: Files + Net>(rt: &R, alloc: Global, path: &str) -> io::Result<()> {
+    let file = fs::symlink_metadata(rt, path)?;
     let mut last = UnixStream::connect(rt, path)?;
     let mut others = Vec::new(alloc);
     for _ in 1..CONNECTIONS {
@@ -36,15 +38,40 @@ fn stop<R: Files + Net>(rt: &R, alloc: Global, path: &str) -> io::Result<()> {
                 others.push(last)?;
                 last = connection;
             }
-            // The daemon has just ended by itself.
-            Err(error) if error.kind() == ErrorKind::ConnectionRefused => break,
+            Err(error) if is_over(&error) => break,
             Err(error) => return Err(error),
         }
     }
-    fs::remove_file(rt, path)?;
+    if !remove(rt, path, &file)? {
+        return Ok(());
+    }
     // The agents that serve these go on to the end.
     drop(others);
     // The end of the input, or an error, once the daemon has closed its socket.
     let _ = last.read(&mut [0]);
     Ok(())
+}
+
+/// Whether a daemon that was there a moment before has just ended, by itself or by another stop.
+fn is_over(error: &io::Error) -> bool {
+    matches!(error.kind(), ErrorKind::ConnectionRefused | ErrorKind::NotFound)
+}
+
+/// Removes the file of a socket, if it is there. Returns false where another one has its path by
+/// now, that of the next daemon, which goes on.
+fn remove<R: Files>(rt: &R, path: &str, socket: &Metadata) -> io::Result<bool> {
+    let removed = match fs::symlink_metadata(rt, path) {
+        Ok(file) if !is_same(&file, socket) => return Ok(false),
+        Ok(_) => fs::remove_file(rt, path),
+        Err(error) => Err(error),
+    };
+    match removed {
+        Err(error) if error.kind() != ErrorKind::NotFound => Err(error),
+        _ => Ok(true),
+    }
+}
+
+/// Whether two files are one: they have the same device and inode.
+fn is_same(one: &Metadata, other: &Metadata) -> bool {
+    one.dev() == other.dev() && one.ino() == other.ino()
 }

@@ -1,33 +1,39 @@
 //! A connection to a client, under a watch.
 ghost use Rattle.std.specs.Prelude.{refl};
 
-use crate::watch::Watch;
+use crate::watch::{TICK, Watch};
 use dsn_device::Opaque;
 use std::io;
 use std::io::{ErrorKind, Read, Write};
 use std::os::unix::net::UnixStream;
 use std::time::Duration;
 
-/// How often a waiting connection looks up, in seconds.
-const TICK: u64 = 1;
+/// What a second of waiting uses up of a client's time.
+const SECOND: u32 = 3;
 
-/// How many seconds a client may say nothing in the middle of a frame once the run is ending.
+/// What a piece of a frame uses up of it, once the run is ending.
+const PIECE: u32 = 1;
+
+/// How many seconds a client has in the middle of a frame, at most, once the run is ending.
 const LAST_PATIENCE: u32 = 10;
 
 /// A connection to a client. Where its watch looks up, it does so each second that it waits: a
-/// client that says nothing, or reads nothing, for too long is cut off by an error
-/// (`WouldBlock`). Once the run is ending, the input ends before the next frame.
+/// client that says nothing, or reads nothing, for too long is cut off by an error. Once the run is
+/// ending, the input ends before the next frame, and a client in the middle of one has little time
+/// for it, however it comes.
 #[derive(Drop)]
 pub(crate) struct Connection<'a, H> {
     stream: UnixStream,
     watch: &'a H,
-    /// How many seconds the client has said nothing.
-    silence: u32,
+    /// What the client has used up of its time, in parts of which a second has [`SECOND`].
+    used: u32,
     /// Whether the next byte that is read begins a frame: the one before was answered, since a
     /// client waits for each answer.
     between_frames: bool,
     /// How many frames were begun, modulo 256.
     frames: u8,
+    /// Whether the run was found to be ending. From then on the client's time is counted anew.
+    is_ending: bool,
 }
 
 impl<'a, H: Watch> Connection<'a, H> {
@@ -42,10 +48,25 @@ impl<'a, H: Watch> Connection<'a, H> {
         Ok(Connection {
             stream,
             watch,
-            silence: 0,
+            used: 0,
             between_frames: true,
             frames: 0,
+            is_ending: false,
         })
+    }
+
+    /// Finds out whether the run is ending.
+    fn look(&mut self) {
+        self.watch.look();
+        self.hear_of_end();
+    }
+
+    /// Hears that the run is ending, if that was found out.
+    fn hear_of_end(&mut self) {
+        if !self.is_ending && self.watch.is_ending() {
+            self.is_ending = true;
+            self.used = 0;
+        }
     }
 
     /// Whether the input ends here: before a frame, in a run that is ending. A client that never
@@ -58,36 +79,58 @@ impl<'a, H: Watch> Connection<'a, H> {
         if self.frames == 0 {
             self.watch.look();
         }
-        self.watch.is_ending()
+        self.hear_of_end();
+        self.is_ending
     }
 
-    /// Whether a client has said nothing for too long, after one more second.
-    fn is_cut_off(&mut self) -> bool {
-        self.watch.look();
-        self.silence = self.silence.saturating_add(1);
-        let limit = if self.watch.is_ending() {
-            Some(
-                self.watch
-                    .idle_limit()
-                    .unwrap_or(LAST_PATIENCE)
-                    .min(LAST_PATIENCE),
-            )
-        } else {
-            self.watch.idle_limit()
-        };
-        match limit {
-            Some(seconds) if self.silence >= seconds => {
+    /// How many seconds the client may take, if there is a limit.
+    fn patience(&self) -> Option<u32> {
+        let limit = self.watch.idle_limit();
+        if self.is_ending {
+            return Some(limit.unwrap_or(LAST_PATIENCE).min(LAST_PATIENCE));
+        }
+        limit
+    }
+
+    /// Whether the client is cut off, now that it has used up so much more of its time.
+    fn uses_up(&mut self, amount: u32) -> bool {
+        self.used = self.used.saturating_add(amount);
+        match self.patience() {
+            Some(seconds) if self.used >= seconds.saturating_mul(SECOND) => {
                 self.watch.client_cut_off(seconds);
                 true
             }
             _ => false,
         }
     }
+
+    /// Whether a read or a write goes on after a call: it ended since its second was over, and the
+    /// client has more of them, or the input ends here; or since the process was stopped for a
+    /// while, which ends each call that has a time limit.
+    fn goes_on<T>(&mut self, called: &io::Result<T>) -> bool {
+        let Err(error) = called else {
+            return false;
+        };
+        match error.kind() {
+            ErrorKind::Interrupted => self.watch.looks_up(),
+            ErrorKind::WouldBlock if self.watch.looks_up() => {
+                self.look();
+                (self.is_ending && self.between_frames) || !self.uses_up(SECOND)
+            }
+            _ => false,
+        }
+    }
+
+    /// Whether a client that gave a piece of a frame holds up a run that is ending.
+    fn is_held_up(&mut self) -> bool {
+        self.look();
+        self.is_ending && self.uses_up(PIECE)
+    }
 }
 
-/// Whether a call ended since its second was over.
-fn is_tick<T>(called: &io::Result<T>) -> bool {
-    matches!(called, Err(error) if error.kind() == ErrorKind::WouldBlock)
+/// Whether a read gave fewer bytes than it could: the client has given no more yet.
+fn is_short(read: &io::Result<usize>, asked: usize) -> bool {
+    matches!(read, Ok(count) if *count < asked)
 }
 
 impl<H: Watch> Read for Connection<'_, H> {
@@ -97,9 +140,14 @@ impl<H: Watch> Read for Connection<'_, H> {
                 return Ok(0);
             }
             let read = self.stream.read(buffer);
-            if !is_tick(&read) || self.is_cut_off() {
-                self.silence = 0;
+            if !self.goes_on(&read) {
                 self.between_frames = false;
+                if !self.is_ending {
+                    self.used = 0;
+                }
+                if is_short(&read, buffer.len()) && self.is_held_up() {
+                    return Err(io::Error::from(ErrorKind::TimedOut));
+                }
                 return read;
             }
         }
@@ -111,8 +159,8 @@ impl<H: Watch> Write for Connection<'_, H> {
     fn write(&mut self, text: &[u8]) -> io::Result<usize> {
         for _ in 0..u64::MAX {
             let written = self.stream.write(text);
-            if !is_tick(&written) || self.is_cut_off() {
-                self.silence = 0;
+            if !self.goes_on(&written) {
+                self.used = 0;
                 self.between_frames = true;
                 return written;
             }

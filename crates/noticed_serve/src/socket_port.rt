@@ -6,10 +6,12 @@ use crate::watch::Watch;
 use dsn_crew::{Next, Port};
 use dsn_device::Plain;
 use std::io;
+use std::io::ErrorKind;
 use std::os::unix::net::{UnixListener, UnixStream};
 
 /// A port that accepts connections on a listening socket, up to a number of them, or until its
-/// watch finds that the run is to end. It tells contracts nothing of what comes.
+/// watch finds that the run is to end. Where the watch looks up, it does so each second that no
+/// client comes. It tells contracts nothing of what comes.
 #[derive(Drop)]
 pub(crate) struct SocketPort<'a, H> {
     pub(crate) listener: &'a UnixListener,
@@ -23,6 +25,13 @@ impl<'a, H: Watch> SocketPort<'a, H> {
     fn is_over(&self) -> bool {
         self.watch.look();
         self.watch.is_ending()
+    }
+
+    /// Whether an accept ended since its second was over, or since the process was stopped for a
+    /// while, which ends each call that has a time limit.
+    fn is_tick(&self, error: &io::Error) -> bool {
+        self.watch.looks_up()
+            && matches!(error.kind(), ErrorKind::WouldBlock | ErrorKind::Interrupted)
     }
 
     /// What the port answers to a connection that was accepted. In a run that is ending it is let
@@ -55,13 +64,20 @@ impl<'a, H: Watch + Sync> Port for SocketPort<'a, H> {
     ghost conns = { λ _. None };
 
     fn next(&mut self) -> Next<Plain<Connection<'a, H>>> {
-        if self.left == 0 || self.is_over() {
+        if self.left == 0 {
             return Next::Done;
         }
         self.left -= 1;
-        match self.listener.accept() {
-            Ok((stream, _)) => self.answer(stream),
-            Err(error) => self.failed(&error),
+        for _ in 0..u64::MAX {
+            if self.is_over() {
+                return Next::Done;
+            }
+            match self.listener.accept() {
+                Ok((stream, _)) => return self.answer(stream),
+                Err(error) if self.is_tick(&error) => {}
+                Err(error) => return self.failed(&error),
+            }
         }
+        Next::Done
     }
 }

@@ -1,5 +1,5 @@
 //! The watch of the program: over the socket's file, a limit of idle time, and a log.
-use crate::watch::Watch;
+use crate::watch::{TICK, Watch};
 use std::fs::{Files, Metadata};
 use std::io::{Eprint, ErrorKind};
 use std::net::Shutdown;
@@ -7,7 +7,11 @@ use std::os::fd::OwnedFd;
 use std::os::unix::fs::MetadataExt;
 use std::os::unix::net::{UnixListener, UnixStream};
 use std::sync::atomic::{AtomicBool, AtomicI32, Ordering};
+use std::time::Duration;
 use std::{fs, io};
+
+/// The device and the inode that no file has.
+const NO_FILE: (u64, u64) = (0, 0);
 
 /// What the watch of a run is told to do.
 #[derive(Clone, Copy)]
@@ -37,21 +41,27 @@ pub struct SocketWatch<'a, R> {
 }
 
 impl<'a, R: Files + Eprint> SocketWatch<'a, R> {
-    /// The watch over the socket that was just bound to this path. An error comes where the
-    /// system doesn't find the file, or has no descriptor left.
+    /// The watch over the socket that was just bound to this path, whose accepts it gives a time
+    /// limit. Where its file is gone already the run ends at once. An error comes where the system
+    /// doesn't tell of the file, or has no descriptor left.
     pub fn new(
         rt: &'a R,
         listener: &UnixListener,
         path: &'a str,
         options: WatchOptions,
     ) -> io::Result<SocketWatch<'a, R>> {
-        let file = fs::symlink_metadata(rt, path)?;
+        let file = match fs::symlink_metadata(rt, path) {
+            Ok(file) => identity(&file),
+            Err(error) if error.kind() == ErrorKind::NotFound => NO_FILE,
+            Err(error) => return Err(error),
+        };
         let listening = UnixStream::from(OwnedFd::from(listener.try_clone()?));
+        listening.set_read_timeout(Some(Duration::from_secs(TICK)))?;
         Ok(SocketWatch {
             rt,
             path,
             options,
-            file: identity(&file),
+            file,
             listening,
             ending: AtomicBool::new(false),
             accept_error: AtomicI32::new(0),

@@ -1,11 +1,15 @@
 //! What looks after a run of the daemon over a socket.
 use std::io;
 
+/// How often what waits under a watch looks up, in seconds.
+pub(crate) const TICK: u64 = 1;
+
 /// Looks after a run over a socket: it says when the run is to end before its last connection, and
 /// hears of what happens in it. No contract says what it answers.
 pub trait Watch {
-    /// Whether a connection looks up each second while it waits for its client: for the run's end,
-    /// and for a client that says nothing. Else it waits for as long as its client takes.
+    /// Whether what waits looks up each second: an agent that accepts for the run's end, and one
+    /// that serves a connection also for a client that says nothing. Else each waits for as long
+    /// as its client takes.
     fn looks_up(&self) -> bool;
 
     /// After how many seconds a client that says nothing is cut off, if ever.

@@ -16,7 +16,7 @@ import time
 from pathlib import Path
 
 sys.path.insert(0, str(Path(__file__).parent / "support"))
-from daemon_and_clients import OUTBOX, PATIENCE, Daemon, answer, append, asked, flush, frames, heard, line  # noqa: E402
+from daemon_and_clients import OUTBOX, Daemon, answer, append, asked, flush, frames, heard, line  # noqa: E402
 from formats.logs import CLOSED, DISCARDED, FORGOTTEN, GONE, LOG_FULL, LOGGED, NO_RETURN, NOT_CLOSED, NOTHING, REFUSED, SEALED, TABLE_FULL  # noqa: E402
 from running import EXAMPLES, LIMIT, Checks, Ran, empty_outbox  # noqa: E402
 
@@ -28,8 +28,10 @@ END, SILENCE = "end", "silence"  # what a false daemon may do in place of an ans
 GREETED = (REFUSED, 21)
 ONE, TWO = "append . bounce Q1 x@y failed 5.0.0\n", "append . bounce Q1 z@y failed 5.0.0\n"
 FLUSH, FORGET, DISCARD = "flush . bounce Q1\n", "forget . bounce Q1\n", "discard . bounce Q1\n"
-UNGREETED = ["--wait", "0.3", "--answer", "20", "--give-up", "5"]  # for daemons that are silent before the first answer
-UNANSWERED = ["--wait", "20", "--answer", "0.3", "--give-up", "5"]  # or after it
+PATIENCE = 100  # seconds that a false daemon waits for the client, on a machine that is slow or busy
+UNGREETED = ["--wait", "3"]  # for daemons that are silent before the first answer: the others answer in less
+UNANSWERED = ["--answer", "3"]  # or after it
+PATIENT = ["--connect", "60", "--wait", "60", "--answer", "60", "--give-up", "80"]  # unless said
 LATE = 0.3  # seconds after which a daemon begins to listen
 
 
@@ -39,7 +41,7 @@ def client(path: str, given: str, *words) -> Ran:
     with tempfile.NamedTemporaryFile("w", encoding="utf-8") as file, contextlib.redirect_stdout(out), contextlib.redirect_stderr(err):
         file.write(given)
         file.flush()
-        sys.argv = [str(CLIENT), "--give-up", "20", *words, path, file.name]
+        sys.argv = [str(CLIENT), *PATIENT, *words, path, file.name]
         try:
             status = CLIENT_MODULE.main()
         except SystemExit as ended:
@@ -51,7 +53,7 @@ def client(path: str, given: str, *words) -> Ran:
 
 def program_of_its_own(path: str, given: str, *words) -> Ran:
     """Runs the client on a description, as a program that reads it from standard input."""
-    ended = subprocess.run([sys.executable, str(CLIENT), "--give-up", "20", *words, path], input=given.encode(), capture_output=True, timeout=LIMIT, check=False)
+    ended = subprocess.run([sys.executable, str(CLIENT), *PATIENT, *words, path], input=given.encode(), capture_output=True, timeout=LIMIT, check=False)
     return Ran(ended.stdout, ended.stderr, ended.returncode)
 
 

@@ -2,12 +2,10 @@
 """Checks examples/feed.py: it hands each notice of an outbox to a mail server, one at a time, tries again what is refused
 for now, and leaves out what is refused for good; or to a submission program. The server is a small one of this script's
 own, and aiosmtpd where that is installed; the outbox is the built program's."""
-import signal
 import socket
 import subprocess
 import sys
 import tempfile
-import time
 from pathlib import Path
 
 try:
@@ -16,11 +14,11 @@ except ImportError:
     Controller = None
 
 sys.path.insert(0, str(Path(__file__).parent / "support"))
-from feeding import FEED, MailServer, StrictServer, comes_to, feed, messages_of, outbox_for, outbox_of, submission  # noqa: E402
-from running import LIMIT, Checks  # noqa: E402
+from feeding import PATIENCE, Fed, Following, MailServer, StrictServer, comes_to, feed, messages_of, outbox_for, outbox_of, submission  # noqa: E402
+from running import Checks  # noqa: E402
 
 MESSAGES = 6
-SOON = ["--retry", "0.5", "--give-up", "2"]  # so that each is tried four times at most
+SOON = ["--retry", "1", "--give-up", "5"]  # so that each is tried five times at most, and twice also where a try takes seconds
 
 
 def servers(checks: Checks, outbox: bytes):
@@ -53,7 +51,7 @@ def tries(checks: Checks, outbox: bytes):
     status, said = feed([*SOON, server.address], outbox)
     left_out = [f"left out B K{at}: 450 4.2.0 try again" for at in range(MESSAGES)]
     checks.equal("each refused for ever: end", (status, sorted(said)), (1, sorted([*put_off, *left_out, f"0 handed in, {MESSAGES} left out"])))
-    checks.true("how often", all(2 <= it <= 4 for it in server.tries.values()))
+    checks.true("how often", all(2 <= it <= 5 for it in server.tries.values()))
     status, said = feed([*SOON, "127.0.0.1:1"], outbox)
     checks.equal("no server", (status, said[-1:]), (1, [f"0 handed in, {MESSAGES} left out"]))
     checks.equal("its lines", [it[:11] for it in said[:-1]], ["put off B K"] * MESSAGES + ["left out B "] * MESSAGES)
@@ -61,20 +59,20 @@ def tries(checks: Checks, outbox: bytes):
     checks.equal("nothing tried again", (status, [it[:12] for it in said]), (1, ["left out B K"] * MESSAGES + ["0 handed in,"]))
     with socket.create_server(("127.0.0.1", 0)) as it:
         port = it.getsockname()[1]
-    with subprocess.Popen([*FEED, "--retry", "0.1", f"127.0.0.1:{port}"], stdin=subprocess.PIPE, stderr=subprocess.PIPE) as running:
-        running.stdin.write(outbox)
-        running.stdin.close()
-        checks.true("a server that isn't there yet: the first line", running.stderr.readline().startswith(b"put off B K0: "))
+    with Fed("--retry", "0.1", f"127.0.0.1:{port}", stdin=subprocess.PIPE) as it:
+        it.given(outbox)
+        checks.true("a server that isn't there yet: a line", comes_to(lambda: min(len(it.said()), 1), 1))
+        checks.true("the first line", it.said()[0].startswith("put off B K0: "))
         server = MailServer(port=port)
         checks.true("all of it", comes_to(lambda: len(server.taken), MESSAGES))
-        said = running.stderr.read().decode().splitlines()
-        checks.equal("its end", (running.wait(), said[-1]), (0, f"{MESSAGES} handed in, 0 left out"))
+        status, said = it.ended()
+        checks.equal("its end", (status, said[-1]), (0, f"{MESSAGES} handed in, 0 left out"))
 
 
 def lost_replies(checks: Checks, outbox: bytes):
     """A notice whose reply was lost isn't sent again at once, but put off, since the server may have taken it."""
     server = MailServer(lost_replies=2)
-    status, said = feed(["--retry", "0.5", server.address], outbox)
+    status, said = feed(["--retry", "5", server.address], outbox)  # so long that all others are handed in before
     checks.equal("two replies lost: end", (status, [it[:14] for it in said[:-1]], said[-1]), (0, ["put off B K0: ", "put off B K1: "], f"{MESSAGES} handed in, 0 left out"))
     order = [int(to[6:7]) for to, _ in server.taken]
     checks.equal("what it was given, in order", order, [*range(MESSAGES), 0, 1])
@@ -86,18 +84,18 @@ def waiting_for_input(checks: Checks, outbox: bytes):
     for comes in (True, False):
         with socket.create_server(("127.0.0.1", 0)) as it:
             port = it.getsockname()[1]
-        with subprocess.Popen([*FEED, "--retry", "0.1", f"127.0.0.1:{port}"], stdin=subprocess.PIPE, stderr=subprocess.PIPE) as running:
-            running.stdin.write(outbox[:first_end])
-            running.stdin.flush()
-            checks.true("the first is put off", running.stderr.readline().startswith(b"put off B K0: "))
+        with Fed("--retry", "0.1", f"127.0.0.1:{port}", stdin=subprocess.PIPE) as it:
+            it.running.stdin.write(outbox[:first_end])
+            it.running.stdin.flush()
+            checks.true("the first is put off", comes_to(lambda its=it: len(its.said()), 1))
             if comes:
                 server = MailServer(port=port)
-                checks.true("it is taken", comes_to(lambda it=server: len(it.taken), 1))
-            running.send_signal(signal.SIGTERM)
-            said = running.stderr.read().decode().splitlines()
+                checks.true("it is taken", comes_to(lambda its=server: len(its.taken), 1))
+            status, said = it.end()
+            checks.true("which is said", said[0].startswith("put off B K0: "))
             left_out = [] if comes else ["left out B K0: the feeder ended before another try"]
             counts = f"{int(comes)} handed in, {int(not comes)} left out"
-            checks.equal("after a signal", (running.wait(), said), (1, ["stopped before the end", *left_out, counts]))
+            checks.equal("after a signal", (status, said[1:]), (1, ["stopped before the end", *left_out, counts]))
 
 
 class Handler:
@@ -128,7 +126,7 @@ def real_server(checks: Checks, outbox: bytes):
         handler = Handler(refused)
         with socket.create_server(("127.0.0.1", 0)) as it:
             port = it.getsockname()[1]
-        server = Controller(handler, hostname="127.0.0.1", port=port)
+        server = Controller(handler, hostname="127.0.0.1", port=port, ready_timeout=PATIENCE)
         server.start()
         status, said = feed([f"127.0.0.1:{port}"], outbox)
         server.stop()
@@ -143,8 +141,7 @@ def followed(checks: Checks, outbox: bytes):
     server, first_end = MailServer(), outbox.index(b"\r\n.\r\n") + 5
     with tempfile.TemporaryDirectory() as room:
         path = Path(room) / "outbox"
-        words = [*FEED, "--follow", str(path), server.address]
-        with subprocess.Popen(words, stderr=subprocess.PIPE, text=True) as running, path.open("wb", 0) as growing:
+        with Following(path, server.address) as it, path.open("wb", 0) as growing:
             growing.write(outbox[: first_end + 10])
             checks.true("the first notice", comes_to(lambda: len(server.taken), 1))
             growing.write(outbox[first_end + 10 :])
@@ -153,9 +150,7 @@ def followed(checks: Checks, outbox: bytes):
                 path.rename(path.with_suffix(f".{at}"))
                 path.write_bytes(text)
             checks.true("the next two at once, the first of them cut", comes_to(lambda: len(server.taken), 2 * MESSAGES + 1))
-            running.send_signal(signal.SIGTERM)
-            said = running.communicate(timeout=LIMIT)[1].splitlines()
-            checks.equal("its end", (running.returncode, said), (1, ["the outbox was cut short", f"{2 * MESSAGES + 1} handed in, 0 left out"]))
+            checks.equal("its end", it.end(), (1, ["the outbox was cut short", f"{2 * MESSAGES + 1} handed in, 0 left out"]))
 
 
 def removed(checks: Checks, outbox: bytes):
@@ -166,17 +161,15 @@ def removed(checks: Checks, outbox: bytes):
         path = Path(room) / "outbox"
         path.with_suffix(".0").write_bytes(outbox)
         path.write_bytes(b"")
-        with subprocess.Popen([*FEED, "--follow", str(path), server.address], stderr=subprocess.PIPE, text=True) as running:
-            time.sleep(1)  # until it reads the empty one
+        with Following(path, server.address) as it:
+            checks.true("the one of before, and then the empty one", comes_to(lambda: len(server.taken), MESSAGES) and it.rests())
             path.unlink()
             other = Path(room) / "made"
             other.write_bytes(outbox)
             other.rename(path.with_suffix(".1"))
             path.write_bytes(outbox)
             checks.true("the one that was moved away, and the one that grows", comes_to(lambda: len(server.taken), 3 * MESSAGES))
-            running.send_signal(signal.SIGTERM)
-            said = running.communicate(timeout=LIMIT)[1].splitlines()
-            checks.equal("its end", (running.returncode, said), (1, ["the outbox was cut short", f"{3 * MESSAGES} handed in, 0 left out"]))
+            checks.equal("its end", it.end(), (1, ["the outbox was cut short", f"{3 * MESSAGES} handed in, 0 left out"]))
 
 
 def programs(checks: Checks, outbox: bytes):
@@ -193,7 +186,7 @@ def programs(checks: Checks, outbox: bytes):
         checks.equal("its arguments", (Path(room) / "arguments").read_text().splitlines()[0], "-i -f <> -- sender0@example.com")
         for at, message in enumerate(messages_of(outbox)):
             checks.true("a message", (Path(room) / f"sender{at}@example.com").read_bytes() == message.replace(b"\r\n", b"\n"))
-        status, said = feed(["--retry", "0.1", "--give-up", "0.15", str(Path(room) / "nothing")], outbox)
+        status, said = feed([*SOON, str(Path(room) / "nothing")], outbox)
         checks.equal("no program: end", (status, said[-1:]), (1, [f"0 handed in, {MESSAGES} left out"]))
         checks.equal("its lines", sorted({it[:7] for it in said[:-1]}), ["left ou", "put off"])
 
@@ -252,6 +245,7 @@ def paths(checks: Checks):
 def strict_servers(checks: Checks, outbox: bytes):
     """A server is told nothing that it need not know, and nothing between two notices. Where it closes before it has a
     message, the notice is sent on a new connection at once; where it closes later, the notice is put off."""
+    first_end = outbox.index(b"\r\n.\r\n") + 5
     wanted = [(b"sender%d@example.com" % at, it) for at, it in enumerate(messages_of(outbox))]
     server = StrictServer()
     checks.equal("a strict server: end", feed([server.address], outbox), (0, [f"{MESSAGES} handed in, 0 left out"]))
@@ -259,19 +253,15 @@ def strict_servers(checks: Checks, outbox: bytes):
     checks.equal("connections", server.connections, 1)
     for how in ("closes", "hangs_up"):
         for word in ("MAIL", "RCPT", "DATA"):
-            with tempfile.NamedTemporaryFile() as file:
-                first_end = outbox.index(b"\r\n.\r\n") + 5
-                server = StrictServer()
-                with subprocess.Popen([*FEED, server.address], stdin=subprocess.PIPE, stderr=file) as running:
-                    running.stdin.write(outbox[:first_end])
-                    running.stdin.flush()
-                    checks.true("the first", comes_to(lambda it=server: len(it.taken), 1))
-                    getattr(server, how)[word] = 1
-                    running.stdin.write(outbox[first_end:])
-                    running.stdin.close()
-                    running.wait(timeout=LIMIT)
-                checks.equal(f"{how} at {word}", Path(file.name).read_text(), f"{MESSAGES} handed in, 0 left out\n")
-                checks.true("what it was given", server.taken == wanted and server.connections == 2)
+            server = StrictServer()
+            with Fed(server.address, stdin=subprocess.PIPE) as it:
+                it.running.stdin.write(outbox[:first_end])
+                it.running.stdin.flush()
+                checks.true("the first", comes_to(lambda its=server: len(its.taken), 1))
+                getattr(server, how)[word] = 1
+                it.given(outbox[first_end:])
+                checks.equal(f"{how} at {word}", it.ended(), (0, [f"{MESSAGES} handed in, 0 left out"]))
+            checks.true("what it was given", server.taken == wanted and server.connections == 2)
         for word in ("EHLO", "end"):
             server = StrictServer(**{how: {word: 1}})
             status, said = feed(["--retry", "0.3", server.address], outbox)
@@ -289,16 +279,14 @@ def hundreds(checks: Checks):
         for words, stdin in ((["--follow", str(path)], subprocess.DEVNULL), ([], path.open("rb")), ([], subprocess.PIPE)):
             server = MailServer()
             server.reply_to = lambda path: b"450 4.2.0 try again" if path in slow else b"250 ok"
-            with subprocess.Popen([*FEED, *words, server.address], stdin=stdin, stderr=subprocess.DEVNULL) as running:
+            with Fed("--retry", "3600", *words, server.address, stdin=stdin) as it:
                 if stdin == subprocess.PIPE:
-                    running.stdin.write(outbox)
-                    running.stdin.close()
-                    time.sleep(2)
-                    checks.equal("a hundred of a pipe wait", len([it for it in server.commands if it.startswith(b"RCPT")]), 100)
+                    it.given(outbox)
+                    checks.true("a hundred of a pipe", it.rests())
+                    checks.equal("no more of it", len([it for it in server.commands if it.startswith(b"RCPT")]), 100)
                 else:
-                    checks.true(f"those after a hundred and twenty {words[:1]}", comes_to(lambda it=server: len(it.taken), count - len(slow)))
-                running.send_signal(signal.SIGTERM)
-                running.wait(timeout=LIMIT)
+                    checks.true(f"those after a hundred and twenty {words[:1]}", comes_to(lambda its=server: len(its.taken), count - len(slow)))
+                it.end()
 
 
 def stopped(checks: Checks, outbox: bytes):
@@ -306,10 +294,10 @@ def stopped(checks: Checks, outbox: bytes):
     with tempfile.TemporaryDirectory() as room:
         status, said = feed([submission(room, "kill $PPID\n")], outbox)
         checks.equal("a signal with the first notice", (status, said), (1, ["stopped before the end", "1 handed in, 0 left out"]))
-        text = f'echo >> {room}/tries\n[ "$(wc -l < {room}/tries)" -le {MESSAGES} ] || kill $PPID\nexit 75\n'
+        text = f'echo "$last" >> {room}/tries\n[ "$(wc -l < {room}/tries)" -le {MESSAGES} ] || kill $PPID\nexit 75\n'
         status, said = feed(["--retry", "0.5", submission(room, text)], outbox)
-        tries = len((Path(room) / "tries").read_text().splitlines())
-        checks.equal("a signal with the first that is due", (status, said[-1:], tries), (1, [f"0 handed in, {MESSAGES} left out"], MESSAGES + 1))
+        tries = (Path(room) / "tries").read_text().splitlines()  # more than there are notices, so that the last is a second one
+        checks.equal("a signal with one that is due", (status, said[-1:], len(tries)), (1, [f"0 handed in, {len(set(tries))} left out"], MESSAGES + 1))
 
 
 def cut(checks: Checks, outbox: bytes):

@@ -5,6 +5,7 @@ and a submission program. And
 kills the daemon: each notice that is whole in its outbox arrives.
 
     python3 tests/feed_kills.py [KILLS]     kills for each of the three, 5 unless said"""
+import contextlib
 import random
 import re
 import sys
@@ -16,7 +17,7 @@ from pathlib import Path
 
 sys.path.insert(0, str(Path(__file__).parent / "support"))
 from daemon_and_clients import Daemon  # noqa: E402
-from feeding import Following, MailServer, frames, outbox_of, submission  # noqa: E402
+from feeding import Following, MailServer, comes_to, frames, outbox_of, submission  # noqa: E402
 from running import Checks  # noqa: E402
 
 RUN = 40  # notices of an outbox
@@ -25,18 +26,18 @@ PATIENCE = 300  # seconds until all is handed in: a program takes some for each,
 
 
 class Writer:
-    """What a daemon that is started anew again and again does: it writes outboxes notice by notice, each under the same
-    name once the one before was moved away. Every fourth is cut in its last notice."""
+    """What a daemon that is started anew again and again does: it writes outboxes notice by notice, so many at most, each
+    under the same name once the one before was moved away. Every fourth is cut in its last notice."""
 
-    def __init__(self, path: Path, chance: random.Random):
-        self.path, self.chance, self.written, self.is_last = path, chance, [], False
+    def __init__(self, path: Path, chance: random.Random, most: int):
+        self.path, self.chance, self.most, self.written, self.is_last = path, chance, most, [], False
         self.outboxes = [outbox_of(RUN, b"R%dx" % at) for at in range(12)]
         self.thread = threading.Thread(target=self.work)
         self.thread.start()
 
     def work(self):
         at = 0
-        while not self.is_last:
+        while not self.is_last and at < self.most:
             text = self.outboxes[at % len(self.outboxes)].replace(b"Message-ID: <B.R", b"Message-ID: <B.N%dR" % at)
             if self.path.exists():
                 self.path.rename(f"{self.path}.{time.time():.9f}")
@@ -67,17 +68,38 @@ class Writer:
         self.path.write_bytes(b"")
 
 
-def killed(checks: Checks, about: str, kills: int, room: Path, mailer: str, handed_in):
-    """Kills so many feeders and then lets one end: what was handed in is compared with what was written."""
+def at_work(group: int) -> int:
+    """How many processes of a group are at work: one that has ended and waits for its parent isn't."""
+    found = 0
+    for it in Path("/proc").glob("[0-9]*/stat"):
+        with contextlib.suppress(OSError):
+            state, _, its_group = it.read_text().rpartition(")")[2].split()[:3]
+            found += int(its_group) == group and state not in "ZX"
+    return found
+
+
+def lying(room: Path) -> list:
+    """The outboxes that were moved away and have something."""
+    found = []
+    for it in room.glob("outbox.*"):
+        with contextlib.suppress(FileNotFoundError):
+            found += [it] if it.stat().st_size else []
+    return found
+
+
+def killed(checks: Checks, about: str, kills: int, room: Path, mailer: str, handed_in, in_hand):
+    """Kills so many feeders and then lets one end: what was handed in is compared with what was written. `in_hand` says how
+    many notices of a feeder that was killed are still being taken."""
     chance, path = random.Random(kills), room / "outbox"
     words = [path, "--retry", "0.2", "--done", "remove", mailer]
-    writer, twice, most = Writer(path, chance), 0, 0
+    writer, twice, most = Writer(path, chance, 4 * kills), 0, 0
     for _ in range(kills):
-        with Following(*words) as it:
-            time.sleep(0.2 + chance.random() * 0.5)
+        with Following(*words, start_new_session=True) as it:
+            it.handles()  # it has begun
+            time.sleep(chance.random() * 0.5)
             it.running.kill()
             it.running.wait()
-        time.sleep(0.1)
+        checks.true(f"{about}: what was in hand ends", comes_to(lambda its=it.running.pid: in_hand(its) == 0, True))
         now = sum(it - 1 for it in Counter(handed_in()).values())
         twice, most = now, max(most, now - twice)
     writer.finish()
@@ -85,7 +107,7 @@ def killed(checks: Checks, about: str, kills: int, room: Path, mailer: str, hand
         began = time.monotonic()
         while set(handed_in()) != set(writer.written) and time.monotonic() - began < PATIENCE:
             time.sleep(0.2)
-        while [at for at in room.glob("outbox.*") if at.stat().st_size] and time.monotonic() - began < PATIENCE:
+        while lying(room) and time.monotonic() - began < PATIENCE:
             time.sleep(0.2)
         status, said = it.end()
     counted = Counter(handed_in())
@@ -128,7 +150,7 @@ def daemons_killed(checks: Checks, kills: int, room: Path):
         began = time.monotonic()
         while len(server.taken) < len(wanted) and time.monotonic() - began < PATIENCE:
             time.sleep(0.1)
-        time.sleep(1)
+        it.rests()
         said = it.end()
     print(f"  {kills} daemons killed, {cut} of their outboxes cut short, {len(wanted)} notices")
     checks.equal("of killed daemons: what arrived", Counter(MESSAGE_ID.search(it)[1] for _, it in server.taken), Counter(wanted))
@@ -149,10 +171,10 @@ def main():
 
     server.reply_to = greylisted
     with tempfile.TemporaryDirectory() as room:
-        killed(checks, "a server", kills, Path(room), server.address, lambda: [MESSAGE_ID.search(it)[1] for _, it in list(server.taken)])
+        killed(checks, "a server", kills, Path(room), server.address, lambda: [MESSAGE_ID.search(it)[1] for _, it in list(server.taken)], lambda _: server.serving)
     with tempfile.TemporaryDirectory() as room, tempfile.TemporaryDirectory() as taken:
         program = submission(taken, f"cat > {taken}/part.$$ && mv {taken}/part.$$ {taken}/done.$$.$(date +%N)\n")
-        killed(checks, "a program", kills, Path(room), program, lambda: [MESSAGE_ID.search(it.read_bytes())[1] for it in Path(taken).glob("done.*")])
+        killed(checks, "a program", kills, Path(room), program, lambda: [MESSAGE_ID.search(it.read_bytes())[1] for it in Path(taken).glob("done.*")], at_work)
     with tempfile.TemporaryDirectory() as room:
         daemons_killed(checks, kills, Path(room))
     checks.done()

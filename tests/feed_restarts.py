@@ -14,7 +14,7 @@ import time
 from pathlib import Path
 
 sys.path.insert(0, str(Path(__file__).parent / "support"))
-from feeding import Following, MailServer, comes_to, feed, feed_file, messages_of, outbox_of  # noqa: E402
+from feeding import PATIENCE, Following, MailServer, comes_to, feed, feed_file, messages_of, outbox_of  # noqa: E402
 from running import EXAMPLES, Checks  # noqa: E402
 
 sys.path.insert(0, str(EXAMPLES))
@@ -29,6 +29,12 @@ MESSAGES = 6
 def recipients(server: MailServer) -> list:
     """Whom the server took notices for, in order: the numbers of the senders."""
     return [int(to[6 : to.index(b"@")]) for to, _ in server.taken]
+
+
+def kept(path: Path) -> bytes:
+    """The state file of an outbox, as far as there is one."""
+    state = path.parent / f"feed.{path.name}.state"
+    return state.read_bytes() if state.exists() else b""
 
 
 def goes_on(checks: Checks, outbox: bytes):
@@ -55,7 +61,7 @@ def goes_on(checks: Checks, outbox: bytes):
         checks.equal("each once, in order", recipients(server), [*range(MESSAGES), 0])
         checks.true("what it was given", [it for _, it in server.taken[:MESSAGES]] == messages_of(outbox))
         with Following(path, server.address) as it:
-            time.sleep(1)
+            checks.true("it looks at all", it.rests())
             checks.equal("nothing is left", it.end(), (0, ["0 handed in, 0 left out"]))
 
 
@@ -81,7 +87,7 @@ def left_behind(checks: Checks, outbox: bytes):
             checks.equal(f"{done}: its lines", said[:-1], ["left out B K5: 550 5.1.1 no such user", "the outbox was cut short", f"{path}.4.gz is no outbox, and is left alone"])
             checks.equal(f"{done}: what is there then", sorted(os.listdir(room)), there)
             with Following(path, "--done", done, server.address) as it:
-                time.sleep(1)
+                checks.true(f"{done}: it looks at all", it.rests())
                 status, said = it.end()
             checks.equal(f"{done}: nothing comes twice, and nothing is said twice", (status, said), (0, [f"{path}.4.gz is no outbox, and is left alone", "0 handed in, 0 left out"]))
             checks.equal(f"{done}: what the server has", len(server.taken), 11)
@@ -107,28 +113,26 @@ def waits_on(checks: Checks, outbox: bytes):
     with tempfile.TemporaryDirectory() as room:
         path, slow = Path(room) / "outbox", MailServer(greylists=1000)
         path.write_bytes(outbox)
-        with Following(path, "--retry", "0.3", "--give-up", "60", slow.address) as it:
-            checks.true("each is refused", comes_to(lambda: len(slow.tries), MESSAGES))
-            time.sleep(0.5)
+        with Following(path, "--retry", "0.3", "--give-up", "3600", slow.address) as it:
+            checks.true("each is refused, twice", comes_to(lambda: len(slow.tries) == MESSAGES and min(slow.tries.values()) > 1, True))
             status, said = it.end()
         checks.equal("its end", (status, len(said), said[-1]), (0, MESSAGES + 1, f"0 handed in, 0 left out, {MESSAGES} wait"))
         path.rename(path.with_suffix(".1"))
         path.write_bytes(b"")
         server = MailServer({b"sender1@example.com"})
-        with Following(path, "--retry", "0.3", "--give-up", "60", "--done", "remove", server.address) as it:
+        with Following(path, "--retry", "0.3", "--give-up", "3600", "--done", "remove", server.address) as it:
             checks.true("all but one are taken", comes_to(lambda: len(server.taken), MESSAGES - 1))
             checks.true("and the outbox goes", comes_to(lambda: int((Path(room) / "done.outbox.1").exists()), 1))
             checks.equal("its end", it.end(), (1, ["left out B K1: 550 5.1.1 no such user", f"{MESSAGES - 1} handed in, 1 left out"]))
     with tempfile.TemporaryDirectory() as room:
         path, slow = Path(room) / "outbox", MailServer(greylists=1000)
         path.write_bytes(outbox)
-        with Following(path, "--retry", "0.2", "--give-up", "3", slow.address) as it:
-            checks.true("each is refused", comes_to(lambda: len(slow.tries), MESSAGES))
+        with Following(path, "--retry", "600", "--give-up", "3600", slow.address) as it:
+            checks.true("each is put off", comes_to(lambda: kept(path).count(b" waits "), MESSAGES))
             it.end(signal.SIGKILL)
-        time.sleep(3)
-        with Following(path, "--retry", "0.2", "--give-up", "3", slow.address) as it:
+        time.sleep(2)  # the time since the first refusal
+        with Following(path, "--retry", "0.2", "--give-up", "2", slow.address) as it:
             checks.true("tried once more, each", comes_to(lambda: min(slow.tries.values()) > 1, True))
-            time.sleep(0.5)
             status, said = it.end()
         checks.equal("and left out, as the time since the first refusal is over", (status, sorted(said)), (1, sorted([*(f"left out B K{at}: 450 4.2.0 try again" for at in range(MESSAGES)), f"0 handed in, {MESSAGES} left out"])))
 
@@ -145,8 +149,7 @@ def cut_once(checks: Checks, outbox: bytes):
         path.write_bytes(outbox)
         for status, lines in ((1, ["the outbox was cut short", f"{MESSAGES} handed in, 0 left out"]), (0, ["0 handed in, 0 left out"])):
             with Following(path, server.address) as it:
-                checks.true("the next outbox", comes_to(lambda: len(server.taken), 2 * MESSAGES - 1))
-                time.sleep(0.5)
+                checks.true("the next outbox", comes_to(lambda: len(server.taken), 2 * MESSAGES - 1) and it.rests())
                 checks.equal("its end", it.end(), (status, lines))
 
 
@@ -184,9 +187,11 @@ def number_used_again(checks: Checks, outbox: bytes):
             with Following(path, server.address) as it:
                 checks.true(f"the number of {about}", comes_to(lambda its=server: len(its.taken), MESSAGES))
                 it.end()
+        os.utime(path)
         with Following(path, server.address) as it:
+            checks.true("it looks at the next one", it.rests())
             os.utime(path)
-            time.sleep(0.5)
+            checks.true("and once more", it.rests())
             checks.equal("the same with another time", it.end(), (0, ["0 handed in, 0 left out"]))
         server = MailServer()
         path.with_suffix(".1").write_bytes(outbox)
@@ -207,7 +212,7 @@ def damaged(checks: Checks, outbox: bytes):
             state.write_bytes(text)
             server.taken.clear()
             with Following(path, server.address) as it:
-                time.sleep(0.7)
+                checks.true(f"damage {at}: all is read", it.rests())
                 checks.equal(f"damage {at} of the last line", it.end(), (0, [f"{again} handed in, 0 left out"]))
             checks.equal("what comes again", recipients(server), [MESSAGES - 1] * again)
         state.write_bytes(whole.replace(b"outbox", b"outbax", 1))
@@ -221,7 +226,7 @@ def full_disk(checks: Checks, outbox: bytes):
         path, server = Path(room) / "outbox", MailServer()
         path.write_bytes(outbox[:-6])
         with Following(path, server.address, preexec_fn=lambda: resource.setrlimit(resource.RLIMIT_FSIZE, (300, 300))) as it:
-            time.sleep(2)
+            checks.true("it waits for room", it.rests())
             count = len(server.taken)
             status, said = it.end()
         checks.true("some were handed in", 0 < count < MESSAGES)
@@ -240,16 +245,15 @@ def small(checks: Checks):
         path, server = Path(room) / "outbox", MailServer()
         path.write_bytes(outbox_of(count))
         with Following(path, server.address) as it:
-            comes_to(lambda: len(server.taken) == count, True)
-            time.sleep(0.5)
+            comes_to(lambda: len(server.taken) == count, True, 5 * PATIENCE)
+            checks.true("it looks for another", it.rests())
             it.end()
-        state = Path(room) / "feed.outbox.state"
         checks.equal("all are taken", len(server.taken), count)
-        checks.true("the state has fewer lines", state.exists() and state.read_bytes().count(b"\n") < 1050)
+        checks.true("the state has fewer lines", 0 < kept(path).count(b"\n") < 1050)
         with Following(path, server.address) as it:
-            time.sleep(0.5)
+            checks.true("and once more", it.rests())
             it.end()
-        checks.true("and few after a start", state.exists() and state.read_bytes().count(b"\n") < 5)
+        checks.true("and few after a start", 0 < kept(path).count(b"\n") < 5)
 
 
 def standard_input(checks: Checks, outbox: bytes):

@@ -113,7 +113,7 @@ def running(*words, port=None):
     """A program that runs meanwhile; it is waited for until somebody listens on its port."""
     with subprocess.Popen(words, stdout=subprocess.DEVNULL, stderr=subprocess.DEVNULL) as it:
         began = time.monotonic()
-        while port and time.monotonic() - began < 10:
+        while port and time.monotonic() - began < PATIENCE:
             with contextlib.suppress(OSError), socket.create_connection(("127.0.0.1", port)):
                 break
             time.sleep(0.05)
@@ -121,13 +121,13 @@ def running(*words, port=None):
             yield
         finally:
             it.terminate()
-            it.wait(timeout=20)
+            it.wait(timeout=PATIENCE)
 
 
 @contextlib.contextmanager
 def aiosmtpd(sink: Sink, room: Path):
     """aiosmtpd, in this process."""
-    server = Controller(Handler(sink), hostname="127.0.0.1", port=free_port())
+    server = Controller(Handler(sink), hostname="127.0.0.1", port=free_port(), ready_timeout=PATIENCE)
     server.start()
     try:
         yield [f"127.0.0.1:{server.port}"]
@@ -225,11 +225,11 @@ maillog_file = {room}/log
 maillog_file_prefixes = {room}
 """)
     words = ["postfix", "-c", str(room / "etc")]
-    subprocess.run([*words, "start"], check=True, capture_output=True, timeout=60)
+    subprocess.run([*words, "start"], check=True, capture_output=True, timeout=PATIENCE)
     try:
         yield ["/usr/sbin/sendmail", "-C", str(room / "etc"), "-i"]
     finally:
-        subprocess.run([*words, "stop"], check=False, capture_output=True, timeout=60)
+        subprocess.run([*words, "stop"], check=False, capture_output=True, timeout=PATIENCE)
 
 
 MAILERS = {  # each with what it needs, its package, whether it must be root's, and the addresses that it takes beside plain ones
@@ -278,7 +278,8 @@ def handed_in(checks: Checks, mailer, runs: int, odd: list):
             began = time.monotonic()
             while len(sink.arrived) < runs * RUN and time.monotonic() - began < PATIENCE and feeder.running.poll() is None:
                 time.sleep(0.1)
-            time.sleep(1)
+            time.sleep(1)  # nothing more comes
+            feeder.rests()
             status, said = feeder.end()
         took = time.monotonic() - began
         twice = [it for it, times in Counter(it for it, _ in sink.arrived).items() if times > 1]

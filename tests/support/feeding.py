@@ -1,10 +1,12 @@
 """What the scripts that run examples/feed.py share: outboxes, a small mail server, submission programs, and the feeder."""
 import contextlib
 import os
+import re
 import signal
 import socket
 import subprocess
 import sys
+import tempfile
 import threading
 import time
 from collections import Counter
@@ -14,6 +16,8 @@ from running import EXAMPLES, LIMIT, batch, frames_module
 
 FEEDER = os.environ.get("FEEDER") or str(EXAMPLES / "feed.py")
 FEED = [sys.executable, FEEDER]
+WATCHED = str(Path(__file__).parent / "watched.py")
+PATIENCE = 120  # seconds that anything may take that is waited for, on a machine that is slow or busy
 
 frames = frames_module()
 
@@ -48,7 +52,7 @@ class MailServer:
         self.refused, self.hangs_up_after, self.closes_after = refused, hangs_up_after, closes_after
         self.lost_replies = lost_replies
         self.greylists, self.tries = greylists, Counter()
-        self.taken, self.commands = [], []
+        self.taken, self.commands, self.serving = [], [], 0
         self.listener = socket.create_server(("127.0.0.1", port))
         self.address = "127.0.0.1:%d" % self.listener.getsockname()[1]
         threading.Thread(target=self.accept, daemon=True).start()
@@ -59,8 +63,10 @@ class MailServer:
                 connection, _ = self.listener.accept()
             except OSError:
                 return
+            self.serving = 1
             with contextlib.suppress(OSError, EOFError), connection, connection.makefile("rwb") as stream:
                 self.serve(stream)
+            self.serving = 0
 
     def serve(self, stream):
         """One connection: a reply to each command before the next is read."""
@@ -157,11 +163,12 @@ def feed(words, outbox: bytes):
     return ran.returncode, ran.stderr.decode().splitlines()
 
 
-def comes_to(count, wanted: int) -> bool:
+def comes_to(count, wanted: int, patience: float = PATIENCE) -> bool:
     """Whether a count comes to a number in time."""
-    for _ in range(1000):
-        if count() >= wanted:
-            return count() == wanted
+    began = time.monotonic()
+    while time.monotonic() - began < patience:
+        if (now := count()) >= wanted:
+            return now == wanted
         time.sleep(0.01)
     return False
 
@@ -181,11 +188,16 @@ def feed_file(words, path):
     return ran.returncode, ran.stderr.decode().splitlines()
 
 
-class Following:
-    """A feeder that follows an outbox, until it is stopped."""
+class Fed:
+    """A feeder that runs beside its test, until it is stopped. `first` is a text of Python that runs before it."""
 
-    def __init__(self, path, *words, **how):
-        self.running = subprocess.Popen([*FEED, "--follow", str(path), *words], stderr=subprocess.PIPE, text=True, **how)
+    def __init__(self, *words, first="", **how):
+        self.err, self.slept = tempfile.TemporaryFile(), 0
+        self.pauses, told = os.pipe()
+        os.set_blocking(self.pauses, False)
+        command = [sys.executable, WATCHED, str(told), first, FEEDER, *map(str, words)]
+        self.running = subprocess.Popen(command, stderr=self.err, pass_fds=[told], **how)
+        os.close(told)
 
     def __enter__(self):
         return self
@@ -193,9 +205,57 @@ class Following:
     def __exit__(self, *_):
         self.running.kill()
         self.running.wait()
+        if self.running.stdin:
+            self.running.stdin.close()
+        self.err.close()
+        os.close(self.pauses)
 
-    def end(self, number=signal.SIGTERM):
+    def given(self, text: bytes):
+        """Writes all that comes on its standard input."""
+        self.running.stdin.write(text)
+        self.running.stdin.close()
+
+    def said(self) -> list:
+        """The lines that it has said so far."""
+        return os.pread(self.err.fileno(), 1 << 24, 0).decode().splitlines()
+
+    def sleeps(self) -> int:
+        """How often it has begun to sleep so far."""
+        with contextlib.suppress(BlockingIOError):
+            while more := os.read(self.pauses, 4096):
+                self.slept += len(more)
+        return self.slept
+
+    def rests(self) -> bool:
+        """Waits until it has looked for something to do once more, from now on, and found nothing: it sleeps after that.
+        The first sleep may be that of a look that had begun before."""
+        before = self.sleeps()
+        return comes_to(lambda: min(self.sleeps() - before, 2), 2)
+
+    def handles(self, number: int = signal.SIGTERM) -> bool:
+        """Waits until it handles a signal, so that it isn't ended by it, or until it has ended."""
+        return comes_to(lambda: int(self.running.poll() is not None or is_handled(self.running.pid, number)), 1)
+
+    def end(self, number: int = signal.SIGTERM) -> tuple:
         """Sends it a signal: its status and what it said."""
+        if number != signal.SIGKILL:
+            self.handles(number)
         self.running.send_signal(number)
-        said = self.running.communicate(timeout=LIMIT)[1].splitlines()
-        return self.running.returncode, said
+        return self.ended()
+
+    def ended(self) -> tuple:
+        """Waits for its end: its status and what it said."""
+        return self.running.wait(timeout=LIMIT), self.said()
+
+
+class Following(Fed):
+    """A feeder that follows an outbox, until it is stopped."""
+
+    def __init__(self, path, *words, **how):
+        super().__init__("--follow", path, *words, **how)
+
+
+def is_handled(process: int, number: int) -> bool:
+    """Whether a process has a function of its own for a signal."""
+    mask = re.search(r"^SigCgt:\s*([0-9a-f]+)", Path(f"/proc/{process}/status").read_text(), re.MULTILINE)
+    return bool(int(mask[1], 16) >> (number - 1) & 1)

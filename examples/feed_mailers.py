@@ -16,7 +16,7 @@ FINAL = (os.EX_USAGE, os.EX_DATAERR, os.EX_NOUSER)  # 64, 65, 67: statuses of a 
 
 DOT_STRING = re.compile(rb"[A-Za-z0-9!#$%&'*+/=?^_`{|}~-]+(\.[A-Za-z0-9!#$%&'*+/=?^_`{|}~-]+)*")  # section 4.1.2
 QUOTED_STRING = re.compile(rb'"([\x20\x21\x23-\x5b\x5d-\x7e]|\\[\x20-\x7e])*"')
-DOMAIN = re.compile(rb"[A-Za-z0-9_-]+(\.[A-Za-z0-9_-]+)*|\[[!-Z^-~]+\]")
+DOMAIN = re.compile(rb"[A-Za-z0-9_-]+(\.[A-Za-z0-9_-]+)*|\[[A-Za-z0-9:.-]+\]")  # of address literals (section 4.1.3) what no program splits
 
 
 class Refused(Exception):

@@ -30,7 +30,6 @@ wrong arguments, 3 where nothing could be done: another feeder is at work, or a 
 """
 import argparse
 import contextlib
-import glob
 import hashlib
 import os
 import re
@@ -54,12 +53,16 @@ AT_ONCE = 8  # waiting notices that are tried before the next new one
 
 
 def moved_away(path: str) -> list:
-    """The outboxes that were moved away from this path, in their order."""
-    return sorted(glob.glob(glob.escape(path) + ".*"))
+    """The outboxes that were moved away from this path, in their order. OSError where the folder can't be read."""
+    folder, base = os.path.split(path)
+    with contextlib.suppress(FileNotFoundError):
+        return sorted(os.path.join(folder, it) for it in os.listdir(folder or ".") if it.startswith(base + "."))
+    return []
 
 
 def stands(name: str) -> Optional[tuple]:
-    """What tells whether a file is the one of before: its inode number, size and time. None where there is none."""
+    """What tells whether a file is the one of before: its inode number, size and time. None where there is none, OSError where
+    that can't be told."""
     try:
         found = os.stat(name)
     except FileNotFoundError:
@@ -73,6 +76,18 @@ def place_of(descriptor: int) -> tuple:
     return found.st_ino, found.st_size, found.st_mtime_ns
 
 
+def can_be_read(name: str) -> bool:
+    """Whether what has this name can be read, as far as it is a file. OSError where it can't."""
+    if stat.S_ISREG(os.stat(name).st_mode):
+        with open(name, "rb") as file:
+            os.pread(file.fileno(), 1, 0)
+    return True
+
+
+class Elsewhere(Exception):
+    """An outbox that grows is left for a while, since one that was put aside can be read."""
+
+
 class Feeder:
     """Hands the notices of outboxes to a mailer, and keeps what becomes of them."""
 
@@ -83,7 +98,7 @@ class Feeder:
             signal.signal(it, lambda number, _: self.signals.append(number))
         self.state = State(given.state, lambda: bool(self.signals))
         self.waiting = deque(sorted((it for of in self.state.records.values() for it in of.waiting.values()), key=lambda it: it.since))
-        self.handed, self.left_out, self.cut, self.passed = 0, 0, 0, {}
+        self.handed, self.left_out, self.cut, self.passed, self.aside = 0, 0, 0, {}, {}
 
     def feed(self, source):
         """Hands in each notice of an outbox, to its QUIT or its end."""
@@ -105,7 +120,7 @@ class Feeder:
         """Hands in a notice that was just read, puts it off, or leaves it out."""
         record, start, since = source.record, source.record.position, time.time()
         refused, message_id = self.refused(notice), notice.message_id()
-        digest, text = source.taken()
+        digest = source.taken()
         if refused is None:
             self.state.note(record, "handed", source.at, digest)
         elif self.is_last_try(refused, since):
@@ -115,7 +130,7 @@ class Feeder:
             tell("put off", message_id, refused)
             self.state.note(record, "waits", start, source.at, digest, f"{since:.3f}", message_id)
             it = record.waiting[start]
-            it.due, it.text = time.monotonic() + self.given.retry, text
+            it.due, it.notice = time.monotonic() + self.given.retry, None if record.file else notice
             self.waiting.append(it)
 
     def refused(self, notice: Notice) -> Optional[Refused]:
@@ -166,26 +181,31 @@ class Feeder:
 
     def reread(self, record: Record, it: Waiting) -> Optional[Notice]:
         """A waiting notice, from its place; None where its outbox isn't there any more."""
-        if it.text is not None:
-            return next_notice(Text(it.text))
+        if it.notice is not None:
+            return it.notice
         name = None if record.file else self.name_of(record)
         if name is None and record.file is None:
             return None
         with contextlib.nullcontext(record.file) if record.file else open(name, "rb") as file:
-            text = Text(os.pread(file.fileno(), it.end - it.start, it.start))
-            text.host = host_of(file)
+            text = Text(os.pread(file.fileno(), it.end - it.start, it.start), host_of(file))
         with contextlib.suppress(CutShort):
             notice = next_notice(text)
             return notice if notice and notice.message_id() == it.message_id else None
         return None
 
     def name_of(self, record: Record) -> Optional[str]:
-        """The name that an outbox has now."""
+        """The name that an outbox has now, None where it has none; OSError where that can't be told."""
+        unknown = None
         for name in (record.name, self.path, *moved_away(self.path)) if self.path else ():
-            found = stands(name)
+            try:
+                found = stands(name)
+            except OSError as why:
+                unknown, found = why, None
             if found and found[0] == record.inode:
                 record.name = name
                 return name
+        if unknown:
+            raise unknown
         return None
 
     def pause(self, seconds: float):
@@ -202,19 +222,29 @@ class Feeder:
         cut, or of which a notice was left out, is never removed."""
         if self.given.done == "keep" or record.end is None or record.waiting or not self.path:
             return
-        name = self.name_of(record)
-        if name is None or name == self.path or stands(name) != (record.inode, *record.end):
-            return
+        name = record.name
         try:
+            name = self.name_of(record)
+            if name is None or name == self.path or stands(name) != (record.inode, *record.end):
+                return
             if self.given.done == "remove" and not record.left and not record.cut:
                 os.unlink(name)
             else:
                 os.rename(name, done_name(name))
-            sync_folder(name)
         except OSError as why:
             say(f"{name} stays where it is: {why.strerror}")
             return
-        self.state.note(record, "gone")
+        self.synced(record, name)
+
+    def synced(self, record: Record, name: str):
+        """Forgets an outbox that was removed or renamed, once no stop of the machine brings it back: where that isn't sure it
+        is known until the next start, so that it would not be handed in again."""
+        try:
+            sync_folder(name)
+        except OSError as why:
+            say(f"the folder of {name} can't be synced: {why.strerror}")
+        else:
+            self.state.note(record, "gone")
 
     def forget(self, record: Record):
         """Lets go what is known of an outbox that isn't there any more; what waits of it is left out."""
@@ -240,25 +270,51 @@ class Feeder:
 
     def opened(self, name: str):
         """The record of an outbox that isn't read to its end yet, its file opened and locked, and the sum over what was read
-        of it; None for one that is, or that is none, or that can't be read."""
-        now = stands(name)
-        if now is None or self.passed.get(name) == now:
+        of it; None for one that is, or that is none, or that can't be read now."""
+        if time.monotonic() < self.aside.get(name, 0):
             return None
         try:
-            if stat.S_ISREG(os.stat(name).st_mode):
-                return self.opened_file(name, now)
-            say(f"{name} is no outbox, and is left alone")
+            now = stands(name)
+            found = None if now is None or self.passed.get(name) == now else self.opened_now(name, now)
         except FileNotFoundError:
             return None
         except OSError as why:
             if name == self.path:
                 raise
-            say(f"{name} is left alone: {why.strerror}")
-        self.passed[name] = now
-        return None
+            self.put_aside(name, why)
+            return None
+        self.aside.pop(name, None)
+        return found
 
-    def opened_file(self, name: str, now: tuple):
-        """The same of a file."""
+    def put_aside(self, name: str, why: OSError):
+        """Has a file or a folder that can't be read tried again after a while. It is said once, until it can be read."""
+        if name not in self.aside:
+            say(f"{name} is left alone: {why.strerror}")
+        self.aside[name] = time.monotonic() + self.given.retry
+
+    def is_any_back(self) -> bool:
+        """Whether one of those that were put aside can be read; the others are put aside once more."""
+        for name in [it for it, due in self.aside.items() if due <= time.monotonic()]:
+            try:
+                return can_be_read(name)
+            except FileNotFoundError:
+                del self.aside[name]
+            except OSError as why:
+                self.put_aside(name, why)
+        return False
+
+    def pause_within(self, record: Record, seconds: float):
+        """Pauses within an outbox; the one that grows is left where an earlier one can be read."""
+        self.pause(seconds)
+        if seconds and self.aside and not self.is_moved(record) and self.is_any_back():
+            raise Elsewhere
+
+    def opened_now(self, name: str, now: tuple):
+        """The same of a name under which a file stands, or what is none."""
+        if not stat.S_ISREG(os.stat(name).st_mode):
+            say(f"{name} is no outbox, and is left alone")
+            self.passed[name] = now
+            return None
         with contextlib.ExitStack() as undo:
             file = undo.enter_context(open(name, "rb"))
             begins = os.pread(file.fileno(), 5, 0)
@@ -280,30 +336,53 @@ class Feeder:
         """Waits for an outbox that isn't read to its end: the first of those that were moved away, else the one that grows,
         unless it was moved away meanwhile."""
         while True:
-            grows = stands(self.path)
-            for name in moved_away(self.path):
+            grows, names = stands(self.path), self.listed()
+            for name in names or ():
                 if found := self.opened(name):
                     return found
             now = stands(self.path)
-            if now and grows and now[0] == grows[0] and (found := self.opened(self.path)):
+            if names is not None and now and grows and now[0] == grows[0] and (found := self.opened(self.path)):
                 return found
             self.pause(PAUSE)
+
+    def listed(self) -> Optional[list]:
+        """The outboxes that were moved away, None where that can't be told now."""
+        folder = os.path.dirname(self.path) or "."
+        try:
+            names = moved_away(self.path)
+        except OSError as why:
+            self.put_aside(folder, why)
+            return None
+        self.aside.pop(folder, None)
+        return names
+
+    def is_moved(self, record: Record) -> bool:
+        """Whether this isn't the outbox that grows under its name."""
+        found = stands(self.path)
+        return found is None or found[0] != record.inode
 
     def is_replaced(self, record: Record) -> bool:
         """Whether another file grows now, so that nothing more is written to this one."""
         found = stands(self.path)
         return found is not None and found[0] != record.inode
 
-    def follow(self):
-        """Hands in the notices of a file that grows, and then of the next ones, until a signal comes."""
+    def forget_removed(self):
+        """Lets go of the outboxes that aren't there any more. OSError where that can't be told of one of the names: it may be that
+        of any, so that none is let go."""
         there = {it[0] for it in map(stands, (self.path, *moved_away(self.path))) if it}
         for record in [it for it in self.state.records.values() if it.inode not in there]:
             self.forget(record)
+
+    def follow(self):
+        """Hands in the notices of a file that grows, and then of the next ones, until a signal comes."""
+        with contextlib.suppress(OSError):
+            self.forget_removed()
         with contextlib.suppress(Stopped):
             while True:
                 record, read = self.next_outbox()
-                self.feed(Growing(record, read, lambda it=record: self.is_replaced(it), self.pause))
-                self.ends(record)
+                with contextlib.suppress(Elsewhere):
+                    self.feed(Growing(record, read, lambda it=record: self.is_replaced(it), lambda seconds, it=record: self.pause_within(it, seconds)))
+                    self.ends(record)
                 record.file.close()
                 record.file = None
 

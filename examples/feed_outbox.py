@@ -39,7 +39,7 @@ class Piped:
     """An outbox in a pipe, read line by line as it comes. `pause` waits so many seconds."""
 
     def __init__(self, record: Record, pause):
-        self.record, self.pause, self.begun, self.lines, self.at, self.host, self.text = record, pause, b"", deque(), 0, b"", b""
+        self.record, self.pause, self.begun, self.lines, self.at, self.host = record, pause, b"", deque(), 0, b""
 
     def readline(self) -> bytes:
         """The next line once it is whole; what there is of it at the end."""
@@ -54,13 +54,12 @@ class Piped:
             *lines, self.begun = (self.begun + came).split(b"\n")
             self.lines.extend(it + b"\n" for it in lines)
         line = self.lines.popleft()
-        self.at, self.text = self.at + len(line), self.text + line
+        self.at += len(line)
         return line
 
-    def taken(self) -> tuple:
-        """What was read since the last call: its digest isn't needed, its bytes are."""
-        text, self.text = self.text, b""
-        return "none", text
+    def taken(self) -> str:
+        """The digest of all that was read, which isn't needed: nobody comes back to a pipe."""
+        return "none"
 
 
 class Growing:
@@ -84,17 +83,19 @@ class Growing:
                 return line
             self.pause(PAUSE)
 
-    def taken(self) -> tuple:
+    def taken(self) -> str:
         """The digest of all that was read; its bytes aren't kept."""
         self.read.update(b"".join(self.lines))
         self.lines = []
-        return self.read.hexdigest(), None
+        return self.read.hexdigest()
 
 
 class Text(io.BytesIO):
-    """The bytes of one notice, said by this host unless they begin with its greeting."""
+    """The bytes of one notice of a file, and the host that says it."""
 
-    host = b""
+    def __init__(self, text: bytes, host: bytes):
+        super().__init__(text)
+        self.host = host
 
 
 def host_of(file) -> bytes:

@@ -24,7 +24,7 @@ class Unusable(Exception):
 @dataclass
 class Waiting:
     """A notice that was put off: its outbox's number and its place there, when it was first refused (seconds of
-    time.time), its Message-ID, when it is tried next (of time.monotonic), and its bytes where there is no file."""
+    time.time), its Message-ID, when it is tried next (of time.monotonic), and itself where there is no file."""
 
     number: int
     start: int
@@ -32,7 +32,7 @@ class Waiting:
     since: float
     message_id: str
     due: float = 0
-    text: Optional[bytes] = None
+    notice: object = None
 
 
 @dataclass

@@ -2,6 +2,7 @@
 """Checks examples/feed.py: it hands each notice of an outbox to a mail server, one at a time, tries again what is refused
 for now, and leaves out what is refused for good; or to a submission program. The server is a small one of this script's
 own, and aiosmtpd where that is installed; the outbox is the built program's."""
+import re
 import socket
 import subprocess
 import sys
@@ -15,7 +16,7 @@ except ImportError:
 
 sys.path.insert(0, str(Path(__file__).parent / "support"))
 from feeding import PATIENCE, Fed, Following, MailServer, StrictServer, comes_to, feed, messages_of, outbox_for, outbox_of, submission  # noqa: E402
-from running import Checks  # noqa: E402
+from running import HOST, Checks  # noqa: E402
 
 MESSAGES = 6
 SOON = ["--retry", "1", "--give-up", "5"]  # so that each is tried five times at most, and twice also where a try takes seconds
@@ -219,12 +220,16 @@ PATHS = {  # of the outbox: what a program is given, or None where it can't be
     b".a..b.@example.com": '".a..b."@example.com',
     b"a!b%c@example.com": "a!b%c@example.com",
     b"ann@[192.0.2.1]": "ann@[192.0.2.1]",
+    b"ann@[IPv6:2001:db8::1]": "ann@[IPv6:2001:db8::1]",
     b"postmaster": "postmaster",
     b"a@example.com,b": None,
     b"x:ann": None,
     b"-oQ/tmp": None,
     b"a|b": None,
     b"ann@": None,
+    b"ann@[a,b]": None,
+    b"ann@[a;b]": None,
+    b"ann@[]": None,
 }
 
 
@@ -240,6 +245,38 @@ def paths(checks: Checks):
         left_out = [f"left out B K{at}: a program can't be told this address" for at, it in enumerate(PATHS.values()) if it is None]
         checks.equal("its end", (status, said[-1:]), (1, [f"{len(taken)} handed in, {len(left_out)} left out"]))
         checks.equal("what it can't be told", [it[: it.rindex(":")] for it in said[:-1]], left_out)
+
+
+def greetings(checks: Checks, outbox: bytes):
+    """Each connection says the outbox's host, also for a notice of a pipe that is tried again."""
+    server = StrictServer(hangs_up={"RCPT": MESSAGES + 1})
+    status, said = feed(["--retry", "0.3", server.address], outbox)
+    checks.equal("connections that are lost: end", (status, len(said), said[-1]), (0, MESSAGES + 1, f"{MESSAGES} handed in, 0 left out"))
+    checks.equal("what they begin with", {it.split()[1] for it in server.commands if it.upper().startswith(b"EHLO")}, {HOST.encode()})
+
+
+def lost_for_one(checks: Checks, outbox: bytes):
+    """A notice at which the server always hangs up keeps no other from its turn. Where no connection can be made, none is tried
+    again until a notice is due."""
+    server = StrictServer()
+    server.hangs_up_at = b"sender2@example.com"
+    status, said = feed([*SOON, server.address], outbox)
+    checks.equal("a server that hangs up at one: end", (status, [it[:15] for it in said]), (1, ["put off B K2: n", "left out B K2: ", "5 handed in, 1 "]))
+    checks.equal("what it is given", [int(to[6:7]) for to, _ in server.taken], [0, 1, 3, 4, 5])
+    checks.true("it is tried again, on a connection of its own", server.connections > 2)
+    server = MailServer(hangs_up_after=1)
+    with Fed("--retry", "3600", server.address, stdin=subprocess.PIPE) as it:
+        first_end = outbox.index(b"\r\n.\r\n") + 5
+        it.running.stdin.write(outbox[:first_end])
+        it.running.stdin.flush()
+        checks.true("the first", comes_to(lambda: len(server.taken) == 1 and not server.serving, True))
+        server.listener.shutdown(socket.SHUT_RDWR)
+        server.listener.close()
+        it.given(outbox[first_end:])
+        checks.true("the others are put off", comes_to(lambda: len(it.said()), MESSAGES - 1) and it.rests())
+        server = MailServer(port=int(server.address.rpartition(":")[2]))
+        checks.true("and no connection comes", it.rests() and not server.commands)
+        checks.equal("why", {re.sub(r"B K\d|\[.*", "", line) for line in it.said()}, {"put off : no connection: "})
 
 
 def strict_servers(checks: Checks, outbox: bytes):
@@ -324,6 +361,8 @@ def main():
     programs(checks, outbox)
     statuses(checks)
     paths(checks)
+    greetings(checks, outbox)
+    lost_for_one(checks, outbox)
     strict_servers(checks, outbox)
     hundreds(checks)
     stopped(checks, outbox)

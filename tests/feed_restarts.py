@@ -108,6 +108,117 @@ def no_outboxes(checks: Checks, outbox: bytes):
         checks.equal("no outboxes: what is said", (status, said), (0, [*told, "12 handed in, 0 left out"]))
 
 
+FAILS = """
+import builtins
+import os
+import feed_state
+opened, synced = open, feed_state.sync_folder
+
+
+def open(name, *rest, **how):
+    if str(name).endswith(".1") and os.path.exists(os.path.dirname(name) + "/broken"):
+        raise OSError(5, os.strerror(5))
+    return opened(name, *rest, **how)
+
+
+def sync_folder(name):
+    if name.endswith(".1"):
+        raise OSError(5, os.strerror(5))
+    synced(name)
+
+
+builtins.open, feed_state.sync_folder = open, sync_folder
+"""  # no file that ends with .1 can be opened where there is a file `broken`, and none of them can be synced
+
+
+def errors_that_pass(checks: Checks, outbox: bytes):
+    """An outbox that can't be read, and links that can't be followed, are said once and tried again; meanwhile the others are
+    handed in, one that grows too."""
+    for grows in (outbox, outbox[:-6]):
+        with tempfile.TemporaryDirectory() as room:
+            path, server, broken = Path(room) / "outbox", MailServer(), Path(room) / "broken"
+            first, loop, long = (path.with_suffix(f".{at}") for at in (1, 2, 3))
+            first.write_bytes(outbox_of(2))
+            loop.symlink_to(loop.name)
+            long.symlink_to("x" * 300)
+            path.with_suffix(".4").symlink_to("nothing")
+            path.write_bytes(grows)
+            broken.touch()
+            with Following(path, "--retry", "0.3", server.address, first=FAILS) as it:
+                checks.true("the one that grows", comes_to(lambda its=server: len(its.taken), MESSAGES) and it.rests())
+                time.sleep(1)  # nothing more is said
+                said = [f"{first} is left alone: Input/output error", f"{loop} is left alone: Too many levels of symbolic links", f"{long} is left alone: File name too long"]
+                checks.equal("what is said", it.said(), said)
+                broken.unlink()
+                checks.true("one that can be read again", comes_to(lambda its=server: len(its.taken), MESSAGES + 2))
+                loop.unlink()
+                loop.write_bytes(outbox_of(3))
+                checks.true("another in the place of a link", comes_to(lambda its=server: len(its.taken), MESSAGES + 5))
+                path.rename(path.with_suffix(".5"))
+                path.write_bytes(outbox_of(4))
+                checks.true("and the next", comes_to(lambda its=server: len(its.taken), MESSAGES + 9))
+                cut = [] if grows == outbox else ["the outbox was cut short"]
+                checks.equal("its end", it.end(), (len(cut), [*said, *cut, f"{MESSAGES + 9} handed in, 0 left out"]))
+            checks.equal("in order", recipients(server), [*range(MESSAGES), 0, 1, 0, 1, 2, 0, 1, 2, 3])
+
+
+def known_where_names_are_not(checks: Checks, outbox: bytes):
+    """Where a name can't be looked at, no outbox is taken for gone: not at a start, nor where a notice of one waits."""
+    with tempfile.TemporaryDirectory() as room:
+        path, slow = Path(room) / "outbox", MailServer(greylists=1000)
+        path.write_bytes(outbox)
+        with Following(path, "--retry", "0.3", slow.address) as it:
+            checks.true("each is put off", comes_to(lambda: kept(path).count(b" waits "), MESSAGES))
+            it.end()
+        away, link, server = Path(room) / "away", path.with_suffix(".1"), MailServer()
+        path.rename(away)
+        link.symlink_to(link.name)
+        with Following(path, "--retry", "0.3", server.address) as it:
+            checks.true("it looks", it.rests())
+            checks.equal("nothing is gone", it.said(), [f"{link} is left alone: Too many levels of symbolic links"])
+            link.unlink()
+            link.symlink_to("away")
+            checks.true("it is read again", comes_to(lambda: len(server.taken), MESSAGES))
+            checks.equal("its end", it.end()[1][1:], [f"{MESSAGES} handed in, 0 left out"])
+
+
+def not_synced(checks: Checks, outbox: bytes):
+    """Where an outbox that is done was removed, or renamed, and the folder can't be synced, this is said as it is; the outbox is
+    known until the next start, and isn't handed in again where it comes back."""
+    for done in ("remove", "rename"):
+        with tempfile.TemporaryDirectory() as room:
+            path, server = Path(room) / "outbox", MailServer()
+            first, said = path.with_suffix(".1"), []
+            first.write_bytes(outbox)
+            os.link(first, Path(room) / "again")
+            path.write_bytes(b"")
+            for _ in range(2):
+                with Following(path, "--done", done, server.address, first=FAILS) as it:
+                    checks.true(f"{done}: it is gone", comes_to(lambda its=first: int(not its.exists()), 1) and it.rests())
+                    said.append(it.end())
+                os.rename(Path(room) / "again", first) if not first.exists() and (Path(room) / "again").exists() else None
+            line = f"the folder of {first} can't be synced: Input/output error"
+            checks.equal(f"{done}: what is said", said, [(0, [line, f"{count} handed in, 0 left out"]) for count in (MESSAGES, 0)])
+            checks.equal(f"{done}: nothing comes twice", len(server.taken), MESSAGES)
+
+
+def moved_while_none_grows(checks: Checks, outbox: bytes):
+    """An outbox that was cut short and moved away may grow yet, until another one has its name; an empty file will do."""
+    with tempfile.TemporaryDirectory() as room:
+        path, server = Path(room) / "outbox", MailServer()
+        path.with_suffix(".1").write_bytes(outbox[:-20])
+        path.with_suffix(".2").write_bytes(outbox_of(2))
+        with Following(path, "--done", "rename", server.address) as it:
+            checks.true("all but the last", comes_to(lambda: len(server.taken), MESSAGES - 1) and it.rests())
+            checks.equal("it waits", it.said(), [])
+            with path.with_suffix(".1").open("ab") as growing:
+                growing.write(outbox[-20:-6])
+            checks.true("the last comes", comes_to(lambda: len(server.taken), MESSAGES))
+            path.touch()
+            checks.true("the next", comes_to(lambda: len(server.taken), MESSAGES + 2))
+            checks.equal("its end", it.end(), (1, ["the outbox was cut short", f"{MESSAGES + 2} handed in, 0 left out"]))
+
+
 def waits_on(checks: Checks, outbox: bytes):
     """What was put off is tried again by the next feeder, for as long as is left since its first refusal."""
     with tempfile.TemporaryDirectory() as room:
@@ -274,7 +385,7 @@ def standard_input(checks: Checks, outbox: bytes):
 def main():
     checks = Checks("feed_restarts: what the feeder keeps from one start to the next")
     outbox = outbox_of(MESSAGES)
-    for it in (goes_on, left_behind, no_outboxes, waits_on, cut_once, two_feeders, number_used_again, damaged, full_disk, standard_input):
+    for it in (goes_on, left_behind, no_outboxes, errors_that_pass, known_where_names_are_not, not_synced, moved_while_none_grows, waits_on, cut_once, two_feeders, number_used_again, damaged, full_disk, standard_input):
         it(checks, outbox)
     small(checks)
     checks.done()

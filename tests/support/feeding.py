@@ -119,7 +119,9 @@ class MailServer:
 class StrictServer(MailServer):
     """A mail server that knows EHLO, MAIL, RCPT, DATA and QUIT alone: at any other command it hangs up. Each of its replies
     has two lines. So many times it closes (421), or hangs up (no reply), in place of its reply to a word; `end` is that of
-    a message's end."""
+    a message's end. At one recipient it always hangs up."""
+
+    hangs_up_at = b""
 
     def __init__(self, closes=(), hangs_up=(), port=0):
         self.closes, self.hangs_up, self.connections = Counter(closes), Counter(hangs_up), 0
@@ -140,6 +142,8 @@ class StrictServer(MailServer):
             raise EOFError
         if word == "RCPT":
             self.recipient = command[9:-1]
+            if self.recipient == self.hangs_up_at:
+                raise EOFError
         self.answer(stream, word, {"DATA": b"354", "QUIT": b"221"}.get(word, b"250"))
         if word == "DATA":
             message = self.message(stream)

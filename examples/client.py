@@ -4,7 +4,8 @@ r"""A delivery agent's client: it asks a daemon what becomes of one message, ove
     python3 examples/client.py [--connect S] [--wait S] [--answer S] [--give-up S] [--json] SOCKET [FILE]
 
 FILE, or standard input, has the message's requests in their order: the lines of examples/frames.py (the numbers there
-are left aside), or with --json a list of objects such as
+are left aside), or with --json a list of objects such as these. A flush says its return path ("" or return= for the null
+one), its moment and its arrival: there are no others in their place.
 
     {"request": "append", "service": "bounce", "queue_id": "A1B2C3", "recipient": "bob@example.org",
      "action": "failed", "status": "5.1.1", "diagnostic": "550 5.1.1 no such user"}
@@ -13,10 +14,10 @@ are left aside), or with --json a list of objects such as
 
 Each answer is a line on standard output: the request's place from 0, and the words of docs/FORMATS.md section 6. What
 else the caller has to know is a line on standard error: an address that can't be logged, an outcome that may stand in
-the log twice, a request that wasn't carried out. What an answer means, and when a request is asked again, is the table
-of docs/FORMATS.md section 7.
+the log twice, a request that wasn't carried out, a notice that lacks an outcome. What an answer means, and when a request
+is asked again, is the table of docs/FORMATS.md section 7.
 
-The status is 0 where all was carried out, 1 where something can't be, 2 for wrong arguments or requests, 75
+The status is 0 where all was carried out, 1 where something can't be, which is told, 2 for wrong arguments or requests, 75
 (EX_TEMPFAIL) where no daemon did it in time, or none can be reached. Hand in the whole message again later: then no outcome
 is missing, and those that were logged may be in the notice twice.
 """
@@ -42,6 +43,7 @@ ADDRESS = re.compile(rb"[!-;=?-~]{1,256}")  # what the daemon takes for one
 LONGEST_TEXT, LONGEST_HEADER = 800, 32_768
 PAUSE, LONGEST_PAUSE = 0.05, 5  # seconds before a request is asked again: the first, each twice the last, and the most
 FOR_NOW = (FileNotFoundError, ConnectionError, TimeoutError, BlockingIOError)  # no daemon, one that ended, one that is busy
+OF_A_FLUSH = ("return_path", "moment", "arrival")  # what examples/frames.py would make up
 GREETING = frames.frame(b"\0")  # a body that is refused, and changes nothing: its answer says that an agent is there
 
 
@@ -111,10 +113,11 @@ class Connection:
 
 
 class Message:
-    """The requests of one message. What the caller must know is told by `warn`."""
+    """The requests of one message. What the caller must know is told by `warn`; `is_lacking` says whether something couldn't
+    be carried out."""
 
     def __init__(self, path: str, requests: list, patience: Patience, warn):
-        self.path, self.patience, self.warn = path, patience, warn
+        self.path, self.patience, self.warn, self.is_lacking = path, patience, warn, False
         self.requests = [it if self.fits(it) else None for it in requests]
         self.connection, self.until = None, time.monotonic() + patience.give_up
         self.logged = {}  # the appends that stand in each log, as far as is known
@@ -126,14 +129,28 @@ class Message:
             self.connection.stream.close()
         self.connection = None
 
+    def lacks(self, what: str):
+        """Tells what couldn't be carried out."""
+        self.is_lacking = True
+        self.warn(what)
+
     def carry_out(self):
         """Asks each request, and gives its answer as it comes: reply and value; None for what can't be asked."""
-        how = {"append": self.append, "flush": self.flush, "discard": self.closing, "forget": self.closing}
         try:
             for it in self.requests:
-                yield how[it.kind](it) if it else None
+                yield self.answer(it) if it else None
         finally:
             self.leave()
+
+    def answer(self, request: Request) -> tuple:
+        """The answer to a request; where it says that the request isn't carried out, this is told."""
+        how = {"append": self.append, "flush": self.flush, "discard": self.closing, "forget": self.closing}
+        reply, value = how[request.kind](request)
+        if request.kind == "append" and reply != LOGGED:
+            self.lacks(f"{shown(request.fields['recipient'])} isn't logged: {words_of(reply, value)}")
+        elif reply == REFUSED:
+            self.lacks(f"{request.kind} of {shown(request.key()[1])}: {words_of(reply, value)}")
+        return reply, value
 
     def fits(self, request: Request) -> bool:
         """Whether a request can be asked; what is too long and may be cut is cut, and an original recipient that can't be
@@ -148,7 +165,7 @@ class Message:
             self.warn(f"{shown(fields.pop('original'))} can't be told as the original recipient")
         address = fields.get("recipient") if request.kind == "append" else fields.get("return_path") or b"none"
         if request.kind in ("append", "flush") and not ADDRESS.fullmatch(address):
-            self.warn(f"{shown(address)} can't be logged: an address has 1 to 256 visible bytes without < and >")
+            self.lacks(f"{shown(address)} can't be logged: an address has 1 to 256 visible bytes without < and >")
             return False
         return True
 
@@ -177,13 +194,14 @@ class Message:
             pause = min(2 * pause, LONGEST_PAUSE)
 
     def append(self, request: Request) -> tuple:
-        """Adds an outcome; where its log was closed empty, or is full, to the key's next one."""
+        """Adds an outcome; where its log was closed empty, or is full, to the key's next one. Earlier ones that went to a daemon
+        that has ended are logged again, and told where they can't be."""
         reply, value = self.asked(request)
         key = request.key()
         flush = next((it for it in self.requests if it and it.kind == "flush" and it.key() == key), None)
         if reply == CLOSED and key in self.empty or reply == LOG_FULL and flush:
             if reply == LOG_FULL:
-                self.flush(flush)
+                self.answer(flush)
             self.forget(key)
             reply, value = self.asked(request)
         if reply == LOGGED:
@@ -191,11 +209,12 @@ class Message:
             lost = earlier if value < len(earlier) else []  # they went to a daemon that has ended
             self.logged[key] = [request] if lost else [*earlier, request]
             for it in lost:
-                self.append(it)
+                self.answer(it)
         return reply, value
 
     def flush(self, request: Request, again: bool = True) -> tuple:
-        """Closes a log; where it has nothing of what was logged, a daemon has ended with it, and it is logged again, once."""
+        """Closes a log; where it has nothing of what was logged, a daemon has ended with it, and it is logged again, once. Where
+        it has a part of it, the notice is made: what it lacks is told."""
         reply, value = self.asked(request)
         key = request.key()
         logged = self.logged.pop(key, [])
@@ -206,8 +225,10 @@ class Message:
             if logged:
                 self.forget(key)
                 for it in logged:
-                    self.append(it)
+                    self.answer(it)
                 return self.flush(request, again=False)
+        if reply == SEALED and value < len(logged):
+            self.lacks(f"the notice of {shown(key[1])} has {value} of the {len(logged)} outcomes that were logged")
         return reply, value
 
     def closing(self, request: Request) -> tuple:
@@ -236,6 +257,14 @@ def shown(text: bytes) -> str:
     return ascii(text.decode("latin-1"))[1:-1]
 
 
+def whole(request: Request) -> Request:
+    """A request that says all that nobody may make up in its place; ValueError where it doesn't."""
+    missing = [it for it in OF_A_FLUSH if request.kind == "flush" and it not in request.fields]
+    if missing:
+        raise ValueError(f"a flush must say its {', '.join(missing)}")
+    return request
+
+
 def from_json(text: str) -> list:
     """The requests of a list of objects."""
     codes, found = {"service": frames.SERVICES, "action": frames.ACTIONS}, []
@@ -258,17 +287,15 @@ def say(what):
 
 def tell(requests: list, path: str, patience: Patience) -> int:
     """Carries requests out and tells each answer: the exit status."""
-    lacking = False
+    message = Message(path, requests, patience, say)
     try:
-        for place, answer in enumerate(Message(path, requests, patience, say).carry_out()):
+        for place, answer in enumerate(message.carry_out()):
             if answer:
                 print(place, words_of(*answer), flush=True)
-            lost = (CLOSED, LOG_FULL, REFUSED) if requests[place].kind == "append" else (REFUSED,)
-            lacking = lacking or not answer or answer[0] in lost
     except GivenUp as why:
         say(f"given up: {why}")
         return os.EX_TEMPFAIL
-    return 1 if lacking else 0
+    return 1 if message.is_lacking else 0
 
 
 def main() -> int:
@@ -283,7 +310,7 @@ def main() -> int:
         with open(0 if said.file == "-" else said.file, encoding="utf-8") as it:
             requests = (from_json if said.json else from_words)(it.read())
         for it in requests:
-            frames.frame_of(it.kind, 0, it.fields)
+            frames.frame_of(it.kind, 0, whole(it).fields)
     except (OSError, ValueError, KeyError, TypeError, AttributeError, struct.error) as why:
         say(why)
         return 2

@@ -27,7 +27,8 @@ spec.loader.exec_module(CLIENT_MODULE)
 END, SILENCE = "end", "silence"  # what a false daemon may do in place of an answer
 GREETED = (REFUSED, 21)
 ONE, TWO = "append . bounce Q1 x@y failed 5.0.0\n", "append . bounce Q1 z@y failed 5.0.0\n"
-FLUSH, FORGET, DISCARD = "flush . bounce Q1\n", "forget . bounce Q1\n", "discard . bounce Q1\n"
+SAYS = "return=ann@example.com moment=1700000000 arrival=1699996400"  # what a flush must say
+FLUSH, FORGET, DISCARD = f"flush . bounce Q1 {SAYS}\n", "forget . bounce Q1\n", "discard . bounce Q1\n"
 PATIENCE = 100  # seconds that a false daemon waits for the client, on a machine that is slow or busy
 UNGREETED = ["--wait", "3"]  # for daemons that are silent before the first answer: the others answer in less
 UNANSWERED = ["--answer", "3"]  # or after it
@@ -145,7 +146,7 @@ def talk(checks: Checks, what: str, given: str, connections: list, wanted: list,
 
 def real(checks: Checks):
     """Against the program: an exchange from words and from JSON, and agents that are all busy."""
-    words = (EXAMPLES / "one-bounce.requests").read_text(encoding="utf-8")
+    words = (EXAMPLES / "one-bounce.requests").read_text(encoding="utf-8").rstrip() + f" {SAYS}\n"
     objects = [
         {"request": "append", "service": "bounce", "queue_id": "A1B2C3", "recipient": "bob@example.org", "action": "failed", "status": "5.1.1"},
         {"request": "flush", "service": "bounce", "queue_id": "A1B2C3", "return_path": "ann@example.com", "moment": 1700000000, "arrival": 1699996400},
@@ -221,7 +222,7 @@ def replies(checks: Checks):
     talk(checks, "all went well", ONE + FLUSH + FORGET, [[GREETED, (LOGGED, 0), (SEALED, 1), (FORGOTTEN, 0)]], [(one, flush, forget)], b"0 logged 0\n1 sealed 1\n2 forgotten\n")
     talk(checks, "a null return path", ONE + FLUSH, [[GREETED, (LOGGED, 0), (NO_RETURN, 1)]], [(one, flush)], b"0 logged 0\n1 no return 1\n")
     talk(checks, "not closed", FORGET, [[GREETED, (NOT_CLOSED, 0)]], [(forget,)], b"0 not closed\n")
-    talk(checks, "an append to a closed log", ONE + FLUSH, [[GREETED, (CLOSED, 0), (CLOSED, 0)]], [(one, flush)], b"0 closed\n1 closed\n", 1)
+    talk(checks, "an append to a closed log", ONE + FLUSH, [[GREETED, (CLOSED, 0), (CLOSED, 0)]], [(one, flush)], b"0 closed\n1 closed\n", 1, b"x@y isn't logged: closed")
     for what, closing, frame, reply, told in (("flush", FLUSH, flush, NOTHING, b"nothing"), ("discard", DISCARD, lambda at: frames.discard(at, 1, b"Q1"), DISCARDED, b"discarded 0")):
         steps = [GREETED, (reply, 0), (CLOSED, 0), (FORGOTTEN, 0), (LOGGED, 0)]
         talk(checks, f"an append after a {what} of nothing", closing + ONE, [steps], [(frame, one, forget, one)], b"0 " + told + b"\n1 logged 0\n")
@@ -232,9 +233,13 @@ def replies(checks: Checks):
         checks.equal("table full for good", (ran.outbox, ran.status, b"table full" in ran.notes), (b"", 75, True))
     full = [GREETED, (LOGGED, 0), (LOG_FULL, 0), (SEALED, 1), (FORGOTTEN, 0), (LOGGED, 0), (SEALED, 1)]
     talk(checks, "log full", ONE + TWO + FLUSH, [full], [(one, two, flush, forget, two, flush)], b"0 logged 0\n1 logged 0\n2 sealed 1\n")
-    talk(checks, "log full, and no flush", ONE, [[GREETED, (LOG_FULL, 0)]], [(one,)], b"0 log full\n", 1)
+    talk(checks, "log full, and no flush", ONE, [[GREETED, (LOG_FULL, 0)]], [(one,)], b"0 log full\n", 1, b"x@y isn't logged: log full")
+    refused = [GREETED, (LOGGED, 0), (LOG_FULL, 0), (REFUSED, 29), (NOT_CLOSED, 0), (LOG_FULL, 0), (REFUSED, 29)]
+    talk(checks, "log full, and the flush refused", ONE + TWO + FLUSH, [refused], [(one, two, flush, forget, two, flush)], b"0 logged 0\n1 log full\n2 refused 29\n", 1, b"flush of Q1: refused 29")
+    talk(checks, "a notice that lacks an outcome", ONE + TWO + FLUSH, [[GREETED, (LOGGED, 0), (LOGGED, 1), (SEALED, 1)]], [(one, two, flush)], b"0 logged 0\n1 logged 1\n2 sealed 1\n", 1,
+         b"the notice of Q1 has 1 of the 2 outcomes that were logged")
     for number in (*range(1, 9), 10, *range(21, 31)):
-        talk(checks, f"refused {number}", ONE + FLUSH, [[GREETED, (REFUSED, number), (NOTHING, 0)]], [(one, flush)], b"0 refused %d\n1 nothing\n" % number, 1)
+        talk(checks, f"refused {number}", ONE + FLUSH, [[GREETED, (REFUSED, number), (NOTHING, 0)]], [(one, flush)], b"0 refused %d\n1 nothing\n" % number, 1, b"x@y isn't logged: refused %d" % number)
 
 
 def daemons_in_turn(checks: Checks):
@@ -244,6 +249,11 @@ def daemons_in_turn(checks: Checks):
          b"0 logged 0\n1 logged 1\n2 sealed 2\n")
     later = [GREETED, (LOGGED, 0), (LOGGED, 1), (SEALED, 2)]
     talk(checks, "an append to another daemon", ONE + TWO + FLUSH, [[GREETED, (LOGGED, 0), END], later], [(one, two), (two, one, flush)], b"0 logged 0\n1 logged 0\n2 sealed 2\n", 0, b"z@y may be")
+    partly = [GREETED, (NOTHING, 0), (FORGOTTEN, 0), (LOGGED, 0), (CLOSED, 0), (SEALED, 1)]
+    talk(checks, "one that isn't logged again at a flush", ONE + TWO + FLUSH, [[GREETED, (LOGGED, 0), (LOGGED, 1), END], partly], [(one, two, flush), (flush, forget, one, two, flush)],
+         b"0 logged 0\n1 logged 1\n2 sealed 1\n", 1, b"z@y isn't logged: closed")
+    closed = [GREETED, (LOGGED, 0), (CLOSED, 0), (CLOSED, 0)]
+    talk(checks, "one that isn't logged again at an append", ONE + TWO + FLUSH, [[GREETED, (LOGGED, 0), END], closed], [(one, two), (two, one, flush)], b"0 logged 0\n1 logged 0\n2 closed\n", 1, b"x@y isn't logged: closed")
     lost = [GREETED, (LOGGED, 0), (NOTHING, 0), (FORGOTTEN, 0), (LOGGED, 0), (NOTHING, 0)]
     talk(checks, "what was logged is gone twice", ONE + FLUSH, [lost], [(one, flush, forget, one, flush)], b"0 logged 0\n", 75, b"nothing, though 1 were logged")
     talk(checks, "nothing was logged", FLUSH, [[GREETED, (NOTHING, 0)]], [(flush,)], b"0 nothing\n")
@@ -271,6 +281,13 @@ def wrong_words(checks: Checks):
                                ("a field that is none", '[{"request": "forget", "service": "bounce", "queue_id": "Q1", "x": "y"}]', ["--json"]), ("an option that is none", "", ["--what"])):
         ran = client("/nowhere", given, *words)
         checks.equal(what, (ran.outbox, ran.status, bool(ran.notes)), (b"", 2, True))
+    for lacking in range(3):
+        said = SAYS.split()
+        lacks = said.pop(lacking).partition("=")[0].replace("return", "return_path").encode()
+        ran = client("/nowhere", f"{ONE}flush . bounce Q1 {' '.join(said)}\n")
+        checks.equal(f"a flush without its {lacks.decode()}", (ran.outbox, ran.status, ran.notes), (b"", 2, b"client.py: a flush must say its " + lacks + b"\n"))
+    ran = client("/nowhere", '[{"request": "flush", "service": "bounce", "queue_id": "Q1"}]', "--json")
+    checks.equal("a flush of JSON without all three", (ran.outbox, ran.status, ran.notes), (b"", 2, b"client.py: a flush must say its return_path, moment, arrival\n"))
     checks.equal("nothing to ask", client("/nowhere", ""), Ran(b"", b"", 0))
 
 

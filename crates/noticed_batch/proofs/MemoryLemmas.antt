@@ -6,6 +6,7 @@ use Rattle.dsn_device.specs.declared.drain.Drain.{Ghosts as Drain}
 use Rattle.dsn_device.specs.declared.source.Source.{Ghosts as Source}
 use Rattle.dsn_body.specs.declared.spoken.Spoken.{Spoken}
 use Rattle.dsn_outcome.specs.History.{Limits}
+use Rattle.dsn_report.specs.Outgoing.{FailedIn, in_text, at_flush}
 use Rattle.noticed_batch.specs.Batch.{NotesSent, IsBatch}
 use Rattle.noticed_batch.specs.MemoryRun.{Memory, memory_source, memory_drain, no_bytes}
 use Rattle.noticed_batch.specs.declared.batch_end.BatchEnd.{BatchEnd}
@@ -30,6 +31,10 @@ pub record IsUnwritten {W : Type 0} (drain : Drain W) (device : W) : Type 0 wher
   pub flushes : drain.flushes device ≡ 0
 
 module _ {R W N : Type 0} (source : Source R) (outbox_drain : Drain W) (notes_drain : Drain N) (limits : Limits) (host : List ℕ) (input now : R) (start : W) (notes later : N) (end : BatchEnd W) (bytes unread outbox_bytes notes_bytes : List ℕ) where
+  failed-known : (times : ℕ) (text : List ℕ) → IsUnwritten outbox_drain start → outbox_drain.contents end.outbox ≡ Some outbox_bytes → FailedIn outbox_drain start end.outbox times text → FailedIn memory_drain no_bytes (memory_of outbox_drain outbox_bytes end.outbox) times text
+  failed-known times text unwritten end_is (in_text part flushes) = in_text (rw (unwritten.contents, end_is) at part) (rw unwritten.flushes at flushes)
+  failed-known times text unwritten end_is (at_flush whole flushes) = at_flush (appends-known _ _ [] outbox_bytes _ unwritten.contents end_is whole) (rw unwritten.flushes at flushes)
+
   pub in-memory : source.remaining input ≡ Some bytes → source.remaining now ≡ Some unread → source.failures input ≡ 0 → source.failures now ≡ 0
       → IsUnwritten outbox_drain start → outbox_drain.contents end.outbox ≡ Some outbox_bytes → IsUnwritten notes_drain notes → notes_drain.contents later ≡ Some notes_bytes
       → IsBatch source outbox_drain notes_drain limits host input now start notes later end
@@ -52,6 +57,7 @@ module _ {R W N : Type 0} (source : Source R) (outbox_drain : Drain W) (notes_dr
       count = rw unwritten.failures at batch.outbox.count;
       flushes = λ whole. rw unwritten.flushes at (batch.outbox.flushes whole);
       passed_on = batch.outbox.passed_on;
+      lost = λ part. failed-known _ _ unwritten end_is (batch.outbox.lost part);
       steady = λ never. absurd never;
     };
     logs = batch.logs;

@@ -5,6 +5,8 @@
 #[cfg(test)]
 mod frames;
 #[cfg(test)]
+mod heard;
+#[cfg(test)]
 mod hold;
 #[cfg(test)]
 mod memory_port;

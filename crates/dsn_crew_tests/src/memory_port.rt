@@ -3,20 +3,25 @@ ghost use Rattle.std.specs.Prelude.{◌≡◌, true, Some};
 
 use dsn_crew::{Next, Port};
 use dsn_device::{Broken, Drain, Source, Stream};
+use std::sync::atomic::{AtomicU8, Ordering};
 use std::vec;
 
-/// What one connection sends, and whether its reads and writes go well.
+/// What one connection sends, whether its reads and writes go well, and the room for what is written
+/// to it.
 #[derive(Clone, Copy)]
 pub(super) struct Text<'a> {
     pub(super) bytes: &'a [u8],
     pub(super) good: bool,
+    pub(super) heard: &'a [AtomicU8],
 }
 
-/// A connection in memory. What is written to it is dropped.
+/// A connection in memory. What is written to it is kept as far as there is room, and no contract
+/// tells it.
 #[derive(Drop)]
 pub struct Memory<'a> {
     unread: &'a [u8],
     good: bool,
+    heard: &'a [AtomicU8],
     failures: u64,
     flushes: u64,
     unflushed: bool,
@@ -66,6 +71,11 @@ impl Drain for Memory<'_> {
             self.failures = self.failures.saturating_add(1);
             return Err(Broken);
         }
+        let (kept, rest) = self.heard.split_at(text.len().min(self.heard.len()));
+        for (place, byte) in kept.iter().zip(text) {
+            place.store(*byte, Ordering::SeqCst);
+        }
+        self.heard = rest;
         self.unflushed |= !text.is_empty();
         Ok(text.len())
     }
@@ -113,6 +123,7 @@ impl<'a> Port for MemoryPort<'a> {
             Some(text) => Next::Conn(Memory {
                 unread: text.bytes,
                 good: text.good,
+                heard: text.heard,
                 failures: 0,
                 flushes: 0,
                 unflushed: false,

@@ -1,6 +1,7 @@
 //! Agents of a crew that work at the same time: each of these runs is held so that a crew which
 //! serves its connections one after another, or in turns, runs out.
 use super::frames::Frames;
+use super::heard::{ANSWER, Heard, after_logged, answer, ports_heard};
 use super::hold::{Hold, Until};
 use super::memory_port::MemoryPort;
 use super::outbox::Outbox;
@@ -30,8 +31,17 @@ fn held<R: Threads + Wait + Clock + Sync>(
     all: &[Frames],
     until: Until,
 ) -> Result<(Told<Plain<Outbox>>, u64), Fail> {
+    held_over(rt, alloc, ports_of(alloc, all)?, until)
+}
+
+/// The same over these ports.
+fn held_over<R: Threads + Wait + Clock + Sync>(
+    rt: &R,
+    alloc: Global,
+    ports: Vec<MemoryPort<'_>>,
+    until: Until,
+) -> Result<(Told<Plain<Outbox>>, u64), Fail> {
     let hold = Hold::new(rt, until);
-    let ports = ports_of(alloc, all)?;
     let told = run_over(rt, alloc, 100, ports, outbox(alloc, usize::MAX), &hold)?;
     Ok((told, hold.ran_out()))
 }
@@ -71,7 +81,13 @@ fn agents_side_by_side(rt: HostRuntime) -> Result<(), Fail> {
         appends(rt.alloc(), 1, b"Q1")?,
         appends(rt.alloc(), 1, b"Q2")?,
     ];
-    let told = held(&rt, rt.alloc(), &all, until)?;
+    let heard = [Heard::new(rt.alloc(), 1)?, Heard::new(rt.alloc(), 1)?];
+    let ports = ports_heard(rt.alloc(), &all, &heard)?;
+    let told = held_over(&rt, rt.alloc(), ports, until)?;
+    for it in &heard {
+        let bytes = it.bytes(rt.alloc())?;
+        same(&rt, after_logged(&rt, &bytes, 1, 1), [0; ANSWER].as_slice());
+    }
     let lines = [open(b"Q1", 1)?, open(b"Q2", 1)?];
     same(&rt, told.0.open.as_slice(), lines.as_slice());
     same(&rt, told.0.agents.len(), 2);
@@ -162,6 +178,23 @@ fn groups(text: &[u8]) -> u32 {
     count
 }
 
+/// Asserts that the client of the first agent heard fifty Logged and Sealed(100), the other one
+/// fifty Logged, and neither of them more.
+fn assert_heard<R: Abort>(rt: &R, alloc: Global, heard: &[Heard; 2]) -> Result<(), Fail> {
+    let [first, second] = heard;
+    let (first, second) = (first.bytes(alloc)?, second.bytes(alloc)?);
+    let last = after_logged(rt, &first, 50, 100);
+    let (sealed, more) = last.split_at(ANSWER.min(last.len()));
+    same(rt, sealed, answer(7, 50, 100).as_slice());
+    same(rt, more, [0; ANSWER].as_slice());
+    same(
+        rt,
+        after_logged(rt, &second, 50, 100),
+        [0; ANSWER].as_slice(),
+    );
+    Ok(())
+}
+
 #[test]
 fn two_agents_one_log(rt: HostRuntime) -> Result<(), Fail> {
     let until = Until {
@@ -175,7 +208,10 @@ fn two_agents_one_log(rt: HostRuntime) -> Result<(), Fail> {
     let mut first = fifty(rt.alloc(), b'a')?;
     first.flush(rt.alloc(), 50, b"Q1")?;
     let all = [first, fifty(rt.alloc(), b'b')?];
-    let (told, ran_out) = held(&rt, rt.alloc(), &all, until)?;
+    let heard = [Heard::new(rt.alloc(), 51)?, Heard::new(rt.alloc(), 50)?];
+    let ports = ports_heard(rt.alloc(), &all, &heard)?;
+    let (told, ran_out) = held_over(&rt, rt.alloc(), ports, until)?;
+    assert_heard(&rt, rt.alloc(), &heard)?;
     same(&rt, (told.code, ran_out, told.letters), (0, 0, 1));
     same(
         &rt,

@@ -126,6 +126,7 @@ pub(super) fn port<'a>(
         all.push(Text {
             bytes: *bytes,
             good: *good,
+            heard: &[],
         })?;
     }
     Ok(MemoryPort {

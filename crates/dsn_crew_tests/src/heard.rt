@@ -1,0 +1,91 @@
+//! What clients of a crew hear, for tests: the answers that are written to connections in memory.
+use super::frames::Frames;
+use super::memory_port::{MemoryPort, Text};
+use crate::same::same;
+use std::alloc::Global;
+use std::process::Abort;
+use std::sync::atomic::{AtomicU8, Ordering};
+use std::test::Fail;
+
+/// How many bytes the frame of an answer has.
+pub(super) const ANSWER: usize = 14;
+
+/// What is written to one connection. There is room for one answer more than is wanted, so that one
+/// too many shows.
+#[derive(Drop)]
+pub(super) struct Heard {
+    room: Vec<AtomicU8>,
+}
+
+impl Heard {
+    /// Nothing so far, with room for so many answers and one more.
+    pub(super) fn new(alloc: Global, answers: usize) -> Result<Heard, Fail> {
+        let mut room = Vec::new(alloc);
+        for _ in 0..answers.saturating_add(1).saturating_mul(ANSWER) {
+            room.push(AtomicU8::new(0))?;
+        }
+        Ok(Heard { room })
+    }
+
+    /// The bytes, with zeros after them.
+    pub(super) fn bytes(&self, alloc: Global) -> Result<Vec<u8>, Fail> {
+        let mut bytes = Vec::new(alloc);
+        for byte in &self.room {
+            bytes.push(byte.load(Ordering::SeqCst))?;
+        }
+        Ok(bytes)
+    }
+}
+
+/// Ports with one connection each, over which this is sent, and which keep what is heard.
+pub(super) fn ports_heard<'a>(
+    alloc: Global,
+    all: &'a [Frames],
+    heard: &'a [Heard],
+) -> Result<Vec<MemoryPort<'a>>, Fail> {
+    let mut ports = Vec::new(alloc);
+    for (frames, heard) in all.iter().zip(heard) {
+        let mut texts = Vec::new(alloc);
+        texts.push(Text {
+            bytes: frames.bytes.as_slice(),
+            good: true,
+            heard: heard.room.as_slice(),
+        })?;
+        ports.push(MemoryPort {
+            texts: texts.into_iter(),
+            fails: false,
+        })?;
+    }
+    Ok(ports)
+}
+
+/// The frame of an answer (docs/FORMATS.md, section 6).
+pub(super) fn answer(reply: u8, number: u32, value: u32) -> [u8; ANSWER] {
+    let [a, b, c, d] = number.to_be_bytes();
+    let [e, f, g, h] = value.to_be_bytes();
+    [0, 0, 0, 10, 1, reply, a, b, c, d, e, f, g, h]
+}
+
+/// Asserts that answers begin with so many Logged, numbered from 0, whose places rise and are below
+/// `places`, and gives what comes after them.
+pub(super) fn after_logged<'a, R: Abort>(
+    rt: &R,
+    answers: &'a [u8],
+    count: u32,
+    places: u32,
+) -> &'a [u8] {
+    let mut rest = answers;
+    let mut next = 0u32;
+    for number in 0..count {
+        let (first, later) = rest.split_at(ANSWER.min(rest.len()));
+        let place = match first {
+            [.., a, b, c, d] => u32::from_be_bytes([*a, *b, *c, *d]),
+            _ => places,
+        };
+        same(rt, first, answer(1, number, place).as_slice());
+        assert!(rt; next <= place && place < places);
+        next = place.saturating_add(1);
+        rest = later;
+    }
+    rest
+}

@@ -54,7 +54,10 @@ fn stop<R: Files + Net>(rt: &R, alloc: Global, path: &str) -> io::Result<()> {
 
 /// Whether a daemon that was there a moment before has just ended, by itself or by another stop.
 fn is_over(error: &io::Error) -> bool {
-    matches!(error.kind(), ErrorKind::ConnectionRefused | ErrorKind::NotFound)
+    matches!(
+        error.kind(),
+        ErrorKind::ConnectionRefused | ErrorKind::NotFound
+    )
 }
 
 /// Removes the file of a socket, if it is there. Returns false where another one has its path by

@@ -168,6 +168,22 @@ def busy_client(checks: Checks):
         checks.equal("a busy client: each answered outcome is logged", logged, len(answered))
 
 
+def steady_client(checks: Checks):
+    """A client that gives a whole frame in less than a second, again and again, is let go at the next one."""
+    with Daemon(1, 1000) as daemon, daemon.connect() as client:
+        checks.equal("a steady client", asked(client, append(0)), answer(1))
+        with subprocess.Popen([program(), "stop", daemon.path]) as stopping:
+            began, number, got = time.monotonic(), 1, b"-"
+            with contextlib.suppress(ConnectionError):
+                while got and time.monotonic() - began < PATIENCE:
+                    time.sleep(0.6)
+                    got = asked(client, append(number, b"S%d" % number))
+                    number += 1
+            checks.equal("a steady client: the stop", stopping.wait(timeout=PATIENCE), 0)
+        checks.true(f"a steady client: {number} frames", number < 12)
+        checks.equal("a steady client: its end", daemon.end().status, 0)
+
+
 def at_load(checks: Checks):
     """Eight clients at work on four agents: each notice that was answered `sealed` is in the outbox, and no other."""
     with Daemon(4, 1_000_000) as daemon:
@@ -400,7 +416,7 @@ def interrupted_answers(checks: Checks):
 def main():
     checks = Checks("stop: daemons that are idle, at work or held by clients end in order, and lose nothing")
     for check in (
-        *(no_clients, open_logs, held_connections, silent_in_a_frame, silent_between_frames, slow_in_a_frame, busy_client, at_load, not_allowed, no_daemon),
+        *(no_clients, open_logs, held_connections, silent_in_a_frame, silent_between_frames, slow_in_a_frame, busy_client, steady_client, at_load, not_allowed, no_daemon),
         *(two_stops, another_daemon, ends_by_itself, removed_file, removed_from_idle, interrupted, interrupted_answers),
     ):
         check(checks)

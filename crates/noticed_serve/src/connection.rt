@@ -30,9 +30,7 @@ pub(crate) struct Connection<'a, H> {
     /// Whether the next byte that is read begins a frame: the one before was answered, since a
     /// client waits for each answer.
     between_frames: bool,
-    /// How many frames were begun, modulo 256.
-    frames: u8,
-    /// Whether the run was found to be ending. From then on the client's time is counted anew.
+    /// Whether the run was found to be ending.
     is_ending: bool,
 }
 
@@ -50,19 +48,13 @@ impl<'a, H: Watch> Connection<'a, H> {
             watch,
             used: 0,
             between_frames: true,
-            frames: 0,
             is_ending: false,
         })
     }
 
-    /// Finds out whether the run is ending.
+    /// Finds out whether the run is ending. From the end on the client's time is counted anew.
     fn look(&mut self) {
         self.watch.look();
-        self.hear_of_end();
-    }
-
-    /// Hears that the run is ending, if that was found out.
-    fn hear_of_end(&mut self) {
         if !self.is_ending && self.watch.is_ending() {
             self.is_ending = true;
             self.used = 0;
@@ -70,16 +62,12 @@ impl<'a, H: Watch> Connection<'a, H> {
     }
 
     /// Whether the input ends here: before a frame, in a run that is ending. A client that never
-    /// pauses isn't waited for, so the system is asked at each 256th frame.
+    /// pauses isn't waited for, so it looks before each frame.
     fn ends_here(&mut self) -> bool {
         if !self.between_frames {
             return false;
         }
-        self.frames = self.frames.wrapping_add(1);
-        if self.frames == 0 {
-            self.watch.look();
-        }
-        self.hear_of_end();
+        self.look();
         self.is_ending
     }
 

@@ -97,8 +97,14 @@ class Feeder:
         for it in (signal.SIGTERM, signal.SIGINT):
             signal.signal(it, lambda number, _: self.signals.append(number))
         self.state = State(given.state, lambda: bool(self.signals))
-        self.waiting = deque(sorted((it for of in self.state.records.values() for it in of.waiting.values()), key=lambda it: it.since))
+        self.waiting = deque()
+        if self.path:
+            self.wait_on(self.state.records.values())
         self.handed, self.left_out, self.cut, self.passed, self.aside = 0, 0, 0, {}, {}
+
+    def wait_on(self, records):
+        """Tries again what waits of these outboxes since an earlier start."""
+        self.waiting.extend(sorted((it for of in records for it in of.waiting.values()), key=lambda it: it.since))
 
     def feed(self, source):
         """Hands in each notice of an outbox, to its QUIT or its end."""
@@ -187,6 +193,8 @@ class Feeder:
         if name is None and record.file is None:
             return None
         with contextlib.nullcontext(record.file) if record.file else open(name, "rb") as file:
+            if place_of(file.fileno())[0] != record.inode:
+                raise OSError(f"{name} was moved away just now")
             text = Text(os.pread(file.fileno(), it.end - it.start, it.start), host_of(file))
         with contextlib.suppress(CutShort):
             notice = next_notice(text)
@@ -196,7 +204,7 @@ class Feeder:
     def name_of(self, record: Record) -> Optional[str]:
         """The name that an outbox has now, None where it has none; OSError where that can't be told."""
         unknown = None
-        for name in (record.name, self.path, *moved_away(self.path)) if self.path else ():
+        for name in self.names(record) if self.path else ():
             try:
                 found = stands(name)
             except OSError as why:
@@ -207,6 +215,12 @@ class Feeder:
         if unknown:
             raise unknown
         return None
+
+    def names(self, record: Record):
+        """The names that an outbox may have. The folder is listed last, as one that was moved away stays so."""
+        yield record.name
+        yield self.path
+        yield from moved_away(self.path)
 
     def pause(self, seconds: float):
         """Tries again what is due, or waits so long; after a signal it goes no further."""
@@ -369,7 +383,8 @@ class Feeder:
     def forget_removed(self):
         """Lets go of the outboxes that aren't there any more. OSError where that can't be told of one of the names: it may be that
         of any, so that none is let go."""
-        there = {it[0] for it in map(stands, (self.path, *moved_away(self.path))) if it}
+        grows = stands(self.path)  # before the folder is listed: it may be moved away meanwhile
+        there = {it[0] for it in (grows, *map(stands, moved_away(self.path))) if it}
         for record in [it for it in self.state.records.values() if it.inode not in there]:
             self.forget(record)
 
@@ -409,6 +424,7 @@ class Feeder:
         lock(file, "standard input")
         record, read = self.recognised(file, "")
         record.file = file
+        self.wait_on([record])
         if record.end is None:
             self.feed(Growing(record, read, lambda: True, self.pause))
             self.ends(record)

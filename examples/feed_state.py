@@ -170,6 +170,7 @@ class State:
     def append(self, line: bytes):
         """Writes one line and syncs it. What an earlier try wrote of it is taken off."""
         os.ftruncate(self.file.fileno(), self.size)
+        os.lseek(self.file.fileno(), self.size, os.SEEK_SET)
         write_whole(self.file, line)
         self.size += len(line)
 

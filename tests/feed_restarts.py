@@ -19,7 +19,7 @@ from running import EXAMPLES, Checks  # noqa: E402
 
 sys.path.insert(0, str(EXAMPLES))
 try:
-    from feed_state import line_of_state  # noqa: E402
+    from feed_state import State, line_of_state  # noqa: E402
 except ImportError:
     line_of_state = None
 
@@ -331,6 +331,21 @@ def damaged(checks: Checks, outbox: bytes):
         checks.equal("damage of another line", (status, said), (3, [f"feed.py: {state} is damaged at line 1; without it all that lies there is handed in again"]))
 
 
+def short_write(checks: Checks):
+    """A line of the state that was written in part is taken off, and the next ones stand where it began."""
+    with tempfile.TemporaryDirectory() as room:
+        path = str(Path(room) / "state")
+        state = State(path, lambda: False)
+        record = state.begin(5)
+        os.write(state.file.fileno(), b"a part of a line")
+        for position in (10, 20):
+            state.note(record, "handed", position, "0" * 64)
+        text = Path(path).read_bytes()
+        checks.equal("a short write: the lines", (text.count(b"\n"), text.count(b"\0"), text.count(b"part")), (3, 0, 0))
+        state.file.close()
+        checks.equal("a short write: the next start", [it.position for it in State(path, lambda: False).records.values()], [20])
+
+
 def full_disk(checks: Checks, outbox: bytes):
     """Where the state can't be written nothing more is handed in, and this is said once."""
     with tempfile.TemporaryDirectory() as room:
@@ -387,6 +402,7 @@ def main():
     outbox = outbox_of(MESSAGES)
     for it in (goes_on, left_behind, no_outboxes, errors_that_pass, known_where_names_are_not, not_synced, moved_while_none_grows, waits_on, cut_once, two_feeders, number_used_again, damaged, full_disk, standard_input):
         it(checks, outbox)
+    short_write(checks)
     small(checks)
     checks.done()
 

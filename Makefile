@@ -1,9 +1,11 @@
-# What a user and CI call: `make demo` shows the program at work, `make check` proves and tests all of it.
+# What a user and CI call: `make demo` shows the proved program at work, `make try` the same without a proof, and `make check`
+# proves and tests all of it.
 # Logs go to out/, which is never committed.
 
 PREFIX  ?= /usr/local
 DESTDIR ?=
 RT      ?= $(shell command -v rt || echo /opt/rattle/bin/rt)
+BOOT    ?= /var/cache/noticed-boot
 
 NOTICED := crates/noticed/out/noticed
 PROBE   := crates/probe/out/probe
@@ -14,47 +16,16 @@ SHELL := /bin/sh
 .SHELLFLAGS := -euc
 .ONESHELL:
 .DELETE_ON_ERROR:
-.PHONY: all build demo check boot edits refused bench planted install clean
+.PHONY: all build demo try check boot scripts walk edits refused bench planted install clean
 
 all: build
 
 build: $(NOTICED)
 
-# Runs `rt run -- ARGUMENTS` in the folder of a crate, which proves what changed, builds the program and runs it, on an
-# empty input. What `rt` says goes to a log, and each crate is named once, when the log gets to it. Used as
-# $(call prove,CRATE,ARGUMENTS,LOG): the status is that of `rt`, and where it isn't 0 the log is shown.
-define prove
-mkdir -p out
-echo "proving and building $@ (log: $(3)); each crate is named as it is proved .."
-{ (cd crates/$(1) && "$(RT)" run -- $(2)) < /dev/null 2>&1 && echo 0 > $(3).status || echo "$$?" > $(3).status; } | tee $(3) | {
-    named=
-    while IFS= read -r line; do
-        case $$line in
-            "checked "*::* | "fn "*::* | "crate "*:*) crate=$${line#* }; crate=$${crate%%:*} ;;
-            *) continue ;;
-        esac
-        case " $$named " in *" $$crate "*) continue ;; esac
-        named="$$named $$crate"
-        echo "  $$(date +%T) $$crate"
-    done
-}
-read -r status < $(3).status
-if [ "$$status" != 0 ]; then
-    cat $(3)
-    echo "$@ could not be proved or built"
-    exit "$$status"
-fi
-endef
-
-# The proved program. (The touch tells make that an unchanged program is up to date.)
-$(NOTICED): $(SOURCES) crates.txt HANDLES
-	@$(call prove,noticed,batch mx.example.net,out/build.log)
-	touch $@
-
-# The same for the program that the scripts run to refuse a crew, or a call, its memory and threads, and to measure a crew.
-$(PROBE): $(SOURCES) crates.txt HANDLES
-	@$(call prove,probe,$$(cat args),out/probe.log)
-	touch $@
+# The proved program, and that which the scripts run to refuse a crew, or a call, its memory and threads, and to measure a crew.
+# Each crate is named as it is proved.
+$(NOTICED) $(PROBE): $(SOURCES) crates.txt HANDLES
+	@RT="$(RT)" python3 tests/support/build.py $(@F)
 
 # A run of `batch`, with its standard output and standard error each under a heading of its own; then a daemon with two
 # clients at once.
@@ -77,24 +48,37 @@ demo: $(NOTICED)
 	sh examples/demo.sh $(NOTICED)
 	exit $$status
 
+# The same runs without a proof, by `rt try`: nothing is proved, and no program is kept.
+try:
+	@RT="$(RT)" python3 tests/support/trial.py
+
 # The gate: every proof from nothing, the wrong edits, then the scripts of tests/ on the programs that it built. The last
 # line is 'N passed, M failed'.
 check:
 	@command -v python3 > /dev/null || { echo "make check needs python3"; echo "0 passed, 1 failed"; exit 1; }
-	exec python3 tests/support/gate.py
+	RT="$(RT)" exec python3 tests/support/gate.py
 
-# Boots a systemd of its own with the installed units, as root; not part of `make check`.
+# Boots a systemd of its own with the installed units, as root; not part of `make check`. Debian's base system, which the first
+# run makes, stays in BOOT.
 boot: $(NOTICED)
-	@NOTICED="$(CURDIR)/$(NOTICED)" PYTHONDONTWRITEBYTECODE=1 python3 tests/boot.py out/boot
+	@NOTICED="$(CURDIR)/$(NOTICED)" PYTHONDONTWRITEBYTECODE=1 python3 tests/boot.py "$(BOOT)"
+
+# What each script of tests/ checks.
+scripts:
+	@PYTHONDONTWRITEBYTECODE=1 python3 tests/support/scripts.py
+
+# What a reader passes who follows one append through the code: functions, files, crates.
+walk:
+	@PYTHONDONTWRITEBYTECODE=1 python3 tests/support/walk.py
 
 # Which functions the wrong edits change that the gate must see refused.
 edits:
 	@PYTHONDONTWRITEBYTECODE=1 python3 tests/support/wrong_edits.py
 
-# Tries the wrong edits of the crates that CRATES names, or of all, and says which clause refuses each; over what
-# `rt all check` proved here before.
+# Tries the wrong edits of the crates that CRATES names, or of all, with their controls, and says which clause refuses
+# each, and which refusals are weak; over what `rt all check` proved here before.
 refused:
-	@PYTHONDONTWRITEBYTECODE=1 python3 tests/support/refused.py $(CRATES)
+	@RT="$(RT)" PYTHONDONTWRITEBYTECODE=1 python3 tests/support/refused.py $(CRATES)
 
 # Measures the program on workloads made from a seed, crews in memory, and the daemon over sockets; not part of
 # `make check`.

@@ -9,16 +9,7 @@ room=$(mktemp -d)
 trap 'kill "${daemon:-}" 2> /dev/null || true; rm -rf "$room"' EXIT
 cd "$room"
 
-cat > first.requests << 'END'
-append . bounce A1B2C3 bob@example.org failed 5.1.1 "diagnostic=550 5.1.1 no such user"
-append . bounce A1B2C3 eve@example.org failed 5.2.2 "reason=mailbox full"
-flush . bounce A1B2C3 return=ann@example.com
-END
-cat > second.requests << 'END'
-append . defer D4E5F6 joe@example.net delayed 4.4.1 "reason=connection timed out"
-flush . defer D4E5F6 return=sue@example.com
-append . defer D4E5F6 kim@example.net delayed 4.4.1
-END
+cp "$examples/demo/first.requests" "$examples/demo/second.requests" .
 
 echo "== Daemon: noticed serve socket mx.example.net 2 1 > outbox 2> notes"
 "$noticed" serve socket mx.example.net 2 1 > outbox 2> notes &

@@ -3,35 +3,39 @@
 of it: the units start where nothing is there, an agent's account gets its notice made and can't read it, runs follow one
 another, a stop and a reboot are orderly, and a daemon that can't start isn't tried too often.
 
-    make build && python3 tests/boot.py out/boot        # or: make boot
+    make boot
     NOTICED=/path/to/noticed python3 tests/boot.py FOLDER
 
 It needs root and Debian's packages systemd-container and debootstrap. FOLDER is Debian's base system: debootstrap makes it
-the first time, in a minute or two and 300 MB. A run takes about a minute, on an overlay over FOLDER, which it leaves as it
-is. Without a FOLDER, as in `make check`, it boots nothing. tests/unit.py takes the unit's steps without systemd."""
+the first time, in a minute or two and 300 MB (`make boot` has it in /var/cache/noticed-boot). A run takes about a minute, on
+an overlay over FOLDER, which it leaves as it is. Without a FOLDER, as in `make check`, it boots nothing. tests/unit.py takes
+the unit's steps without systemd."""
 import os
 import re
-import shutil
 import signal
 import subprocess
 import sys
-import tempfile
 import time
 from pathlib import Path
 
 sys.path.insert(0, str(Path(__file__).parent / "support"))
 from daemon_and_clients import FIRST_FRAME, FRAMES, NOTES, OUTBOX  # noqa: E402
 from running import ROOT, Checks, empty_outbox, program  # noqa: E402
+from system import Layer, base_system, lacking  # noqa: E402
 
-PACKAGES = {"systemd-nspawn": "systemd-container", "debootstrap": "debootstrap", "nsenter": "util-linux", "make": "make"}
-SYSTEM = "systemd,systemd-sysv,dbus,python3"
+TOOLS = {"systemd-nspawn": "systemd-container", "debootstrap": "debootstrap", "nsenter": "util-linux", "make": "make"}
 PATIENCE = 60  # seconds that one step in the container may take
 MOMENT = 0.05  # seconds between two looks
 CONNECTIONS = 4000  # what the unit's daemon serves
 INSTALLED = "/usr/local/share/doc/noticed"
 SOCKET, OUTBOXES = "/run/noticed/socket", "/var/lib/noticed"
 MODES = [f"{mode} noticed noticed" for mode in ("drwxr-x---", "srwxrwx---", "drwx------", "-rw-------")]
-SENDMAIL = "#!/bin/sh\ncat > /var/lib/noticed/handed-in.part && mv /var/lib/noticed/handed-in.part /var/lib/noticed/handed-in\n"
+# A submission program that goes on with a delivery of its own after it has ended, as exim does.
+SENDMAIL = """#!/bin/sh
+cat > /var/lib/noticed/handed-in.part && mv /var/lib/noticed/handed-in.part /var/lib/noticed/handed-in
+(sleep 3; echo > /home/delivered/home; echo > /usr/local/delivered/usr; echo > /tmp/delivered) < /dev/null > /dev/null 2>&1 &
+"""
+DELIVERED = ("/home/delivered/home", "/usr/local/delivered/usr", "/tmp/delivered")
 USE_UP = f"""
 import socket
 for _ in range({CONNECTIONS}):
@@ -41,29 +45,6 @@ for _ in range({CONNECTIONS}):
     except OSError:
         break
 """
-
-
-def lacking() -> list:
-    """The packages that are missing here."""
-    return [package for tool, package in PACKAGES.items() if not shutil.which(tool)]
-
-
-def suite() -> str:
-    """The suite of this machine's Debian, so that the program finds a C library that it can use."""
-    found = re.search(r"^VERSION_CODENAME=(\w+)", Path("/etc/os-release").read_text(), re.M)
-    return found[1] if found else "bookworm"
-
-
-def make_system(folder: Path):
-    """Makes Debian's base system in a folder, unless it is there."""
-    if (folder / "made").exists():
-        return
-    print(f"  debootstrap makes Debian {suite()} in {folder} ..", flush=True)
-    folder.mkdir(parents=True, exist_ok=True)
-    with open(folder / "debootstrap.log", "wb") as log:
-        words = ["debootstrap", "--variant=minbase", f"--include={SYSTEM}", suite(), str(folder / "system")]
-        subprocess.run(words, stdout=log, stderr=log, check=True)
-    (folder / "made").touch()
 
 
 def until(holds, patience=PATIENCE) -> bool:
@@ -76,24 +57,10 @@ def until(holds, patience=PATIENCE) -> bool:
     return True
 
 
-class Container:
+class Container(Layer):
     """A container over a base system: what is written in it goes to memory, stays over a reboot, and is gone at the end."""
 
-    def __init__(self, system: Path):
-        self.room = Path(tempfile.mkdtemp(prefix="noticed-boot-"))
-        self.root, self.mounts, self.running = self.room / "root", [], None
-        try:
-            self.mount("tmpfs", "tmpfs", self.room, "mode=755")
-            for it in ("root", "upper", "work"):
-                (self.room / it).mkdir()
-            self.mount("overlay", "overlay", self.root, f"lowerdir={system},upperdir={self.room}/upper,workdir={self.room}/work")
-        except BaseException:
-            self.__exit__()
-            raise
-
-    def mount(self, kind: str, device: str, folder: Path, options: str):
-        subprocess.run(["mount", "-t", kind, "-o", options, device, str(folder)], check=True)
-        self.mounts.append(folder)
+    running = None
 
     def boot(self) -> bool:
         """Boots it, and waits until systemd has started what it starts."""
@@ -105,9 +72,6 @@ class Container:
         wanted = ("running", "degraded")
         return until(lambda: self.leader() and self.said("systemctl", "is-system-running") in wanted)
 
-    def __enter__(self):
-        return self
-
     def __exit__(self, *_):
         if self.running and self.running.poll() is None:
             self.running.terminate()
@@ -116,9 +80,7 @@ class Container:
             except subprocess.TimeoutExpired:
                 os.kill(self.leader(), signal.SIGKILL)  # the first of its processes: the others end with it
                 self.running.wait()
-        for folder in reversed(self.mounts):
-            subprocess.run(["umount", str(folder)], check=False)
-        self.room.rmdir()
+        self.leave()
 
     def leader(self) -> int:
         """The process of the container's systemd, 0 where there is none now."""
@@ -196,6 +158,8 @@ def install(it: Container):
         it.run("useradd", "--system", name).check_returncode()
     steps = block("groupadd ").replace("AGENT", "agent") + block("cd /usr/local/share/doc/noticed\ncp ").replace("editor ", "test -w ")
     it.run("sh", "-c", f"set -e\n{steps.partition(' && systemctl enable')[0]}").check_returncode()
+    for name in DELIVERED[:2]:
+        it.run("mkdir", "--mode=777", os.path.dirname(name)).check_returncode()
     it.file("/usr/sbin/sendmail").write_text(SENDMAIL)
     it.file("/usr/sbin/sendmail").chmod(0o755)
 
@@ -221,16 +185,17 @@ def check_next_run(checks: Checks, it: Container):
     checks.equal("connections to the last", it.run("runuser", "-u", "agent", "--", "python3", "-c", USE_UP).stderr, b"")
     began = time.monotonic()
     checks.true("the next run has begun", until(lambda: len(it.outboxes()) > before, 10) and it.listens())
-    checks.true("it began at once", time.monotonic() - began < 2)
+    checks.true("it began at once", time.monotonic() - began < 4)  # sooner than a unit that failed, which waits for 5 seconds
     checks.equal("the unit wasn't started anew", it.shows("NRestarts"), "0")
     checks.equal("an agent's answers of the next run", it.sent(FRAMES), NOTES)
 
 
 def check_by_hand(checks: Checks, it: Container):
-    """A message by hand, as docs/DEPLOY.md has it; and `noticed stop`, after which the next run begins at once."""
-    asked = "cd /usr/local/share/doc/noticed\n" + block("$ python3 examples/frames.py - <<'END'").replace("$ python3 examples/", "python3 ")
-    script, _, answers = asked.partition("END\n0 ")
-    checks.equal("a message by hand", it.said("runuser", "-u", "agent", "--", "sh", "-c", f"{script}END\n"), f"0 {answers}".strip())
+    """Messages by hand, as docs/DEPLOY.md has them; and `noticed stop`, after which the next run begins at once."""
+    for start in (f"$ python3 {INSTALLED}/frames.py - <<'END'", "$ cat > mine.requests <<'END'"):
+        typed, _, answers = block(start).rpartition("\n0 ")
+        script = re.sub(r"^\$ ", "", typed, flags=re.M).replace("A1B2C3", "HAND")  # a key that isn't closed in this run
+        checks.equal(f"by hand: {start}", it.said("runuser", "-u", "agent", "--", "sh", "-c", f"cd /tmp\n{script}\n"), f"0 {answers}".strip())
     before = len(it.outboxes())
     checks.equal("noticed stop", it.run("runuser", "-u", "noticed", "--", "noticed", "stop", SOCKET).returncode, 0)
     checks.true("the next run begins at once", until(lambda: len(it.outboxes()) > before, 2) and it.listens())
@@ -306,11 +271,24 @@ def check_reboot(checks: Checks, it: Container):
 
 
 def check_feeder(checks: Checks, it: Container):
-    """The feeder's unit hands in what is sealed after the reboot."""
+    """The feeder's unit hands in what is sealed after the reboot. What the mail program goes on with isn't killed when the unit
+    is stopped, and has the machine's own files."""
     checks.equal("an agent's answers after the reboot", it.sent(FRAMES), NOTES)
     checks.equal("the feeder after the reboot", it.said("systemctl", "is-active", "noticed-feed"), "active")
     handed_in = it.file(f"{OUTBOXES}/handed-in")
     checks.true("the notice is handed in", until(lambda: handed_in.exists() and b"<B.A1B2C3." in handed_in.read_bytes(), 15))
+    checks.true("what the mail program began is done, on the machine's own files", until(lambda: is_delivered(it), 15))
+    it.run("rm", *DELIVERED)
+    handed_in.unlink()
+    checks.equal("an agent's answers before the feeder is stopped", it.sent(FRAMES.replace(b"A1B2C3", b"A1B2C4")), NOTES)
+    checks.true("the next notice is handed in", until(handed_in.exists, 15))
+    checks.equal("systemctl stop of the feeder", it.run("systemctl", "stop", "noticed-feed").returncode, 0)
+    checks.true("what the mail program began is done all the same", until(lambda: is_delivered(it), 15))
+
+
+def is_delivered(it: Container) -> bool:
+    """Whether the mail program has done what it went on with."""
+    return it.run("ls", *DELIVERED).returncode == 0
 
 
 def check_all(checks: Checks, it: Container):
@@ -330,13 +308,11 @@ def main():
     if len(sys.argv) != 2:
         print("  skipped: python3 tests/boot.py FOLDER boots a Debian that it makes in FOLDER")
         checks.done()
-    if os.geteuid() or lacking():
-        print(f"  skipped: it needs {' and '.join(['root'] * bool(os.geteuid()) + lacking())}")
+    if lacking(TOOLS):
+        print(f"  skipped: it needs {' and '.join(lacking(TOOLS))}")
         checks.done()
     signal.signal(signal.SIGTERM, lambda *_: sys.exit(1))
-    folder = Path(sys.argv[1]).resolve()
-    make_system(folder)
-    with Container(folder / "system") as it:
+    with Container(base_system(Path(sys.argv[1]).resolve())) as it:
         checks.true("the container boots", it.boot())
         install(it)
         check_all(checks, it)

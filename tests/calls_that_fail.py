@@ -4,14 +4,13 @@
 before stands, what is lost is told, and nothing comes after, as a plain reading of docs/FORMATS.md has it. A daemon's
 accept, or a read or write of its connections, that is interrupted is made again, and nobody sees it."""
 import errno
-import socket
 import sys
 import tempfile
 from pathlib import Path
 from typing import Optional
 
 sys.path.insert(0, str(Path(__file__).parent / "support"))
-from daemon_and_clients import Daemon, line, socket_fault  # noqa: E402
+from daemon_and_clients import Daemon, conversation, line, socket_fault  # noqa: E402
 from formats import sessions  # noqa: E402
 from formats.logs import REFUSED, Limits, Logs  # noqa: E402
 from formats.notices import crlf, mail, outbox  # noqa: E402
@@ -97,20 +96,6 @@ def check_notes(checks: Checks, library: Path):
         print(f"  the notes: {at - 1} lines, each failed with {about}")
 
 
-def conversation(daemon: Daemon, given: bytes) -> bytes:
-    """What a client hears that sends all of a session at once."""
-    with daemon.connect() as client:
-        client.sendall(given)
-        client.shutdown(socket.SHUT_WR)
-        got = b""
-        try:
-            while more := client.recv(4096):
-                got += more
-        except ConnectionResetError:
-            pass  # the daemon ended the session with bytes of it unread
-        return got
-
-
 def served(given: bytes, broken: bool = False, room: Optional[int] = None):
     """What one connection to one agent gives: the answers, of which there is room for so many if that is said, and the
     daemon's end."""
@@ -130,7 +115,7 @@ def served(given: bytes, broken: bool = False, room: Optional[int] = None):
 def serve(library: Path, given: bytes, call: str, at: int, error: int, short: int = 0):
     """The answers of a session on a connection to one agent, and the daemon's end, where a call of the daemon fails."""
     with Daemon(1, 1, env=failing(library, call, at, error, short)) as daemon:
-        return conversation(daemon, given), daemon.end()
+        return conversation(daemon.connect(), given), daemon.end()
 
 
 def expected(given: bytes, error: int, **fails):

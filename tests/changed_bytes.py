@@ -2,13 +2,12 @@
 """Changes each byte of the first exchange to each other value, and compares what comes of it with a plain reading of
 docs/FORMATS.md: on standard input, and on connections to a daemon, one after another."""
 import os
-import socket
 import sys
 from concurrent.futures import ThreadPoolExecutor
 from pathlib import Path
 
 sys.path.insert(0, str(Path(__file__).parent / "support"))
-from daemon_and_clients import Daemon, line  # noqa: E402
+from daemon_and_clients import Daemon, conversation, line  # noqa: E402
 from formats import sessions  # noqa: E402
 from formats.logs import REFUSED, Limits, Logs  # noqa: E402
 from formats.notices import outbox  # noqa: E402
@@ -39,20 +38,6 @@ def session(given: bytes, logs: Logs, letters: list):
     return b"".join(answers), accepted, fault
 
 
-def heard_all(client: socket.socket, given: bytes) -> bytes:
-    """Sends a whole session and hears all that comes back."""
-    with client:
-        client.sendall(given)
-        client.shutdown(socket.SHUT_WR)
-        got = b""
-        try:
-            while more := client.recv(4096):
-                got += more
-        except ConnectionResetError:
-            pass  # the daemon ended the session with bytes of it unread
-        return got
-
-
 def check_daemon(checks: Checks, changed: list):
     """Each change on a connection of its own to one agent, whose logs stay from one connection to the next."""
     logs, letters, requests, faults = Logs(Limits()), [], 0, 0
@@ -60,7 +45,7 @@ def check_daemon(checks: Checks, changed: list):
         for given in changed:
             wanted, accepted, fault = session(given, logs, letters)
             requests, faults = requests + accepted, faults + fault
-            checks.equal(f"serve: {given.hex()}", heard_all(daemon.connect(), given), wanted)
+            checks.equal(f"serve: {given.hex()}", conversation(daemon.connect(), given), wanted)
         notes = line(0, requests, len(changed), faults) + b"".join(sessions.open_lines(logs))
         checks.equal("serve: the end", daemon.end(), Ran(outbox(HOST.encode(), letters), notes, 0))
 

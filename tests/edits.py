@@ -21,16 +21,15 @@ STAND_FOR = {
     ("dsn_text", "NoMemory"): "refusals-share-a-number",
     ("dsn_text", "EnvelopeId"): "address-too-long-accepted",
     ("dsn_text", "keys_are_ordered"): "keys-by-id-before-service",
-    ("dsn_agent", "AskFault"): "refusals-share-a-number",
-    ("dsn_desk", "CrewOpenFault"): "refusals-share-a-number",
+    ("dsn_crew", "AskFault"): "refusals-share-a-number",
+    ("dsn_crew", "CrewOpenFault"): "refusals-share-a-number",
     ("dsn_frame", "FrameRef"): "frame-lent-from-the-wrong-place",
-    ("noticed_notes", "fault_line"): "unsent-letter-told-as-a-fault",
-    ("noticed_serve", "WatchedOutbox"): "outbox-drops-what-it-takes",
+    ("noticed_lib", "WatchedOutbox"): "outbox-drops-what-it-takes",
 }
 
 # Types whose calls no contract says anything of: what they do is the system's, and a script tests it.
 TESTED = {
-    ("noticed_serve", "SocketWatch"): "stop.py",
+    ("noticed_lib", "SocketWatch"): "stop.py",
 }
 
 
@@ -75,7 +74,7 @@ def public_calls(crate: str) -> list:
         (
             it.name.split("::")[0],
             it.name,
-            it.name.split("::")[0] in types or gives_a_field(it) or (it.file == "src/laws.rt" and of_definitions),
+            it.name.split("::")[0] in types or gives_a_field(it) or (Path(it.file).name == "laws.rt" and of_definitions),
         )
         for it in public
     ]

@@ -25,9 +25,18 @@ def outboxes_in(source: Path):
 def in_tests(checks: Checks):
     """Compares the outboxes of the crates' tests with those of the examples."""
     stored = {it.read_bytes() for it in EXAMPLES.glob("*.outbox")}
-    for source in sorted(ROOT.glob("crates/*_tests/src/*.rt")):
+    for source in sorted(ROOT.glob("crates/*_tests/src/**/*.rt")):
         for name, made in outboxes_in(source):
             checks.true(f"{source.relative_to(ROOT)}: {name} is an example's outbox", made in stored)
+
+
+def in_page(checks: Checks):
+    """Compares the whole example of docs/EMBEDDING.md with the test that runs it."""
+    page = (ROOT / "docs/EMBEDDING.md").read_text().partition("## A whole example")[2].partition("\n## ")[0]
+    test = (ROOT / "crates/noticed_lib_tests/src/embedding.rt").read_text().partition("\n#[test]")[0]
+    told = [line[4:] for line in page.splitlines() if line.startswith("    ")]
+    ran = [line for line in test.splitlines() if line and not line.startswith(("//!", "use crate::"))]
+    checks.equal("the example of docs/EMBEDDING.md is the one that a test runs", told, ran)
 
 
 def main():
@@ -42,6 +51,7 @@ def main():
         checks.equal(f"{frames.stem}: status", ran.status, int(frames.with_suffix(".status").read_text()))
         print(f"  {frames.stem}")
     in_tests(checks)
+    in_page(checks)
     checks.done()
 
 

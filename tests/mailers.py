@@ -8,6 +8,7 @@ import contextlib
 import os
 import re
 import shutil
+import signal
 import socket
 import subprocess
 import sys
@@ -25,9 +26,11 @@ except ImportError:
 sys.path.insert(0, str(Path(__file__).parent / "support"))
 from daemon_and_clients import Daemon  # noqa: E402
 from feeding import Following, frames  # noqa: E402
-from running import Checks  # noqa: E402
+from running import ROOT, Checks, program  # noqa: E402
+from system import KEPT, Layer, base_system, lacking  # noqa: E402
 
 RUN = 12  # notices of a run
+TOOLS = {"debootstrap": "debootstrap", "unshare": "util-linux"}
 PATIENCE = 120  # seconds until all of them have arrived
 MESSAGE_ID = re.compile(rb"^Message-ID: <(\S+)>", re.MULTILINE | re.IGNORECASE)
 PLAIN = [b"sender%%d.%d@example.com" % at for at in range(RUN)]
@@ -290,17 +293,53 @@ def handed_in(checks: Checks, mailer, runs: int, odd: list):
         checks.equal(f"{name}: what lies there", sorted(it.name for it in Path(place).iterdir()), ["feed.outbox.state", "outbox"])
 
 
+def installed(it: Layer, package: str) -> str:
+    """Installs a package in a root, where no service is started: what failed."""
+    (it.root / "usr/sbin/policy-rc.d").write_text("#!/bin/sh\nexit 101\n")
+    (it.root / "usr/sbin/policy-rc.d").chmod(0o755)
+    (it.root / "etc/resolv.conf").unlink(missing_ok=True)
+    shutil.copy("/etc/resolv.conf", it.root / "etc/resolv.conf")
+    (it.root / "etc/hosts").write_text("127.0.0.1 localhost mx.example.net mx\n")
+    for words in (["update"], ["install", "--yes", "--no-install-recommends", package]):
+        ran = it.inside("apt-get", "--quiet=2", *words, DEBIAN_FRONTEND="noninteractive")
+        if ran.returncode:
+            return ran.stdout
+    return ""
+
+
+def apart(checks: Checks, name: str, package: str, words: list):
+    """This script for one mailer, in a root of its own."""
+    with Layer(base_system(KEPT)) as it:
+        it.bind(ROOT, "/noticed")
+        it.bind(Path(program()), "/usr/local/bin/noticed")
+        failed = installed(it, package)
+        checks.equal(f"{name}: {package} is installed", failed, "")
+        if not failed:
+            ran = it.inside("/usr/bin/python3", "/noticed/tests/mailers.py", *words, name, NOTICED="/usr/local/bin/noticed")
+            print("".join(f"{line}\n" for line in ran.stdout.splitlines() if line.startswith("  ")), end="", flush=True)
+            counted = re.search(r"^  (\d+) held, 0 failed$", ran.stdout, re.MULTILINE)
+            checks.true(f"{name}: each notice arrives once", ran.returncode == 0 and counted and int(counted[1]) > 0)
+
+
 def main():
     checks = Checks("mailers: each notice that the feeder hands to a real mail program arrives once")
-    runs = 20 if "--full" in sys.argv else 2
-    named = [it for it in sys.argv[1:] if it != "--full"]
+    options = {it for it in sys.argv[1:] if it.startswith("--")}
+    runs = 20 if "--full" in options else 2
+    named = [it for it in sys.argv[1:] if it not in options]
+    if "--apart" in options and lacking(TOOLS):
+        print(f"  skipped: it needs {' and '.join(lacking(TOOLS))}")
+        checks.done()
+    signal.signal(signal.SIGTERM, lambda *_: sys.exit(1))
     for mailer, (is_there, package, is_of_root, odd) in MAILERS.items():
-        if named and mailer.__name__ not in named:
+        name = mailer.__name__
+        if named and name not in named:
             continue
-        if not is_there():
-            print(f"  {mailer.__name__} isn't installed, and was skipped: install {package}")
+        if "--apart" in options:
+            apart(checks, name, package, sorted(options - {"--apart"}))
+        elif not is_there():
+            print(f"  {name} isn't installed, and was skipped: install {package}")
         elif is_of_root and os.geteuid():
-            print(f"  {mailer.__name__} is tried by root alone, and was skipped")
+            print(f"  {name} is tried by root alone, and was skipped")
         else:
             handed_in(checks, mailer, runs, odd)
     checks.done()

@@ -1,7 +1,8 @@
 #!/usr/bin/env python3
-"""Checks what `make build` says while it proves, with a stand-in for `rt` in a folder of this script's own: each crate is
-named once, while the stand-in still runs; the log has all that it said; and where it fails, the log and the failure are
-shown and make fails too."""
+"""Checks `make build`, with a stand-in for `rt` in a folder of this script's own: it works on a copy of the program and the
+crates below it alone, without wrong edits; each crate is named as it is proved, while the stand-in still runs; the log has all
+that it said; and where it fails, the log and the failure are shown, make fails too, and the program of before stays."""
+import os
 import shutil
 import subprocess
 import sys
@@ -12,41 +13,82 @@ from pathlib import Path
 sys.path.insert(0, str(Path(__file__).parent / "support"))
 from running import ROOT, Checks  # noqa: E402
 
-PATIENCE = 20  # seconds that one run of make may take
-SAID = """rt: chose 1 at a time
-library dsn_device: modules loaded=0 checked=0
-checked dsn_text::keys::key, 1 of 2
-fn dsn_text::keys::key: proved
-fn dsn_text::keys::letter: proved
-crate dsn_text: modules loaded=237 checked=3924
-statements core: modules loaded=1302 checked=0
-checked: ended status=0
-crate dsn_outcome_tests: modules loaded=0 checked=3
+PATIENCE = 60  # seconds that one run of make may take
+CRATES = """# Each crate with what it stands on.
+low: thiserror
+side: thiserror
+low_tests: low
+probe: low
+high: low # and no more
+noticed may_wait=2: high side itoa
+"""
+NAMED = ["low", "high", "side"]
+SAID = """rt: low proved
+== high
+fn high::keys::key: proved
+rt: high is kept: an earlier run on this machine proved the same files over the same libraries
+rt: high: its tests are proved
+== side
+rt: side proved
 """
 PROVES = f"""#!/bin/sh
 cat << 'END'
 {SAID}END
-while [ ! -e ../../go-on ]; do sleep 0.01; done
-echo "crate noticed: modules loaded=0 checked=9" >&2
-echo "$PWD $*"
-mkdir -p out && : > out/noticed
-exit "$STATUS"
+echo "$*"
+cat crates.txt HANDLES
+find * | LC_ALL=C sort
+while [ ! -e "$GO_ON" ]; do sleep 0.01; done
+if [ "$STATUS" != 0 ]; then
+    echo "rt: noticed NOT PROVED" >&2
+    exit "$STATUS"
+fi
+mkdir crates/noticed/out
+echo new > crates/noticed/out/noticed
+echo "rt: noticed proved"
+"""
+COPY = """ci
+low: thiserror
+side: thiserror
+high: low # and no more
+noticed may_wait=2: high side itoa
+Handles allowed: none.
+HANDLES
+crates
+crates.txt
+crates/high
+crates/high/src
+crates/high/src/lib.rt
+crates/low
+crates/low/src
+crates/low/src/lib.rt
+crates/noticed
+crates/noticed/src
+crates/noticed/src/lib.rt
+crates/side
+crates/side/src
+crates/side/src/lib.rt
 """
 
 
 def prepared(room: Path):
-    """A repository that has one source, and a stand-in for `rt`."""
-    for name in ("Makefile", "crates.txt", "HANDLES"):
-        shutil.copy2(ROOT / name, room)
-    (room / "crates/noticed").mkdir(parents=True)
-    (room / "crates/noticed/main.rs").touch()
+    """A repository whose crates have one source each, and what is no source, and a stand-in for `rt`."""
+    shutil.copy2(ROOT / "Makefile", room)
+    shutil.copytree(ROOT / "tests/support", room / "tests/support")
+    (room / "crates.txt").write_text(CRATES)
+    (room / "HANDLES").write_text("Handles allowed: none.\n")
+    for crate in ("low", "side", "low_tests", "probe", "high", "noticed"):
+        for name in ("src/lib.rt", "must-fail/wrong.edit", f"out/{crate}"):
+            (room / "crates" / crate / name).parent.mkdir(parents=True)
+            (room / "crates" / crate / name).write_text("old\n")
+    for it in (room / "crates").glob("*/out/*"):
+        os.utime(it, (0, 0))
     (room / "rt").write_text(PROVES)
     (room / "rt").chmod(0o755)
 
 
 def names(lines: list) -> list:
     """The crates that some lines of make name."""
-    return [it.split()[-1] for it in lines if it.startswith("  ")]
+    return [it.split()[2] for it in lines if it.startswith("  ")]
 
 
 def built(checks: Checks, status: int):
@@ -54,35 +96,37 @@ def built(checks: Checks, status: int):
     with tempfile.TemporaryDirectory(prefix="noticed-") as name:
         room = Path(name)
         prepared(room)
-        (room / "said").touch()
+        words = ["make", "build", f"RT={room}/rt"]
         with open(room / "said", "wb") as said:
-            words = ["make", "build", f"RT={room}/rt", f"STATUS={status}"]
-            making = subprocess.Popen(words, cwd=room, stdout=said, stderr=said)
-        early = early_lines(room)
-        checks.equal(f"status {status}: named while rt runs", names(early), ["dsn_text", "dsn_outcome_tests"])
+            making = subprocess.Popen(words, cwd=room, stdout=said, stderr=said, env={**os.environ, "STATUS": str(status), "GO_ON": f"{room}/go-on"})
+        checks.equal(f"status {status}: named while rt runs", names(early_lines(room, making)), NAMED)
         (room / "go-on").touch()
         ended = making.wait(timeout=PATIENCE)
         lines = (room / "said").read_text().splitlines()
+        end = "rt: noticed NOT PROVED\n" if status else "rt: noticed proved\n"
         checks.equal(f"status {status}: make's own", ended, 2 if status else 0)
-        checks.equal(f"status {status}: all that is named", names(lines), ["dsn_text", "dsn_outcome_tests", "noticed"])
-        log = f"{SAID}crate noticed: modules loaded=0 checked=9\n{room}/crates/noticed run -- batch mx.example.net\n"
-        checks.equal(f"status {status}: the log", (room / "out/build.log").read_text(), log)
-        checks.equal(f"status {status}: a failure is told", "crates/noticed/out/noticed could not be proved or built" in lines, status != 0)
+        checks.equal(f"status {status}: all that is named", names(lines), [*NAMED, "noticed"])
+        checks.equal(f"status {status}: the log", (room / "out/noticed.log").read_text(), SAID + COPY + end)
+        checks.equal(f"status {status}: a failure is told", "noticed could not be proved or built" in lines, status != 0)
         checks.equal(f"status {status}: the log of a failure is shown", SAID.splitlines()[0] in lines, status != 0)
+        checks.equal(f"status {status}: the program", (room / "crates/noticed/out/noticed").read_text(), "old\n" if status else "new\n")
+        if not status:
+            again = subprocess.run(words, cwd=room, capture_output=True, check=False, timeout=PATIENCE)
+            checks.equal("what is up to date isn't built again", (again.returncode, names(again.stdout.decode().splitlines())), (0, []))
 
 
-def early_lines(room: Path) -> list:
-    """The lines that make writes before the stand-in goes on, once two crates are named."""
+def early_lines(room: Path, making: subprocess.Popen) -> list:
+    """The lines that make writes before the stand-in goes on, once its crates are named."""
     began = time.monotonic()
     lines = []
-    while len(names(lines)) < 2 and time.monotonic() - began < 5:
+    while len(names(lines)) < len(NAMED) and time.monotonic() - began < PATIENCE and making.poll() is None:
         time.sleep(0.02)
         lines = (room / "said").read_text().splitlines()
     return lines
 
 
 def main():
-    checks = Checks("make build: what it says while it proves, and its status")
+    checks = Checks("make build: what it proves, what it says meanwhile, and its status")
     for status in (0, 3):
         built(checks, status)
     checks.done()

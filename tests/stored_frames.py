@@ -10,13 +10,13 @@ from running import EXAMPLES, ROOT, Checks, frames_module  # noqa: E402
 def main():
     checks = Checks("stored frames: each .frames file of examples/ against its description")
     frames = frames_module()
-    descriptions = sorted(EXAMPLES.rglob("*.requests"))
+    descriptions = sorted(EXAMPLES.glob("*.requests"))
     checks.true("there are descriptions", descriptions)
     for description in descriptions:
         name = description.relative_to(EXAMPLES).with_suffix("")
         made = frames.frames_of(description.read_text(encoding="utf-8"))
         checks.equal(f"{name}.frames", description.with_suffix(".frames").read_bytes(), made)
-    for stored in sorted(EXAMPLES.rglob("*.frames")):
+    for stored in sorted(EXAMPLES.glob("*.frames")):
         for suffix in (".requests", ".outbox", ".notes", ".status"):
             checks.true(f"{stored.relative_to(EXAMPLES)} has its {suffix}", stored.with_suffix(suffix).is_file())
     crate = ROOT / "crates/noticed"

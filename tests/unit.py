@@ -4,7 +4,8 @@ are opened, then the folders are made, then the commands run), in a folder of th
 modes and owners that come of it; the runs that follow one another, and their ends, by signals too; and the whole of it by
 `systemd-analyze verify` where that is installed. As root the daemon runs as an account of its own, and others try to get
 at its socket and its outbox. And examples/noticed-feed.service: that it follows the outbox of the first, as an account
-that may read it, and is waited for as long as a reply may take. tests/boot.py tries both under systemd."""
+that may read it, is waited for as long as a reply may take, and keeps nothing from the mail program that it runs.
+tests/boot.py tries both under systemd."""
 import os
 import random
 import re
@@ -26,6 +27,9 @@ from running import EXAMPLES, HOST, ROOT, Checks, Ran, empty_outbox, program  # 
 UNIT = EXAMPLES / "noticed.service"
 FEEDER = EXAMPLES / "noticed-feed.service"
 DAEMON, AGENT, STRANGER = 64801, 64802, 64803  # accounts that no machine has; the daemon's group has its number
+# Keys of a unit that hide files from what it runs, or take rights away; and those that the feeder's has as comments.
+KEEPS = ("Protect", "Private", "Restrict", "SystemCall", "Capability", "NoNewPrivileges", "ReadOnly", "ReadWrite", "Inaccessible")
+OPTION = re.compile(r"^#(?=[A-Z][A-Za-z]+=)", re.MULTILINE)
 WANTED = {
     "User": ["noticed"],
     "Group": ["noticed"],
@@ -424,23 +428,27 @@ def check_feeder(checks: Checks, sections: dict):
     checks.equal("the feeder: what it follows", words[words.index("--follow") + 1], f"{service['WorkingDirectory'][0]}/outbox")
     patience = int(re.search(r"^PATIENCE = (\d+)", (EXAMPLES / "feed.py").read_text(), re.M)[1])
     checks.true("the feeder: its supervisor waits longer than a reply may take", seconds_of(given["Service"]["TimeoutStopSec"][0]) > patience)
+    checks.equal("the feeder: what is signalled", given["Service"]["KillMode"], ["process"])
+    checks.equal("the feeder: what keeps something from its mail program", [it for it in given["Service"] if it.startswith(KEEPS)], [])
 
 
-def check_verify(checks: Checks, text: str):
-    """What systemd itself says of it."""
+def check_verify(checks: Checks, name: str, text: str):
+    """What systemd itself says of a unit."""
     if not shutil.which("systemd-analyze"):
         print("  systemd-analyze isn't installed (Debian's package systemd): the keys alone were checked")
         return
     with tempfile.TemporaryDirectory() as room:
-        unit = Path(room) / UNIT.name
+        unit = Path(room) / name
         unit.write_text("\n".join(it for it in text.splitlines() if not it.startswith("Documentation=")) + "\n")
         words = ["systemd-analyze", "verify", "--man=no", str(unit)]
         verified = subprocess.run(words, capture_output=True, text=True, check=False, timeout=60, env={**os.environ, "LC_ALL": "C"})
-        checks.equal("systemd-analyze verify", (verified.returncode, verified.stdout + verified.stderr), (0, ""))
+        checks.equal(f"systemd-analyze verify {name}", (verified.returncode, verified.stdout + verified.stderr), (0, ""))
 
 
 def main():
     checks = Checks("unit: the systemd units of examples/, and the steps of the daemon's without systemd")
+    for it in (signal.SIGINT, signal.SIGHUP):  # in the background of a shell, or under nohup, one is ignored
+        signal.signal(it, signal.SIG_DFL)  # and a shell can't trap a signal that was ignored when it began
     text = UNIT.read_text()
     sections = sections_of(text)
     account = has_accounts()
@@ -452,7 +460,9 @@ def main():
     with tempfile.TemporaryDirectory(prefix="noticed-") as name:
         check_installed(checks, Machine(Path(name), sections["Service"], account), command, *sections_of(FEEDER.read_text())["Service"]["ExecStart"])
     check_feeder(checks, sections)
-    check_verify(checks, text)
+    feeder = FEEDER.read_text()
+    for name, it in ((UNIT.name, text), (FEEDER.name, feeder), (f"set.{FEEDER.name}", OPTION.sub("", feeder))):
+        check_verify(checks, name, it)
     checks.done()
 
 

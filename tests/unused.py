@@ -1,5 +1,6 @@
 #!/usr/bin/env python3
-"""Nothing in specs/ and proofs/ of a crate is there for nobody: each definition and each lemma is used outside its own
+"""No definition's name stands in two modules of specs/, of one crate or of two, so that a contract can be read by its words
+alone. And nothing in specs/ and proofs/ of a crate is there for nobody: each definition and each lemma is used outside its own
 text, by a contract, by another definition or by a proof. The worked examples, which nothing cites, stand in modules named
 after them; the answers to the prover's goals (Answers.antt, Invariants.antt) are used by the prover."""
 import re
@@ -63,9 +64,21 @@ def used_from_elsewhere(file: Path, text: str) -> set:
     return found
 
 
+def check_names(checks: Checks, texts: dict):
+    """Sees that each definition's name stands in one module of the contracts."""
+    homes = {}
+    for file, text in sorted(texts.items()):
+        if file.suffix == ".antt" and file.relative_to(ROOT / "crates").parts[1] == "specs":
+            for name in definitions(text):
+                homes.setdefault(name, []).append(str(file.relative_to(ROOT)))
+    for name, files in homes.items():
+        checks.equal(f"modules that define {name}", files, files[:1])
+
+
 def main():
-    checks = Checks("unused: each definition and each lemma is used")
+    checks = Checks("unused: each definition and each lemma is used, and has a name of its own")
     texts = sources()
+    check_names(checks, texts)
     elsewhere = set().union(*(used_from_elsewhere(file, text) for file, text in texts.items()))
     for file, text in sorted(texts.items()):
         way = file.relative_to(ROOT / "crates").parts

@@ -1,4 +1,5 @@
 """What the scripts that run `noticed serve` and `noticed send` share: a daemon on a socket of its own, and clients."""
+import contextlib
 import os
 import signal
 import socket
@@ -170,6 +171,20 @@ def answers_to(client: socket.socket, given: list) -> bytes:
         if len(heard_so_far[-1]) < 14 * len(part):
             break
     return b"".join(heard_so_far)
+
+
+def conversation(client: socket.socket, given: bytes) -> bytes:
+    """What a client hears that sends all of a session, then closes its side. The daemon may end the session before all of it
+    is sent, or read: what it answered is heard all the same."""
+    with client:
+        with contextlib.suppress(ConnectionError):
+            client.sendall(given)
+            client.shutdown(socket.SHUT_WR)
+        got = b""
+        with contextlib.suppress(ConnectionResetError):
+            while more := client.recv(4096):
+                got += more
+        return got
 
 
 def is_ended(client: socket.socket) -> bool:

@@ -18,11 +18,11 @@ from pathlib import Path
 
 sys.path.insert(0, str(Path(__file__).parent))
 from jobs import jobs  # noqa: E402
+from kit import RT  # noqa: E402
 from running import ROOT  # noqa: E402
 
-RT = shutil.which("rt") or "/opt/rattle/bin/rt"
 PROGRAMS = {"NOTICED": "noticed", "PROBE": "probe"}
-COUNT = re.compile(r"^(\d+) (?:passed|refused), (\d+) (?:failed|not refused)$", re.M)
+COUNT = re.compile(r"^(\d+) (?:passed|refused), (\d+) failed$", re.M)
 
 
 class Verdict:
@@ -50,8 +50,8 @@ def lacking() -> list:
 
 
 def copied(room: Path):
-    """A copy of the repository without what was built here, and without the wrong edits."""
-    shutil.copytree(ROOT, room, dirs_exist_ok=True, ignore=shutil.ignore_patterns("out", ".git", "must-fail", "__pycache__"))
+    """A copy of the repository without what was built here, and without the wrong edits and their controls."""
+    shutil.copytree(ROOT, room, dirs_exist_ok=True, ignore=shutil.ignore_patterns("out", ".git", "must-fail", "controls", "__pycache__"))
     (room / ".git").mkdir()
 
 

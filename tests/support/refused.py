@@ -6,44 +6,45 @@ A function is proved against the contracts of those that it calls, so edits of d
 and each is refused by what the check says of its own function: a clause that isn't proved, or an error in its proof. An
 edit of anything but a function's body (a definition, a constant, a type) is tried alone, and refused by whatever is no
 longer proved. A check reads the changed functions alone, over what the crate's other checks proved; an edit that this
-doesn't refuse is tried once more alone, over the whole crate.
+doesn't refuse, or one of a definition that only proofs refuse so far, is tried once more alone, over the whole crate with its
+worked examples.
+
+A refusal is weak where no clause and no worked example refuses the edit, and only a proof that was written by hand has an
+error: a right body of another shape may get that error too. It isn't weak where a control shows that a right body doesn't: a
+file crates/*/controls/ with the name of the edit, which changes the same texts into right ones, and which the prover must
+accept. The weak edits that are known stand in tests/support/weak_edits.txt; it is a failure where another one is weak, and
+where one of these isn't any more; but for the crates of which not each edit was looked at yet (`CRATE *` there).
 
 The libraries below must have been built (`rt all check`). With `--beside ROOM LOG` they are those that `rt ci` builds in
-ROOM and tells of in LOG, and the edits of a crate are tried as soon as what the crate stands on is there. The last line
-counts the edits that were refused and those that weren't, and the status is 1 where one wasn't."""
-import importlib.machinery
-import importlib.util
+ROOM and tells of in LOG, and the edits of a crate are tried as soon as what the crate stands on is there. The last lines
+count the weak refusals, and the edits that were refused and what failed: an edit that wasn't, a control that wasn't accepted, a
+difference between the weak ones and the list. The status is 1 where anything failed."""
 import os
 import re
 import shutil
-import subprocess
 import sys
 import tempfile
 import time
 from concurrent.futures import FIRST_COMPLETED, ThreadPoolExecutor, wait
-from dataclasses import dataclass
+from dataclasses import dataclass, field
 from pathlib import Path
 
 sys.path.insert(0, str(Path(__file__).parent))
+import kit  # noqa: E402
 from wrong_edits import crates, item_with  # noqa: E402
 from jobs import jobs  # noqa: E402
 from running import ROOT  # noqa: E402
 
 POLL = 2  # seconds between two looks at what was built
-RT = Path(shutil.which("rt") or "/opt/rattle/bin/rt").resolve()
-VERDICT = re.compile(r"^fn (?P<path>[^:]+(?:::[^:]+)*): (?:no proof|not proved)(?P<why>.*)$", re.M)
-CLAUSES = re.compile(r"did not prove ((?:`[^`]+`(?:, | and )?)+)")
-NOTE = re.compile(r"^note: (?P<file>src/\S+?):(?P<line>\d+):\d+: it is not proved that .*?\(`(?P<clause>[^`]+)`\)", re.M)
-PROOF = re.compile(r"^(?:\./)?proofs/(?P<file>\S+?)\.antt:\d+:\d+: error: (?P<why>.*)$", re.M)
-# A proof that names what the edit took away says nothing of the contract.
-TAKEN_AWAY = re.compile(r"has no field|is not in scope|has no `|was not admitted")
-UNREAD = re.compile(r"^(?:\./)?(?:src|specs)/\S+:\d+:\d+: error: (?:(?!`[^`]*`: )|.*(?:is not in scope|has no field|is no name)).*$", re.M)
+KNOWN = ROOT / "tests/support/weak_edits.txt"
+# Modules of worked examples: theorems that say what a definition comes to, in which a wrong definition is a wrong value.
+EXAMPLES = re.compile(r"(?:^|/)(?:\w*Examples|Dates)$")
 
 
 @dataclass
 class Edit:
-    """A wrong edit: its file, its changes as (file, old text, new text), and the functions that it changes, as items of the
-    source; none where it changes something else."""
+    """A wrong edit, or a control: its file, its changes as (file, old text, new text), and the functions that it changes, as
+    items of the source; none where it changes something else."""
 
     path: Path
     changes: list
@@ -54,22 +55,56 @@ class Edit:
         return self.path.stem
 
     @property
+    def is_control(self) -> bool:
+        return self.path.parent.name == "controls"
+
+    @property
+    def places(self) -> list:
+        """What it changes, but not into what."""
+        return [(file, old) for file, old, _ in self.changes]
+
+    @property
     def functions(self) -> set:
         """The functions that it changes, by the ends of the names that a check gives them."""
         return {it.path for it in self.items}
+
+    def changes_function(self, path: str) -> bool:
+        """Whether it changes the function that a check gives this name."""
+        return any(f"::{path}".endswith(f"::{it}") for it in self.functions)
+
+    def may_stand_beside(self, other) -> bool:
+        """Whether the two can be tried in one check."""
+        return self.is_control == other.is_control and not self.functions & other.functions
 
     def is_about(self, note) -> bool:
         """Whether a check's note on a line of the sources is about what it changes. (An edit leaves each line where it is.)"""
         return not self.items or any(it.file == note["file"] and it.first < int(note["line"]) <= it.last + 1 for it in self.items)
 
 
-def kit():
-    """The kit's own module of commands, which knows the words that a check of a crate is called with."""
-    loader = importlib.machinery.SourceFileLoader("rtlib", str(RT.parent / "rtlib.py"))
-    module = importlib.util.module_from_spec(importlib.util.spec_from_loader("rtlib", loader))
-    sys.modules["rtlib"] = module
-    loader.exec_module(module)
-    return module
+@dataclass
+class Verdict:
+    """What a check said of an edit: the clauses and worked examples that refuse it, the errors in proofs written by hand, and
+    whether everything that it changes was proved."""
+
+    clauses: set = field(default_factory=set)
+    proofs: set = field(default_factory=set)
+    is_accepted: bool = False
+
+    @property
+    def is_refused(self) -> bool:
+        return bool(self.clauses or self.proofs)
+
+    @property
+    def is_weak(self) -> bool:
+        return bool(self.proofs) and not self.clauses
+
+    def settles(self, edit: Edit) -> bool:
+        """Whether it is what must come of the edit."""
+        return self.is_accepted if edit.is_control else self.is_refused
+
+    def why(self) -> str:
+        """What refuses the edit, in a few words."""
+        return ", ".join([*sorted(self.clauses), *sorted(self.proofs)][:4])
 
 
 def read(crate: str, path: Path) -> Edit:
@@ -88,15 +123,17 @@ def read(crate: str, path: Path) -> Edit:
 
 
 def edits_of(crate: str) -> list:
-    """The wrong edits of a crate."""
-    return [read(crate, path) for path in sorted((ROOT / "crates" / crate / "must-fail").glob("*.edit"))]
+    """The wrong edits of a crate, and then its controls."""
+    folder = ROOT / "crates" / crate
+    return [read(crate, path) for kind in ("must-fail", "controls") for path in sorted((folder / kind).glob("*.edit"))]
 
 
 def groups_of(edits: list) -> list:
-    """The edits in groups that are tried together: those of functions, no two of one function, and each other one alone."""
+    """The edits in groups that are tried together: those of functions, no two of one function, and each other one alone. A
+    control is in no group with a wrong edit, since nothing is proved that calls what isn't."""
     groups = []
     for edit in edits:
-        fits = (group for group in groups if edit.functions and all(it.functions and not it.functions & edit.functions for it in group))
+        fits = (group for group in groups if edit.functions and all(it.functions and edit.may_stand_beside(it) for it in group))
         group = next(fits, None)
         if group is None:
             groups.append([edit])
@@ -106,8 +143,12 @@ def groups_of(edits: list) -> list:
 
 
 def nearby(crate: str, edit: Edit) -> list:
-    """Where a refusal of an edit that changes no function's body is looked for first: the crate's laws, or nowhere."""
-    return ["laws"] if not edit.functions and (ROOT / "crates" / crate / "src/laws.rt").exists() else []
+    """Where a refusal of an edit that changes no function's body is looked for first: the laws of its folder and of its crate, or nowhere."""
+    if edit.is_control or edit.functions:
+        return []
+    folders = {str(Path(file).parent).partition("/")[2] for file, *_ in edit.changes}
+    laws = (f"{folder}/laws".strip("/") for folder in sorted({*folders, ""}))
+    return [it.replace("/", "::") for it in laws if (ROOT / "crates" / crate / f"src/{it}.rt").exists()]
 
 
 class Tries:
@@ -124,10 +165,7 @@ class Tries:
                     shutil.copytree(Path(self.crate.folder) / part, Path(name) / part)
             for edit in edits:
                 self.apply(edit, Path(name))
-            words = [*self.crate.words(["--jobs", "1"], keeps=False), "--incremental", str(self.kept)]
-            words += [word for path in only for word in ("--only", path)]
-            ran = subprocess.run([str(RT.parent / "rattle"), "check", *words], cwd=name, capture_output=True, text=True, errors="replace", check=False)
-            return ran.stdout + ran.stderr
+            return kit.check(self.crate, name, self.kept, only)
 
     @staticmethod
     def apply(edit: Edit, folder: Path):
@@ -138,68 +176,104 @@ class Tries:
                 raise ValueError(f"{edit.name}: an old text is in {file} {text.count(old)} times, and not once")
             (folder / file).write_text(text.replace(old, new))
 
-    def refused(self, group: list) -> dict:
-        """What refused each edit of a group, by its name: clauses, or nothing."""
+    def verdicts(self, group: list) -> dict:
+        """What became of each edit of a group, by its path."""
         only = sorted(set().union(*(it.functions for it in group))) or nearby(self.crate.name, group[0])
         said = self.check(group, only) if only else ""
-        found = {it.name: reasons(it, said) for it in group}
+        found = {it.path: verdict(it, said) for it in group}
         for edit in group:
-            if not found[edit.name]:
-                said = self.check([edit], [])
-                found[edit.name] = reasons(edit, said)
+            known = found[edit.path]
+            if not known.settles(edit) or known.is_weak and not edit.functions:
+                found[edit.path] = verdict(edit, self.check([edit], []))
         return found
 
 
-def reasons(edit: Edit, said: str) -> set:
-    """What a check refused of an edit: the clauses of its functions that aren't proved, and the errors in their proofs; of an
-    edit of something else, those of every function and lemma."""
-    if UNREAD.search(said):
-        return set()
-    wrong = [it for it in PROOF.finditer(said) if not TAKEN_AWAY.search(it["why"])]
-    found = {note["clause"] for note in NOTE.finditer(said) if edit.is_about(note)}
-    for verdict in VERDICT.finditer(said):
-        path = verdict["path"]
-        if edit.functions and not any(f"::{path}".endswith(f"::{it}") for it in edit.functions):
+def verdict(edit: Edit, said: str) -> Verdict:
+    """What a check says of an edit: of its functions, the clauses that aren't proved, and the errors in their proofs; of an edit
+    of something else, those of every function, worked example and lemma."""
+    if kit.UNREAD.search(said):
+        return Verdict()
+    wrong = [it for it in kit.PROOF.finditer(said) if not kit.TAKEN_AWAY.search(it["why"])]
+    found = Verdict({note["clause"] for note in kit.NOTE.finditer(said) if edit.is_about(note)})
+    for function in kit.UNPROVED.finditer(said):
+        path = function["path"]
+        if edit.functions and not edit.changes_function(path):
             continue
-        found |= {clause for some in CLAUSES.findall(verdict["why"]) for clause in re.findall(r"`([^`]+)`", some)}
+        found.clauses |= {clause for some in kit.CLAUSES.findall(function["why"]) for clause in re.findall(r"`([^`]+)`", some)}
         folder = path.partition("::")[2].replace("::", "/")
-        found |= {f"its proof: {it['why'][:80]}" for it in wrong if it["file"].startswith(f"{folder}/")}
-    if not edit.functions:
-        found |= {f"{it['file']}: {it['why'][:80]}" for it in wrong}
+        found.proofs |= {f"its proof: {it['why'][:80]}" for it in wrong if it["file"].startswith(f"{folder}/")}
+    if edit.functions:
+        proved = [f"::{it['path']}" for it in kit.ACCEPTED.finditer(said)]
+        found.is_accepted = not found.is_refused and all(any(path.endswith(f"::{it}") for path in proved) for it in edit.functions)
+        return found
+    for it in wrong:
+        (found.clauses if EXAMPLES.search(it["file"]) else found.proofs).add(f"{it['file']}: {it['why'][:80]}")
+    found.is_accepted = bool(kit.WHOLE.search(said))
     return found
 
 
-def try_crate(crate) -> tuple:
-    """Tries the wrong edits of a crate: how many it has, how many checks they took, and the lines that tell of them."""
+@dataclass
+class Tally:
+    """What came of the edits of a crate, or of several: how many were refused, the lines that tell of them, the weak ones, and
+    how many failed."""
+
+    refused: int = 0
+    failed: int = 0
+    weak: set = field(default_factory=set)
+    lines: list = field(default_factory=list)
+
+    def add(self, other):
+        """Adds another crate's."""
+        self.refused, self.failed, self.weak = self.refused + other.refused, self.failed + other.failed, self.weak | other.weak
+
+    def tell(self, crate: str, edit: Edit, found: Verdict, control):
+        """Adds what came of an edit, and of its control where it has one (as a pair of both, and what came of it)."""
+        said = f"refused by {found.why()}" if found.is_refused else "NOT REFUSED"
+        self.refused, self.failed = self.refused + found.is_refused, self.failed + (not found.is_refused)
+        if control and control[0].places != edit.places:
+            self.failed, said = self.failed + 1, f"{said}; its CONTROL CHANGES ANOTHER PLACE"
+        elif control and not control[1].is_accepted:
+            self.failed, said = self.failed + 1, f"{said}; its CONTROL IS NOT ACCEPTED: {control[1].why() or 'it is not proved'}"
+        elif control:
+            said += "; its control is accepted"
+        elif found.is_weak:
+            self.weak.add(f"{crate} {edit.name}")
+            said = f"WEAK: {said}"
+        self.lines.append(f"  {edit.name}: {said}")
+
+
+def try_crate(crate) -> Tally:
+    """Tries the wrong edits of a crate with their controls."""
     edits = edits_of(crate.name)
-    groups = groups_of(edits)
-    lines, refused = [], 0
+    groups, found = groups_of(edits), {}
     with tempfile.TemporaryDirectory(prefix="noticed-kept-") as kept:
         tries = Tries(crate, Path(kept))
         for group in groups:
-            for name, clauses in tries.refused(group).items():
-                lines.append(f"  {name}: {'refused by ' + ', '.join(sorted(clauses)[:4]) if clauses else 'NOT REFUSED'}")
-                refused += bool(clauses)
-    return len(edits), refused, [f"{crate.name}: {len(edits)} wrong edits in {len(groups)} checks", *lines]
+            found |= tries.verdicts(group)
+    controls = {it.name: (it, found[it.path]) for it in edits if it.is_control}
+    wrong = [it for it in edits if not it.is_control]
+    tally = Tally(lines=[f"{crate.name}: {len(wrong)} wrong edits and {len(controls)} controls in {len(groups)} checks"])
+    for edit in wrong:
+        tally.tell(crate.name, edit, found[edit.path], controls.pop(edit.name, None))
+    tally.lines += [f"  {name}: CONTROL OF NO EDIT" for name in controls]
+    tally.failed += len(controls)
+    return tally
 
 
 class Proving:
     """A run of `rt ci` that goes on, in a copy of the repository: what its log says of it."""
-
-    PROVED = re.compile(r"^rt: (\w+) proved$", re.M)
-    ENDED = re.compile(r"^\d+ passed, \d+ failed$", re.M)
 
     def __init__(self, log: Path):
         self.log = log
 
     def lacking(self, crate) -> list:
         """The libraries below a crate that aren't built."""
-        built = set(self.PROVED.findall(self.log.read_text(errors="replace")))
+        built = set(kit.LIBRARY.findall(self.log.read_text(errors="replace")))
         return [low.name for low in crate.below() if low.name not in built]
 
     def has_ended(self) -> bool:
         """Whether it proves no more."""
-        return bool(self.ENDED.search(self.log.read_text(errors="replace")))
+        return bool(kit.ENDED.search(self.log.read_text(errors="replace")))
 
 
 class Built:
@@ -235,24 +309,44 @@ def try_all(wanted: list, libraries):
                 time.sleep(POLL)
 
 
+def known_weak(names: set) -> set:
+    """The weak edits of these crates that are known; `CRATE *` stands for all of a crate."""
+    lines = [line.strip() for line in KNOWN.read_text().splitlines()]
+    return {line for line in lines if line and not line.startswith("#") and line.split()[0] in names}
+
+
+def compare(weak: set, known: set) -> int:
+    """Tells the weak edits that aren't on the list, and those of the list that aren't weak: how many these are."""
+    open_crates = {edit.removesuffix(" *") for edit in known if edit.endswith(" *")}
+    named = {edit for edit in known if not edit.endswith(" *")}
+    new = {edit for edit in weak - named if edit.split()[0] not in open_crates}
+    for edit in sorted(new):
+        print(f"weak, and not in {KNOWN.relative_to(ROOT)}: {edit}")
+    for edit in sorted(named - weak):
+        print(f"in {KNOWN.relative_to(ROOT)}, and not weak: {edit}")
+    print(f"{len(weak)} weak refusals, {len(weak - new)} of them known")
+    return len(new | named - weak)
+
+
 def main() -> int:
     words = sys.argv[1:]
     room, libraries = ROOT, Built()
     if words[:1] == ["--beside"]:
         room, libraries, words = Path(words[1]), Proving(Path(words[2])), words[3:]
     os.chdir(room)
-    known = {it.name: it for it in kit().crates_below(str(room))}
+    known = kit.crates_below(room)
     wanted = [known[name] for name in words or reversed(crates()) if (ROOT / "crates" / name / "must-fail").is_dir()]
-    refused = failed = 0
+    whole = Tally()
     try:
-        for count, good, lines in try_all(wanted, libraries):
-            print("\n".join(lines), flush=True)
-            refused, failed = refused + good, failed + count - good
+        for tally in try_all(wanted, libraries):
+            print("\n".join(tally.lines), flush=True)
+            whole.add(tally)
+        whole.failed += compare(whole.weak, known_weak({it.name for it in wanted}))
     except ValueError as wrong:
         print(wrong)
-        failed += 1
-    print(f"{refused} refused, {failed} not refused")
-    return 1 if failed else 0
+        whole.failed += 1
+    print(f"{whole.refused} refused, {whole.failed} failed")
+    return 1 if whole.failed else 0
 
 
 if __name__ == "__main__":

@@ -10,7 +10,7 @@ use Rattle.std.proofs.lemmas.Slice.Zip.{AllZip-long}
 use Rattle.dsn_book.specs.Book.{Represents}
 use Rattle.dsn_book.specs.Step.{letters_in}
 use Rattle.dsn_device.specs.declared.drain.Drain.{Ghosts as Drain}
-use Rattle.dsn_body.specs.Spoken.{reply_of}
+use Rattle.dsn_frame.specs.bodies.Spoken.{reply_of}
 use Rattle.dsn_lane.specs.Ends.{End, Identity}
 use Rattle.dsn_outcome.specs.Agents.{from_agent}
 use Rattle.dsn_outcome.specs.History.{Limits, answers_to, history_after, history_of, letters_after, sealed_letters}
@@ -24,30 +24,30 @@ use Rattle.dsn_post.specs.declared.posted.Posted.{Posted}
 use Rattle.dsn_post.proofs.LetterSinkLemmas.{handed_letters}
 use Rattle.dsn_post.proofs.ParcelLemmas.{option_few}
 use Rattle.dsn_report.specs.Outgoing.{IsOutbox}
-use Rattle.dsn_agent.specs.Agent.{Agent, Ends, after_reply}
-use Rattle.dsn_desk.specs.Close.{IsHeard}
+use Rattle.dsn_crew.specs.agents.Agent.{Agent, Ends, after_reply}
+use Rattle.dsn_crew.specs.desk.Close.{IsHeard}
 use Rattle.dsn_crew.specs.Collected.{HasCollected}
 use Rattle.dsn_crew.specs.Conclude.{Concludes, MayClose, account_of, fault_of, missing_cause}
 use Rattle.dsn_crew.specs.Crew.{Account, AreAgentAccounts, CrewFault, IsAccount, IsAgentAccount, IsBrokenOff, IsCrewFault}
-use Rattle.dsn_desk.specs.Desk.{Desk, IsDesk, IsRun, goodbyes, history, letter_kept, missing as missing_more, places_of}
+use Rattle.dsn_crew.specs.desk.Desk.{Desk, IsDesk, IsRun, goodbyes, history, letter_kept, missing as missing_more, places_of}
 use Rattle.dsn_crew.specs.Gathered.{AreEnded, IsGathered}
-use Rattle.dsn_desk.specs.Open.{IsOpened, opened_agent}
-use Rattle.dsn_agent.specs.Place.{place_at, place_of}
-use Rattle.dsn_agent.specs.Port.{AreOverPort, Conn, IsPortServed, Session, answers_of, bodies_of}
-use Rattle.dsn_agent.specs.Serve.{after_requests, answers_from, numbered_answer, numbered_from, numbered_request, requests_from}
-use Rattle.dsn_crew.specs.StartServing.{AreServed, AreStarted, IsJoined, missing}
-use Rattle.dsn_agent.specs.declared.agent_line.AgentLine.{AgentLine}
+use Rattle.dsn_crew.specs.desk.Open.{IsOpened, opened_agent}
+use Rattle.dsn_crew.specs.agents.Place.{place_at, place_of}
+use Rattle.dsn_crew.specs.agents.Port.{AreOverPort, Conn, Given, HasGiven, IsPortServed, Session, answers_of, bodies_of}
+use Rattle.dsn_crew.specs.agents.Serve.{after_requests, answers_from, numbered_answer, numbered_from, numbered_request, requests_from}
+use Rattle.dsn_crew.specs.StartServing.{AreServed, AreStarted, IsJoined, missing_threads}
+use Rattle.dsn_crew.specs.declared.agents.agent_line.AgentLine.{AgentLine}
 use Rattle.dsn_crew.specs.declared.collected.Collected.{Collected}
 use Rattle.dsn_crew.specs.declared.collected.Collected.TheVariants.{Whole, Failed}
 use Rattle.dsn_crew.specs.declared.crew_cause.CrewCause.{CrewCause}
 use Rattle.dsn_crew.specs.declared.crew_cause.CrewCause.TheVariants as causes
-use Rattle.dsn_desk.specs.declared.desk_fault.DeskFault.{DeskFault}
+use Rattle.dsn_crew.specs.declared.desk.desk_fault.DeskFault.{DeskFault}
 use Rattle.dsn_crew.specs.declared.gathered.Gathered.{Gathered}
 use Rattle.dsn_crew.specs.declared.gathered.Gathered.TheVariants as gathered
-use Rattle.dsn_agent.specs.declared.port.Port.{Ghosts as Port}
-use Rattle.dsn_agent.specs.declared.port_end.PortEnd.{PortEnd}
+use Rattle.dsn_crew.specs.declared.agents.port.Port.{Ghosts as Port}
+use Rattle.dsn_crew.specs.declared.agents.port_end.PortEnd.{PortEnd}
 use Rattle.dsn_crew.specs.declared.start_serving.Serves.{Serves}
-use Rattle.dsn_agent.proofs.ServeLemmas.{numbered-length}
+use Rattle.dsn_crew.proofs.agents.ServeLemmas.{numbered-length}
 use Rattle.dsn_crew.proofs.StartServingLemmas.{are-served, starts-length}
 
 -- ---- one agent
@@ -56,7 +56,7 @@ use Rattle.dsn_crew.proofs.StartServingLemmas.{are-served, starts-length}
 abbrev pub last_ends : Agent → List Session → Bool → Ends
 last_ends agent sessions lost = after_reply (after_requests agent (bodies_of sessions) (flat_map reply_of (answers_of sessions)) lost).ends Bye Gone
 
-module _ (limits : Limits) (lane : Identity Request) (end : End Answer) (conns : Option (List Conn)) (line : AgentLine) (ends : Ends) (is : IsPortServed conns (opened_agent limits.requests lane end) (record { line = line; finished = Some ends })) where
+module _ (limits : Limits) (lane : Identity Request) (end : End Answer) (conns : Option (List Conn)) (may_give : List Given → Type 0) (line : AgentLine) (ends : Ends) (is : IsPortServed conns may_give (opened_agent limits.requests lane end) (record { line = line; finished = Some ends })) where
   abbrev sessions : List Session
   sessions = is.served.sessions
 
@@ -75,7 +75,7 @@ module _ (limits : Limits) (lane : Identity Request) (end : End Answer) (conns :
   last_number = ap (λ (agent : Agent). length agent.ends.requests.sent) (sym is.served.asked.agent_is) ∙ sym is.served.requests
 
   -- where it was heard to its end, this is its account
-  pub agent_account : (desk : Desk) (agent : ℕ) → desk.book.limits ≡ limits → end.agent ≡ agent → IsHeard desk ends → IsAgentAccount conns limits desk.requests.taken agent line ends
+  pub agent_account : (desk : Desk) (agent : ℕ) → desk.book.limits ≡ limits → end.agent ≡ agent → IsHeard desk ends → IsAgentAccount conns may_give limits desk.requests.taken agent line ends
   agent_account desk agent limits_are number heard =
       let here : ends.requests.agent ≡ agent = ap (λ (e : Ends). e.requests.agent) ends_are ∙ number in record {
         number = here;
@@ -84,6 +84,7 @@ module _ (limits : Limits) (lane : Identity Request) (end : End Answer) (conns :
         sessions = sessions;
         follow = is.served.follow;
         over = subst (λ (lost : Bool). AreOverPort conns sessions lost line.port_failed) is.goodbye.0 is.served.over;
+        gave = subst (HasGiven may_give line) is.goodbye.0 is.served.gave;
         heard = is.served.heard is.goodbye.0;
         sent = ap (λ (e : Ends). e.requests.sent) ends_are ∙ (λ i. requests_from (number i) 0 (bodies_of sessions) ++ numbered_request (number i) (last_number i) Bye ∷ []);
         got = ap (λ (e : Ends). e.answers.taken) ends_are ∙ (λ i. answers_from (number i) 0 (flat_map reply_of (answers_of sessions)) ++ numbered_answer (number i) (last_number i) Gone ∷ []);
@@ -123,8 +124,8 @@ module _ {P S : Type 0} (port : Port P S) (limits : Limits) (lane : Identity Req
   same_places (answer ∷ answers) (one ∷ ports) (end ∷ ends) [] crew served ended = absurd ended
   same_places (answer ∷ answers) (one ∷ ports) (end ∷ ends) (line ∷ lines) [] served ended = absurd ended
   same_places (answer ∷ answers) (one ∷ ports) (end ∷ ends) (line ∷ lines) (agent ∷ crew) served ended =
-      let here = subst (λ (e : Option PortEnd). IfSome e (IsPortServed (port.conns one) (opened_agent limits.requests lane answer))) ended.0 served.0 in
-      λ i. same_place limits lane answer (port.conns one) line agent here i ∷ same_places answers ports ends lines crew served.1 ended.1 i
+      let here = subst (λ (e : Option PortEnd). IfSome e (IsPortServed (port.conns one) (port.may_give one) (opened_agent limits.requests lane answer))) ended.0 served.0 in
+      λ i. same_place limits lane answer (port.conns one) (port.may_give one) line agent here i ∷ same_places answers ports ends lines crew served.1 ended.1 i
 
   -- and where each was heard to its end, these are their accounts
   pub agent_accounts : (desk : Desk) → desk.book.limits ≡ limits → (agent : ℕ) (answers : List (End Answer)) (ports : List P) (ends : List (Option PortEnd)) (lines : List AgentLine) (crew : List Ends) → AreFrom agent answers → Serve answers ports ends → AreEnded ends lines crew → All (IsHeard desk) crew → AreAgentAccounts port limits desk.requests.taken agent ports lines crew
@@ -138,8 +139,8 @@ module _ {P S : Type 0} (port : Port P S) (limits : Limits) (lane : Identity Req
   agent_accounts desk is agent (answer ∷ answers) (one ∷ ports) (end ∷ ends) [] crew from served ended heard = absurd ended
   agent_accounts desk is agent (answer ∷ answers) (one ∷ ports) (end ∷ ends) (line ∷ lines) [] from served ended heard = absurd ended
   agent_accounts desk is agent (answer ∷ answers) (one ∷ ports) (end ∷ ends) (line ∷ lines) (last ∷ crew) from served ended heard =
-      let here = subst (λ (e : Option PortEnd). IfSome e (IsPortServed (port.conns one) (opened_agent limits.requests lane answer))) ended.0 served.0 in (
-        agent_account limits lane answer (port.conns one) line last here desk agent is from.0 (All-head (IsHeard desk) last crew heard),
+      let here = subst (λ (e : Option PortEnd). IfSome e (IsPortServed (port.conns one) (port.may_give one) (opened_agent limits.requests lane answer))) ended.0 served.0 in (
+        agent_account limits lane answer (port.conns one) (port.may_give one) line last here desk agent is from.0 (All-head (IsHeard desk) last crew heard),
         agent_accounts desk is (suc agent) answers ports ends lines crew from.1 served.1 ended.1 (All-tail (IsHeard desk) last crew heard),
       )
 
@@ -190,7 +191,7 @@ module _ {W : Type 0} (drain : Drain W) (host : List ℕ) (limits : Limits) (sta
     missing_is : (all : Bool) → posted.all ≡ all → IsCrewFault drain host limits agents start (fault_of (missing_cause all) [] desk posted) (missing_cause all)
     missing_is true all = inr (
       broken_off causes.Refused [] (omega arith) (sealed ∙ sym (append-nil sent)),
-      is.all_came all ∙ (sym sealed ∙ ap (λ (l : Limits). sealed_letters (history_of l desk.requests.taken)) limits_are),
+      (is.whole.0 all).1 ∙ (sym sealed ∙ ap (λ (l : Limits). sealed_letters (history_of l desk.requests.taken)) limits_are),
     )
     missing_is false all = broken_off causes.Lost [] (omega arith) (sealed ∙ sym (append-nil sent))
 
@@ -217,10 +218,10 @@ module _ {P S W : Type 0} (port : Port P S) (drain : Drain W) (host : List ℕ) 
   handles_length = starts-length agents ports handles started ∙ (ap length opened.crew_is ∙ (length-map desk.answers (opened_agent limits.requests desk.requests.lane) ∙ opened.count))
 
   -- no more agents are missed than there are
-  pub missing_few : missing handles ≤ count
+  pub missing_few : missing_threads handles ≤ count
   missing_few = let most = length-filter_both is_none (λ (handle : Option (PromisedHandle PortEnd (Serves P))). not (is_none handle)) (λ handle. refl) handles in let long = handles_length in omega arith
 
-  pub may_miss : goodbyes desk.requests.taken + desk.missed + missing handles ≤ length desk.answers
+  pub may_miss : goodbyes desk.requests.taken + desk.missed + missing_threads handles ≤ length desk.answers
   may_miss =
       let none = ap goodbyes opened.taken in
       let few = missing_few in
@@ -266,7 +267,7 @@ module _ {P S W : Type 0} (port : Port P S) (drain : Drain W) (host : List ℕ) 
         account_at : (new : Desk) (lines : List AgentLine) (crew : List Ends) → IsRun TakesLetter begun new sink after (Ok tt) → IsDesk new → AreEnded ends lines crew → posted.all ≡ true → All (IsHeard new) crew → Represents new.book (history new) → IsAccount port drain host limits ports start (account_of lines crew new posted)
         account_at new lines crew run kept ended all heard stands =
             let limited = limits_are new run in
-            let sealed = post.all_came all ∙ (sym (append-nil after.letters) ∙ (sym (letters_are new run) ∙ ap (λ (l : Limits). sealed_letters (history_of l new.requests.taken)) limited)) in record {
+            let sealed = (post.whole.0 all).1 ∙ (sym (append-nil after.letters) ∙ (sym (letters_are new run) ∙ ap (λ (l : Limits). sealed_letters (history_of l new.requests.taken)) limited)) in record {
               agents = agent_accounts port limits desk.requests.lane new limited 0 desk.answers ports ends lines crew (are_from 0 desk.answers (λ a d inside. (opened.lines a d inside).agent_is ∙ (let same : a ≡ 0 + a = omega arith in same))) served ended heard;
               only = subst (λ (k : ℕ). All (λ (request : Request). request.agent < k) new.requests.taken) (lines_length new run) kept.mine;
               book_limits = limited;

@@ -8,8 +8,8 @@ use denote.Ref.{NamedLft, ShrRef}
 use denote.Struct.Tuple.{TupleAt}
 use Rattle.std.specs.contracts.alloc.Global as Global
 use Rattle.dsn_lane.proofs.SendLemmas.{closure_send}
-use Rattle.dsn_agent.specs.contracts.agent.Agent as Agent
-use Rattle.dsn_agent.proofs.SendLemmas.{agent_send, global_send}
+use Rattle.dsn_crew.specs.contracts.agents.agent.Agent as Agent
+use Rattle.dsn_crew.proofs.SendLemmas.{agent_send, global_send}
 
 -- what the closure holds: the runtime, the allocator, the agent, its port, and the gate
 abbrev pub captured : NamedLft → NamedLft → RattleType → RattleType → RattleType → List RattleType

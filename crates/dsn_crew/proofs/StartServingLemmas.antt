@@ -4,11 +4,11 @@ use Rattle.std.specs.Prelude.{Option, Some, None, IfSome}
 use Rattle.std.specs.List.{AllZip}
 use Rattle.std.specs.declared.thread.PromisedHandle.{PromisedHandle}
 use Rattle.std.proofs.lemmas.List.{append-nil, nil_from_length}
-use Rattle.dsn_agent.specs.Agent.{Agent}
-use Rattle.dsn_agent.specs.Port.{IsPortServed}
+use Rattle.dsn_crew.specs.agents.Agent.{Agent}
+use Rattle.dsn_crew.specs.agents.Port.{IsPortServed}
 use Rattle.dsn_crew.specs.StartServing.{AreServed, AreStarted, IsStarted, IsJoined}
-use Rattle.dsn_agent.specs.declared.port.Port.{Ghosts as Port}
-use Rattle.dsn_agent.specs.declared.port_end.PortEnd.{PortEnd}
+use Rattle.dsn_crew.specs.declared.agents.port.Port.{Ghosts as Port}
+use Rattle.dsn_crew.specs.declared.agents.port_end.PortEnd.{PortEnd}
 use Rattle.dsn_crew.specs.declared.start_serving.Serves.{Serves}
 
 -- ---- results that are made one after another
@@ -62,11 +62,11 @@ module _ {P : Type 0} where
 
 module _ {P S : Type 0} (port : Port P S) where
   end-of : (agent : Agent) (served : P) (handle : Option (PromisedHandle PortEnd (Serves P))) (end : Option PortEnd) → IfSome handle (λ started. IsStarted agent served started.promise) → IsJoined port handle end
-      → IfSome end (IsPortServed (port.conns served) agent)
+      → IfSome end (IsPortServed (port.conns served) (port.may_give served) agent)
   end-of agent served None None begun joined = tt
   end-of agent served None (Some end) begun joined = absurd (let never : Some end ≡ None = joined in cc)
   end-of agent served (Some handle) None begun joined = absurd joined
-  end-of agent served (Some handle) (Some end) begun joined = subst (λ of. IsPortServed (port.conns served) of end) begun.0 (subst (λ of. IsPortServed (port.conns of) handle.promise.agent.value end) begun.1 joined)
+  end-of agent served (Some handle) (Some end) begun joined = subst (λ of. IsPortServed (port.conns served) (port.may_give served) of end) begun.0 (subst (λ of. IsPortServed (port.conns of) (port.may_give of) handle.promise.agent.value end) begun.1 joined)
 
   -- threads that were started, and then joined: each agent that had one served its port
   pub are-served : (agents : List Agent) (ports : List P) (handles : List (Option (PromisedHandle PortEnd (Serves P)))) (ends : List (Option PortEnd)) → AreStarted agents ports handles → AllZip (IsJoined port) handles ends

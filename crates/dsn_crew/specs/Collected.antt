@@ -2,10 +2,10 @@
 use Rattle.std.specs.Prelude.{◌≡◌, true, Ok, Err}
 use Rattle.dsn_book.specs.Step.{letters_in}
 use Rattle.dsn_post.specs.LetterSink.{LetterSink, TakesLetter}
-use Rattle.dsn_desk.specs.Desk.{Desk, IsDesk, IsRun, all_gone, letter_kept}
+use Rattle.dsn_crew.specs.desk.Desk.{Desk, IsDesk, IsRun, all_gone, letter_kept}
 use Rattle.dsn_crew.specs.declared.collected.Collected.{Collected}
 use Rattle.dsn_crew.specs.declared.collected.Collected.TheVariants.{Whole, Failed}
-use Rattle.dsn_desk.specs.declared.desk_fault.DeskFault.{DeskFault}
+use Rattle.dsn_crew.specs.declared.desk.desk_fault.DeskFault.{DeskFault}
 
 -- the collector ran to its end, or failed with the letter that it held
 abbrev pub HasCollected : Desk → LetterSink → LetterSink → Collected → Type 0

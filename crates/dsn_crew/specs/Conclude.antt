@@ -6,11 +6,11 @@ use Rattle.dsn_book.specs.Book.{Represents}
 use Rattle.dsn_book.specs.Step.{letters_in}
 use Rattle.dsn_outcome.specs.Letter.{Letter}
 use Rattle.dsn_post.specs.declared.posted.Posted.{Posted}
-use Rattle.dsn_agent.specs.Agent.{Ends, IsFinished}
-use Rattle.dsn_desk.specs.Close.{AreCrew, AreOf, IsHeard}
+use Rattle.dsn_crew.specs.agents.Agent.{Ends, IsFinished}
+use Rattle.dsn_crew.specs.desk.Close.{AreCrew, AreOf, IsHeard}
 use Rattle.dsn_crew.specs.Crew.{Account, CrewFault}
-use Rattle.dsn_desk.specs.Desk.{Desk, all_gone, history}
-use Rattle.dsn_agent.specs.declared.agent_line.AgentLine.{AgentLine}
+use Rattle.dsn_crew.specs.desk.Desk.{Desk, all_gone, history}
+use Rattle.dsn_crew.specs.declared.agents.agent_line.AgentLine.{AgentLine}
 use Rattle.dsn_crew.specs.declared.collected.Collected.{Collected}
 use Rattle.dsn_crew.specs.declared.collected.Collected.TheVariants.{Whole, Failed}
 use Rattle.dsn_crew.specs.declared.crew_cause.CrewCause.{CrewCause}

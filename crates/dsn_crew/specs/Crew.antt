@@ -3,8 +3,9 @@ use Rattle.std.specs.Prelude.{◌≡◌, ◌≢◌, ℕ, suc, ◌+◌, ◌<◌, 
 use Rattle.std.specs.List.{flat_map}
 use Rattle.dsn_book.specs.Book.{Book, Represents}
 use Rattle.dsn_device.specs.declared.drain.Drain.{Ghosts as Drain}
-use Rattle.dsn_body.specs.Spoken.{reply_of}
-use Rattle.dsn_lane.specs.Lane.{IsNumbered, lost_code, most_agents}
+use Rattle.dsn_text.specs.FaultCode.{agent_count_code, crew_refused_code, lane_lost_code}
+use Rattle.dsn_frame.specs.bodies.Spoken.{reply_of}
+use Rattle.dsn_lane.specs.Lane.{IsNumbered, most_agents}
 use Rattle.dsn_outcome.specs.Agents.{from_agent}
 use Rattle.dsn_outcome.specs.History.{Limits, answers_to, history_of, sealed_letters}
 use Rattle.dsn_outcome.specs.Letter.{Letter}
@@ -13,22 +14,22 @@ use Rattle.dsn_outcome.specs.declared.answer.Reply.TheVariants.{Gone}
 use Rattle.dsn_post.specs.LetterSink.{letters_waiting}
 use Rattle.dsn_post.specs.Posting.{IsUntouched}
 use Rattle.dsn_report.specs.Outgoing.{IsOutbox}
-use Rattle.dsn_agent.specs.Agent.{Ends}
-use Rattle.dsn_agent.specs.Port.{AreOverPort, AreSessions, Conn, Session, answers_of, bodies_of, faults_of, most_connections}
-use Rattle.dsn_agent.specs.Serve.{answers_from, numbered_answer, numbered_request, requests_from}
-use Rattle.dsn_agent.specs.declared.agent_line.AgentLine.{AgentLine}
+use Rattle.dsn_crew.specs.agents.Agent.{Ends}
+use Rattle.dsn_crew.specs.agents.Port.{AreOverPort, AreSessions, Conn, Given, HasGiven, Session, answers_of, bodies_of, faults_of, most_connections}
+use Rattle.dsn_crew.specs.agents.Serve.{answers_from, numbered_answer, numbered_request, requests_from}
+use Rattle.dsn_crew.specs.declared.agents.agent_line.AgentLine.{AgentLine}
 use Rattle.dsn_crew.specs.declared.crew_cause.CrewCause.{CrewCause}
 use Rattle.dsn_crew.specs.declared.crew_cause.CrewCause.TheVariants.{Lost, Refused, PortCount}
-use Rattle.dsn_agent.specs.declared.port.Port.{Ghosts as Port}
+use Rattle.dsn_crew.specs.declared.agents.port.Port.{Ghosts as Port}
 
 -- how many ports a crew has at most: as many as agents
 abbrev pub most_ports : ℕ
 most_ports = most_agents
 
 abbrev pub crew_cause_code : CrewCause → ℕ
-crew_cause_code Lost = lost_code
-crew_cause_code Refused = 42
-crew_cause_code PortCount = 43
+crew_cause_code Lost = lane_lost_code
+crew_cause_code Refused = crew_refused_code
+crew_cause_code PortCount = agent_count_code
 
 -- a run that ended well: what each agent did; how many letters were posted, and those that were
 -- not, in order; the outbox, and whether nothing failed in it; the book at the end; the requests
@@ -43,13 +44,15 @@ pub record Account (W : Type 0) : Type 0 where
   pub taken : List Request
   pub ends : List Ends
 
--- what is true of one agent whose port told these connections, where the collector took these
--- requests. All that the agent sent was taken, in that order, and what it got are the answers of
--- the history. What it sent is what the sessions over its connections ask, one after another, and
--- then its only goodbye; what it got are their replies, and then Gone. Its line counts its
--- requests, its connections, and the sessions among them that ended with a fault, none of them for
--- a lost lane
-pub record IsAgentAccount (conns : Option (List Conn)) (limits : Limits) (taken : List Request)
+-- what is true of one agent whose port told these connections, and may give so much, where the
+-- collector took these requests. All that the agent sent was taken, in that order, and what it got
+-- are the answers of the history. What it sent is what the sessions over its connections ask, one
+-- after another, and then its only goodbye; what it got are their replies, and then Gone. Its line
+-- counts its requests, its connections, and the sessions among them that ended with a fault, none
+-- of them for a lost lane. Its port gave as many connections, and then was done or failed, as the
+-- line tells
+pub record IsAgentAccount (conns : Option (List Conn)) (may_give : List Given → Type 0)
+    (limits : Limits) (taken : List Request)
     (agent : ℕ)
     (line : AgentLine) (ends : Ends) : Type 0 where
   pub number : ends.requests.agent ≡ agent
@@ -58,7 +61,8 @@ pub record IsAgentAccount (conns : Option (List Conn)) (limits : Limits) (taken 
   pub sessions : List Session
   pub follow : AreSessions limits.requests 0 sessions
   pub over : AreOverPort conns sessions false line.port_failed
-  pub heard : All (λ (session : Session). session.end ≢ Some lost_code) sessions
+  pub gave : HasGiven may_give line false
+  pub heard : All (λ (session : Session). session.end ≢ Some lane_lost_code) sessions
   pub sent :
       ends.requests.sent
       ≡ requests_from agent 0 (bodies_of sessions)
@@ -78,7 +82,7 @@ abbrev pub AreAgentAccounts :
     → Type 0
 AreAgentAccounts port limits taken agent [] [] [] = Unit {0}
 AreAgentAccounts port limits taken agent (one ∷ ports) (line ∷ lines) (ends ∷ crew) =
-    IsAgentAccount (port.conns one) limits taken agent line ends
+    IsAgentAccount (port.conns one) (port.may_give one) limits taken agent line ends
     × AreAgentAccounts port limits taken (suc agent) ports lines crew
 AreAgentAccounts port limits taken agent ports lines crew = ⊥
 

@@ -1,11 +1,11 @@
 -- Of private parts: what came of the agents' threads, taken together.
 use Rattle.std.specs.Prelude.{◌≡◌, Bool, true, false, List, [], ◌∷◌, Option, Some, None, is_none}
 use Rattle.std.specs.List.{list_any}
-use Rattle.dsn_agent.specs.Agent.{Ends}
-use Rattle.dsn_agent.specs.declared.agent_line.AgentLine.{AgentLine}
+use Rattle.dsn_crew.specs.agents.Agent.{Ends}
+use Rattle.dsn_crew.specs.declared.agents.agent_line.AgentLine.{AgentLine}
 use Rattle.dsn_crew.specs.declared.gathered.Gathered.{Gathered}
 use Rattle.dsn_crew.specs.declared.gathered.Gathered.TheVariants.{All, Missing, Lost}
-use Rattle.dsn_agent.specs.declared.port_end.PortEnd.{PortEnd}
+use Rattle.dsn_crew.specs.declared.agents.port_end.PortEnd.{PortEnd}
 
 -- each agent said goodbye, with the line and the ends in its place
 abbrev pub AreEnded : List (Option PortEnd) → List AgentLine → List Ends → Type 0
@@ -15,13 +15,13 @@ AreEnded (end ∷ ends) (line ∷ lines) (agent ∷ agents) =
 AreEnded ends lines agents = ⊥
 
 -- an agent that was started, and lost a lane
-abbrev pub has_lost : Option PortEnd → Bool
-has_lost None = false
-has_lost (Some end) = is_none end.finished
+abbrev pub has_port_lost : Option PortEnd → Bool
+has_port_lost None = false
+has_port_lost (Some end) = is_none end.finished
 
 -- an agent that lost a lane comes first; then one that was not started; where there is neither,
 -- these are all lines and ends
 abbrev pub IsGathered : List (Option PortEnd) → Gathered → Type 0
 IsGathered ends (All lines agents) = AreEnded ends lines.items agents.items
-IsGathered ends Missing = (list_any is_none ends ≡ true) × (list_any has_lost ends ≡ false)
-IsGathered ends Lost = list_any has_lost ends ≡ true
+IsGathered ends Missing = (list_any is_none ends ≡ true) × (list_any has_port_lost ends ≡ false)
+IsGathered ends Lost = list_any has_port_lost ends ≡ true

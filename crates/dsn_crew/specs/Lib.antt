@@ -5,3 +5,5 @@ pub mod Gathered
 pub mod Room
 pub mod StartServing
 pub mod TakenBy
+pub mod agents
+pub mod desk

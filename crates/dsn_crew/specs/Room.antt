@@ -2,7 +2,7 @@
 use Rattle.std.specs.Prelude.{◌≡◌, ℕ, ◌≤◌, false, [], vec_capacity}
 use Rattle.dsn_outcome.specs.History.{Limits}
 use Rattle.dsn_post.specs.LetterSink.{letters_waiting}
-use Rattle.dsn_desk.specs.Open.{IsOpened}
+use Rattle.dsn_crew.specs.desk.Open.{IsOpened}
 use Rattle.dsn_crew.specs.declared.room.Room.{Room}
 use Rattle.dsn_crew.specs.declared.slots.Slots.{Slots}
 

@@ -2,7 +2,7 @@
 use Rattle.std.specs.Prelude.{List, [], Option, Some, None}
 use Rattle.std.specs.declared.snapshot.Snapshot.{Snapshot}
 use Rattle.dsn_outcome.specs.Request.{Request}
-use Rattle.dsn_desk.specs.Desk.{Desk}
+use Rattle.dsn_crew.specs.desk.Desk.{Desk}
 
 -- the requests that a collector had taken, if there was one
 abbrev pub taken_by : Option (Snapshot Desk) → List Request

@@ -1,9 +1,9 @@
 //! What a crew's run that ended well comes to.
 ghost use Rattle.std.specs.Prelude.{◌≡◌};
 
-use dsn_agent::AgentLine;
+use crate::agents::AgentLine;
+use crate::desk::CrewShut;
 use dsn_book::Book;
-use dsn_desk::CrewShut;
 use dsn_outcome::Letters;
 use std::marker::Model;
 use std::snapshot::Snapshot;

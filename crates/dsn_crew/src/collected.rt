@@ -1,7 +1,7 @@
 //! How the collector's part of a run ended.
 ghost use Rattle.dsn_crew.specs.Collected.{HasCollected};
 
-use dsn_desk::Desk;
+use crate::desk::Desk;
 use dsn_outcome::Letter;
 use dsn_post::LetterSink;
 use std::snapshot::Snapshot;

@@ -6,8 +6,8 @@ use crate::account::Account;
 use crate::collected::Collected;
 use crate::crew_cause::CrewCause;
 use crate::crew_fault::CrewFault;
+use crate::desk::close_crew;
 use crate::gathered::Gathered;
-use dsn_desk::close_crew;
 use dsn_post::Posted;
 use std::snapshot::Snapshot;
 use std::sync::Wait;
@@ -28,6 +28,7 @@ pub(crate) fn conclude<W>(
         unsent,
         posted,
         all,
+        ..
     } = posted;
     let desk = match collected {
         Collected::Whole(desk) => desk,

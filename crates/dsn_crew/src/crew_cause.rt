@@ -2,6 +2,7 @@
 ghost use Rattle.std.specs.Prelude.{◌≡◌};
 ghost use Rattle.dsn_crew.specs.Crew.{crew_cause_code};
 
+use dsn_text::fault_code;
 use thiserror::Error;
 
 /// Why a run of a crew ended with a fault.
@@ -25,9 +26,9 @@ impl CrewCause {
         ensures { result ≡ crew_cause_code self.now }
     {
         match self {
-            CrewCause::Lost => 41,
-            CrewCause::Refused => 42,
-            CrewCause::PortCount => 43,
+            CrewCause::Lost => fault_code::LANE_LOST,
+            CrewCause::Refused => fault_code::CREW_REFUSED,
+            CrewCause::PortCount => fault_code::AGENT_COUNT,
         }
     }
 }

@@ -4,7 +4,7 @@ ghost use Rattle.dsn_book.specs.Step.{letters_in};
 ghost use Rattle.dsn_crew.specs.Crew.{crew_cause_code};
 
 use crate::crew_cause::CrewCause;
-use dsn_desk::Desk;
+use crate::desk::Desk;
 use dsn_outcome::{Letter, Letters};
 use std::marker::Model;
 use std::snapshot::Snapshot;

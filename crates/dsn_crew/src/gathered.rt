@@ -2,7 +2,7 @@
 ghost use Rattle.std.specs.Prelude.{◌≡◌, ◌≤◌, [], length, vec_capacity};
 ghost use Rattle.dsn_crew.specs.Gathered.{IsGathered};
 
-use dsn_agent::{AgentLine, Finished, PortEnd};
+use crate::agents::{AgentLine, Finished, PortEnd};
 
 /// What came of the agents' threads, taken together.
 #[derive(Drop)]

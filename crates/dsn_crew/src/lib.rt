@@ -3,10 +3,12 @@
 #![tactic(auto)]
 
 mod account;
+mod agents;
 mod collected;
 mod conclude;
 mod crew_cause;
 mod crew_fault;
+mod desk;
 mod gathered;
 mod room;
 mod run;
@@ -14,11 +16,12 @@ mod slots;
 mod start_serving;
 
 pub use account::Account;
+pub use agents::{
+    Agent, AgentLine, AskFault, Finished, Gate, Next, NoGate, Port, PortEnd, ServeFault, Served,
+    serve_port,
+};
 pub use crew_cause::CrewCause;
 pub use crew_fault::CrewFault;
-pub use dsn_agent::{
-    Agent, AgentLine, AskFault, Finished, Gate, Next, NoGate, Port, ServeFault, Served,
-};
-pub use dsn_desk::{CrewOpenFault, CrewShut, Desk, DeskFault, close_crew, open_crew};
+pub use desk::{CrewOpenFault, CrewShut, Desk, DeskFault, close_crew, open_crew};
 pub use dsn_post::Sink;
 pub use run::run_crew;

@@ -3,10 +3,10 @@ ghost use Rattle.std.specs.Prelude.{◌≤◌, IfOk};
 ghost use Rattle.dsn_lane.specs.Lane.{most_agents};
 ghost use Rattle.dsn_crew.specs.Room.{IsRoom};
 
+use crate::agents::{Agent, Port};
+use crate::desk::{Desk, open_crew};
 use crate::slots::Slots;
-use dsn_agent::{Agent, Port};
 use dsn_book::Limits;
-use dsn_desk::{Desk, open_crew};
 use dsn_outcome::NoMemory;
 use dsn_post::{LetterSink, LetterSource, open_post};
 use std::alloc::Global;

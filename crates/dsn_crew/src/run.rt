@@ -1,8 +1,9 @@
 //! A whole crew, from its first thread to its last.
-ghost use Rattle.std.specs.Prelude.{◌≡◌, ◌≢◌, ◌≤◌, ◌<◌, ◌↔◌, ◌⊎◌, length, IfErr, IfOk};
+ghost use Rattle.std.specs.Prelude.{◌≡◌, ◌≢◌, ◌≤◌, ◌<◌, ◌↔◌, ◌⊎◌, All, length, IfErr, IfOk};
 ghost use Rattle.dsn_crew.specs.Crew.{IsAccount, IsCrewFault, most_ports};
 
 use crate::account::Account;
+use crate::agents::{Gate, Port};
 use crate::collected::Collected;
 use crate::conclude::conclude;
 use crate::crew_cause::CrewCause;
@@ -11,7 +12,6 @@ use crate::gathered::Gathered;
 use crate::room::Room;
 use crate::slots::Slots;
 use crate::start_serving::{count_missing, join_all, start_all};
-use dsn_agent::{Gate, Port};
 use dsn_book::Limits;
 use dsn_device::Drain;
 use dsn_post::{end_posting, start_posting};
@@ -33,6 +33,8 @@ const MOST_PORTS: usize = 16;
 /// nothing written; and where an agent's thread is refused, once all other agents were served.
 /// `Lost` (41) comes where the collector, an agent or the poster was gone before its time. An
 /// outbox that fails is no fault: the letters from the failed one on are `unsent`.
+///
+/// It asks that each port may be asked, and asks none again that was done or failed.
 pub fn run_crew<
     R: Threads + Wait + Sync,
     P: Port + Drop + Send,
@@ -47,6 +49,7 @@ pub fn run_crew<
     outbox: W,
     gate: &G,
 ) -> Result<Account<W>, CrewFault<W>>
+    requires asked { All P.may_be_asked ports.items }
     ensures account { IfOk result (IsAccount P.Port W.Drain site limits ports.items outbox) }
     ensures count { IfOk result
         (λ _. (1 ≤ length ports.items) × (length ports.items ≤ most_ports)) }
@@ -64,7 +67,8 @@ pub fn run_crew<
         thread::scope_env(),
         rt,
         move |scope| -> Result<Account<W>, CrewFault<W>>
-            requires { (1 ≤ length ports.items) × (length ports.items ≤ most_ports) }
+            requires { (1 ≤ length ports.items) × (length ports.items ≤ most_ports)
+                × All P.may_be_asked ports.items }
         { run_in(scope, rt, alloc, site, limits, ports, outbox, gate) },
     )
 }
@@ -88,6 +92,7 @@ fn run_in<
     gate: &'s G,
 ) -> Result<Account<W>, CrewFault<W>>
     requires few { (1 ≤ length ports.items) × (length ports.items ≤ most_ports) }
+    requires asked { All P.may_be_asked ports.items }
     ensures account { IfOk result (IsAccount P.Port W.Drain site limits ports.items outbox) }
     ensures fault { IfErr result
         (λ fault. IsCrewFault W.Drain site limits (length ports.items) outbox fault fault.cause) }

@@ -2,8 +2,8 @@
 ghost use Rattle.std.specs.Prelude.{IfOk};
 ghost use Rattle.dsn_crew.specs.Room.{AreSlots};
 
+use crate::agents::{AgentLine, Finished, Port, PortEnd};
 use crate::start_serving::Serves;
-use dsn_agent::{AgentLine, Finished, Port, PortEnd};
 use dsn_outcome::NoMemory;
 use std::alloc::Global;
 use std::thread::PromisedHandle;

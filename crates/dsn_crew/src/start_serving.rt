@@ -1,9 +1,9 @@
 //! The starts and the ends of the agents' threads.
-ghost use Rattle.std.specs.Prelude.{◌≡◌, ◌≤◌, [], length, IfSome, vec_capacity};
+ghost use Rattle.std.specs.Prelude.{◌≡◌, ◌≤◌, [], All, length, IfSome, vec_capacity};
 ghost use Rattle.std.specs.List.{AllZip};
-ghost use Rattle.dsn_crew.specs.StartServing.{AreStarted, IsStarted, IsJoined, missing};
+ghost use Rattle.dsn_crew.specs.StartServing.{AreStarted, IsStarted, IsJoined, missing_threads};
 
-use dsn_agent::{Agent, Gate, Port, PortEnd, serve_port};
+use crate::agents::{Agent, Gate, Port, PortEnd, serve_port};
 use std::alloc::Global;
 use std::snapshot::Snapshot;
 use std::sync::Wait;
@@ -17,9 +17,9 @@ pub(crate) struct Serves<P> {
 }
 
 impl<P: Port> Promise<PortEnd> for Serves<P> {
-    ghost use Rattle.dsn_agent.specs.Port.{IsPortServed};
+    ghost use Rattle.dsn_crew.specs.agents.Port.{IsPortServed};
 
-    ghost kept_by = { λ p r. IsPortServed (P.conns p.port.value) p.agent.value r };
+    ghost kept_by = { λ p r. IsPortServed (P.conns p.port.value) (P.may_give p.port.value) p.agent.value r };
 }
 
 /// Starts the thread of one agent, which serves this port to its end. Where no thread can be made
@@ -32,6 +32,7 @@ pub(crate) fn start_one<'s, E: 's, R: Wait + Sync, P: Port + Drop + Send + 's, G
     port: P,
     gate: &'s G,
 ) -> Option<PromisedHandle<PortEnd, Serves<P>>>
+    requires asked { P.may_be_asked port }
     ensures { IfSome result (λ handle. IsStarted agent port handle.promise) }
 {
     let promise = Serves {
@@ -39,7 +40,12 @@ pub(crate) fn start_one<'s, E: 's, R: Wait + Sync, P: Port + Drop + Send + 's, G
         port: Snapshot::of(&port),
     };
     scope
-        .spawn_with(promise, move || serve_port(rt, alloc, agent, port, gate))
+        .spawn_with(
+            promise,
+            move || -> PortEnd
+                requires { P.may_be_asked port }
+            { serve_port(rt, alloc, agent, port, gate) },
+        )
         .ok()
 }
 
@@ -56,6 +62,7 @@ pub(crate) fn start_all<'s, E: 's, R: Wait + Sync, P: Port + Drop + Send + 's, G
 ) -> Vec<Option<PromisedHandle<PortEnd, Serves<P>>>>
     requires pairs { length ports.items ≡ length agents.items }
     requires room { (room.items ≡ []) × (length agents.items ≤ vec_capacity room) }
+    requires asked { All P.may_be_asked ports.items }
     ensures { AreStarted agents.items ports.items result.items }
 {
     let mut handles = room;
@@ -73,7 +80,7 @@ pub(crate) fn start_all<'s, E: 's, R: Wait + Sync, P: Port + Drop + Send + 's, G
 pub(crate) fn count_missing<P: Port>(
     handles: &Vec<Option<PromisedHandle<PortEnd, Serves<P>>>>,
 ) -> usize
-    ensures { result ≡ missing handles.now.items }
+    ensures { result ≡ missing_threads handles.now.items }
 {
     let mut missing = 0;
     for handle in handles {

@@ -1,2 +1,3 @@
+pub mod CountsLemmas
 pub mod TransferLemmas
 pub mod UntilFailureLemmas

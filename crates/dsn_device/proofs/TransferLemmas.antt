@@ -1,11 +1,11 @@
 -- How what became of several texts, sent or asked for in turn, is what became of them together.
-use Rattle.std.proofs.Common.{◌≡◌, ℕ, ◌+◌, ◌-◌, ◌≤◌, List, [], ◌++◌, Option, length, take, drop, refl, sym, ap, ◌∙◌, arith, append_assoc, append-nil, take-append-drop, length-take-le, length-append}
+use Rattle.std.proofs.Common.{◌≡◌, ℕ, ◌+◌, ◌-◌, ◌≤◌, List, [], ◌++◌, Option, length, take, drop, refl, sym, ap, subst, ◌∙◌, arith, append_assoc, append-nil, take-append-drop, length-take-le, length-append}
 use Rattle.std.proofs.lemmas.List.{take_rest, take-take}
 use Rattle.std.proofs.Math.Seq.{take-append-add}
 use borrow.Rule.Slice.PartMut.{put_mid}
 use Rattle.std.proofs.lemmas.Slice.{take-put_mid}
-use Rattle.std.specs.Io.KnownBytes.{Appends, Keeps}
-use Rattle.std.proofs.KnownBytes.{Appends-nil, Appends-trans, Appends-kept}
+use Rattle.std.specs.Io.KnownBytes.{Appends, Consumes, Keeps}
+use Rattle.std.proofs.KnownBytes.{Appends-nil, Appends-trans, Appends-kept, Consumes-trans}
 use Rattle.dsn_device.specs.Transfer.{AppendsFront, AppendsPart}
 
 -- ---- what a drain took
@@ -60,7 +60,7 @@ split-moved all done rest n e =
 -- ---- what a source gave
 
 -- a read into the rest of a buffer puts its bytes after the front
-pub take-put_mid_more : (a n : ℕ) (xs ys : List ℕ) → a ≤ length xs → length ys ≡ length xs - a → n ≤ length ys
+take-put_mid_more : (a n : ℕ) (xs ys : List ℕ) → a ≤ length xs → length ys ≡ length xs - a → n ≤ length ys
     → take (a + n) (put_mid a (length xs - a) xs ys) ≡ take a xs ++ take n ys
 take-put_mid_more a n xs ys within whole fits =
     let k = length xs - a in
@@ -70,3 +70,9 @@ take-put_mid_more a n xs ys within whole fits =
     ∙ ap (take (a + n)) all
     ∙ ap (λ m. take (m + n) (take a xs ++ ys)) (sym long)
     ∙ take-append-add (take a xs) ys n
+
+-- so what stands at the front then was consumed, if what stood there before was
+pub Consumes-more : (a b c : Option (List ℕ)) (filled n more : ℕ) (xs ys : List ℕ) → filled ≤ length xs → length ys ≡ length xs - filled → n ≤ length ys
+    → more ≡ filled + n → Consumes a b (take filled xs) → Consumes b c (take n ys) → Consumes a c (take more (put_mid filled (length xs - filled) xs ys))
+Consumes-more a b c filled n more xs ys within whole fits is before read =
+    rw is (subst (Consumes a c) (sym (take-put_mid_more filled n xs ys within whole fits)) (Consumes-trans a b c (take filled xs) (take n ys) before read))

@@ -1,3 +1,4 @@
+pub mod Counts
 pub mod Failures
 pub mod Flushes
 pub mod Plain

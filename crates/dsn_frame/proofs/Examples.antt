@@ -1,8 +1,8 @@
 -- Worked examples of frames, computed by the definitions.
 use Rattle.std.proofs.Common.{ℕ, List, [], ◌∷◌, ◌++◌, refl, lit<, lit≤, arith}
 use Rattle.std.specs.Prelude.{Some, None}
-use Rattle.dsn_body.specs.FrameBody.{frame}
-use Rattle.dsn_body.proofs.Examples.{append_body, flush_body}
+use Rattle.dsn_frame.specs.bodies.FrameBody.{frame}
+use Rattle.dsn_frame.proofs.bodies.Examples.{append_body, flush_body}
 use Rattle.dsn_frame.specs.Frame.{AreFramesOf}
 use Rattle.dsn_frame.specs.declared.frame_fault.FrameFault.TheVariants.{TooLong, Empty, CutShort}
 

@@ -6,8 +6,8 @@ use Rattle.std.proofs.lemmas.List.Concat.{flat_map-cons}
 use Rattle.std.proofs.lemmas.Nat.{be_bytes_4}
 use Rattle.std.specs.Int.{w32, to_be_bytes}
 use Rattle.std.specs.List.{flat_map}
-use Rattle.dsn_body.specs.FrameBody.{frame, longest_body, IsFrameLength, IsFrameBody}
-use Rattle.dsn_body.proofs.FieldLaws.{IsBytes, IsBytes-take, IsBytes-after}
+use Rattle.dsn_frame.specs.bodies.FrameBody.{frame, longest_body, IsFrameLength, IsFrameBody}
+use Rattle.dsn_frame.proofs.bodies.FieldLaws.{IsBytes, IsBytes-take, IsBytes-after}
 use Rattle.dsn_frame.specs.Frame.{declared_length, FramesEnd, AreFramesOf}
 use Rattle.dsn_frame.specs.declared.frame_fault.FrameFault.{FrameFault}
 use Rattle.dsn_frame.specs.declared.frame_fault.FrameFault.TheVariants.{TooLong, Empty, CutShort}

@@ -5,8 +5,8 @@ use Rattle.std.specs.Io.KnownBytes.{Consumes}
 use Rattle.std.proofs.KnownBytes.{Consumes-trans}
 use Rattle.std.proofs.lemmas.List.{length-append, take_all}
 use Rattle.std.proofs.lemmas.Nat.{from_be_bytes-to_be_bytes_4}
-use Rattle.dsn_body.specs.FrameBody.{IsFrameLength, IsFrameBody}
-use Rattle.dsn_frame.specs.Frame.{declared_length, IsPartOfFrame, StopsAt, ReadsNext, ReadsNone, ConsumesLength, MissesBody, BodyMissing}
+use Rattle.dsn_frame.specs.bodies.FrameBody.{IsFrameLength, IsFrameBody}
+use Rattle.dsn_frame.specs.Frame.{declared_length, length_prefix, IsPartOfFrame, StopsAt, ReadsNext, ReadsNone, ConsumesLength, MissesLength, LengthMissing, MissesBody, BodyMissing}
 use Rattle.dsn_frame.specs.declared.frame_fault.FrameFault.{FrameFault}
 use Rattle.dsn_frame.specs.declared.frame_fault.FrameFault.TheVariants.{NoMemory, TooLong, Empty, CutShort, Read}
 
@@ -14,7 +14,7 @@ use Rattle.dsn_frame.specs.declared.frame_fault.FrameFault.TheVariants.{NoMemory
 pub declared : (size : ℕ) (rest : List ℕ) → size < 2 ^ 32 → declared_length (to_be_bytes w32 size ++ rest) ≡ size
 declared size rest fits = from_be_bytes-to_be_bytes_4 size fits
 
-length_with : (size : ℕ) (rest : List ℕ) → length (to_be_bytes w32 size ++ rest) ≡ 4 + length rest
+pub length_with : (size : ℕ) (rest : List ℕ) → length (to_be_bytes w32 size ++ rest) ≡ 4 + length rest
 length_with size rest = length-append (to_be_bytes w32 size) rest
 
 -- four bytes that were read are the length of which they are written
@@ -36,6 +36,26 @@ frame_read a b c size body head same consumed =
     let legal : IsFrameBody body = rw same head.legal in
     let first : Consumes a b (to_be_bytes w32 (length body)) = rw same head.consumed in
     (legal, Consumes-trans a b c (to_be_bytes w32 (length body)) body first consumed)
+
+-- less than a frame's length is a part of a frame
+part_of_length : (part : List ℕ) → length part < length_prefix → IsPartOfFrame part
+part_of_length part less whole = absurd (omega arith)
+
+stops_in_length : (fault : FrameFault) (part : List ℕ) → MissesLength fault part → StopsAt fault part
+stops_in_length NoMemory part misses = absurd misses
+stops_in_length TooLong part misses = misses
+stops_in_length Empty part misses = misses
+stops_in_length CutShort part misses = (misses.0, part_of_length part misses.1)
+stops_in_length Read part misses = part_of_length part misses
+
+-- without a length that a frame may have there is no frame
+pub length_missed : (a b : Option (List ℕ)) (fault : FrameFault) → LengthMissing a b fault → ReadsNone a b fault
+length_missed a b fault missing = record {
+  part = missing.part;
+  consumed = missing.consumed;
+  stops = stops_in_length fault missing.part missing.misses;
+  ends = missing.ends;
+}
 
 stops_in_body : (fault : FrameFault) (size : ℕ) (part : List ℕ) → IsFrameLength size → MissesBody fault size part → StopsAt fault (to_be_bytes w32 size ++ part)
 stops_in_body NoMemory size part legal misses =

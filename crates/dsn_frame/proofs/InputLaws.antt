@@ -4,7 +4,7 @@ use Rattle.std.specs.Int.{w32, from_be_bytes, to_be_bytes}
 use Rattle.std.specs.List.{flat_map, AllByRecursion}
 use Rattle.std.proofs.lemmas.List.{append-nil, length-append, take_at, drop_at, take-append-le}
 use Rattle.std.proofs.lemmas.List.Concat.{flat_map-cons}
-use Rattle.dsn_body.specs.FrameBody.{frame, longest_body, IsFrameBody}
+use Rattle.dsn_frame.specs.bodies.FrameBody.{frame, longest_body, IsFrameBody}
 use Rattle.dsn_frame.specs.Frame.{declared_length, FramesEnd, AreFramesOf, ReadsNone}
 use Rattle.dsn_frame.specs.declared.frame_fault.FrameFault.{FrameFault}
 use Rattle.dsn_frame.specs.declared.frame_fault.FrameFault.TheVariants.{NoMemory, TooLong, Empty, CutShort, Read}

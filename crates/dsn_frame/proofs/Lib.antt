@@ -1,6 +1,8 @@
+pub mod AnswerLemmas
 mod Examples
 pub mod Existence
 pub mod FrameLaws
+pub mod FrameRoom
 pub mod InputLaws
 pub mod OneSession
 mod SessionExamples

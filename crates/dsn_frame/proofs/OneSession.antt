@@ -8,17 +8,17 @@ use Rattle.std.proofs.lemmas.List.{append-nil, append_cancel_left, length-append
 use Rattle.std.proofs.lemmas.List.Prefix.{front_rest}
 use Rattle.dsn_outcome.specs.Request.{Body}
 use Rattle.dsn_outcome.specs.declared.answer.Reply.{Reply}
-use Rattle.dsn_body.specs.BodyFault.{body_fault_code}
-use Rattle.dsn_body.specs.FrameBody.{frame, IsFrameBody}
-use Rattle.dsn_body.specs.Request.{Encodes, first_body_fault}
-use Rattle.dsn_body.specs.declared.body_fault.BodyFault.{BodyFault}
-use Rattle.dsn_body.specs.declared.spoken.Spoken.{Spoken}
-use Rattle.dsn_body.specs.declared.spoken.Spoken.TheVariants as spoken
-use Rattle.dsn_body.proofs.FieldLaws.{some_is}
-use Rattle.dsn_body.proofs.RequestLaws.{encodes_one, encoded_is_accepted}
+use Rattle.dsn_frame.specs.bodies.BodyFault.{body_fault_code}
+use Rattle.dsn_frame.specs.bodies.FrameBody.{frame, IsFrameBody}
+use Rattle.dsn_frame.specs.bodies.Request.{Encodes, first_body_fault}
+use Rattle.dsn_frame.specs.declared.bodies.body_fault.BodyFault.{BodyFault}
+use Rattle.dsn_frame.specs.declared.bodies.spoken.Spoken.{Spoken}
+use Rattle.dsn_frame.specs.declared.bodies.spoken.Spoken.TheVariants as spoken
+use Rattle.dsn_frame.proofs.bodies.FieldLaws.{some_is}
+use Rattle.dsn_frame.proofs.bodies.RequestLaws.{encodes_one, encoded_is_accepted}
 use Rattle.dsn_frame.specs.Frame.{declared_length, ReadsNone}
 use Rattle.dsn_frame.specs.FrameFault.{frame_fault_code}
-use Rattle.dsn_frame.specs.Session.{Medium, Input, Connection, Takes, faulty, out_of_memory, out_of_turn, used_up, asked, given_up, given_up_after, GoesOn, written, unwritten, SessionSoFar, begun, taken, Ends, stopped, well, cut, too_many, no_memory_for_book, IsSession}
+use Rattle.dsn_frame.specs.Session.{Medium, Input, Connection, Takes, faulty, out_of_memory, out_of_turn, used_up, asked, given_up, given_up_after, GoesOn, written, unwritten, SessionSoFar, begun, taken, SessionEnds, stopped, well, cut, too_many, no_memory_for_book, IsSession}
 use Rattle.dsn_frame.specs.SessionLaws.{is_from_outside, IsDecided, IsOfBytesAlone, AnswerAlike, AreSame, HasOneSession, LeavesOneRest}
 use Rattle.dsn_frame.specs.declared.frame_fault.FrameFault.{FrameFault}
 use Rattle.dsn_frame.specs.declared.frame_fault.FrameFault.TheVariants.{NoMemory, TooLong, Empty, CutShort, Read}
@@ -290,7 +290,7 @@ left_at_more made rest now bytes on legal is =
     let size : length (frame bytes) ≡ 4 + declared_length rest = omega (arith, declares, length-append (to_be_bytes w32 (length bytes)) bytes) in
     left_at_rest on (sym (front_rest rest (frame bytes) now is) ∙ ap (λ (n : ℕ). drop n rest) size)
 
-left_at : (medium : Medium) (limit count : ℕ) (made : Option ℕ) (rest now : List ℕ) (end : Option ℕ) → Ends medium limit count made (Some rest) (Some now) end → LeftAt made rest end now
+left_at : (medium : Medium) (limit count : ℕ) (made : Option ℕ) (rest now : List ℕ) (end : Option ℕ) → SessionEnds medium limit count made (Some rest) (Some now) end → LeftAt made rest end now
 unfolding left_after
 left_at medium limit count made rest now _ (stopped code is same) = left_at_frame code is (sym (some_is rest now same))
 left_at medium limit count made rest now _ (well on before after) = left_at_rest on after
@@ -316,7 +316,7 @@ record Leaving (medium : Medium) (limit before : ℕ) (bytes : List ℕ) (frames
 leaving : (medium : Medium) (limit before : ℕ) (bytes now : List ℕ) (frames : List (List ℕ)) (bodies : List Body) (answers : List Spoken) (end : Option ℕ) → IsSession medium limit before (Some bytes) (Some now) frames bodies answers end → Leaving medium limit before bytes frames bodies answers end now
 leaving medium limit before bytes now frames bodies answers end session =
     let known = known_left bytes session.left (flat_map frame frames) session.read in
-    let ends : Ends medium limit (length frames) session.made (Some known.0) (Some now) end = subst (λ (left : Option (List ℕ)). Ends medium limit (length frames) session.made left (Some now) end) known.1 session.ends in
+    let ends : SessionEnds medium limit (length frames) session.made (Some known.0) (Some now) end = subst (λ (left : Option (List ℕ)). SessionEnds medium limit (length frames) session.made left (Some now) end) known.1 session.ends in
     record {
       reading = record { made = session.made; takes = session.takes; rest = known.0; split = known.2; ends = ends_at medium limit (length frames) session.made known.0 (Some now) end ends };
       leaves = left_at medium limit (length frames) session.made known.0 now end ends;

@@ -1,16 +1,16 @@
 -- Worked examples of sessions, made by the definitions.
-use Rattle.std.proofs.Common.{ℕ, List, [], ◌∷◌, ◌++◌, refl, lit<, lit≤}
+use Rattle.std.proofs.Common.{◌≡◌, ℕ, true, false, List, [], ◌∷◌, ◌++◌, map, refl, lit<, lit≤}
 use Rattle.std.specs.Prelude.{◌≢◌, Some, None}
 use Rattle.dsn_outcome.specs.declared.answer.Reply.TheVariants.{Closed, Logged, Sealed}
 use Rattle.dsn_outcome.specs.declared.answer.Reply.{Reply as ReplyOf}
-use Rattle.dsn_body.specs.FrameBody.{frame}
-use Rattle.dsn_body.specs.Request.{first_body_fault}
-use Rattle.dsn_body.specs.declared.body_fault.BodyFault.TheVariants.{Version}
-use Rattle.dsn_body.specs.declared.spoken.Spoken.TheVariants.{Reply, Refused}
-use Rattle.dsn_body.proofs.Examples.{append_body, flush_body, append_asked, flush_asked, append_is_encoded, flush_is_encoded}
-use Rattle.dsn_body.proofs.RequestLaws.{encoded_is_accepted}
+use Rattle.dsn_frame.specs.bodies.FrameBody.{frame}
+use Rattle.dsn_frame.specs.bodies.Request.{first_body_fault}
+use Rattle.dsn_frame.specs.declared.bodies.body_fault.BodyFault.TheVariants.{Version}
+use Rattle.dsn_frame.specs.declared.bodies.spoken.Spoken.TheVariants.{Reply, Refused}
+use Rattle.dsn_frame.proofs.bodies.Examples.{append_body, flush_body, append_asked, flush_asked, append_is_encoded, flush_is_encoded}
+use Rattle.dsn_frame.proofs.bodies.RequestLaws.{encoded_is_accepted}
 use Rattle.dsn_frame.specs.Session.{Input, Connection, faulty, out_of_memory, out_of_turn, used_up, asked, given_up_after, written, unwritten, begun, taken, stopped, well, too_many, IsSession}
-use Rattle.dsn_frame.specs.SessionLaws.{IsOfBytesAlone, AreSame, AreFirstFrames, RepliesAre}
+use Rattle.dsn_frame.specs.SessionLaws.{IsOfBytesAlone, AreSame, AreFirstFrames, RepliesAre, is_from_outside, is_end_of_frames}
 use Rattle.dsn_frame.proofs.Examples.{agent_input, two_frames}
 use Rattle.dsn_frame.proofs.OneSession.{one_session}
 use Rattle.dsn_frame.proofs.SessionFrames.{takes_its_frames}
@@ -118,3 +118,15 @@ no_memory_at_append =
     let two = taken (append_body ∷ []) [] (flush_asked ∷ []) (Refused 9 ∷ []) (Reply (Sealed 1) ∷ []) flush_body None None one (lit< tt) (lit≤ tt, lit≤ tt)
     (asked flush_asked (Sealed 1) flush_is_encoded (lit< tt)) (written _ None) in
     record { made = None; takes = two; left = Some []; read = refl; ends = well refl refl refl }
+
+-- what comes from outside the bytes: want of memory, a failed read or write, a daemon that gave up
+from_outside : map is_from_outside (9 ∷ 14 ∷ 33 ∷ 35 ∷ 41 ∷ []) ≡ true ∷ true ∷ true ∷ true ∷ true ∷ []
+from_outside = refl
+
+-- the bytes decide every other refusal and end
+from_bytes : map is_from_outside (1 ∷ 8 ∷ 10 ∷ 11 ∷ 13 ∷ 21 ∷ 30 ∷ 44 ∷ 46 ∷ 47 ∷ []) ≡ false ∷ false ∷ false ∷ false ∷ false ∷ false ∷ false ∷ false ∷ false ∷ false ∷ []
+from_bytes = refl
+
+-- the ends that frames make are none, a length that is none, and a frame that is cut short
+ends_of_frames : map is_end_of_frames (None ∷ Some 11 ∷ Some 12 ∷ Some 13 ∷ Some 14 ∷ Some 46 ∷ Some 47 ∷ []) ≡ true ∷ true ∷ true ∷ true ∷ false ∷ false ∷ false ∷ []
+ends_of_frames = refl

@@ -7,11 +7,11 @@ use Rattle.std.specs.Option.{option_map}
 use Rattle.std.proofs.lemmas.List.{append-nil}
 use Rattle.std.proofs.lemmas.List.Concat.{flat_map-cons}
 use Rattle.dsn_outcome.specs.Request.{Body}
-use Rattle.dsn_body.specs.FrameBody.{frame, IsFrameBody}
-use Rattle.dsn_body.specs.declared.spoken.Spoken.{Spoken}
+use Rattle.dsn_frame.specs.bodies.FrameBody.{frame, IsFrameBody}
+use Rattle.dsn_frame.specs.declared.bodies.spoken.Spoken.{Spoken}
 use Rattle.dsn_frame.specs.Frame.{FramesEnd, AreFramesOf, ReadsNone}
 use Rattle.dsn_frame.specs.FrameFault.{frame_fault_code}
-use Rattle.dsn_frame.specs.Session.{Medium, Input, Connection, Takes, faulty, out_of_memory, out_of_turn, used_up, asked, given_up, given_up_after, GoesOn, written, unwritten, SessionSoFar, begun, taken, Ends, stopped, well, cut, too_many, no_memory_for_book, IsSession}
+use Rattle.dsn_frame.specs.Session.{Medium, Input, Connection, Takes, faulty, out_of_memory, out_of_turn, used_up, asked, given_up, given_up_after, GoesOn, written, unwritten, SessionSoFar, begun, taken, SessionEnds, stopped, well, cut, too_many, no_memory_for_book, IsSession}
 use Rattle.dsn_frame.specs.SessionLaws.{is_from_outside, is_end_of_frames, AreFirstFrames, TakesItsFrames}
 use Rattle.dsn_frame.specs.WholeInput.{IsOutside, no_memory, read_failed}
 use Rattle.dsn_frame.specs.declared.frame_fault.FrameFault.{FrameFault}
@@ -114,7 +114,7 @@ more_at : (limit count : ℕ) (made : Option ℕ) (rest bytes : List ℕ) (now :
 more_at limit count made rest bytes None on full legal read = absurd read
 more_at limit count made rest bytes (Some more) on full legal read = one_more on full bytes more legal read refl
 
-pub ends_at : (medium : Medium) (limit count : ℕ) (made : Option ℕ) (rest : List ℕ) (now : Option (List ℕ)) (end : Option ℕ) → Ends medium limit count made (Some rest) now end → EndsAt limit count made rest end
+pub ends_at : (medium : Medium) (limit count : ℕ) (made : Option ℕ) (rest : List ℕ) (now : Option (List ℕ)) (end : Option ℕ) → SessionEnds medium limit count made (Some rest) now end → EndsAt limit count made rest end
 ends_at medium limit count made rest now _ (stopped code is same) = at_frame code is refl
 ends_at medium limit count made rest now _ (well on before after) = no_frame on None before refl
 ends_at medium limit count made rest now _ (cut on fault reads) = cut_at limit count made rest now fault on reads
@@ -137,7 +137,7 @@ session_reads medium limit before bytes now frames bodies answers end session =
       takes = session.takes;
       rest = known.0;
       split = known.2;
-      ends = ends_at medium limit (length frames) session.made known.0 now end (subst (λ (left : Option (List ℕ)). Ends medium limit (length frames) session.made left now end) known.1 session.ends);
+      ends = ends_at medium limit (length frames) session.made known.0 now end (subst (λ (left : Option (List ℕ)). SessionEnds medium limit (length frames) session.made left now end) known.1 session.ends);
     }
 
 -- ---- they are those of the bytes

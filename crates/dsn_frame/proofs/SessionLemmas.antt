@@ -8,16 +8,16 @@ use Rattle.std.proofs.lemmas.Grind.{flat_map-append}
 use Rattle.std.proofs.lemmas.List.{append-nil}
 use Rattle.dsn_outcome.specs.Request.{Body}
 use Rattle.dsn_outcome.specs.declared.answer.Reply.{Reply}
-use Rattle.dsn_body.specs.BodyFault.{body_fault_code}
-use Rattle.dsn_body.specs.FrameBody.{frame}
-use Rattle.dsn_body.specs.Request.{Encodes, first_body_fault}
-use Rattle.dsn_body.specs.declared.body_fault.BodyFault.{BodyFault}
-use Rattle.dsn_body.specs.declared.body_fault.BodyFault.TheVariants as faults
-use Rattle.dsn_body.specs.declared.spoken.Spoken.{Spoken}
-use Rattle.dsn_body.specs.declared.spoken.Spoken.TheVariants as spoken
+use Rattle.dsn_frame.specs.bodies.BodyFault.{body_fault_code}
+use Rattle.dsn_frame.specs.bodies.FrameBody.{frame}
+use Rattle.dsn_frame.specs.bodies.Request.{Encodes, first_body_fault}
+use Rattle.dsn_frame.specs.declared.bodies.body_fault.BodyFault.{BodyFault}
+use Rattle.dsn_frame.specs.declared.bodies.body_fault.BodyFault.TheVariants as faults
+use Rattle.dsn_frame.specs.declared.bodies.spoken.Spoken.{Spoken}
+use Rattle.dsn_frame.specs.declared.bodies.spoken.Spoken.TheVariants as spoken
 use Rattle.dsn_frame.specs.Frame.{ReadsNext, ReadsNone}
 use Rattle.dsn_frame.specs.FrameFault.{frame_fault_code}
-use Rattle.dsn_frame.specs.Refusal.{refusal_code, refusal_end, IsRefused}
+use Rattle.dsn_frame.specs.Refusal.{refusal_code, refusal_end, IsFrameRefused}
 use Rattle.dsn_frame.specs.Session.{Medium, Input, Connection, unwritten_code, Takes, faulty, out_of_memory, out_of_turn, used_up, asked, given_up, given_up_after, GoesOn, written, unwritten, begun, taken, stopped, well, cut, too_many, no_memory_for_book, IsSession, IsOpenSession}
 use Rattle.dsn_frame.specs.declared.frame_fault.FrameFault.{FrameFault}
 use Rattle.dsn_frame.specs.declared.refusal.Refusal.{Refusal}
@@ -31,13 +31,13 @@ refused_by medium limit accepted place bytes fault None none is = rw is (out_of_
 refused_by medium limit accepted place bytes fault (Some first) some is = rw is (faulty first some)
 
 -- a refused frame is answered by its refusal, and asks nothing
-pub refused_takes : (medium : Medium) (limit accepted place : ℕ) (bytes : List ℕ) (refusal : Refusal) → IsRefused place bytes refusal
+pub refused_takes : (medium : Medium) (limit accepted place : ℕ) (bytes : List ℕ) (refusal : Refusal) → IsFrameRefused place bytes refusal
     → Takes medium limit accepted place bytes [] (spoken.Refused (refusal_code refusal) ∷ []) (refusal_end refusal)
 refused_takes medium limit accepted place bytes (refusals.Body fault) is = refused_by medium limit accepted place bytes fault (first_body_fault bytes) refl is
 refused_takes medium limit accepted place bytes refusals.OutOfTurn is = out_of_turn is.number is.body is.encoded is.apart
 
 -- so it is for whatever is refused
-pub refused_takes_any : {A : Type 0} (medium : Medium) (limit accepted place : ℕ) (bytes : List ℕ) (result : Result A Refusal) → IfErr result (λ refusal. IsRefused place bytes refusal)
+pub refused_takes_any : {A : Type 0} (medium : Medium) (limit accepted place : ℕ) (bytes : List ℕ) (result : Result A Refusal) → IfErr result (λ refusal. IsFrameRefused place bytes refusal)
     → IfErr result (λ refusal. Takes medium limit accepted place bytes [] (spoken.Refused (refusal_code refusal) ∷ []) (refusal_end refusal))
 refused_takes_any medium limit accepted place bytes (Ok body) is = tt
 refused_takes_any medium limit accepted place bytes (Err refusal) is = refused_takes medium limit accepted place bytes refusal is
@@ -70,7 +70,7 @@ module _ (medium : Medium) (limit before : ℕ) (start : Option (List ℕ)) wher
     session_asked body reply encoded room = session_more (body ∷ []) (spoken.Reply reply ∷ []) (asked body reply encoded room)
 
     -- the frame was refused, and the session goes on
-    pub session_refused : (refusal : Refusal) → IsRefused (length frames) bytes refusal → refusal_end refusal ≡ None
+    pub session_refused : (refusal : Refusal) → IsFrameRefused (length frames) bytes refusal → refusal_end refusal ≡ None
         → IsOpenSession medium limit before start next (frames ++ bytes ∷ []) bodies (answers ++ spoken.Refused (refusal_code refusal) ∷ [])
     session_refused refusal is goes_on =
         let takes = rw goes_on at (refused_takes medium limit (before + length bodies) (length frames) bytes refusal is) in
@@ -100,7 +100,7 @@ module _ (medium : Medium) (limit before : ℕ) (start : Option (List ℕ)) wher
     session_unwritten more answer end takes = session_stopped more (answer ∷ []) end (unwritten_code medium) takes (unwritten answer end)
 
     -- the frame's number was out of turn, and the answer was written
-    pub session_out_of_turn : (refusal : Refusal) (code : ℕ) → IsRefused (length frames) bytes refusal → refusal_end refusal ≡ Some code
+    pub session_out_of_turn : (refusal : Refusal) (code : ℕ) → IsFrameRefused (length frames) bytes refusal → refusal_end refusal ≡ Some code
         → IsSession medium limit before start next (frames ++ bytes ∷ []) bodies (answers ++ spoken.Refused (refusal_code refusal) ∷ []) (Some code)
     session_out_of_turn refusal code is ends =
         let takes = rw ends at (refused_takes medium limit (before + length bodies) (length frames) bytes refusal is) in

@@ -13,15 +13,15 @@ use Rattle.dsn_text.specs.Service.{service_of_byte}
 use Rattle.dsn_outcome.specs.declared.answer.Reply.{Reply}
 use Rattle.dsn_outcome.specs.declared.outcome_fault.OutcomeFault.{OutcomeFault}
 use Rattle.dsn_text.specs.declared.service.Service.{Service}
-use Rattle.dsn_body.specs.BodyFault.{body_fault_code, outcome_refusal}
-use Rattle.dsn_body.specs.FrameBody.{frame, IsFrameBody}
-use Rattle.dsn_body.specs.Request.{Encodes, layout_checks, head_checks, flush_checks, retry_checks, undated_fields, dated_fields, or_else, first_append_fault, first_own_fault, first_field_fault, first_body_fault}
-use Rattle.dsn_body.specs.Wire.{WireBody, AppendFields, DatedAppendFields, FlushFieldsOf, DiscardFields, ForgetFields, head_of, body_at}
-use Rattle.dsn_body.specs.declared.body_fault.BodyFault.{BodyFault}
-use Rattle.dsn_body.specs.declared.spoken.Spoken.{Spoken}
-use Rattle.dsn_body.specs.declared.spoken.Spoken.TheVariants as spoken
-use Rattle.dsn_body.proofs.Existence.{accepted_is_encoded}
-use Rattle.dsn_body.proofs.FieldLaws.{IsBytes, IsBytes-take, IsBytes-after}
+use Rattle.dsn_frame.specs.bodies.BodyFault.{body_fault_code, outcome_refusal}
+use Rattle.dsn_frame.specs.bodies.FrameBody.{frame, IsFrameBody}
+use Rattle.dsn_frame.specs.bodies.Request.{Encodes, layout_checks, head_checks, flush_checks, retry_checks, undated_fields, dated_fields, or_else, first_append_fault, first_own_fault, first_field_fault, first_body_fault}
+use Rattle.dsn_frame.specs.bodies.Wire.{WireBody, AppendFields, DatedAppendFields, FlushFieldsOf, DiscardFields, ForgetFields, head_of, body_at}
+use Rattle.dsn_frame.specs.declared.bodies.body_fault.BodyFault.{BodyFault}
+use Rattle.dsn_frame.specs.declared.bodies.spoken.Spoken.{Spoken}
+use Rattle.dsn_frame.specs.declared.bodies.spoken.Spoken.TheVariants as spoken
+use Rattle.dsn_frame.proofs.bodies.Existence.{accepted_is_encoded}
+use Rattle.dsn_frame.proofs.bodies.FieldLaws.{IsBytes, IsBytes-take, IsBytes-after}
 use Rattle.dsn_frame.specs.Frame.{FramesEnd, ReadsNext}
 use Rattle.dsn_frame.specs.Session.{Medium, faulty, out_of_turn, used_up, asked, written, IsSession, IsOpenSession}
 use Rattle.dsn_frame.specs.SessionLaws.{is_from_outside, IsDecided, RepliesAre, SessionWith, HasSomeSession}

@@ -6,11 +6,11 @@ use Rattle.std.specs.Option.{option_map}
 use Rattle.std.proofs.lemmas.Grind.{flat_map-append}
 use Rattle.std.proofs.lemmas.List.{append-nil, append_cancel_left, length-append}
 use Rattle.dsn_outcome.specs.Request.{Body}
-use Rattle.dsn_body.specs.FrameBody.{frame}
-use Rattle.dsn_body.specs.Request.{Encodes}
-use Rattle.dsn_body.specs.declared.spoken.Spoken.{Spoken}
-use Rattle.dsn_body.proofs.FieldLaws.{some_is}
-use Rattle.dsn_body.proofs.RequestLaws.{encodes_one, encoded_is_accepted}
+use Rattle.dsn_frame.specs.bodies.FrameBody.{frame}
+use Rattle.dsn_frame.specs.bodies.Request.{Encodes}
+use Rattle.dsn_frame.specs.declared.bodies.spoken.Spoken.{Spoken}
+use Rattle.dsn_frame.proofs.bodies.FieldLaws.{some_is}
+use Rattle.dsn_frame.proofs.bodies.RequestLaws.{encodes_one, encoded_is_accepted}
 use Rattle.dsn_frame.specs.Frame.{AreFramesOf, FramesEnd}
 use Rattle.dsn_frame.specs.FrameFault.{frame_fault_code}
 use Rattle.dsn_frame.specs.Session.{Medium, Takes, faulty, out_of_memory, out_of_turn, used_up, asked, given_up, given_up_after, GoesOn, written, unwritten, SessionSoFar, begun, taken}

@@ -4,7 +4,7 @@ use Rattle.std.specs.Prelude.{◌≡◌, ℕ, ◌+◌, ◌<◌, ◌≤◌, List,
 use Rattle.std.specs.Io.KnownBytes.{Consumes, IsAtEnd}
 use Rattle.std.specs.Int.{w32, to_be_bytes, from_be_bytes}
 use Rattle.std.specs.List.{flat_map, AllByRecursion}
-use Rattle.dsn_body.specs.FrameBody.{frame, longest_body, IsFrameLength, IsFrameBody}
+use Rattle.dsn_frame.specs.bodies.FrameBody.{frame, longest_body, IsFrameLength, IsFrameBody}
 use Rattle.dsn_frame.specs.declared.frame_fault.FrameFault.{FrameFault}
 use Rattle.dsn_frame.specs.declared.frame_fault.FrameFault.TheVariants.{NoMemory, TooLong, Empty, CutShort, Read}
 
@@ -76,6 +76,21 @@ pub record ReadsNone (old new : Option (List ℕ)) (fault : FrameFault) : Type 0
   pub part : List ℕ
   pub consumed : Consumes old new part
   pub stops : StopsAt fault part
+  pub ends : fault ≡ CutShort → IsAtEnd new
+
+-- a frame's length could not be read, or is none that a frame has
+abbrev pub MissesLength : FrameFault → List ℕ → Type 0
+MissesLength TooLong part = (length part ≡ length_prefix) × (longest_body < declared_length part)
+MissesLength Empty part = (length part ≡ length_prefix) × (declared_length part ≡ 0)
+MissesLength CutShort part = (0 < length part) × (length part < length_prefix)
+MissesLength Read part = length part < length_prefix
+MissesLength NoMemory part = ⊥
+
+-- no length of a frame could be read: these bytes were
+pub record LengthMissing (old new : Option (List ℕ)) (fault : FrameFault) : Type 0 where
+  pub part : List ℕ
+  pub consumed : Consumes old new part
+  pub misses : MissesLength fault part
   pub ends : fault ≡ CutShort → IsAtEnd new
 
 -- the four bytes of a frame's length

@@ -1,4 +1,5 @@
 pub mod Frame
+pub mod FrameBuffer
 pub mod FrameFault
 pub mod Laws
 pub mod Refusal
@@ -6,3 +7,4 @@ pub mod Session
 pub mod SessionLaws
 pub mod Telling
 pub mod WholeInput
+pub mod bodies

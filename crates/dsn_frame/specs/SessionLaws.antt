@@ -3,11 +3,11 @@
 use Rattle.std.specs.Prelude.{◌≡◌, ℕ, ◌+◌, ◌≤◌, Bool, true, false, ◌||◌, ◌==◌, List, [], ◌∷◌, ◌++◌, Option, Some, None}
 use Rattle.std.specs.List.{AllByRecursion}
 use Rattle.std.specs.Option.{option_map, option_map_or}
-use Rattle.dsn_text.specs.NoMemory.{no_memory_code}
+use Rattle.dsn_text.specs.FaultCode.{connection_write_code, cut_short_code, frame_empty_code, frame_too_long_code, lane_lost_code, no_memory_code, notes_write_code, read_failed_code}
 use Rattle.dsn_outcome.specs.Request.{Body}
 use Rattle.dsn_outcome.specs.declared.answer.Reply.{Reply}
-use Rattle.dsn_body.specs.declared.spoken.Spoken.{Spoken}
-use Rattle.dsn_body.specs.declared.spoken.Spoken.TheVariants
+use Rattle.dsn_frame.specs.declared.bodies.spoken.Spoken.{Spoken}
+use Rattle.dsn_frame.specs.declared.bodies.spoken.Spoken.TheVariants
 use Rattle.dsn_frame.specs.Frame.{AreFramesOf}
 use Rattle.dsn_frame.specs.FrameFault.{frame_fault_code}
 use Rattle.dsn_frame.specs.Session.{Medium, IsSession}
@@ -17,7 +17,8 @@ use Rattle.dsn_frame.specs.declared.frame_fault.FrameFault.{FrameFault}
 -- that could not be written (to notes, to a connection), and a daemon that gave up
 abbrev pub is_from_outside : ℕ → Bool
 is_from_outside code =
-    (code == no_memory_code) || ((code == 14) || ((code == 33) || ((code == 35) || (code == 41))))
+    (code == no_memory_code) || ((code == read_failed_code) || ((code == notes_write_code)
+    || ((code == connection_write_code) || (code == lane_lost_code))))
 
 -- an answer that the bytes decide, but for which reply it is
 abbrev pub IsDecided : Spoken → Type 0
@@ -105,7 +106,8 @@ HasSomeSession medium limit before bytes =
 -- is cut short
 abbrev pub is_end_of_frames : Option ℕ → Bool
 is_end_of_frames None = true
-is_end_of_frames (Some code) = (code == 11) || ((code == 12) || (code == 13))
+is_end_of_frames (Some code) =
+    (code == frame_too_long_code) || ((code == frame_empty_code) || (code == cut_short_code))
 
 -- what a session took of an input with these frames and this end: the first frames, and all of them
 -- where it ended as frames do

@@ -2,7 +2,7 @@
 -- have been lost. A text is a line of notes, or an answer's frame.
 use Rattle.std.specs.Prelude.{◌≡◌, ℕ, ◌<◌, Bool, true, false, List, [], ◌∷◌, ◌++◌, length, Option}
 use Rattle.std.specs.Io.KnownBytes.{Appends}
-use Rattle.dsn_body.specs.declared.spoken.Spoken.{Spoken}
+use Rattle.dsn_frame.specs.declared.bodies.spoken.Spoken.{Spoken}
 
 -- `text` is the text of the answer to the frame at a place, and `texts` those of the answers from a
 -- place on

@@ -2,12 +2,12 @@
 -- project's profile).
 use Rattle.std.specs.Prelude.{◌≡◌, ◌≢◌, ℕ, ◌+◌, ◌≤◌, List, [], ◌∷◌, ◌++◌, length, take, Option, Some, None}
 use Rattle.std.specs.List.{flat_map, AllByRecursion}
-use Rattle.dsn_text.specs.NoMemory.{no_memory_code}
+use Rattle.dsn_text.specs.FaultCode.{lane_lost_code, no_memory_code, read_failed_code}
 use Rattle.dsn_outcome.specs.Request.{Body}
-use Rattle.dsn_body.specs.FrameBody.{frame, IsFrameBody}
-use Rattle.dsn_body.specs.Request.{Encodes}
-use Rattle.dsn_body.specs.declared.spoken.Spoken.{Spoken}
-use Rattle.dsn_body.specs.declared.spoken.Spoken.TheVariants.{Reply, Refused}
+use Rattle.dsn_frame.specs.bodies.FrameBody.{frame, IsFrameBody}
+use Rattle.dsn_frame.specs.bodies.Request.{Encodes}
+use Rattle.dsn_frame.specs.declared.bodies.spoken.Spoken.{Spoken}
+use Rattle.dsn_frame.specs.declared.bodies.spoken.Spoken.TheVariants.{Reply, Refused}
 use Rattle.dsn_frame.specs.Session.{Medium, Connection, unwritten_code, IsSession}
 
 -- these frames encode these bodies, each the one at its place; the first has this number, and each
@@ -42,9 +42,9 @@ IsReplyOrNoMemory (Refused number) = number ≡ no_memory_code
 pub data IsOutside (medium : Medium) : Option ℕ → Type 0 where
   none : IsOutside medium None
   no_memory : IsOutside medium (Some no_memory_code)
-  read_failed : IsOutside medium (Some 14)
+  read_failed : IsOutside medium (Some read_failed_code)
   unwritten : IsOutside medium (Some (unwritten_code medium))
-  given_up : medium ≡ Connection → IsOutside medium (Some 41)
+  given_up : medium ≡ Connection → IsOutside medium (Some lane_lost_code)
 
 -- what a session that took these frames made of a whole input: no frame is at fault and none is
 -- refused but for want of memory, the first frames are taken, and all of them where the session had
@@ -57,7 +57,7 @@ pub record TakesAll (medium : Medium) (frames : List (List ℕ)) (bodies : List 
   pub replies : AllByRecursion IsReplyOrNoMemory answers
   pub first : (more : List (List ℕ)) × (frames ≡ taken ++ more)
   pub all_taken : end ≡ None → taken ≡ frames
-  pub all_asked : end ≢ Some 41 → AllByRecursion IsReply answers
+  pub all_asked : end ≢ Some lane_lost_code → AllByRecursion IsReply answers
       → asked ≡ take (length taken) bodies
 
 -- nothing of an input that is requests in turn is refused without cause

@@ -3,8 +3,8 @@ ghost use Rattle.std.specs.Prelude.{◌≡◌, ◌≢◌, ℕ, ◌+◌, length, 
 ghost use Rattle.std.specs.Int.{w32, from_be_bytes, to_be_bytes};
 ghost use Rattle.std.specs.Io.KnownBytes.{Consumes, IsAtEnd, Keeps};
 ghost use Rattle.dsn_device.specs.Failures.{counted};
-ghost use Rattle.dsn_body.specs.FrameBody.{IsFrameLength, IsFrameBody, frame};
-ghost use Rattle.dsn_frame.specs.Frame.{BodyMissing, IsHeld, ReadsLength, ReadsNext, ReadsNone, length_prefix};
+ghost use Rattle.dsn_frame.specs.bodies.FrameBody.{IsFrameLength, IsFrameBody, frame};
+ghost use Rattle.dsn_frame.specs.Frame.{BodyMissing, IsHeld, LengthMissing, ReadsLength, ReadsNext, ReadsNone, length_prefix};
 ghost use Rattle.dsn_frame.specs.FrameFault.{source_failed};
 
 use crate::frame_fault::FrameFault;
@@ -57,7 +57,7 @@ impl Frame {
 /// out of bounds is refused before memory is taken for the body, and want of memory comes before
 /// anything of the body is read. After a fault the source is to be used no further. It makes at
 /// most 65,540 reads.
-#[tactic(auto, using(crate::proofs::FrameLaws::frame_read, crate::proofs::FrameLaws::frame_missed))]
+#[tactic(auto, using(crate::proofs::FrameLaws::frame_read, crate::proofs::FrameLaws::length_missed, crate::proofs::FrameLaws::frame_missed))]
 pub fn read_frame<S: Source>(alloc: Global, source: &mut S) -> Result<Option<Frame>, FrameFault>
     ensures next { IfOk result
         (λ next. ReadsNext (S.remaining source.old) (S.remaining source.new) next) }
@@ -82,8 +82,7 @@ pub(crate) fn read_length<S: Source>(source: &mut S) -> Result<Option<usize>, Fr
     ensures next { IfOk result
         (λ size. ReadsLength (S.remaining source.old) (S.remaining source.new) size) }
     ensures refused { IfErr result
-        (λ fault. ReadsNone (S.remaining source.old) (S.remaining source.new) fault) }
-    ensures no_growth { IfErr result (λ fault. fault ≢ FrameFault.NoMemory) }
+        (λ fault. LengthMissing (S.remaining source.old) (S.remaining source.new) fault) }
     ensures held { Keeps (S.holds source.old) (S.holds source.new) }
     ensures no_flush { S.flushes source.new ≡ S.flushes source.old }
     ensures count { S.failures source.new ≡ counted (source_failed result) (S.failures source.old) }

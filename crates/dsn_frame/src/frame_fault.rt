@@ -2,6 +2,7 @@
 ghost use Rattle.std.specs.Prelude.{◌≡◌};
 ghost use Rattle.dsn_frame.specs.FrameFault.{frame_fault_code};
 
+use dsn_text::fault_code;
 use thiserror::Error;
 
 /// Why no frame could be read. The source is used no further after it.
@@ -30,11 +31,11 @@ impl FrameFault {
         ensures { result ≡ frame_fault_code self.now }
     {
         match self {
-            FrameFault::NoMemory => 9,
-            FrameFault::TooLong => 11,
-            FrameFault::Empty => 12,
-            FrameFault::CutShort => 13,
-            FrameFault::Read => 14,
+            FrameFault::NoMemory => fault_code::NO_MEMORY,
+            FrameFault::TooLong => fault_code::FRAME_TOO_LONG,
+            FrameFault::Empty => fault_code::FRAME_EMPTY,
+            FrameFault::CutShort => fault_code::CUT_SHORT,
+            FrameFault::Read => fault_code::READ_FAILED,
         }
     }
 }

@@ -1,6 +1,6 @@
 //! A frame that stands in a buffer.
 ghost use Rattle.std.specs.Prelude.{◌≡◌};
-ghost use Rattle.dsn_body.specs.FrameBody.{IsFrameBody, frame};
+ghost use Rattle.dsn_frame.specs.bodies.FrameBody.{IsFrameBody, frame};
 
 use crate::frame::LENGTH;
 use std::marker::Model;

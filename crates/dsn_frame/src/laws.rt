@@ -1,6 +1,6 @@
 //! Laws of frames and of sessions, each of them the contract of a function that does nothing.
 ghost use Rattle.std.specs.Prelude.{ℕ, List};
-ghost use Rattle.dsn_body.specs.Laws.{IsBytes};
+ghost use Rattle.dsn_frame.specs.bodies.Laws.{IsBytes};
 ghost use Rattle.dsn_frame.specs.Laws.{HasFrames, HasOneReading};
 ghost use Rattle.dsn_frame.specs.Session.{Medium};
 ghost use Rattle.dsn_frame.specs.SessionLaws.{HasOneSession, HasSomeSession, LeavesOneRest, TakesItsFrames};

@@ -1,7 +1,8 @@
-//! Frames, what each of them comes to, and the sessions that they make. It re-exports the requests
-//! and answers that frames carry.
+//! Requests and answers in bytes, the frames that carry them, what each frame comes to, and the
+//! sessions that they make.
 #![tactic(auto)]
 
+mod bodies;
 mod frame;
 mod frame_buffer;
 mod frame_fault;
@@ -10,7 +11,7 @@ mod laws;
 mod refusal;
 mod requests;
 
-pub use dsn_body::{
+pub use bodies::{
     AnswerFault, BodyFault, Spoken, bodies_are_requests_or_refused, decode_answer, decode_request,
     encode_answer, encode_request,
 };

@@ -2,7 +2,8 @@
 ghost use Rattle.std.specs.Prelude.{◌≡◌, is_some};
 ghost use Rattle.dsn_frame.specs.Refusal.{refusal_code, refusal_end};
 
-use dsn_body::BodyFault;
+use crate::bodies::BodyFault;
+use dsn_text::fault_code;
 use thiserror::Error;
 
 /// Why a frame asks nothing.
@@ -23,7 +24,7 @@ impl Refusal {
     {
         match self {
             Refusal::Body(fault) => fault.code(),
-            Refusal::OutOfTurn => 46,
+            Refusal::OutOfTurn => fault_code::OUT_OF_TURN,
         }
     }
 

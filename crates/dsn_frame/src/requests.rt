@@ -2,13 +2,13 @@
 ghost use Rattle.std.specs.Prelude.{◌≢◌, ℕ, [], ◌∷◌, IfOk, IfErr};
 ghost use Rattle.dsn_outcome.specs.Body.{body_of};
 ghost use Rattle.dsn_outcome.specs.Request.{Bye};
-ghost use Rattle.dsn_body.specs.Request.{Encodes};
-ghost use Rattle.dsn_body.specs.declared.spoken.Spoken.TheVariants.{Refused};
-ghost use Rattle.dsn_frame.specs.Refusal.{IsRefused, refusal_code, refusal_end};
+ghost use Rattle.dsn_frame.specs.bodies.Request.{Encodes};
+ghost use Rattle.dsn_frame.specs.declared.bodies.spoken.Spoken.TheVariants.{Refused};
+ghost use Rattle.dsn_frame.specs.Refusal.{IsFrameRefused, refusal_code, refusal_end};
 ghost use Rattle.dsn_frame.specs.Session.{Medium, Takes};
 
+use crate::bodies::decode_request;
 use crate::refusal::Refusal;
-use dsn_body::decode_request;
 use dsn_outcome::Body;
 use std::alloc::Global;
 
@@ -18,7 +18,7 @@ use std::alloc::Global;
 pub fn next_request(alloc: Global, place: u32, bytes: &[u8]) -> Result<Body, Refusal>
     ensures encoded { IfOk result (λ body. Encodes bytes.now place (body_of body)) }
     ensures no_goodbye { IfOk result (λ body. body_of body ≢ Bye) }
-    ensures refused { IfErr result (λ refusal. IsRefused place bytes.now refusal) }
+    ensures refused { IfErr result (λ refusal. IsFrameRefused place bytes.now refusal) }
     ensures taken { (medium : Medium) (limit accepted : ℕ)
         → IfErr result
         (λ refusal. Takes medium limit accepted place bytes.now []

@@ -21,10 +21,6 @@ most_waiting = 1024
 abbrev pub most_sent : ℕ
 most_sent = 4294967295
 
--- the number of the fault where the other side of a lane is gone
-abbrev pub lost_code : ℕ
-lost_code = 41
-
 -- each item's number is its place in the list, from 0
 abbrev pub IsNumbered : {T : Type 0} → (T → ℕ) → List T → Type 0
 IsNumbered {T} number items =

@@ -1,19 +1,24 @@
 //! The end of a lane.
 ghost use Rattle.std.specs.Prelude.{◌≡◌};
-ghost use Rattle.dsn_lane.specs.Lane.{lost_code};
+ghost use Rattle.dsn_text.specs.FaultCode.{lane_lost_code};
 
+use crate::lane_gone::LaneGone;
+use dsn_text::fault_code;
 use thiserror::Error;
 
-/// The sending ends of the lane are gone, and nothing waits.
+/// The sending ends of the lane are gone, and nothing waits. A lane alone makes it.
 #[derive(Clone, Copy, Debug, PartialEq, Eq, Error)]
 #[error("lane ended")]
-pub struct LaneEnd;
+pub struct LaneEnd {
+    /// That the sending ends are gone.
+    pub gone: LaneGone,
+}
 
 impl LaneEnd {
     /// The number of the fault, 41.
     pub fn code(&self) -> u32
-        ensures { result ≡ lost_code }
+        ensures { result ≡ lane_lost_code }
     {
-        41
+        fault_code::LANE_LOST
     }
 }

@@ -8,6 +8,7 @@ ghost use Rattle.dsn_lane.specs.Ends.{lane_at, taking};
 ghost use Rattle.dsn_lane.specs.Lane.{IsNumbered, most_sent};
 ghost use Rattle.dsn_lane.specs.Step.{after_split};
 
+use crate::lane_gone::LaneGone;
 use crate::lost::Lost;
 use crate::rule::{Adds, LaneRule, SplitOff};
 use crate::token::Token;
@@ -104,6 +105,7 @@ impl<T: Carried> LaneIn<T> {
             }
             Err(refused) => Err(Lost {
                 item: refused.into_inner(),
+                gone: LaneGone::told(),
             }),
         }
     }

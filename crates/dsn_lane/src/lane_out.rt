@@ -8,6 +8,7 @@ ghost use Rattle.dsn_lane.specs.Ends.{IsReceiving, out_of, taking};
 ghost use Rattle.dsn_lane.specs.Lane.{IsNumbered};
 
 use crate::lane_end::LaneEnd;
+use crate::lane_gone::LaneGone;
 use crate::lane_left::LaneLeft;
 use crate::rule::{LaneRule, Removes};
 use crate::token::Token;
@@ -84,7 +85,9 @@ impl<T: Carried> LaneOut<T> {
                 self.count = self.count.wrapping_add(1);
                 Ok(item)
             }
-            Err(_) => Err(LaneEnd),
+            Err(_) => Err(LaneEnd {
+                gone: LaneGone::told(),
+            }),
         }
     }
 

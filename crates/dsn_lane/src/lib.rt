@@ -4,6 +4,7 @@
 
 mod close;
 mod lane_end;
+mod lane_gone;
 mod lane_in;
 mod lane_left;
 mod lane_lists;
@@ -16,6 +17,7 @@ mod token;
 
 pub use close::close_lane;
 pub use lane_end::LaneEnd;
+pub use lane_gone::LaneGone;
 pub use lane_in::LaneIn;
 pub use lane_left::LaneLeft;
 pub use lane_lists::LaneLists;

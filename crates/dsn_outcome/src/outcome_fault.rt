@@ -2,6 +2,7 @@
 ghost use Rattle.std.specs.Prelude.{◌≡◌};
 ghost use Rattle.dsn_outcome.specs.OutcomeFault.{outcome_fault_code};
 
+use dsn_text::fault_code;
 use thiserror::Error;
 
 /// Why an outcome is refused; the first reason in this order is given.
@@ -45,16 +46,16 @@ impl OutcomeFault {
         ensures { result ≡ outcome_fault_code self.now }
     {
         match self {
-            OutcomeFault::BadRecipient => 1,
-            OutcomeFault::BadOriginal => 2,
-            OutcomeFault::BadAction => 3,
-            OutcomeFault::BadStatus => 4,
-            OutcomeFault::StatusClass => 5,
-            OutcomeFault::BadMta => 6,
-            OutcomeFault::LongDiagnostic => 7,
-            OutcomeFault::LongReason => 8,
-            OutcomeFault::RetryUntil => 10,
-            OutcomeFault::NoMemory => 9,
+            OutcomeFault::BadRecipient => fault_code::BAD_RECIPIENT,
+            OutcomeFault::BadOriginal => fault_code::BAD_ORIGINAL,
+            OutcomeFault::BadAction => fault_code::BAD_ACTION,
+            OutcomeFault::BadStatus => fault_code::BAD_STATUS,
+            OutcomeFault::StatusClass => fault_code::STATUS_CLASS,
+            OutcomeFault::BadMta => fault_code::BAD_MTA,
+            OutcomeFault::LongDiagnostic => fault_code::LONG_DIAGNOSTIC,
+            OutcomeFault::LongReason => fault_code::LONG_REASON,
+            OutcomeFault::RetryUntil => fault_code::RETRY_UNTIL,
+            OutcomeFault::NoMemory => fault_code::NO_MEMORY,
         }
     }
 }

@@ -14,7 +14,7 @@ use Rattle.dsn_outcome.specs.Letter.{Letter}
 use Rattle.dsn_post.specs.LetterSink.{LetterSink, TakesLetter}
 use Rattle.dsn_post.specs.Sink.{Handed}
 use Rattle.dsn_post.specs.Parcel.{Parcel, letters_of, parcels_of}
-use Rattle.dsn_post.proofs.ParcelLemmas.{all_letters, all_of_one, few_letters, first_letters, length-parcels, letter_more, letters_of-append, mark_last, parcel}
+use Rattle.dsn_post.proofs.ParcelLemmas.{all_letters, all_of_one, few_letters, first_letters, length-parcels, letter_more, letters_of-append, mark_last, marked_all, parcel}
 
 -- a sink that took letters one after another has sent them, after those from before
 pub handed_letters : (old new : LetterSink) (letters : List Letter) → Handed TakesLetter old letters new → (new.letters ≡ old.letters ++ letters) × (new.lane ≡ old.lane)
@@ -86,6 +86,10 @@ module _ (ends : List (End Parcel)) (end : End Parcel) (taken : List Parcel) (ca
   -- the letters that came are the first of those that were sent
   pub closed_first : IsPrefix came sent
   closed_first = first_letters came sent came_marked sent_marked closed
+
+  -- and all of them where the end mark came
+  pub closed_marked : came_marked ≡ true → came ≡ sent
+  closed_marked marked = marked_all came sent sent_marked (subst (λ (it : Bool). IsPrefix (parcels_of came it) (parcels_of sent sent_marked)) marked closed)
 
   module _ (count waiting : ℕ) (counted : count ≡ length taken) (split : count + waiting ≡ sum_by (λ (it : End Parcel). length it.sent) ends) where
     total : length (parcels_of came came_marked) + waiting ≡ length (parcels_of sent sent_marked)

@@ -3,6 +3,7 @@ use Rattle.std.proofs.Common.{◌≡◌, ℕ, suc, ◌+◌, ◌≤◌, Bool, tru
 use Rattle.std.specs.Prelude.{Option, Some, None}
 use Rattle.std.specs.Option.{option_to_list}
 use Rattle.std.proofs.lemmas.List.{append-nil, nil_from_length}
+use Rattle.std.proofs.lemmas.Option.{none-some, same_Some}
 use mathlib.Core.List.{IsPrefix}
 use Rattle.dsn_outcome.specs.Agents.{from_agent}
 use Rattle.dsn_outcome.specs.Letter.{Letter}
@@ -117,3 +118,26 @@ all_letters taken sent came marked is long =
     sym (append-nil (parcels_of taken came)) ∙ (ap (λ (rest : List Parcel). parcels_of taken came ++ rest) (sym none) ∙ is.1) in
     let letters = same_letters taken sent came marked same in
     (letters, marked_alike sent came marked (ap (λ (ls : List Letter). parcels_of ls came) (sym letters) ∙ same))
+
+-- the letter of the first parcel
+abbrev first_letter : List Parcel → Option Letter
+first_letter [] = None
+first_letter (parcel ∷ rest) = parcel.letter
+
+abbrev later_parcels : List Parcel → List Parcel
+later_parcels [] = []
+later_parcels (parcel ∷ rest) = rest
+
+-- where the end mark was taken all letters were
+marked_from : (number : ℕ) (taken sent : List Letter) (marked : Bool) (rest : List Parcel) → parcels_from number taken true ++ rest ≡ parcels_from number sent marked → taken ≡ sent
+marked_from number [] [] marked rest same = refl
+marked_from number [] (letter ∷ sent) marked rest same = absurd (none-some letter (ap first_letter same))
+marked_from number (letter ∷ taken) [] true rest same = absurd (none-some letter (sym (ap first_letter same)))
+marked_from number (letter ∷ taken) [] false rest same = absurd (none-some letter (sym (ap first_letter same)))
+marked_from number (one ∷ taken) (other ∷ sent) marked rest same =
+    let first = same_Some one other (ap first_letter same) in
+    let later = marked_from (suc number) taken sent marked rest (ap later_parcels same) in
+    λ i. first i ∷ later i
+
+pub marked_all : (taken sent : List Letter) (marked : Bool) → IsPrefix (parcels_of taken true) (parcels_of sent marked) → taken ≡ sent
+marked_all taken sent marked is = marked_from 0 taken sent marked is.0 is.1

@@ -1,11 +1,12 @@
 -- Posting: what the poster's thread comes to, and the outbox at its end.
-use Rattle.std.specs.Prelude.{◌≡◌, ℕ, ◌+◌, ◌≤◌, true, List, [], length}
+use Rattle.std.specs.Prelude.{◌≡◌, ◌↔◌, ℕ, ◌+◌, ◌≤◌, Bool, true, List, [], length, None}
 use Rattle.std.specs.Io.KnownBytes.{Appends}
 use mathlib.Core.List.{IsPrefix}
 use Rattle.dsn_device.specs.declared.drain.Drain.{Ghosts as Drain}
 use Rattle.dsn_lane.specs.Ends.{Identity}
 use Rattle.dsn_outcome.specs.Letter.{Letter}
 use Rattle.dsn_report.specs.Outgoing.{Delivered, IsOutbox}
+use Rattle.dsn_post.specs.LetterSource.{is_marked}
 use Rattle.dsn_post.specs.Parcel.{Parcel}
 use Rattle.dsn_post.specs.declared.posted.Posted.{Posted}
 use Rattle.dsn_post.specs.declared.posting.Posting.{Posting}
@@ -18,12 +19,13 @@ pub record Posts (W : Type 0) : Type 0 where
   pub lane : Identity Parcel
 
 -- what a poster's thread comes to: the letters that came over its lane were handed on, one after
--- another
+-- another, until the end mark came or the lane was lost
 pub record IsPosting {W : Type 0} (drain : Drain W) (host : List ℕ) (start : W)
     (lane : Identity Parcel) (end : Posting W) : Type 0 where
   pub lane_is : end.source.lane ≡ lane
   pub count : end.handed ≡ length end.source.letters
   pub delivered : Delivered drain host start end.outgoing end.source.letters
+  pub ended : end.source.marked ≡ is_marked end.end
 
 -- an outbox to which nothing was written
 pub record IsUntouched {W : Type 0} (drain : Drain W) (start end : W) : Type 0 where
@@ -32,13 +34,16 @@ pub record IsUntouched {W : Type 0} (drain : Drain W) (start end : W) : Type 0 w
   pub flushes : drain.flushes end ≡ drain.flushes start
 
 -- an outbox at its end, of letters that were sent in this order over a lane in which at most so
--- many wait: the first of them came to the poster, all but as many as wait, and all of them where
--- that is said; those are posted, or unsent, and the outbox is theirs
+-- many wait: the first of them came to the poster, all but as many as wait; those are posted, or
+-- unsent, and the outbox is theirs. The lane was not lost exactly where the end mark came and all
+-- letters before it, and so it is said
 pub record IsPosted {W : Type 0} (drain : Drain W) (host : List ℕ) (start : W) (waiting : ℕ)
     (sent : List Letter) (end : Posted W) : Type 0 where
   pub letters : List Letter
   pub came : IsPrefix letters sent
   pub few : length sent ≤ length letters + waiting
-  pub all_came : end.all ≡ true → letters ≡ sent
+  pub marked : Bool
+  pub whole : (end.all ≡ true) ↔ ((marked ≡ true) × (letters ≡ sent))
+  pub told : (end.all ≡ true) ↔ (end.lost ≡ None)
   pub count : end.posted + length end.unsent ≡ length letters
   pub outbox : IsOutbox drain host start end.outbox end.whole end.unsent letters

@@ -27,9 +27,10 @@ pub fn end_posting<W: Drain + Drop>(
         outgoing,
         handed,
         source,
+        end,
     } = handle.join(rt);
-    let marked = source.is_marked();
-    let all = sink.close(rt, source);
+    let lost = end.into_lost();
+    sink.close(rt, source);
     let OutboxEnd {
         outbox,
         whole,
@@ -40,6 +41,7 @@ pub fn end_posting<W: Drain + Drop>(
         whole,
         posted: handed - unsent.len() as u32,
         unsent,
-        all: marked & all,
+        all: lost.is_none(),
+        lost,
     }
 }

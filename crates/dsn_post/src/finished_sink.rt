@@ -56,6 +56,7 @@ impl FinishedSink {
     pub(crate) fn close(self, rt: &impl Wait, source: LetterSource) -> bool
         requires lane { source.lane ≡ self.lane }
         ensures first { IsPrefix source.letters self.letters }
+        ensures marked { source.marked ≡ true → source.letters ≡ self.letters }
         ensures few { length self.letters ≤ length source.letters + self.lane.capacity }
         ensures all { (result ≡ true)
             ↔ ((source.letters ≡ self.letters) × (source.marked ≡ self.marked)) }

@@ -1,8 +1,9 @@
 //! The poster's side of the lane of letters.
-ghost use Rattle.std.specs.Prelude.{◌≡◌, ◌≤◌, IsSome, false, [], length};
+ghost use Rattle.std.specs.Prelude.{◌≡◌, ◌≤◌, OnOk, false, [], length};
 ghost use Rattle.dsn_lane.specs.Lane.{most_sent};
 ghost use Rattle.dsn_post.specs.LetterSource.{HasTaken};
 
+use crate::letters_end::LettersEnd;
 use crate::parcel::Parcel;
 use dsn_lane::LaneOut;
 use dsn_outcome::Letter;
@@ -51,33 +52,27 @@ impl LetterSource {
         }
     }
 
-    /// Takes the next letter, and waits while there is none. None comes at the end mark and after
-    /// it, and where the sending end is gone.
+    /// Takes the next letter, and waits while there is none. `Marked` comes at the end mark and
+    /// after it, `Gone` where the sending end is gone before its mark.
     #[tactic(auto, using(crate::proofs::LetterSourceLemmas::parcels))]
-    pub(crate) fn take(&mut self, rt: &impl Wait) -> Option<Letter>
+    pub(crate) fn take(&mut self, rt: &impl Wait) -> Result<Letter, LettersEnd>
         ensures taken { HasTaken self.old self.new result }
-        ensures few { IsSome result → length self.new.letters ≤ most_sent }
+        ensures few { OnOk result (length self.new.letters ≤ most_sent) }
     {
         if self.marked {
-            return None;
+            return Err(LettersEnd::Marked);
         }
-        let Ok(parcel) = self.parcels.take(rt) else {
-            return None;
+        let parcel = match self.parcels.take(rt) {
+            Ok(parcel) => parcel,
+            Err(end) => return Err(LettersEnd::Gone(end.gone)),
         };
         let Parcel { letter, .. } = parcel;
         match letter {
-            Some(letter) => Some(letter),
+            Some(letter) => Ok(letter),
             None => {
                 self.marked = true;
-                None
+                Err(LettersEnd::Marked)
             }
         }
-    }
-
-    /// Whether the end mark came.
-    pub(crate) fn is_marked(&self) -> bool
-        ensures { result ≡ self.now.marked }
-    {
-        self.marked
     }
 }

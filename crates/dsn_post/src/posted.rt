@@ -1,4 +1,5 @@
 //! What became of the letters of a lane, and of the outbox.
+use dsn_lane::LaneGone;
 use dsn_outcome::Letters;
 
 /// An outbox at its end, once all its letters were sent and its poster has ended.
@@ -15,4 +16,6 @@ pub struct Posted<W> {
     pub posted: u32,
     /// Whether all letters came to the poster, and the end mark after them; else the lane was lost.
     pub all: bool,
+    /// Where the lane was lost: what the lane told.
+    pub lost: Option<LaneGone>,
 }

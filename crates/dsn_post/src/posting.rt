@@ -3,6 +3,7 @@ ghost use Rattle.std.specs.Prelude.{◌≡◌, false, []};
 ghost use Rattle.dsn_post.specs.Posting.{IsPosting};
 
 use crate::letter_source::LetterSource;
+use crate::letters_end::LettersEnd;
 use dsn_device::Drain;
 use dsn_report::{Outgoing, Site};
 use std::sync::Wait;
@@ -16,6 +17,8 @@ pub struct Posting<W> {
     pub handed: u32,
     /// The end by which they came, for the close.
     pub source: LetterSource,
+    /// Why no more came.
+    pub end: LettersEnd,
 }
 
 /// Posts the letters that come over a lane, one after another, until the end mark comes or the lane
@@ -32,15 +35,20 @@ pub(crate) fn post_all<W: Drain>(
     let mut outgoing = Outgoing::new(site, outbox);
     let mut handed = 0;
     for _ in rt.forever() {
-        let Some(letter) = source.take(rt) else {
-            return Posting {
-                outgoing,
-                handed,
-                source,
-            };
-        };
-        outgoing.hand(letter);
-        handed += 1;
+        match source.take(rt) {
+            Ok(letter) => {
+                outgoing.hand(letter);
+                handed += 1;
+            }
+            Err(end) => {
+                return Posting {
+                    outgoing,
+                    handed,
+                    source,
+                    end,
+                };
+            }
+        }
     }
     unreachable!()
 }

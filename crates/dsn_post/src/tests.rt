@@ -3,7 +3,7 @@ ghost use Rattle.std.specs.Prelude.{◌≡◌, IfOk, IsSome};
 
 use crate::posting::post_all;
 use crate::same::same;
-use crate::{LetterSink, Posted, Sink, end_posting, open_post, start_posting};
+use crate::{LetterSink, LettersEnd, Posted, Sink, end_posting, open_post, start_posting};
 use dsn_device::Plain;
 use dsn_outcome::{
     Address, Chain, Draft, Key, Letter, Letters, Outcome, Parts, QueueId, RawHeader, Service, Stamp,
@@ -221,7 +221,7 @@ fn lane_lost_after_one_letter(rt: HostRuntime) -> Result<(), Fail> {
     drop(sink);
     let posting = post_all(&rt, site(rt.alloc())?, outbox(rt.alloc(), 10_000), source);
     same(&rt, posting.handed, 1);
-    assert!(rt; !posting.source.is_marked());
+    assert!(rt; posting.end != LettersEnd::Marked);
     Ok(())
 }
 

@@ -206,8 +206,9 @@ unfolding is_ruled_out returned_lines
 none-ruled_out letter header number h none =
     none-dashed (boundary_text letter number) (header_lines letter.draft.header) (ap (λ header. list_any is_dashed (header_lines header)) (sym h) ∙ none)
 
-pub IsBoundaryNumber-zero : (letter : Letter) (header : List ℕ) → header ≡ letter.draft.header → list_any is_dashed (header_lines header) ≡ false → IsBoundaryNumber letter 0
-IsBoundaryNumber-zero letter header h none = record {
-  free = none-ruled_out letter header 0 h none;
+-- without a line that begins with two dashes no number is ruled out
+pub none_ruled_out : (letter : Letter) → list_any is_dashed (header_lines letter.draft.header) ≡ false → IsBoundaryNumber letter 0
+none_ruled_out letter none = record {
+  free = none-ruled_out letter letter.draft.header 0 refl none;
   least = λ smaller below. absurd (omega (arith, below));
 }

@@ -16,7 +16,7 @@ use Rattle.dsn_text.specs.declared.service.Service.TheVariants.{Bounce, Defer, T
 use Rattle.dsn_report.proofs.BoundaryLaw.{boundary_number-is}
 use Rattle.dsn_report.specs.Boundary.{boundary_of, is_delimiter, is_ruled_out, returned_lines}
 use Rattle.dsn_report.specs.DeliveryStatus.{line_if_any, per_message_fields, per_recipient_fields, recipient_group, delivery_status}
-use Rattle.dsn_report.specs.Multipart.{DividesIntoParts, divide, divide_more, body_of, multipart_of, multipart_of_pieces, part_lines, returned_parts, notice_parts, is_last_delimiter}
+use Rattle.dsn_report.specs.Multipart.{DividesIntoParts, divide, divide_more, message_body, multipart_of, multipart_of_pieces, part_lines, returned_parts, notice_parts, is_last_delimiter}
 use Rattle.dsn_report.specs.Notice.{notice_header, part_header, part_of, outcome_lines, notification, opening_of, returned_part, lines_with_boundary, notice_lines, notice_of}
 use Rattle.dsn_report.specs.Lines.{text_of_pieces}
 use Rattle.dsn_report.specs.WellFormed.{IsWellFormed}
@@ -159,11 +159,11 @@ divide-returned boundary (line ∷ ls) tail none =
     divide-part boundary (codes "Undelivered Message Headers") (codes "text/rfc822-headers") (line ∷ ls) ((codes "--" ++ boundary ++ codes "--") ∷ tail) [] tail none (divide-last boundary tail)
 
 -- the body of a notice is its parts and the last delimiter
-body-is : (host : List ℕ) (letter : Letter) (boundary : List ℕ) (tail : List (List ℕ)) → body_of (lines_with_boundary host letter boundary ++ tail) ≡
+body-is : (host : List ℕ) (letter : Letter) (boundary : List ℕ) (tail : List (List ℕ)) → message_body (lines_with_boundary host letter boundary ++ tail) ≡
     part_of boundary (codes "Notification") (codes "text/plain; charset=us-ascii") (notification host letter)
     ++ (part_of boundary (codes "Delivery report") (codes "message/delivery-status") (delivery_status host letter)
     ++ (returned_part boundary (returned_lines letter.draft.header) ++ ((codes "--" ++ boundary ++ codes "--") ∷ tail)))
-unfolding body_of lines_with_boundary notice_header
+unfolding message_body lines_with_boundary notice_header
 body-is host letter boundary tail =
     let person = part_of boundary (codes "Notification") (codes "text/plain; charset=us-ascii") (notification host letter) in
     let program = part_of boundary (codes "Delivery report") (codes "message/delivery-status") (delivery_status host letter) in
@@ -174,7 +174,7 @@ body-is host letter boundary tail =
     ∙ append_assoc person program (returned ++ (end ++ tail))
 
 notice-divides : (host : List ℕ) (letter : Letter) → length letter.draft.header ≤ 32768 → (tail : List (List ℕ))
-    → divide (boundary_of letter) (body_of (notice_lines host letter ++ tail))
+    → divide (boundary_of letter) (message_body (notice_lines host letter ++ tail))
     ≡ record { before = []; parts = map (λ part. part ++ [] ∷ []) (notice_parts host letter); after = Some tail }
 unfolding notice_lines notice_parts is_ruled_out
 notice-divides host letter short tail =
@@ -188,6 +188,6 @@ notice-divides host letter short tail =
 pub division_law : (host : List ℕ) (letter : Letter) → IsWellFormed host letter → DividesIntoParts host letter
 unfolding multipart_of notice_of text_of_pieces
 division_law host letter formed =
-    ap (λ pieces. multipart_of_pieces (divide (boundary_of letter) (body_of pieces))) (pieces-lines (notice_lines host letter) (has_line_bytes-legal (notice_lines host letter) (notice_lines-legal host letter formed)))
+    ap (λ pieces. multipart_of_pieces (divide (boundary_of letter) (message_body pieces))) (pieces-lines (notice_lines host letter) (has_line_bytes-legal (notice_lines host letter) (notice_lines-legal host letter formed)))
     ∙ ap multipart_of_pieces (notice-divides host letter formed.header_short ([] ∷ []))
     ∙ ap (λ parts. record { preamble = None; parts = parts; epilogue = Some [] }) (map-text_of_pieces (notice_parts host letter))

@@ -23,7 +23,7 @@ use Rattle.dsn_text.specs.Stamp.{date_text, is_moment, last_moment}
 use Rattle.dsn_report.specs.DeliveryStatus.{line_if_any, per_message_fields, per_recipient_fields, recipient_group, delivery_status}
 use Rattle.dsn_report.specs.Grammar.{Field, field_line, same_text, value_of, is_choice_of, IsMessageGroup, IsRecipientGroup, TellsOutcome, TellsMessage, EmptyLogLaw, ReportsOutcomes, delivery_status_in, per_message_names, per_recipient_names, has_plain_values, is_action_word}
 use Rattle.dsn_report.specs.Boundary.{boundary_of}
-use Rattle.dsn_report.specs.Multipart.{body_of, multipart_of, notice_parts, part_lines}
+use Rattle.dsn_report.specs.Multipart.{message_body, multipart_of, notice_parts, part_lines}
 use Rattle.dsn_report.specs.Notice.{notice_of}
 use Rattle.dsn_report.specs.WellFormed.{IsWellFormed}
 
@@ -340,12 +340,12 @@ each-tells (outcome ∷ outcomes) = (group-tells outcome, each-tells outcomes)
 -- a mail program finds the delivery status in the notice's bytes
 status-found : (host : List ℕ) (letter : Letter) → IsWellFormed host letter
     → delivery_status_in (multipart_of (boundary_of letter) (notice_of host letter)) ≡ Some (delivery_status host letter ++ [] ∷ [])
-unfolding notice_parts part_lines body_of
+unfolding notice_parts part_lines message_body
 status-found host letter formed =
     let lines = part_lines (codes "Delivery report") (codes "message/delivery-status") (delivery_status host letter) in
     let legal = has_line_bytes-legal (delivery_status host letter) (delivery_status-legal host letter formed) in
     ap delivery_status_in (division_law host letter formed)
-    ∙ ap (λ pieces. Some (body_of pieces)) (pieces-lines lines legal)
+    ∙ ap (λ pieces. Some (message_body pieces)) (pieces-lines lines legal)
 
 pub grammar_law : (host : List ℕ) (letter : Letter) → IsWellFormed host letter → ReportsOutcomes host letter
 grammar_law host letter formed = record {

@@ -1,15 +1,15 @@
 -- What a writer of lines did with several texts, one after another, is what it did with them together.
-use Rattle.std.proofs.Common.{◌≡◌, ℕ, ◌+◌, ◌<◌, ◌&&◌, if◌then◌else◌, codes, Bool, true, false, List, [], ◌∷◌, ◌++◌, drop, length, take, get_or, map, refl, sym, ap, subst, ◌∙◌, append_assoc, append-nil, add-one}
+use Rattle.std.proofs.Common.{◌≡◌, ℕ, ◌+◌, ◌-◌, ◌<◌, ◌&&◌, if◌then◌else◌, codes, Bool, true, false, List, [], ◌∷◌, ◌++◌, drop, length, take, get_or, map, refl, sym, ap, subst, ◌∙◌, append_assoc, append-nil, add-one}
 use Rattle.std.specs.Prelude.{◌==◌}
 use Rattle.std.specs.List.{flat_map, list_any}
 use Rattle.std.proofs.Math.Seq.{take-suc}
 use Rattle.std.proofs.lemmas.Bool.{or_parts}
 use Rattle.std.proofs.lemmas.Grind.{flat_map-append}
-use Rattle.std.proofs.lemmas.List.{map-append}
+use Rattle.std.proofs.lemmas.List.{map-append, take_rest}
 use Rattle.dsn_device.proofs.UntilFailureLemmas.{writes-none, writes-then}
 use Rattle.dsn_device.specs.QuietWriter.{Writes}
 use Rattle.dsn_device.specs.declared.drain.Drain.{Ghosts as Drain}
-use Rattle.dsn_report.specs.LineWriter.{HasTaken, IsBlock, Settled, Took, Wrote, lines_sent}
+use Rattle.dsn_report.specs.LineWriter.{HasTakenText, IsBlock, Settled, Took, Wrote, lines_sent, sent_of_dotted}
 use Rattle.dsn_report.specs.Lines.{text_of_lines, dot_stuffed, begins_with_dot}
 use Rattle.dsn_report.specs.declared.line_writer.LineWriter.{LineWriter}
 
@@ -30,11 +30,11 @@ sent_text-append dots xs ys = ap text_of_lines (lines_sent-append dots xs ys) �
 
 module _ {W : Type 0} {device : Drain W} where
   pub Took-none : (s : LineWriter W) → Took device s s []
-  Took-none s = record { text_taken = λ start before taken. subst (HasTaken device start s) (sym (append-nil before)) taken; dots_kept = refl }
+  Took-none s = record { text_taken = λ start before taken. subst (HasTakenText device start s) (sym (append-nil before)) taken; dots_kept = refl }
 
   pub Took-then : {s t u : LineWriter W} {a b : List ℕ} → Took device s t a → Took device t u b → Took device s u (a ++ b)
   Took-then {s} {t} {u} {a} {b} p q = record {
-    text_taken = λ start before taken. subst (HasTaken device start u) (append_assoc before a b) (q.text_taken start (before ++ a) (p.text_taken start before taken));
+    text_taken = λ start before taken. subst (HasTakenText device start u) (append_assoc before a b) (q.text_taken start (before ++ a) (p.text_taken start before taken));
     dots_kept = q.dots_kept ∙ p.dots_kept;
   }
 
@@ -66,7 +66,7 @@ module _ {W : Type 0} {device : Drain W} where
   -- a writer that held nothing back took a text, and was settled: all of the text is written
   pub settled-text : {s t u : LineWriter W} {text : List ℕ} → s.held ≡ [] → Took device s t text → Settled device t u → Writes device s.writer u.writer text
   settled-text {s} {t} {u} {text} none took settled =
-      let start : HasTaken device s.writer s [] = record { front = []; split = sym none; written = writes-none s.writer.failed s.writer.drain } in
+      let start : HasTakenText device s.writer s [] = record { front = []; split = sym none; written = writes-none s.writer.failed s.writer.drain } in
       let taken = took.text_taken s.writer [] start in
       subst (Writes device s.writer u.writer) (sym taken.split) (writes-then taken.written settled.held_written)
 
@@ -85,6 +85,10 @@ module _ {W : Type 0} {device : Drain W} where
 
   pub Wrote-as : {s t : LineWriter W} {a b : List (List ℕ)} → a ≡ b → Wrote device s t a → Wrote device s t b
   Wrote-as {s} {t} e p = subst (Wrote device s t) e p
+
+  -- the lines of a value, however that value was come by
+  pub Wrote-same : {X : Type 0} (lines : X → List (List ℕ)) (y : X) {x : X} {s t : LineWriter W} → x ≡ y → Wrote device s t (lines x) → Wrote device s t (lines y)
+  Wrote-same lines y {x} {s} {t} e p = subst (λ it. Wrote device s t (lines it)) e p
 
 -- the pieces of a line, and one more of them
 pub flat_map-take-more : {X : Type 0} (f : X → List ℕ) (xs : List X) (i : ℕ) (d : X) → i < length xs
@@ -105,9 +109,13 @@ pub block_text : (dots : Bool) (lines : List (List ℕ)) (text : List ℕ) → I
 block_text true lines text block = block.text_is ∙ ap text_of_lines (sym (dots-none lines block.no_dot))
 block_text false lines text block = block.text_is
 
+-- the rest of a text after its first byte
+pub after_dot : (dotted : List ℕ) → take (length dotted - 1) (drop 1 dotted) ≡ drop 1 dotted
+after_dot dotted = take_rest dotted 1
+
 -- of a line with its end behind a dot, what is sent is the text of the one line
-pub dotted_text : (dots : Bool) (line dotted : List ℕ) → dotted ≡ codes "." ++ line ++ codes "\r\n"
-    → (if dots && begins_with_dot (drop 1 dotted) then dotted else drop 1 dotted) ≡ text_of_lines (lines_sent dots (line ∷ []))
+dotted_text : (dots : Bool) (line dotted : List ℕ) → dotted ≡ codes "." ++ line ++ codes "\r\n"
+    → sent_of_dotted dots dotted ≡ text_of_lines (lines_sent dots (line ∷ []))
 unfolding text_of_lines dot_stuffed
 dotted_text dots line dotted is = rw is (here dots line)
   where
@@ -120,3 +128,9 @@ dotted_text dots line dotted is = rw is (here dots line)
     here false line = refl
     here true [] = refl
     here true (byte ∷ rest) = with_dot (byte == 46) (byte ∷ rest)
+
+module _ {W : Type 0} {device : Drain W} where
+  -- such a line was written where the text that is sent of it was taken
+  pub Wrote-dotted : {s t : LineWriter W} {text : List ℕ} (line dotted : List ℕ) → text ≡ sent_of_dotted s.dots dotted → dotted ≡ codes "." ++ line ++ codes "\r\n"
+      → Took device s t text → Wrote device s t (line ∷ [])
+  Wrote-dotted {s} {t} {text} line dotted sent split took = record { took = Took-as (sent ∙ dotted_text s.dots line dotted split) took }

@@ -11,7 +11,7 @@ use Rattle.dsn_text.specs.Text.{is_printable}
 use Rattle.dsn_report.specs.Boundary.{boundary_of}
 use Rattle.dsn_report.specs.DeliveryStatus.{delivery_status}
 use Rattle.dsn_report.specs.Lines.{pieces_of_text}
-use Rattle.dsn_report.specs.Multipart.{Multipart, body_of, multipart_of}
+use Rattle.dsn_report.specs.Multipart.{Multipart, message_body, multipart_of}
 use Rattle.dsn_report.specs.Notice.{notice_of}
 
 -- a field: a name and a value
@@ -124,7 +124,7 @@ second_of (first ∷ second ∷ rest) = Some second
 -- (RFC 6522 section 3), of which the last is what stands after the last line's end
 abbrev pub delivery_status_in : Multipart → Option (List (List ℕ))
 delivery_status_in report =
-    option_map (λ part. body_of (pieces_of_text part)) (second_of report.parts)
+    option_map (λ part. message_body (pieces_of_text part)) (second_of report.parts)
 
 -- in the second part of a notice's bytes there are lines, each of them ended, that meet the
 -- grammar, with one group for each outcome, in log order

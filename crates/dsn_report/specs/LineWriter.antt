@@ -1,6 +1,6 @@
 -- What a writer of lines did with a text: it wrote it, or holds it back. It writes nothing more
 -- after its drain's first failure.
-use Rattle.std.specs.Prelude.{◌≡◌, ℕ, Bool, true, false, not, ◌==◌, List, [], ◌∷◌, ◌++◌, map, IsFalse}
+use Rattle.std.specs.Prelude.{◌≡◌, ℕ, Bool, true, false, not, ◌&&◌, ◌==◌, if◌then◌else◌, List, [], ◌∷◌, ◌++◌, drop, map, IsFalse}
 use Rattle.std.specs.List.{list_any}
 use Rattle.dsn_device.specs.QuietWriter.{QuietWriter, Writes}
 use Rattle.dsn_device.specs.declared.drain.Drain
@@ -9,7 +9,7 @@ use Rattle.dsn_report.specs.declared.line_writer.LineWriter.{LineWriter}
 
 -- a writer that began so has taken this much: a front of it is written, and what follows is held
 -- back
-pub record HasTaken {W : Type 0} (device : Drain.Ghosts W) (start : QuietWriter W) (lines : LineWriter W)
+pub record HasTakenText {W : Type 0} (device : Drain.Ghosts W) (start : QuietWriter W) (lines : LineWriter W)
     (text : List ℕ) : Type 0 where
   pub front : List ℕ
   pub split : text ≡ front ++ lines.held
@@ -18,8 +18,8 @@ pub record HasTaken {W : Type 0} (device : Drain.Ghosts W) (start : QuietWriter 
 -- the writer took the text, after all that it took before
 pub record Took {W : Type 0} (device : Drain.Ghosts W) (old new : LineWriter W)
     (text : List ℕ) : Type 0 where
-  pub text_taken : (start : QuietWriter W) (before : List ℕ) → HasTaken device start old before
-      → HasTaken device start new (before ++ text)
+  pub text_taken : (start : QuietWriter W) (before : List ℕ) → HasTakenText device start old before
+      → HasTakenText device start new (before ++ text)
   pub dots_kept : new.dots ≡ old.dots
 
 -- the writer wrote what it held back
@@ -37,6 +37,12 @@ lines_sent false lines = lines
 pub record Wrote {W : Type 0} (device : Drain.Ghosts W) (old new : LineWriter W)
     (lines : List (List ℕ)) : Type 0 where
   pub took : Took device old new (text_of_lines (lines_sent old.dots lines))
+
+-- what is sent of a line that stands with its end behind a dot: the dot too where the line begins
+-- with one and dots are added (RFC 5321 section 4.5.2)
+abbrev pub sent_of_dotted : Bool → List ℕ → List ℕ
+sent_of_dotted dots dotted =
+    if dots && begins_with_dot (drop 1 dotted) then dotted else drop 1 dotted
 
 -- a text begins, and not with a dot: so does each line that begins with it
 abbrev pub begins_plainly : List ℕ → Bool

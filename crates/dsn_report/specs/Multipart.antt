@@ -52,14 +52,14 @@ multipart_of_pieces division = record {
 }
 
 -- the body of a message: what follows its first empty line (RFC 5322 section 2.1)
-unfoldable pub body_of : List (List ℕ) → List (List ℕ)
-body_of [] = []
-body_of ([] ∷ rest) = rest
-body_of ((byte ∷ line) ∷ rest) = body_of rest
+unfoldable pub message_body : List (List ℕ) → List (List ℕ)
+message_body [] = []
+message_body ([] ∷ rest) = rest
+message_body ((byte ∷ line) ∷ rest) = message_body rest
 
 -- the message's bytes, divided at this boundary
 unfoldable pub multipart_of : List ℕ → List ℕ → Multipart
-multipart_of boundary text = multipart_of_pieces (divide boundary (body_of (pieces_of_text text)))
+multipart_of boundary text = multipart_of_pieces (divide boundary (message_body (pieces_of_text text)))
 
 -- the lines of a part as it is written
 unfoldable pub part_lines : List ℕ → List ℕ → List (List ℕ) → List (List ℕ)

@@ -1,5 +1,6 @@
 -- Posters: what they have written, and what they write next.
 use Rattle.std.specs.Prelude.{ℕ, Bool, List, [], ◌++◌, if◌then◌else◌}
+use Rattle.dsn_text.specs.FaultCode.{outbox_failed_code, outbox_write_code}
 use Rattle.dsn_outcome.specs.Letter.{Letter}
 use Rattle.dsn_report.specs.Outbox.{greeting, goodbye, mail_transaction}
 use Rattle.dsn_report.specs.declared.post_fault.PostFault.{PostFault}
@@ -30,8 +31,8 @@ abbrev pub post_fault : Bool → Letter → PostFault
 post_fault failed letter = if failed then Failed letter else Write letter
 
 abbrev pub post_fault_code : PostFault → ℕ
-post_fault_code (Write letter) = 31
-post_fault_code (Failed letter) = 32
+post_fault_code (Write letter) = outbox_write_code
+post_fault_code (Failed letter) = outbox_failed_code
 
 -- the letter that a fault hands back
 abbrev pub letter_handed_back : PostFault → Letter

@@ -1,6 +1,6 @@
 -- Sites: host names, and the numbers of their refusals.
 use Rattle.std.specs.Prelude.{ℕ, Bool, ◌||◌, ◌==◌, List, IsTrue}
-use Rattle.dsn_text.specs.NoMemory.{no_memory_code}
+use Rattle.dsn_text.specs.FaultCode.{bad_host_code, no_memory_code}
 use Rattle.dsn_text.specs.Text.{is_text, is_letter_or_digit}
 use Rattle.dsn_report.specs.declared.site.SiteFault.{SiteFault}
 use Rattle.dsn_report.specs.declared.site.SiteFault.TheVariants.{BadHost, NoMemory}
@@ -21,5 +21,5 @@ abbrev pub IsHost : List ℕ → Type 0
 IsHost host = IsTrue (is_host host)
 
 abbrev pub site_fault_code : SiteFault → ℕ
-site_fault_code BadHost = 51
+site_fault_code BadHost = bad_host_code
 site_fault_code NoMemory = no_memory_code

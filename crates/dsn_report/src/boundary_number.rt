@@ -4,7 +4,7 @@ ghost use Rattle.std.specs.List.{list_any};
 ghost use Rattle.dsn_report.specs.Boundary.{IsBoundaryNumber, boundary_number, boundary_numbers, header_lines, is_dashed};
 
 use crate::header_lines::HeaderLines;
-use crate::name::boundary_front;
+use crate::letter_boundary::boundary_front;
 use crate::ruled_out::{first_free, numbers_ruled_out};
 use dsn_outcome::Letter;
 
@@ -15,8 +15,17 @@ pub fn boundary(letter: &Letter) -> u16
     ensures number { result ≡ boundary_number letter.now }
     ensures four_digits { result < boundary_numbers }
 {
-    // Few headers have such a line, and the others need no table.
-    if has_dashed_line(letter.header().bytes()) {
+    least_number(letter, letter.header().bytes())
+}
+
+/// The least number that no returned line of a letter's header rules out. Few headers have a line
+/// that rules one out, and the others need no table.
+#[tactic(auto, using(crate::proofs::BoundaryLemmas::none_ruled_out))]
+fn least_number(letter: &Letter, header: &[u8]) -> u16
+    requires { header.now ≡ letter.now.draft.header }
+    ensures { IsBoundaryNumber letter.now result }
+{
+    if has_dashed_line(header) {
         least_free(letter)
     } else {
         0

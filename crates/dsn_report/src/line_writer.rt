@@ -2,7 +2,7 @@
 ghost use Rattle.std.specs.Prelude.{◌≡◌, ◌<◌, ℕ, List, [], ◌∷◌, ◌++◌, codes, length};
 ghost use Rattle.std.specs.List.{flat_map};
 ghost use Rattle.dsn_device.specs.QuietWriter.{Flushes};
-ghost use Rattle.dsn_report.specs.LineWriter.{IsBlock, Settled, Took, Wrote};
+ghost use Rattle.dsn_report.specs.LineWriter.{IsBlock, Settled, Took, Wrote, sent_of_dotted};
 
 use crate::held::Held;
 use dsn_device::{Drain, QuietWriter};
@@ -68,11 +68,20 @@ impl<W: Drain> LineWriter<W> {
         ensures { (line : List ℕ) → dotted.now ≡ codes "." ++ line ++ codes "\r\n"
             → Wrote W.Drain self.old self.new (line ∷ []) }
     {
-        let line = &dotted[1..];
-        if self.dots && line.starts_with(b".") {
-            self.piece(dotted);
-        } else {
-            self.piece(line);
-        }
+        self.piece(sent(self.dots, dotted));
+    }
+}
+
+/// What is sent of a line that stands with its end behind a dot.
+#[tactic(auto, using(crate::proofs::LineWriterLemmas::after_dot))]
+fn sent(dots: bool, dotted: &[u8]) -> &[u8]
+    requires { 0 < length dotted.now }
+    ensures { result.now ≡ sent_of_dotted dots dotted.now }
+{
+    let line = &dotted[1..];
+    if dots && line.starts_with(b".") {
+        dotted
+    } else {
+        line
     }
 }

@@ -11,8 +11,8 @@ ghost use Rattle.dsn_report.specs.Notice.{notice_header, notice_lines, notificat
 
 use crate::boundary_number::boundary;
 use crate::header_lines::{HeaderLines, LINE_ROOM, first_line, show_dotted_line};
+use crate::letter_boundary::{NUMBER_LEN, boundary_text, serial_text};
 use crate::line_writer::LineWriter;
-use crate::name::{NUMBER_LEN, boundary_text, serial_text};
 use crate::site::Site;
 use crate::wording::{opening, subject};
 use dsn_device::Drain;

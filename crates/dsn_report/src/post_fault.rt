@@ -3,6 +3,7 @@ ghost use Rattle.std.specs.Prelude.{◌≡◌};
 ghost use Rattle.dsn_report.specs.Poster.{letter_handed_back, post_fault_code};
 
 use dsn_outcome::Letter;
+use dsn_text::fault_code;
 
 /// Why a letter was not posted. The letter comes back.
 #[derive(Drop)]
@@ -19,8 +20,8 @@ impl PostFault {
         ensures { result ≡ post_fault_code self.now }
     {
         match self {
-            PostFault::Write(_) => 31,
-            PostFault::Failed(_) => 32,
+            PostFault::Write(_) => fault_code::OUTBOX_WRITE,
+            PostFault::Failed(_) => fault_code::OUTBOX_FAILED,
         }
     }
 

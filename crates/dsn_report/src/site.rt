@@ -3,6 +3,7 @@ ghost use Rattle.std.specs.Prelude.{◌≡◌, ◌↔◌, IsTrue, IfOk, IsOk, Is
 ghost use Rattle.std.specs.List.{list_all};
 ghost use Rattle.dsn_report.specs.Site.{IsHost, is_host_byte, site_fault_code};
 
+use dsn_text::fault_code;
 use std::alloc::Global;
 use std::marker::Model;
 use thiserror::Error;
@@ -27,8 +28,8 @@ impl SiteFault {
         ensures { result ≡ site_fault_code self.now }
     {
         match self {
-            SiteFault::BadHost => 51,
-            SiteFault::NoMemory => 9,
+            SiteFault::BadHost => fault_code::BAD_HOST,
+            SiteFault::NoMemory => fault_code::NO_MEMORY,
         }
     }
 }

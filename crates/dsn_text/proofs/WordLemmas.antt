@@ -69,6 +69,11 @@ word-decides at xs ys order long other low high is apart = word-first at xs ys l
 pub word-passes : (at : ℕ) (xs ys : List ℕ) (order : Ordering) → at + 8 ≤ length xs → at + 8 ≤ length ys → AreBytes xs → AreBytes ys → order ≡ nat_cmp (big_endian 0 (take 8 (drop at xs))) (big_endian 0 (take 8 (drop at ys))) → is_ne order ≡ false → slice_cmp nat_cmp (drop at xs) (drop at ys) ≡ slice_cmp nat_cmp (drop (at + 8) xs) (drop (at + 8) ys)
 word-passes at xs ys order long other low high is alike = word-first at xs ys long other low high ∙ rw (← is) (left-open order _ alike)
 
+-- words that are read from the same place, however that is written
+pub words_at : (at first second u v : ℕ) (xs ys : List ℕ) (order : Ordering) → order ≡ nat_cmp u v → u ≡ big_endian 0 (take 8 (drop first xs)) → v ≡ big_endian 0 (take 8 (drop second ys))
+    → first ≡ at → second ≡ at → order ≡ nat_cmp (big_endian 0 (take 8 (drop at xs))) (big_endian 0 (take 8 (drop at ys)))
+words_at at first second u v xs ys order is left right here also = is ∙ rw (left, right, here, also) refl
+
 zeros : (m n : ℕ) → m ≡ n → slice_cmp nat_cmp (replicate m 0) (replicate n 0) ≡ Equal
 zeros zero zero same = refl
 zeros zero (suc n) same = absurd (omega arith)

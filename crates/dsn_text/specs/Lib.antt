@@ -1,6 +1,6 @@
 pub mod Action
+pub mod FaultCode
 pub mod Key
-pub mod NoMemory
 pub mod Optional
 pub mod Service
 pub mod Stamp

@@ -5,6 +5,7 @@ mod action;
 mod address;
 mod clean;
 mod envelope_id;
+pub mod fault_code;
 mod kept_stamp;
 mod key;
 mod laws;

@@ -1,7 +1,8 @@
 //! Want of memory.
 ghost use Rattle.std.specs.Prelude.{◌≡◌};
-ghost use Rattle.dsn_text.specs.NoMemory.{no_memory_code};
+ghost use Rattle.dsn_text.specs.FaultCode.{no_memory_code};
 
+use crate::fault_code;
 use thiserror::Error;
 
 /// The memory that a call needed was refused.
@@ -14,6 +15,6 @@ impl NoMemory {
     pub fn code(&self) -> u32
         ensures { result ≡ no_memory_code }
     {
-        9
+        fault_code::NO_MEMORY
     }
 }

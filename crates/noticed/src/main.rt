@@ -13,6 +13,7 @@ mod stop_command;
 
 use arguments::{Command, command_of};
 use batch_command::run_batch;
+use dsn_text::fault_code;
 use refusal::Refusal;
 use send_command::run_send;
 use serve_command::run_serve;
@@ -56,7 +57,7 @@ fn tell_refusal(rt: &HostRuntime, refusal: &Refusal) -> u8 {
             2
         }
         Refusal::NoMemory => {
-            let _ = eprintln!(rt; "fault 9");
+            let _ = eprintln!(rt; "fault {}", fault_code::NO_MEMORY);
             1
         }
         Refusal::NoStream(error) => {

@@ -1,4 +1,5 @@
 //! A socket that could not be had.
+use dsn_text::fault_code;
 use std::io;
 use std::io::Eprint;
 
@@ -7,7 +8,7 @@ const FAULT: u8 = 1;
 
 /// Tells that a socket could not be had, and what the system said of it. It tells the status.
 pub(crate) fn tell_socket_fault(rt: &impl Eprint, path: &str, error: &io::Error) -> u8 {
-    let _ = eprintln!(rt; "fault 61");
+    let _ = eprintln!(rt; "fault {}", fault_code::SOCKET);
     tell_socket_error(rt, path, error);
     FAULT
 }

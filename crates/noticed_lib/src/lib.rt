@@ -2,12 +2,17 @@
 //! connect to a socket, and `send` is such an agent's part.
 #![tactic(auto)]
 
-pub use dsn_book::Limits;
-pub use dsn_frame::Spoken;
-pub use dsn_report::Site;
-pub use noticed_batch::{BatchEnd, MemoryRun, batch, batch_bytes};
-pub use noticed_send::{SendEnd, SendFault, send};
-pub use noticed_serve::{
+mod batch_run;
+mod client;
+mod daemon;
+mod notes;
+
+pub use batch_run::{BatchEnd, MemoryRun, batch, batch_bytes};
+pub use client::{SendEnd, SendFault, send, sends_are_sessions_of_a_client};
+pub use daemon::{
     NoWatch, ServeEnd, SocketWatch, Watch, WatchOptions, WatchedOutbox, serve, serve_ports,
     serve_watched,
 };
+pub use dsn_book::Limits;
+pub use dsn_frame::Spoken;
+pub use dsn_report::Site;

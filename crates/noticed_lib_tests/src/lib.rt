@@ -5,6 +5,8 @@
 #[cfg(test)]
 mod devices;
 #[cfg(test)]
+mod embedding;
+#[cfg(test)]
 mod fakes;
 #[cfg(test)]
 mod input;

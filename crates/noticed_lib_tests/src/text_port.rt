@@ -46,6 +46,8 @@ impl<'a> Port for TextPort<'a> {
 
     ghost conns = { λ _. None };
 
+    ghost may_give = { λ _ _. Unit {0} };
+
     fn next(&mut self) -> Next<Plain<Text<'a>>> {
         match self.texts.next() {
             Some(unread) => Next::Conn(Plain::new(Text { unread })),

@@ -1,5 +1,7 @@
 //! A crew over connections in memory. Standard output gets how the run ended, what came of each
 //! agent, and the outbox.
+ghost use Rattle.std.specs.Prelude.{All};
+
 mod failing;
 mod gate;
 mod given;
@@ -65,7 +67,9 @@ fn run<R: Threads + Wait + Print + Sync, P: Port + Drop + Send>(
     alloc: Global,
     ports: Vec<P>,
     failing: &Failing,
-) -> Option<()> {
+) -> Option<()>
+    requires asked { All P.may_be_asked ports.items }
+{
     let site = Site::new(alloc, b"mx.example.net").ok()?;
     let text = Vec::with_capacity(alloc, ROOM).ok()?;
     let outbox = Plain::new(Outbox { text, failing });

@@ -36,7 +36,7 @@ pub(crate) fn read_next(rt: &impl Print, alloc: Global) -> Option<u32> {
     let mut buffer = FrameBuffer::new(alloc);
     begin(rt)?;
     match buffer.read_next(&mut source) {
-        Ok(_) => Some(0),
+        Ok(()) => Some(0),
         Err(fault) => Some(fault.code()),
     }
 }

@@ -76,6 +76,8 @@ impl<'a, R: Print + Sync> Port for GivenPort<'a, R> {
 
     ghost conns = { λ _. None };
 
+    ghost may_give = { λ _ _. Unit {0} };
+
     fn next(&mut self) -> Next<Plain<Given<'a, R>>> {
         let Some(bytes) = self.next_bytes() else {
             return Next::Done;

@@ -25,6 +25,8 @@ impl Port for PeerPort {
 
     ghost conns = { λ _. None };
 
+    ghost may_give = { λ _ _. Unit {0} };
+
     fn next(&mut self) -> Next<Plain<Peer>> {
         match self.peer.take() {
             Some(peer) => Next::Conn(Plain::new(peer)),

@@ -2,7 +2,7 @@
 use denote.Exit.{no}
 use denote.Param.Send.{param_send, arg_send}
 use mir.Syntax.{named}
-use Rattle.dsn_agent.proofs.SendLemmas.{port_end_send}
+use Rattle.dsn_crew.proofs.SendLemmas.{port_end_send}
 use Rattle.dsn_crew.proofs.ServingSendLemmas.{serving_send}
 use Rattle.dsn_crew.proofs.start_serving.start_one.Goals as goal
 

@@ -6,9 +6,9 @@ use Rattle.dsn_post.proofs.posting.post_all.Goals as goal
 
 pub loop-preserved : goal.loop-preserved
 loop-preserved g c =
-    let taken = c.in-Some-take.ensures.taken.1 in
+    let taken = c.in-Ok.ensures.taken.1 in
     let letters = ap (λ (source : LetterSource). source.letters) taken in
-    let one_more = ap length letters ∙ length-append c.loop.source.letters (c.in-Some-take.letter ∷ []) in
+    let one_more = ap length letters ∙ length-append c.loop.source.letters (c.in-Ok.letter ∷ []) in
     let count = c.loop.invariant.1 in (
       ap (λ (source : LetterSource). source.lane) taken ∙ c.loop.invariant.0,
       omega arith,

@@ -2,8 +2,8 @@
 use Rattle.std.proofs.Common.{ap, sym, ◌∙◌, false, length, length-append, arith}
 use Rattle.std.proofs.Math.Bool.{or-false}
 use Rattle.std.specs.Prelude.{Option, Some, is_none}
-use Rattle.dsn_agent.specs.Agent.{Ends}
-use Rattle.dsn_crew.specs.Gathered.{has_lost}
+use Rattle.dsn_crew.specs.agents.Agent.{Ends}
+use Rattle.dsn_crew.specs.Gathered.{has_port_lost}
 use Rattle.dsn_crew.proofs.GatheredLemmas.{ended_more, found_more}
 use Rattle.dsn_crew.proofs.gathered.Gathered.of.Goals as goal
 
@@ -18,6 +18,6 @@ loop-end-preserved c =
       lines = (let before = c.loop-end.invariant.lines in omega arith);
       agents = (let before = c.loop-end.invariant.agents in omega arith);
       missing = found_more is_none c.args.ends.items _ _ _ _ false _ c.in-Some.ensures.steps.0 (ap is_none c.in-Some-end.is) (sym (or-false c.loop-end.missing)) c.loop-end.invariant.missing;
-      lost = found_more has_lost c.args.ends.items _ _ _ _ false _ c.in-Some.ensures.steps.0 (ap has_lost c.in-Some-end.is ∙ ap is_none c.in-Some-finished.is) (sym (or-false c.loop-end.lost)) c.loop-end.invariant.lost;
+      lost = found_more has_port_lost c.args.ends.items _ _ _ _ false _ c.in-Some.ensures.steps.0 (ap has_port_lost c.in-Some-end.is ∙ ap is_none c.in-Some-finished.is) (sym (or-false c.loop-end.lost)) c.loop-end.invariant.lost;
       ended = λ lost missing. ended_more _ _ _ _ _ _ _ _ _ _ c.in-Some.ensures.steps.0 (c.in-Some-end.is ∙ ap (λ (finished : Option Ends). Some (record { line = c.in-Some-end.field-0.line; finished = finished })) c.in-Some-finished.is) c.push_reserved.ensures.items c.push_reserved-in-Some-finished.ensures.items (c.loop-end.invariant.ended lost missing);
     }

@@ -2,7 +2,7 @@
 use Rattle.std.proofs.Common.{◌≡◌, ◌+◌, ◌≤◌, false, length, vec_capacity}
 use Rattle.std.specs.Prelude.{is_none}
 use Rattle.std.specs.Vec.Iter.{into_iter_items}
-use Rattle.dsn_crew.specs.Gathered.{has_lost}
+use Rattle.dsn_crew.specs.Gathered.{has_port_lost}
 use Rattle.dsn_crew.proofs.GatheredLemmas.{EndedSoFar, FoundSoFar}
 use Rattle.dsn_crew.proofs.gathered.Gathered.of.Given as goal
 
@@ -12,6 +12,6 @@ invariant-loop-end l = record {
   lines : length l.lines.items + length (into_iter_items l.end-iterator) ≤ vec_capacity l.lines;
   agents : length l.agents.items + length (into_iter_items l.end-iterator) ≤ vec_capacity l.agents;
   missing : FoundSoFar is_none l.fn.ends.items (into_iter_items l.end-iterator) l.missing;
-  lost : FoundSoFar has_lost l.fn.ends.items (into_iter_items l.end-iterator) l.lost;
+  lost : FoundSoFar has_port_lost l.fn.ends.items (into_iter_items l.end-iterator) l.lost;
   ended : l.lost ≡ false → l.missing ≡ false → EndedSoFar l.fn.ends.items (into_iter_items l.end-iterator) l.lines.items l.agents.items;
 }

@@ -4,7 +4,7 @@ use Rattle.dsn_lane.specs.Ends.{End, Identity, Out}
 use Rattle.dsn_post.specs.LetterSink.{FinishedSink}
 use Rattle.dsn_post.specs.LetterSource.{taken_parcels}
 use Rattle.dsn_post.specs.Parcel.{Parcel, parcels_of}
-use Rattle.dsn_post.proofs.LetterSinkLemmas.{closed_all, closed_few, closed_first}
+use Rattle.dsn_post.proofs.LetterSinkLemmas.{closed_all, closed_few, closed_first, closed_marked}
 use Rattle.dsn_post.proofs.finished_sink.FinishedSink.close.Goals as goal
 
 pub returns-clause-first : goal.returns-clause-first
@@ -31,3 +31,10 @@ returns-clause-all g c =
     let sent = c.self.invariant.1 ∙ ap (λ (sink : FinishedSink). parcels_of sink.letters sink.marked) c.self.view_is in
     let taken = ap (λ (out : Out Parcel). out.taken) (c.source.invariant ∙ ap taken_parcels c.source.view_is) in
     closed_all _ c.self.inside.end _ _ _ _ _ one c.self.invariant.0 taken sent c.close_lane.ensures.prefix _ _ c.close_lane.ensures.taken c.close_lane.ensures.waiting
+
+pub returns-clause-marked : goal.returns-clause-marked
+returns-clause-marked g c =
+    let one = c.push_reserved.ensures.items ∙ ap (λ (room : List (End Parcel)). room ++ c.self.inside.end ∷ []) c.self.invariant.2 in
+    let sent = c.self.invariant.1 ∙ ap (λ (sink : FinishedSink). parcels_of sink.letters sink.marked) c.self.view_is in
+    let taken = ap (λ (out : Out Parcel). out.taken) (c.source.invariant ∙ ap taken_parcels c.source.view_is) in
+    closed_marked _ c.self.inside.end _ _ _ _ _ one c.self.invariant.0 taken sent c.close_lane.ensures.prefix

@@ -1,0 +1,203 @@
+//! Ledgers: what is damaged and what is full, and every moment of many histories at which a machine
+//! can stop: the book that is found then answers as the history of the first requests, among them
+//! each that was answered.
+ghost use Rattle.std.specs.Prelude.{◌≤◌};
+ghost use Rattle.dsn_journal.specs.MemoryDisk.{memory_moment};
+
+use super::crashes::{Answered, bounds};
+use crate::book::books::histories::{body_of, generated};
+use crate::book::books::plain::{Ask, PlainBook};
+use crate::same::same;
+use dsn_book::{Book, Limits};
+use dsn_journal::{
+    Disk, Journal, JournalError, Ledger, LedgerError, MemoryDisk, Opened, open, recover,
+};
+use dsn_outcome::{Reply, Request};
+use std::alloc::Global;
+use std::process::Abort;
+use std::test::Fail;
+
+/// How many bytes a disk has: room for all requests of a history.
+const SIZE: usize = 800;
+
+/// The requests of a group, from one agent.
+fn make_group(alloc: Global, asks: &[Ask]) -> Result<Vec<Request>, Fail> {
+    let mut group = Vec::new(alloc);
+    for ask in asks {
+        group.push(Request {
+            agent: 3,
+            number: 0,
+            body: body_of(alloc, *ask)?,
+        })?;
+    }
+    Ok(group)
+}
+
+/// Opens a disk, and has a group kept and carried out. The disk comes back, with the replies.
+fn carry_out(
+    alloc: Global,
+    mut disk: MemoryDisk,
+    limits: Limits,
+    group: Vec<Request>,
+) -> Result<(MemoryDisk, Vec<Reply>), Fail> {
+    let Opened { book, used } = open(alloc, &mut disk, limits)?;
+    if book.sealed() > 1_000 || group.len() > 100 {
+        return Err(Fail::from("too many"));
+    }
+    let mut ledger = Ledger {
+        journal: Journal { disk, used },
+        book,
+    };
+    let mut replies = Vec::new(alloc);
+    for step in ledger.apply_all(alloc, group)? {
+        replies.push(step.answer.reply)?;
+    }
+    let Ledger { journal, book: _ } = ledger;
+    let Journal { disk, used: _ } = journal;
+    Ok((disk, replies))
+}
+
+/// A history: the disk, what was asked, and what each group came to.
+#[derive(Drop)]
+struct History {
+    disk: MemoryDisk,
+    asks: Vec<Ask>,
+    answered: Vec<Answered>,
+}
+
+/// Groups of up to three requests on an empty disk, each answered as the plain book answers it.
+fn run_groups(rt: &impl Abort, alloc: Global, limits: Limits, seed: u32) -> Result<History, Fail> {
+    let asks = generated(alloc, seed, 8)?;
+    let mut disk = MemoryDisk::new(alloc, vec![in alloc; 0; SIZE]?);
+    let mut plain = PlainBook::new(alloc, limits);
+    let mut answered = Vec::new(alloc);
+    let mut after = 0usize;
+    for group in asks.chunks(3) {
+        let began = disk.moment();
+        let (then, replies) = carry_out(alloc, disk, limits, make_group(alloc, group)?)?;
+        disk = then;
+        same(
+            rt,
+            replies.as_slice(),
+            plain_replies(alloc, &mut plain, group)?.as_slice(),
+        );
+        after = after.saturating_add(replies.len());
+        answered.push(Answered {
+            began,
+            ended: disk.moment(),
+            after,
+        })?;
+    }
+    Ok(History {
+        disk,
+        asks,
+        answered,
+    })
+}
+
+/// What the plain book answers.
+fn plain_replies(alloc: Global, plain: &mut PlainBook, asks: &[Ask]) -> Result<Vec<Reply>, Fail> {
+    let mut replies = Vec::new(alloc);
+    for ask in asks {
+        replies.push(plain.apply(*ask)?.0)?;
+    }
+    Ok(replies)
+}
+
+/// What a book answers.
+fn book_replies(
+    rt: &impl Abort,
+    alloc: Global,
+    book: &mut Book,
+    asks: &[Ask],
+) -> Result<Vec<Reply>, Fail> {
+    let mut replies = Vec::new(alloc);
+    for request in make_group(alloc, asks)? {
+        assert!(rt; book.sealed() < u64::MAX);
+        replies.push(book.apply(request).answer.reply)?;
+    }
+    Ok(replies)
+}
+
+/// Stops the machine at a moment, with some bytes lost, and opens what is left.
+fn stop_at(
+    rt: &impl Abort,
+    alloc: Global,
+    limits: Limits,
+    history: &History,
+    moment: usize,
+    lost: u64,
+) -> Result<(), Fail>
+    requires { moment ≤ memory_moment history.now.disk }
+{
+    let mut disk = MemoryDisk::new(alloc, history.disk.crashed(moment, lost)?);
+    let mut book = open(alloc, &mut disk, limits)?.book;
+    let kept = recover(alloc, &mut disk)?.records.len();
+    let (least, most) = bounds(&history.answered, moment);
+    same(rt, kept >= least && kept <= most, true);
+    let asks = history.asks.as_slice();
+    let mut plain = PlainBook::new(alloc, limits);
+    plain_replies(alloc, &mut plain, &asks[..kept.min(asks.len())])?;
+    same(
+        rt,
+        book.open_lines(alloc)?.as_slice(),
+        plain.open_lines()?.as_slice(),
+    );
+    let later = book_replies(rt, alloc, &mut book, asks)?;
+    same(
+        rt,
+        later.as_slice(),
+        plain_replies(alloc, &mut plain, asks)?.as_slice(),
+    );
+    Ok(())
+}
+
+#[test]
+fn each_moment_of_many_ledgers(rt: HostRuntime) -> Result<(), Fail> {
+    let alloc = rt.alloc();
+    for seed in 0..1_000u32 {
+        let limits = Limits::new(1 + seed % 6, 1 + seed % 4, 100).ok_or("not limits")?;
+        let history = run_groups(&rt, alloc, limits, seed)?;
+        for moment in 0..=history.disk.moment() {
+            for lost in [0, u64::MAX, 0x6996_9669_a5c3_3c5a] {
+                stop_at(&rt, alloc, limits, &history, moment, lost)?;
+            }
+        }
+    }
+    Ok(())
+}
+
+/// Why a disk with these bytes is not opened.
+fn refusal_of(alloc: Global, bytes: &[u8]) -> Result<Option<LedgerError>, Fail> {
+    let limits = Limits::new(10, 10, 100).ok_or("not limits")?;
+    let mut disk = MemoryDisk::new(alloc, bytes.to_vec(alloc)?);
+    Ok(open(alloc, &mut disk, limits).err())
+}
+
+#[test]
+fn records_that_keep_no_body_are_damaged(rt: HostRuntime) -> Result<(), Fail> {
+    for (bytes, refusal) in [
+        // A goodbye, a discard of K1 with the number 0, and the same with the number 1.
+        ([2; 18].as_slice(), None),
+        (
+            [
+                1, 2, 3, 1, 1, 1, 1, 1, 1, 1, 1, 1, 2, 1, 1, 1, 3, 75, 49, 2, 0,
+            ]
+            .as_slice(),
+            None,
+        ),
+        (
+            [
+                1, 2, 3, 1, 1, 1, 1, 1, 1, 1, 2, 1, 2, 1, 1, 1, 3, 75, 49, 2, 0,
+            ]
+            .as_slice(),
+            Some(LedgerError::Damaged),
+        ),
+        ([65, 2, 0].as_slice(), Some(LedgerError::Damaged)),
+        // What isn't ended doesn't count.
+        ([65, 0, 2].as_slice(), None),
+    ] {
+        same(&rt, refusal_of(rt.alloc(), bytes)?, refusal);
+    }
+    Ok(())
+}

@@ -1,0 +1,14 @@
+//! Tests of outcomes, of books and their limits, of lanes, and of the journal, over what their
+//! crates make public: so they are proved without the proofs of these, and beside their wrong edits.
+#![tactic(auto)]
+
+#[cfg(test)]
+mod book;
+#[cfg(test)]
+mod journal;
+#[cfg(test)]
+mod lane;
+#[cfg(test)]
+mod outcome;
+#[cfg(test)]
+mod same;

@@ -1,9 +1,0 @@
-mod AnswerExamples
-pub mod AnswerLemmas
-pub mod BodyLaws
-pub mod EncodingLaws
-pub mod Examples
-pub mod Existence
-pub mod FieldLaws
-pub mod RequestLaws
-pub mod Rules

@@ -1,0 +1,7 @@
+//! Tests of frames, requests and answers in bytes, over what `dsn_frame` makes public.
+mod answers;
+mod bodies;
+mod buffers;
+mod encodings;
+mod frames;
+mod requests;

@@ -1,0 +1,112 @@
+//! Hosts, headers and outcomes at their longest and in between, with ample memory.
+ghost use Rattle.std.specs.Prelude.{◌≡◌, ◌≤◌, All, IfOk, length};
+
+use crate::report::letters::{A1B2C3, BOB, Flush, Texts, failed, letter, sealed, site};
+use crate::same::same;
+use dsn_outcome::{
+    Chain, LONGEST_ADDRESS, LONGEST_CLEAN, LONGEST_HEADER, LONGEST_MTA_NAME, Outcome, Service,
+};
+use dsn_report::{LONGEST_HOST, Site, boundary, notice};
+use std::alloc::Global;
+use std::test::Fail;
+
+#[test]
+fn long_hosts(rt: HostRuntime) -> Result<(), Fail> {
+    let letter = letter(rt.alloc(), BOB, A1B2C3)?;
+    let short = Site::new(rt.alloc(), b"h")?;
+    let least = notice(rt.alloc(), &short, &letter)?;
+    for len in [100, LONGEST_HOST] {
+        let text = vec![in rt.alloc(); b'h'; len]?;
+        let site = Site::new(rt.alloc(), text.as_slice())?;
+        same(&rt, site.bytes(), text.as_slice());
+        let text = notice(rt.alloc(), &site, &letter)?;
+        // the host stands in From, in Message-ID, in the words for a person and in Reporting-MTA
+        let more = text.len().saturating_sub(least.len());
+        same(&rt, more, len.saturating_sub(1).saturating_mul(4));
+    }
+    let text = vec![in rt.alloc(); b'h'; LONGEST_HOST + 1]?;
+    assert!(rt; Site::new(rt.alloc(), text.as_slice()).is_err());
+    Ok(())
+}
+
+/// A header of so many lines of 100 bytes with their ends, and one of the rest without one.
+fn header(alloc: Global, lines: usize, rest: usize) -> Result<Vec<u8>, Fail> {
+    let mut header = Vec::new(alloc);
+    for _ in 0..lines {
+        header.resize(header.len().saturating_add(99), b'x')?;
+        header.push(b'\n')?;
+    }
+    header.resize(header.len().saturating_add(rest), b'y')?;
+    Ok(header)
+}
+
+#[test]
+fn long_headers(rt: HostRuntime) -> Result<(), Fail> {
+    let site = Site::new(rt.alloc(), b"mx.example.net")?;
+    let bare = letter(rt.alloc(), BOB, A1B2C3)?;
+    let least = notice(rt.alloc(), &site, &bare)?;
+    for (lines, rest, len) in [(200, 50, 20_050), (327, 68, LONGEST_HEADER)] {
+        let header = header(rt.alloc(), lines, rest)?;
+        same(&rt, header.len(), len);
+        let flush = Flush {
+            header: &header,
+            ..A1B2C3
+        };
+        let letter = letter(rt.alloc(), BOB, flush)?;
+        same(&rt, boundary(&letter), 0);
+        let text = notice(rt.alloc(), &site, &letter)?;
+        // each line gets a CR, and the last one CR and LF
+        let more = text.len().saturating_sub(least.len());
+        same(
+            &rt,
+            more.saturating_sub(PART.len()),
+            len.saturating_add(lines).saturating_add(2),
+        );
+    }
+    Ok(())
+}
+
+/// What the part of a returned header has beside the header.
+const PART: &[u8; 117] = b"\
+--B.A1B2C3.1700000000.0000\r\n\
+Content-Description: Undelivered Message Headers\r\n\
+Content-Type: text/rfc822-headers\r\n\
+\r\n\
+\r\n";
+
+/// So many outcomes of the bounce service, one like the other.
+fn outcomes(alloc: Global, texts: Texts<'_>, count: u32) -> Result<Chain, Fail>
+    requires { count ≤ 1000 }
+    ensures count { IfOk result (λ chain. length chain ≡ count) }
+    ensures of_service { IfOk result (λ chain. All (λ outcome. outcome.service ≡ Service.Bounce) chain) }
+{
+    let mut chain = Chain::new();
+    for _ in 0..count {
+        chain.push(Outcome::new(alloc, Service::Bounce, failed(texts))?);
+    }
+    Ok(chain)
+}
+
+#[test]
+fn thousand_outcomes_of_the_longest_texts(rt: HostRuntime) -> Result<(), Fail> {
+    let alloc = rt.alloc();
+    let address = vec![in alloc; b'a'; LONGEST_ADDRESS]?;
+    let name = vec![in alloc; b'm'; LONGEST_MTA_NAME]?;
+    let clean = vec![in alloc; b'c'; LONGEST_CLEAN]?;
+    let texts = Texts {
+        recipient: &address,
+        original: &address,
+        status: b"5.999.999",
+        mta: &name,
+        diagnostic: &clean,
+        reason: &clean,
+    };
+    let site = site(alloc)?;
+    let least = notice(alloc, &site, &letter(alloc, BOB, A1B2C3)?)?;
+    let letter = sealed(alloc, outcomes(alloc, texts, 1_000)?, A1B2C3)?;
+    let text = notice(alloc, &site, &letter)?;
+    // 110 bytes of the notice about bob are his; an outcome of the longest texts has 2,791
+    let more = text.len().saturating_sub(least.len());
+    same(&rt, more.saturating_add(110), 2_791_000);
+    Ok(())
+}

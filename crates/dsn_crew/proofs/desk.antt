@@ -1,0 +1,4 @@
+pub mod CloseLemmas
+pub mod DeskLemmas
+pub mod Rules
+pub mod RunLemmas

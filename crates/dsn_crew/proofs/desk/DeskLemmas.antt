@@ -1,0 +1,241 @@
+-- Desks: what one more request, with its answer sent, leaves.
+use Rattle.std.proofs.Common.{◌≡◌, ◌≢◌, ℕ, zero, suc, ◌+◌, ◌-◌, ◌^◌, ◌<◌, ◌≤◌, ◌==◌, Bool, true, false, cond, All, List, [], ◌∷◌, ◌++◌, length, map, filter, set, refl, ap, sym, ◌∙◌, subst, eq-eqb, ne_eqb, length-append, arith}
+use Rattle.std.specs.Prelude.{◌↔◌, IfSome, IsTrue, Option, Some, None, is_some}
+use Rattle.std.specs.List.{slice_index_or}
+use Rattle.std.proofs.lemmas.List.{append-nil, get_or-set_same, get_or-set_other, set-get_or, length-set}
+use Rattle.std.proofs.lemmas.List.Elements.{All-append, All-cons, All-nil, filter-append}
+use Rattle.std.proofs.lemmas.List.Sums.{length-filter, count_by-le-length}
+use Rattle.std.proofs.lemmas.Bool.{false≢true}
+use mathlib.Core.List.{IsPrefix}
+use native.Mathlib.Decide.{ℕ_discrete}
+use Rattle.dsn_book.specs.Book.{Book, Represents}
+use Rattle.dsn_lane.specs.Ends.{End, Out, Identity}
+use Rattle.dsn_lane.specs.Lane.{IsNumbered}
+use Rattle.dsn_outcome.specs.Agents.{from_agent}
+use Rattle.dsn_outcome.specs.History.{answer_of, answers_to, exchange_of, history_of}
+use Rattle.dsn_outcome.specs.Request.{Request, Body, Append, Flush, Discard, Forget, Bye}
+use Rattle.dsn_outcome.specs.declared.answer.Answer.{Answer}
+use Rattle.dsn_outcome.proofs.HistoryLaws.{answers_length, answers_mine, answers_more, answers_other, history_more, letters_few}
+use Rattle.dsn_crew.specs.desk.Desk.{Desk, IsDesk, AreAnswered, AreTold, IsStopped, answered_more, goodbyes, history, is_goodbye, next_exchange, places_of, taken_request}
+use Rattle.dsn_crew.specs.declared.desk.stop.Stop.{Stop}
+use Rattle.dsn_crew.specs.agents.Place.{Place, place_at}
+
+-- ---- the ends of the answer lanes
+
+-- where there is an end, there is a first one
+pub first_end : (ends : List (End Answer)) (k : ℕ) → k < length ends → End Answer
+first_end [] k inside = absurd (omega arith)
+first_end (end ∷ ends) k inside = end
+
+-- an answer that was lost leaves all ends as they were
+pub told_none : (old new : List (End Answer)) (answer : Answer) → (d : End Answer) → AreTold false old answer new → new ≡ old
+told_none old new answer d told = told d ∙ set-get_or old answer.agent d
+
+places_set : (lane : Identity Request) (ends : List (End Answer)) (k : ℕ) (d end : End Answer) → place_at lane end ≡ place_at lane (slice_index_or ends k d) → map (place_at lane) (set ends k end) ≡ map (place_at lane) ends
+places_set lane [] k d end same = refl
+places_set lane (first ∷ ends) zero d end same = ap (λ (place : Place). place ∷ map (place_at lane) ends) same
+places_set lane (first ∷ ends) (suc k) d end same = ap (λ (places : List Place). place_at lane first ∷ places) (places_set lane ends k d end same)
+
+same_place : (lane : Identity Request) (sent : Bool) (end : End Answer) (answer : Answer) → place_at lane (answered_more sent end answer) ≡ place_at lane end
+same_place lane true end answer = refl
+same_place lane false end answer = refl
+
+-- the agents keep their places
+pub told_places : (out : Out Request) (old : Desk) (new : List (End Answer)) (sent : Bool) (answer : Answer) → (d : End Answer) → AreTold sent old.answers answer new → out.lane ≡ old.requests.lane → map (place_at out.lane) new ≡ places_of old
+told_places out old new sent answer d told lane =
+    ap (map (place_at out.lane)) (told d)
+    ∙ (places_set out.lane old.answers answer.agent d (answered_more sent (slice_index_or old.answers answer.agent d) answer) (same_place out.lane sent (slice_index_or old.answers answer.agent d) answer)
+    ∙ ap (λ (it : Identity Request). map (place_at it) old.answers) lane)
+
+-- there is room for as many ends as before
+pub told_room : (sent : Bool) (old new : List (End Answer)) (answer : Answer) (room : ℕ) → (d : End Answer) → AreTold sent old answer new → length old ≤ room → length new ≤ room
+told_room sent old new answer room d told enough =
+    let same : length new ≡ length old = ap length (told d) ∙ length-set old answer.agent (answered_more sent (slice_index_or old answer.agent d) answer) in
+    omega arith
+
+-- one more is counted
+pub counted_more : {A : Type 0} (count : ℕ) (old new : List A) (item : A) → count ≡ length old → new ≡ old ++ item ∷ [] → count + 1 ≡ length new
+counted_more count old new item counted more = let all = ap length more ∙ length-append old (item ∷ []) in omega arith
+
+-- whether a request is a goodbye, as the program finds it
+bye_is : (flag : Bool) (body : Body) → IsTrue flag ↔ (body ≡ Bye) → flag ≡ is_goodbye body
+bye_is true body is = ap is_goodbye (sym (is.0 refl))
+bye_is false (Append id outcome) is = refl
+bye_is false (Flush key draft) is = refl
+bye_is false (Discard key) is = refl
+bye_is false (Forget key) is = refl
+bye_is false Bye is = absurd (false≢true (is.1 refl))
+
+counted_one : (request : Request) (flag : Bool) → is_goodbye request.body ≡ flag → goodbyes (request ∷ []) ≡ cond flag 1 0
+counted_one request true is = rw is refl
+counted_one request false is = rw is refl
+
+-- the count of goodbyes, with one request more
+pub goodbyes_more : (count added : ℕ) (flag : Bool) (old new : List Request) (request : Request) → count ≡ goodbyes old → new ≡ old ++ request ∷ [] → IsTrue flag ↔ (request.body ≡ Bye) → added ≡ cond flag 1 0 → count + added ≡ goodbyes new
+goodbyes_more count added flag old new request counted more is one =
+    let split = ap goodbyes more ∙ (ap length (filter-append (λ (r : Request). is_goodbye r.body) old (request ∷ [])) ∙ length-append (filter (λ (r : Request). is_goodbye r.body) old) (filter (λ (r : Request). is_goodbye r.body) (request ∷ []))) in
+    let last = counted_one request flag (sym (bye_is flag request.body is)) in
+    omega (arith, split, last)
+
+-- there are no more goodbyes than requests, so one more can be counted where one more request can
+flag_small : (flag : Bool) → cond flag 1 0 ≤ 1
+flag_small true = omega arith
+flag_small false = omega arith
+
+pub goodbyes_fit : (count added taken most : ℕ) (flag : Bool) (requests : List Request) → count ≡ goodbyes requests → taken ≡ length requests → added ≡ cond flag 1 0 → taken + 1 < most → count + added < most
+goodbyes_fit count added taken most flag requests counted long one few =
+    let is = length-filter (λ (r : Request). is_goodbye r.body) requests in
+    let bound = count_by-le-length (λ (r : Request). is_goodbye r.body) requests in
+    let small = flag_small flag in
+    omega (arith, one)
+
+-- ---- one more request
+
+-- a request that a collector has taken next, and its answer, which is to be sent
+pub record IsAsked (desk : Desk) (request : Request) (answer : Answer) : Type 0 where
+  pub kept : IsDesk desk
+  pub going : desk.failed ≡ false
+  pub from : request.agent < desk.requests.past
+  pub number : request.number ≡ length (from_agent (λ (r : Request). r.agent) request.agent desk.requests.taken)
+  pub answer_is : answer ≡ answer_of (next_exchange desk request)
+
+module _ (desk : Desk) (request : Request) (answer : Answer) (asked : IsAsked desk request answer) where
+  of_agent : answer.agent ≡ request.agent
+  unfolding answer_of exchange_of
+  of_agent = ap (λ (it : Answer). it.agent) asked.answer_is
+
+  of_number : answer.number ≡ request.number
+  unfolding answer_of exchange_of
+  of_number = ap (λ (it : Answer). it.number) asked.answer_is
+
+  -- the agent that asked has an answer lane
+  pub within : answer.agent < length desk.answers
+  within = let past = asked.kept.past in let agent = of_agent in let from = asked.from in omega arith
+
+  pub line_agent : (d : End Answer) → (slice_index_or desk.answers answer.agent d).agent ≡ answer.agent
+  line_agent d = asked.kept.lines answer.agent d within
+
+  -- the answer is the next of its lane
+  pub line_number : (d : End Answer) → length (slice_index_or desk.answers answer.agent d).sent ≡ answer.number
+  line_number d =
+      ap length (asked.kept.answered asked.going answer.agent d within)
+      ∙ (answers_length desk.book.limits answer.agent desk.requests.taken
+      ∙ (ap (λ (a : ℕ). length (from_agent (λ (r : Request). r.agent) a desk.requests.taken)) of_agent ∙ (sym asked.number ∙ sym of_number)))
+
+  pub small : (most : ℕ) → length desk.requests.taken < most → answer.number < most
+  small most few =
+      let number = of_number in
+      let count = length-filter (λ (r : Request). r.agent == request.agent) desk.requests.taken in
+      let bound = count_by-le-length (λ (r : Request). r.agent == request.agent) desk.requests.taken in
+      omega (arith, asked.number)
+
+  mine : ((next_exchange desk request).request.agent == answer.agent) ≡ true
+  unfolding exchange_of
+  mine = eq-eqb request.agent answer.agent (sym of_agent)
+
+  not_mine : (a : ℕ) → a ≢ answer.agent → ((next_exchange desk request).request.agent == a) ≡ false
+  unfolding exchange_of
+  not_mine a other = ne_eqb request.agent a (λ same. other (sym same ∙ sym of_agent))
+
+  module _ (book : Book) (out : Out Request) (ends : List (End Answer)) (missed : ℕ) (failed : Bool) (limits : book.limits ≡ desk.book.limits) (taken : out ≡ taken_request desk.requests request) where
+    abbrev new : Desk
+    new = record { book = book; requests = out; answers = ends; missed = missed; failed = failed }
+
+    history_new : history new ≡ history desk ++ next_exchange desk request ∷ []
+    history_new =
+        (λ i. history_of (limits i) (taken i).taken) ∙ history_more desk.book.limits desk.requests.taken request
+
+    told_at : (told : AreTold true desk.answers answer ends) (a : ℕ) (d : End Answer) → a < length desk.answers → (slice_index_or ends a d).sent ≡ answers_to a (history desk ++ next_exchange desk request ∷ [])
+    told_at told a d inside =
+        elim (ℕ_discrete a answer.agent) [
+          | yes same ↦
+              ap (λ (es : List (End Answer)). (slice_index_or es a d).sent) (told d)
+              ∙ (ap (λ (k : ℕ). (slice_index_or (set desk.answers answer.agent (answered_more true (slice_index_or desk.answers answer.agent d) answer)) k d).sent) same
+              ∙ (ap (λ (e : End Answer). e.sent) (get_or-set_same desk.answers answer.agent (answered_more true (slice_index_or desk.answers answer.agent d) answer) d within)
+              ∙ ((λ i. asked.kept.answered asked.going answer.agent d within i ++ asked.answer_is i ∷ [])
+              ∙ (sym (answers_mine answer.agent (history desk) (next_exchange desk request) mine)
+              ∙ ap (λ (k : ℕ). answers_to k (history desk ++ next_exchange desk request ∷ [])) (sym same)))))
+          | no other ↦
+              ap (λ (es : List (End Answer)). (slice_index_or es a d).sent) (told d)
+              ∙ (ap (λ (e : End Answer). e.sent) (get_or-set_other desk.answers answer.agent a (answered_more true (slice_index_or desk.answers answer.agent d) answer) d other)
+              ∙ (asked.kept.answered asked.going a d inside
+              ∙ sym (answers_other a (history desk) (next_exchange desk request) (not_mine a other))))
+        ]
+
+    long : (sent : Bool) (d : End Answer) → AreTold sent desk.answers answer ends → length ends ≡ length desk.answers
+    long sent d told = ap length (told d) ∙ length-set desk.answers answer.agent (answered_more sent (slice_index_or desk.answers answer.agent d) answer)
+
+    line_kept : (sent : Bool) (end : End Answer) → (answered_more sent end answer).agent ≡ end.agent
+    line_kept true end = refl
+    line_kept false end = refl
+
+    lines_new : (sent : Bool) → AreTold sent desk.answers answer ends → (a : ℕ) (d : End Answer) → a < length desk.answers → (slice_index_or ends a d).agent ≡ a
+    lines_new sent told a d inside =
+        let e : End Answer = answered_more sent (slice_index_or desk.answers answer.agent d) answer in
+        elim (ℕ_discrete a answer.agent) [
+          | yes same ↦
+              ap (λ (es : List (End Answer)). (slice_index_or es a d).agent) (told d)
+              ∙ (ap (λ (k : ℕ). (slice_index_or (set desk.answers answer.agent e) k d).agent) same
+              ∙ (ap (λ (it : End Answer). it.agent) (get_or-set_same desk.answers answer.agent e d within)
+              ∙ (line_kept sent (slice_index_or desk.answers answer.agent d) ∙ (line_agent d ∙ sym same))))
+          | no other ↦
+              ap (λ (es : List (End Answer)). (slice_index_or es a d).agent) (told d)
+              ∙ (ap (λ (it : End Answer). it.agent) (get_or-set_other desk.answers answer.agent a e d other) ∙ asked.kept.lines a d inside)
+        ]
+
+    -- each agent was sent what the history with the request more answers it
+    answered_new : (d : End Answer) → AreTold true desk.answers answer ends → AreAnswered ends (history new)
+    answered_new d told = λ a d' inside. let same = long true d told in told_at told a d' (omega arith) ∙ ap (answers_to a) (sym history_new)
+
+    -- or, where the answer was lost, the first of it
+    sent_new : (sent : Bool) (d : End Answer) → AreTold sent desk.answers answer ends → (a : ℕ) (d' : End Answer) → a < length ends → IsPrefix (slice_index_or ends a d').sent (answers_to a (history new))
+    sent_new true d told a d' inside = ([], append-nil (slice_index_or ends a d').sent ∙ answered_new d told a d' inside)
+    sent_new false d told a d' inside =
+        let same = told_none desk.answers ends answer d told in
+        let before : (slice_index_or ends a d').sent ≡ answers_to a (history desk) =
+        ap (λ (es : List (End Answer)). (slice_index_or es a d').sent) same ∙ asked.kept.answered asked.going a d' (subst (λ (es : List (End Answer)). a < length es) same inside) in (
+          answers_to a (next_exchange desk request ∷ []),
+          ap (λ (l : List Answer). l ++ answers_to a (next_exchange desk request ∷ [])) before
+              ∙ (sym (answers_more a (history desk) (next_exchange desk request ∷ []))
+              ∙ ap (answers_to a) (sym history_new)),
+        )
+
+    -- the collector stands for one request more
+    -- what was taken is of its agents, with the request more
+    mine_new : length ends ≡ length desk.answers → All (λ (r : Request). r.agent < length ends) out.taken
+    mine_new same =
+        let past = asked.kept.past in
+        let from = asked.from in
+        subst (All (λ (r : Request). r.agent < length ends)) (sym (ap (λ (o : Out Request). o.taken) taken))
+        (All-append (λ (r : Request). r.agent < length ends) desk.requests.taken (request ∷ [])
+        (subst (λ (n : ℕ). All (λ (r : Request). r.agent < n) desk.requests.taken) (sym same) asked.kept.mine)
+        (All-cons (λ (r : Request). r.agent < length ends) request [] (omega arith) (All-nil (λ (r : Request). r.agent < length ends))))
+
+    pub keeps : ((a : ℕ) → IsNumbered (λ (r : Request). r.number) (from_agent (λ (r : Request). r.agent) a out.taken)) → (sent : Bool) (d : End Answer) → AreTold sent desk.answers answer ends → Represents book (history desk ++ next_exchange desk request ∷ []) → (failed ≡ false → sent ≡ true) → IsDesk new
+    keeps numbered sent d told book_is going_on =
+        let same = long sent d told in
+        let first = asked.kept.first in
+        let past = asked.kept.past in
+        let few = asked.kept.few in
+        let out_first : out.first ≡ desk.requests.first = ap (λ (o : Out Request). o.first) taken in
+        let out_past : out.past ≡ desk.requests.past = ap (λ (o : Out Request). o.past) taken in
+        record {
+          first = omega arith;
+          past = omega arith;
+          few = omega arith;
+          mine = mine_new same;
+          numbered = numbered;
+          lines = λ a d' inside. lines_new sent told a d' (omega arith);
+          book = subst (Represents book) (sym history_new) book_is;
+          sent = sent_new sent d told;
+          answered = λ well. answered_new d (subst (λ (it : Bool). AreTold it desk.answers answer ends) (going_on well) told);
+        }
+
+-- fewer letters were sealed than a number of 64 bits counts
+pub letters_fit : (book : Book) (requests : List Request) (taken : ℕ) → Represents book (history_of book.limits requests) → taken ≡ length requests → taken < 2 ^ 32 → book.sealed < 2 ^ 64 - 1
+letters_fit book requests taken stands counted few = omega (arith, letters_few book.limits requests, stands.sealed, counted, few)
+
+-- a collector that has not failed has no reason for it
+pub none_stopped : (stop : Option Stop) (taken : List Request) → is_some stop ≡ false → IfSome stop (IsStopped taken)
+none_stopped None taken going = tt
+none_stopped (Some stop) taken going = absurd (false≢true (sym going))

@@ -1,0 +1,191 @@
+-- Ports: what a port gives, the connections that it tells, the sessions of the agent that serves
+-- them, and what the agent comes to.
+use Rattle.std.specs.Prelude.{◌≡◌, ◌≢◌, ℕ, ◌+◌, ◌<◌, ◌≤◌, ◌⊎◌, Bool, true, false, List, [], ◌∷◌, ◌++◌, All, length, filter, replicate, Option, Some, None, is_some, IfSome}
+use Rattle.std.specs.List.{AllZip, flat_map}
+use Rattle.dsn_device.specs.Failures.{most_failures}
+use Rattle.dsn_device.specs.declared.source.Source.{Ghosts as Source}
+use Rattle.dsn_text.specs.FaultCode.{connection_write_code, lane_lost_code, read_failed_code}
+use Rattle.dsn_outcome.specs.Request.{Body, Bye}
+use Rattle.dsn_outcome.specs.declared.answer.Reply.TheVariants.{Gone}
+use Rattle.dsn_frame.specs.declared.bodies.spoken.Spoken.{Spoken}
+use Rattle.dsn_frame.specs.Session.{Connection, IsSession}
+use Rattle.dsn_crew.specs.agents.Agent.{Agent, Ends, after_reply}
+use Rattle.dsn_crew.specs.agents.Serve.{HasAsked}
+use Rattle.dsn_crew.specs.declared.agents.agent_line.AgentLine.{AgentLine}
+use Rattle.dsn_crew.specs.declared.agents.next.Next.{Next}
+use Rattle.dsn_crew.specs.declared.agents.next.Next.TheVariants as next
+use Rattle.dsn_crew.specs.declared.agents.port_end.PortEnd.{PortEnd}
+
+-- how many connections an agent serves at most
+abbrev pub most_connections : ℕ
+most_connections = 1000000
+
+-- ---- what a port gives
+
+-- what a port answers, whatever stream it gives: a connection, that it is done, or that it failed
+pub data Given : Type 0 where
+  connection : Given
+  done : Given
+  failed : Given
+
+abbrev pub given_of : {S : Type 0} → Next S → Given
+given_of (next.Conn stream) = connection
+given_of next.Done = done
+given_of next.Failed = failed
+
+-- an answer of a port, by what the port may give before it and after it: it may give that answer,
+-- and after it whatever it may give then
+pub record GivesFirst (before after : List Given → Type 0) (answer : Given) : Type 0 where
+  pub alone : before (answer ∷ [])
+  pub first : (rest : List Given) → after rest → before (answer ∷ rest)
+
+-- all that a port gave: so many connections, and then its last answer, if it was asked once more
+abbrev pub all_given : ℕ → Option Given → List Given
+all_given connections None = replicate connections connection
+all_given connections (Some last) = replicate connections connection ++ last ∷ []
+
+-- the last answer of a port that gave so many connections: that it is done, or that it failed, which
+-- is told; or there is none, where a lane was lost, or as many connections were served as an agent
+-- serves
+abbrev pub IsLastGiven : ℕ → Bool → Bool → Option Given → Type 0
+IsLastGiven connections lost port_failed None =
+    (port_failed ≡ false) × ((lost ≡ true) ⊎ (connections ≡ most_connections))
+IsLastGiven connections lost port_failed (Some connection) = ⊥
+IsLastGiven connections lost port_failed (Some done) = (port_failed ≡ false) × (lost ≡ false)
+IsLastGiven connections lost port_failed (Some failed) = (port_failed ≡ true) × (lost ≡ false)
+
+-- what a port gave an agent with this line, by what the port may give: as many connections as the
+-- line tells, and then its last answer
+pub record HasGiven (may_give : List Given → Type 0) (line : AgentLine) (lost : Bool)
+    : Type 0 where
+  pub last : Option Given
+  pub gave : may_give (all_given line.connections last)
+  pub ends : IsLastGiven line.connections lost line.port_failed last
+
+-- ---- what a port tells
+
+-- a connection that a port tells before it gives it: the bytes that its stream will give, and
+-- whether the stream may fail
+pub record Conn : Type 0 where
+  pub bytes : List ℕ
+  pub may_fail : Bool
+
+-- the stream of this connection. One that may not fail is steady, and its count of failures isn't
+-- at its end, so that a failure would show
+pub record IsStream {S : Type 0} (source : Source S) (conn : Conn) (stream : S) : Type 0 where
+  pub bytes : source.remaining stream ≡ Some conn.bytes
+  pub steady : conn.may_fail ≡ false
+      → source.steady stream × (source.failures stream < most_failures)
+
+-- what a port gives, from the connections that it told before to those that it tells then: the
+-- first of them while there is one, and then it is done. One that doesn't tell claims nothing, and
+-- doesn't begin to tell
+abbrev pub Gives : {S : Type 0} → Source S → Option (List Conn) → Option (List Conn) → Next S
+    → Type 0
+Gives source None new given = new ≡ None
+Gives source (Some []) new (next.Conn stream) = ⊥
+Gives source (Some []) new next.Done = new ≡ Some []
+Gives source (Some []) new next.Failed = ⊥
+Gives source (Some (conn ∷ rest)) new (next.Conn stream) =
+    IsStream source conn stream × (new ≡ Some rest)
+Gives source (Some (conn ∷ rest)) new next.Done = ⊥
+Gives source (Some (conn ∷ rest)) new next.Failed = ⊥
+
+-- ---- the sessions over a port's connections
+
+-- one session: what its stream had still to give at its start and at its end, the bodies of the
+-- frames that were taken, those that were asked, the answers, and the number of the session's end,
+-- if it didn't end well
+pub record Session : Type 0 where
+  pub start : Option (List ℕ)
+  pub left : Option (List ℕ)
+  pub frames : List (List ℕ)
+  pub bodies : List Body
+  pub answers : List Spoken
+  pub end : Option ℕ
+
+-- all that was asked in these sessions, and all answers, in order
+abbrev pub bodies_of : List Session → List Body
+bodies_of sessions = flat_map (λ (session : Session). session.bodies) sessions
+
+abbrev pub answers_of : List Session → List Spoken
+answers_of sessions = flat_map (λ (session : Session). session.answers) sessions
+
+-- how many of these sessions ended with a fault
+abbrev pub faults_of : List Session → ℕ
+faults_of sessions = length (filter (λ (session : Session). is_some session.end) sessions)
+
+-- the session of an agent with this limit, after so many accepted requests: it is what its stream's
+-- bytes make it
+abbrev pub IsSessionAt : ℕ → ℕ → Session → Type 0
+IsSessionAt limit accepted session =
+    IsSession Connection limit accepted session.start session.left session.frames session.bodies
+    session.answers session.end
+
+-- sessions of an agent, one after another
+abbrev pub AreSessions : ℕ → ℕ → List Session → Type 0
+AreSessions limit accepted [] = Unit {0}
+AreSessions limit accepted (session ∷ rest) =
+    IsSessionAt limit accepted session × AreSessions limit (accepted + length session.bodies) rest
+
+-- a session over this connection: over its bytes; and where its stream may not fail it doesn't end
+-- with a read or a write that failed
+pub record IsOver (conn : Conn) (session : Session) : Type 0 where
+  pub bytes : session.start ≡ Some conn.bytes
+  pub steady : conn.may_fail ≡ false → (session.end ≢ Some read_failed_code) × (session.end ≢ Some connection_write_code)
+
+-- the sessions over the connections of a port that tells them: one over each, in order, from the
+-- first on. None is left but those beyond the `most_connections` that an agent serves, unless a lane
+-- was lost; and the port is not told to have failed
+pub record AreOverConns (conns : List Conn) (sessions : List Session)
+    (lost port_failed : Bool) : Type 0 where
+  pub served : List Conn
+  pub left : List Conn
+  pub conns_are : conns ≡ served ++ left
+  pub over : AllZip IsOver served sessions
+  pub all : lost ≡ false → (left ≡ []) ⊎ (length sessions ≡ most_connections)
+  pub good : port_failed ≡ false
+
+-- of a port that doesn't tell nothing is claimed
+abbrev pub AreOverPort : Option (List Conn) → List Session → Bool → Bool → Type 0
+AreOverPort None sessions lost port_failed = Unit {0}
+AreOverPort (Some conns) sessions lost port_failed = AreOverConns conns sessions lost port_failed
+
+-- ---- an agent that serves a port
+
+-- what serving the connections of a port comes to, up to the goodbye: what the port gave, and these
+-- sessions, one over each connection; what they asked, and the replies among their answers, are
+-- what the agent asked and got, in order; its line counts them. Where it lost no lane, none of them
+-- ended so
+pub record HasServed (conns : Option (List Conn)) (may_give : List Given → Type 0)
+    (old new : Agent)
+    (line : AgentLine) : Type 0 where
+  pub sessions : List Session
+  pub lost : Bool
+  pub follow : AreSessions old.limit (length old.ends.requests.sent) sessions
+  pub over : AreOverPort conns sessions lost line.port_failed
+  pub gave : HasGiven may_give line lost
+  pub asked : HasAsked old new (bodies_of sessions) (answers_of sessions) lost
+  pub heard : lost ≡ false → All (λ (session : Session). session.end ≢ Some lane_lost_code) sessions
+  pub few : length sessions ≤ most_connections
+  pub requests : line.requests ≡ length new.ends.requests.sent
+  pub connections : line.connections ≡ length sessions
+  pub faults : line.faults ≡ faults_of sessions
+
+-- the same, and nothing beside was asked of the port: whatever it may give now it may have given
+-- after all that is told
+pub record HasServedOnly (conns : Option (List Conn)) (may_give may_now : List Given → Type 0)
+    (old new : Agent)
+    (line : AgentLine) : Type 0 where
+  pub served : HasServed conns may_give old new line
+  pub only : (rest : List Given)
+      → may_now rest → may_give (all_given line.connections served.gave.last ++ rest)
+
+-- what serving a port comes to: its connections were served, and then the agent said goodbye and
+-- was heard; else a lane was lost, and the line tells what was served before
+pub record IsPortServed (conns : Option (List Conn)) (may_give : List Given → Type 0)
+    (agent : Agent) (end : PortEnd) : Type 0 where
+  pub last : Agent
+  pub served : HasServed conns may_give agent last end.line
+  pub goodbye : IfSome end.finished
+      (λ (finished : Ends). (served.lost ≡ false) × (finished ≡ after_reply last.ends Bye Gone))

@@ -1,0 +1,171 @@
+-- Sessions of an agent: what became of one connection, of the agent that served it, and of the
+-- answers' frames.
+use Rattle.std.specs.Prelude.{◌≡◌, ◌≢◌, ℕ, suc, Bool, true, false, ◌||◌, ◌⊎◌, List, [], ◌∷◌, ◌++◌, All, length, Option, Some, None, Result, Ok, Err, IfOk, if◌then◌else◌}
+use Rattle.std.specs.List.{flat_map}
+use Rattle.dsn_device.specs.Counts.{Counts}
+use Rattle.dsn_device.specs.declared.drain.Drain.{Ghosts as Drain}
+use Rattle.dsn_device.specs.declared.source.Source.{Ghosts as Source}
+use Rattle.dsn_text.specs.FaultCode.{connection_write_code, lane_lost_code, out_of_turn_code, too_many_frames_code, used_up_code}
+use Rattle.dsn_outcome.specs.Request.{Request, Body}
+use Rattle.dsn_outcome.specs.declared.answer.Answer.{Answer}
+use Rattle.dsn_outcome.specs.declared.answer.Reply.{Reply}
+use Rattle.dsn_frame.specs.bodies.Spoken.{answer_bytes, answer_frames_from, reply_of}
+use Rattle.dsn_frame.specs.declared.bodies.spoken.Spoken.{Spoken}
+use Rattle.dsn_frame.specs.declared.bodies.spoken.Spoken.TheVariants as spoken
+use Rattle.dsn_frame.specs.FrameFault.{frame_fault_code, source_failed}
+use Rattle.dsn_frame.specs.Session.{Connection, IsSession, Takes}
+use Rattle.dsn_frame.specs.Telling.{AnswersSent}
+use Rattle.dsn_crew.specs.agents.Agent.{Agent}
+use Rattle.dsn_crew.specs.declared.agents.ask_fault.AskFault.{AskFault}
+use Rattle.dsn_crew.specs.declared.agents.ask_fault.AskFault.TheVariants as asks
+use Rattle.dsn_crew.specs.declared.agents.serve_fault.ServeFault.{ServeFault}
+use Rattle.dsn_crew.specs.declared.agents.serve_fault.ServeFault.TheVariants.{Frame, WriteBack, Number, Frames, Lost}
+use Rattle.dsn_crew.specs.declared.agents.served.Served.{Served}
+use Rattle.dsn_crew.specs.declared.agents.turn.Turn.{Turn}
+
+-- ---- how a session ends
+
+abbrev pub serve_fault_code : ServeFault → ℕ
+serve_fault_code (Frame fault) = frame_fault_code fault
+serve_fault_code WriteBack = connection_write_code
+serve_fault_code Number = out_of_turn_code
+serve_fault_code Frames = too_many_frames_code
+serve_fault_code Lost = lane_lost_code
+
+-- the number of the session's end, if it didn't end well
+abbrev pub served_end : Result Served ServeFault → Option ℕ
+served_end (Ok served) = None
+served_end (Err fault) = Some (serve_fault_code fault)
+
+-- whether the collector was found gone
+abbrev pub is_lost : Result Served ServeFault → Bool
+is_lost (Ok served) = false
+is_lost (Err (Frame fault)) = false
+is_lost (Err WriteBack) = false
+is_lost (Err Number) = false
+is_lost (Err Frames) = false
+is_lost (Err Lost) = true
+
+-- whether the last answer could not be written
+abbrev pub is_unwritten : Result Served ServeFault → Bool
+is_unwritten (Ok served) = false
+is_unwritten (Err (Frame fault)) = false
+is_unwritten (Err WriteBack) = true
+is_unwritten (Err Number) = false
+is_unwritten (Err Frames) = false
+is_unwritten (Err Lost) = false
+
+-- whether the stream failed: at a read, or at a write
+abbrev pub is_stream_failed : Result Served ServeFault → Bool
+is_stream_failed (Ok served) = false
+is_stream_failed (Err (Frame fault)) = source_failed {T = Option (List ℕ)} (Err fault)
+is_stream_failed (Err WriteBack) = true
+is_stream_failed (Err Number) = false
+is_stream_failed (Err Frames) = false
+is_stream_failed (Err Lost) = false
+
+-- ---- the agent after a session
+
+-- items made of other ones and of their numbers, which count on from this one
+unfoldable pub numbered_from : {A B : Type 0} → (ℕ → A → B) → ℕ → List A → List B
+numbered_from make number [] = []
+numbered_from make number (item ∷ rest) = make number item ∷ numbered_from make (suc number) rest
+
+abbrev pub numbered_request : ℕ → ℕ → Body → Request
+numbered_request agent number body = record { agent = agent; number = number; body = body }
+
+abbrev pub numbered_answer : ℕ → ℕ → Reply → Answer
+numbered_answer agent number reply = record { agent = agent; number = number; reply = reply }
+
+-- the requests of an agent with these bodies, and the answers to an agent with these replies
+abbrev pub requests_from : ℕ → ℕ → List Body → List Request
+requests_from agent = numbered_from (numbered_request agent)
+
+abbrev pub answers_from : ℕ → ℕ → List Reply → List Answer
+answers_from agent = numbered_from (numbered_answer agent)
+
+-- an agent that sent requests with these bodies, and got these replies to them, in order; and then
+-- lost a lane, or not
+abbrev pub after_requests : Agent → List Body → List Reply → Bool → Agent
+after_requests agent bodies replies lost = record {
+  ends = record {
+    requests = record {
+      lane = agent.ends.requests.lane;
+      agent = agent.ends.requests.agent;
+      sent = agent.ends.requests.sent
+          ++ requests_from agent.ends.requests.agent (length agent.ends.requests.sent) bodies;
+    };
+    answers = record {
+      lane = agent.ends.answers.lane;
+      first = agent.ends.answers.first;
+      past = agent.ends.answers.past;
+      taken = agent.ends.answers.taken
+          ++ answers_from agent.ends.requests.agent (length agent.ends.requests.sent) replies;
+    };
+  };
+  limit = agent.limit;
+  lost = agent.lost || lost;
+}
+
+-- each body that was sent has a reply, but for the last one where the collector was found gone
+-- after that
+abbrev pub AreReplied : Bool → ℕ → ℕ → Type 0
+AreReplied false bodies replies = bodies ≡ replies
+AreReplied true bodies replies = (bodies ≡ replies) ⊎ (bodies ≡ suc replies)
+
+-- what an agent that serves comes to: it sent requests with these bodies, and got the replies among
+-- these answers; where a lane was lost before, it sent none, and told nobody that its requests are
+-- used up
+pub record HasAsked (old new : Agent) (bodies : List Body) (answers : List Spoken)
+    (lost : Bool) : Type 0 where
+  pub agent_is : new ≡ after_requests old bodies (flat_map reply_of answers) lost
+  pub idle : old.lost ≡ true
+      → (bodies ≡ []) × All (λ (answer : Spoken). answer ≢ spoken.Refused used_up_code) answers
+  pub replied : AreReplied lost (length bodies) (length (flat_map reply_of answers))
+
+-- ---- a session
+
+-- what serving one connection came to: a session over what the stream had to read; the requests of
+-- its bodies, and their answers, at the agent; the frames of its answers, in the stream, which
+-- failed once where that ended the session
+pub record IsServed {S : Type 0} (source : Source S) (drain : Drain S) (old new : Agent)
+    (before after : S) (result : Result Served ServeFault) : Type 0 where
+  pub frames : List (List ℕ)
+  pub bodies : List Body
+  pub answers : List Spoken
+  pub session : IsSession Connection old.limit (length old.ends.requests.sent)
+      (source.remaining before) (source.remaining after) frames bodies answers (served_end result)
+  pub asked : HasAsked old new bodies answers (is_lost result)
+  pub written : AnswersSent answer_bytes answer_frames_from (is_unwritten result)
+      (drain.contents before) (drain.contents after) answers
+  pub answered : IfOk result (λ served. served.frames ≡ length answers)
+  pub counts : Counts source.failures drain.flushes source.steady (is_stream_failed result) before after
+
+-- ---- of private parts: one frame of a session
+
+-- what a frame is answered whose body was asked: none where the collector is gone
+abbrev pub asked_turn : Result Answer AskFault → Option Turn
+asked_turn (Ok answer) = Some (record { answer = spoken.Reply answer.reply; over = false })
+asked_turn (Err (asks.Limit body)) = Some (record { answer = spoken.Refused used_up_code; over = false })
+asked_turn (Err (asks.Lost back)) = None
+
+-- the answers that one frame has: none where the collector is gone
+abbrev pub told : Option Turn → List Spoken
+told None = []
+told (Some turn) = turn.answer ∷ []
+
+-- the number with which one frame ends the session, if it does
+abbrev pub turn_end : Option Turn → Option ℕ
+turn_end None = Some lane_lost_code
+turn_end (Some turn) = if turn.over then Some out_of_turn_code else None
+
+abbrev pub has_lost : Option Turn → Bool
+has_lost None = true
+has_lost (Some turn) = false
+
+-- what a frame at its place came to, and what it left of the agent
+pub record IsTurn (old new : Agent) (place : ℕ) (bytes : List ℕ) (turn : Option Turn) : Type 0 where
+  pub bodies : List Body
+  pub takes : Takes Connection old.limit (length old.ends.requests.sent) place bytes bodies
+      (told turn) (turn_end turn)
+  pub asked : HasAsked old new bodies (told turn) (has_lost turn)

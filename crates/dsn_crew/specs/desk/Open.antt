@@ -1,0 +1,55 @@
+-- Openings: what a crew is before its first request.
+use Rattle.std.specs.Prelude.{◌≡◌, ℕ, ◌<◌, ◌+◌, false, List, [], length, map}
+use Rattle.std.specs.List.{slice_index_or}
+use Rattle.dsn_text.specs.FaultCode.{agent_count_code, crew_refused_code}
+use Rattle.dsn_lane.specs.Ends.{End, Identity}
+use Rattle.dsn_outcome.specs.History.{Limits}
+use Rattle.dsn_outcome.specs.Request.{Request}
+use Rattle.dsn_outcome.specs.declared.answer.Answer.{Answer}
+use Rattle.dsn_crew.specs.agents.Agent.{Agent}
+use Rattle.dsn_crew.specs.desk.Desk.{Desk, IsDesk}
+use Rattle.dsn_crew.specs.declared.desk.crew_open_fault.CrewOpenFault.{CrewOpenFault}
+use Rattle.dsn_crew.specs.declared.desk.crew_open_fault.CrewOpenFault.TheVariants.{NoMemory, AgentCount}
+
+-- how many requests wait at most
+abbrev pub requests_waiting : ℕ
+requests_waiting = 64
+
+abbrev pub crew_open_fault_code : CrewOpenFault → ℕ
+crew_open_fault_code NoMemory = crew_refused_code
+crew_open_fault_code AgentCount = agent_count_code
+
+-- the agent whom this end answers, before its first request, on a request lane
+abbrev pub opened_agent : ℕ → Identity Request → End Answer → Agent
+opened_agent limit lane end = record {
+  ends = record {
+    requests = record { lane = lane; agent = end.agent; sent = [] };
+    answers = record { lane = end.lane; first = end.agent; past = end.agent + 1; taken = [] };
+  };
+  limit = limit;
+  lost = false;
+}
+
+-- the end of an answer lane of this agent, for one item, over which nothing was sent
+pub record IsLine (agent : ℕ) (end : End Answer) : Type 0 where
+  pub agent_is : end.agent ≡ agent
+  pub unused : end.sent ≡ []
+  pub capacity : end.lane.capacity ≡ 1
+
+-- so it is of the agents from 0 on
+abbrev pub AreLines : List (End Answer) → Type 0
+AreLines ends = (a : ℕ) (d : End Answer) → a < length ends → IsLine a (slice_index_or ends a d)
+
+-- a crew of so many agents, before the first request: each agent has the lane on which it asks, and
+-- the one on which the collector answers it; `requests_waiting` requests wait at most, and 1
+-- answer to an agent
+pub record IsOpened (limits : Limits) (agents : ℕ) (crew : List Agent) (desk : Desk) : Type 0 where
+  pub limits_are : desk.book.limits ≡ limits
+  pub taken : desk.requests.taken ≡ []
+  pub capacity : desk.requests.lane.capacity ≡ requests_waiting
+  pub count : length desk.answers ≡ agents
+  pub lines : AreLines desk.answers
+  pub crew_is : crew ≡ map (opened_agent limits.requests desk.requests.lane) desk.answers
+  pub missed : desk.missed ≡ 0
+  pub begun : desk.failed ≡ false
+  pub kept : IsDesk desk

@@ -1,0 +1,125 @@
+//! An agent's side of a crew.
+ghost use Rattle.std.specs.Prelude.{◌≡◌, ◌≢◌, ◌≤◌, ◌+◌, false, [], IfOk};
+ghost use Rattle.dsn_outcome.specs.Body.{body_of};
+ghost use Rattle.dsn_outcome.specs.Request.{Bye};
+ghost use Rattle.dsn_crew.specs.agents.Agent.{IsAgent, IsAsk, IsFinished, IsGoodbye, IsLeave, most_requests};
+
+use crate::agents::ask_fault::AskFault;
+use crate::agents::ends::Ends;
+use crate::agents::finished::Finished;
+use crate::agents::unanswered::Unanswered;
+use crate::agents::unheard::{Unheard, say_bye};
+use dsn_lane::{LaneGone, LaneIn, LaneOut};
+use dsn_outcome::{Answer, Body, Request};
+use std::marker::Model;
+use std::sync::Wait;
+
+/// An agent of a crew, on a thread of its own: it asks the collector, and waits for each answer.
+#[derive(Drop)]
+pub struct Agent {
+    pub(crate) ends: Ends,
+    pub(crate) limit: u32,
+    /// What a lane told, once one was lost.
+    lost: Option<LaneGone>,
+}
+
+impl Model for Agent {
+    ghost use Rattle.std.specs.Prelude.{is_some};
+    ghost use Rattle.dsn_crew.specs.agents.Agent.{Agent, IsAgent};
+
+    ghost Value = { Agent };
+
+    ghost view = { λ a. record { ends = a.ends; limit = a.limit; lost = is_some a.lost } };
+
+    ghost invariant = { λ a. IsAgent
+        (record { ends = a.ends; limit = a.limit; lost = is_some a.lost }) };
+}
+
+impl Agent {
+    /// The agent of this number, which has asked nothing and may make so many requests: by the end
+    /// by which it asks, and that of an answer lane of its own.
+    pub fn new(agent: u32, requests: LaneIn<Request>, answers: LaneOut<Answer>, limit: u32) -> Agent
+        requires own { (requests.agent ≡ agent) × (answers.first ≡ agent)
+            × (answers.past ≡ agent + 1) }
+        requires unused { (requests.sent ≡ []) × (answers.taken ≡ []) }
+        requires limit { limit ≤ most_requests }
+        ensures { result ≡ record {
+          ends = record { requests = requests; answers = answers };
+          limit = limit;
+          lost = false;
+        } }
+    {
+        Agent {
+            ends: Ends::new(agent, requests, answers),
+            limit,
+            lost: None,
+        }
+    }
+
+    /// The agent's number, from 0.
+    pub fn number(&self) -> u32
+        ensures { result ≡ self.now.ends.requests.agent }
+    {
+        self.ends.agent()
+    }
+
+    /// The ends of an agent that leaves without a goodbye.
+    pub fn into_ends(self) -> (LaneIn<Request>, LaneOut<Answer>)
+        ensures requests { result.0 ≡ self.ends.requests }
+        ensures answers { result.1 ≡ self.ends.answers }
+    {
+        let Agent { ends, .. } = self;
+        ends.into_parts()
+    }
+
+    /// Asks the collector, and waits for its answer. It asks for a body that isn't a goodbye
+    /// (`Body::is_bye` is the test).
+    ///
+    /// `Limit` (44) comes where the agent has made as many requests as it may; the agent is as it
+    /// was. `Lost` (41) comes where the collector is gone: with the body where the request was not
+    /// sent, and so at every later ask.
+    pub fn ask(&mut self, rt: &impl Wait, body: Body) -> Result<Answer, AskFault>
+        requires stays { body_of body ≢ Bye }
+        ensures ask { IsAsk self.old (body_of body) self.new result }
+        ensures kept { IsAgent self.new }
+    {
+        if self.lost.is_some() {
+            return Err(AskFault::Lost(Some(body)));
+        }
+        if self.ends.requests.count() >= self.limit {
+            return Err(AskFault::Limit(body));
+        }
+        match self.ends.exchange(rt, body) {
+            Ok(answer) => Ok(answer),
+            Err(Unanswered { body, gone }) => {
+                self.lost = Some(gone);
+                Err(AskFault::Lost(body))
+            }
+        }
+    }
+
+    /// Says goodbye, which is allowed at the limit too, and waits until the collector has heard it.
+    /// `Lost` (41) comes where a lane was lost before or is lost now; the agent's ends are dropped.
+    #[tactic(auto, using(crate::proofs::agents::AgentLemmas::goodbye_fault))]
+    pub fn bye(self, rt: &impl Wait) -> Result<Finished, AskFault>
+        ensures bye { IsGoodbye self result }
+        ensures finished { IfOk result IsFinished }
+    {
+        match self.leave(rt) {
+            Ok(finished) => Ok(finished),
+            Err(unheard) => Err(unheard.into_fault()),
+        }
+    }
+
+    /// Says goodbye, as [`Agent::bye`] does, and tells why it was not heard where it wasn't.
+    pub(crate) fn leave(self, rt: &impl Wait) -> Result<Finished, Unheard>
+        ensures leave { IsLeave self result }
+        ensures finished { IfOk result IsFinished }
+    {
+        let Agent { ends, lost, .. } = self;
+        match lost {
+            Some(gone) => Err(Unheard::unsent(gone)),
+            None => say_bye(rt, ends),
+        }
+    }
+}

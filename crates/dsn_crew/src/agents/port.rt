@@ -1,0 +1,42 @@
+//! Where an agent's connections come from.
+ghost use Rattle.std.specs.Prelude.{◌≡◌};
+ghost use Rattle.dsn_crew.specs.agents.Port.{Gives, GivesFirst, connection, given_of};
+
+use crate::agents::next::Next;
+use dsn_device::Stream;
+
+/// Where an agent gets the connections that it serves, one after another: a listening socket, say.
+///
+/// A port may tell its connections to contracts, and a port in memory does: it then gives these,
+/// and is done once none is left. One that doesn't tell promises nothing of their bytes.
+///
+/// Each port says what it may give from here on: lists of answers, each of which is a connection,
+/// that it is done, or that it failed. One over a socket may give so many connections, say. A port
+/// that promises nothing may give anything.
+///
+/// A port that answered that it is done, or that it failed, isn't asked again. It may say at which
+/// moments it can be asked, and then only owes that it can be after each connection: an agent knows
+/// of no other leave. One that doesn't say so can be asked at any time.
+pub trait Port {
+    ghost use Rattle.std.specs.Prelude.{List, Option};
+    ghost use Rattle.dsn_crew.specs.agents.Port.{Conn, Given};
+
+    /// A connection. It goes to the agent's thread with its port.
+    type Stream: Stream + Drop + Send;
+
+    // The connections that it will give from here on, where they are known.
+    ghost conns: { Self → Option (List Conn) };
+
+    // Whether it may give these answers, one after another, from here on.
+    ghost may_give: { Self → List Given → Type 0 };
+
+    // Whether it may be asked for its next connection.
+    ghost may_be_asked: { Self → Type 0 } = { λ _. Unit {0} };
+
+    /// The next connection.
+    fn next(&mut self) -> Next<Self::Stream>
+        requires asked { may_be_asked self.old }
+        ensures told { Gives Self.Stream.Source (conns self.old) (conns self.new) result }
+        ensures given { GivesFirst (may_give self.old) (may_give self.new) (given_of result) }
+        ensures goes_on { given_of result ≡ connection → may_be_asked self.new };
+}

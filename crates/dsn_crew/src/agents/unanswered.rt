@@ -1,0 +1,12 @@
+//! A body that has no answer.
+use dsn_lane::LaneGone;
+use dsn_outcome::Body;
+
+/// A body that has no answer, since the collector's side of a lane is gone.
+#[derive(Drop)]
+pub(crate) struct Unanswered {
+    /// The body, where it was not sent.
+    pub(crate) body: Option<Body>,
+    /// What the lane told.
+    pub(crate) gone: LaneGone,
+}

@@ -1,0 +1,77 @@
+//! A goodbye, and why it was not heard.
+ghost use Rattle.std.specs.Prelude.{◌≡◌, ◌<◌, length, IfErr, IfOk};
+ghost use Rattle.dsn_lane.specs.Lane.{most_sent};
+ghost use Rattle.dsn_outcome.specs.declared.answer.Reply.TheVariants.{Gone};
+ghost use Rattle.dsn_outcome.specs.Request.{Bye};
+ghost use Rattle.dsn_crew.specs.agents.Agent.{IsFaultOf, IsFinished, Stays, after_reply, was_unsent};
+
+use crate::agents::ask_fault::AskFault;
+use crate::agents::ends::Ends;
+use crate::agents::finished::Finished;
+use crate::agents::unanswered::Unanswered;
+use dsn_lane::LaneGone;
+use dsn_outcome::{Body, Reply};
+use std::sync::Wait;
+
+/// Why a goodbye was not heard.
+#[derive(Clone, Copy, Debug, PartialEq, Eq)]
+pub(crate) enum Cause {
+    /// It was not sent: a lane told, now or at an earlier request, that the collector is gone.
+    Unsent(LaneGone),
+    /// It was sent, and a lane told that the collector is gone.
+    Sent(LaneGone),
+    /// It was answered by another reply than Gone.
+    Answered,
+}
+
+/// A goodbye was not heard: a lane told that the collector is gone, or another reply than Gone
+/// came. Only a goodbye that was tried makes it, and an agent to which a lane had told so before.
+#[derive(Clone, Copy, Debug, PartialEq, Eq)]
+pub(crate) struct Unheard {
+    cause: Cause,
+}
+
+impl Unheard {
+    /// A goodbye that isn't sent, since a lane told before that the collector is gone.
+    pub(crate) fn unsent(gone: LaneGone) -> Unheard
+        ensures { was_unsent result }
+    {
+        Unheard {
+            cause: Cause::Unsent(gone),
+        }
+    }
+
+    /// The fault that a goodbye answers.
+    pub(crate) fn into_fault(self) -> AskFault
+        ensures { IsFaultOf self result }
+    {
+        match self.cause {
+            Cause::Unsent(_) => AskFault::Lost(Some(Body::Bye)),
+            Cause::Sent(_) => AskFault::Lost(None),
+            Cause::Answered => AskFault::Lost(None),
+        }
+    }
+}
+
+/// Says the goodbye of an agent with these ends, and waits until the collector has heard it.
+pub(crate) fn say_bye(rt: &impl Wait, ends: Ends) -> Result<Finished, Unheard>
+    requires answered { length ends.answers.taken ≡ length ends.requests.sent }
+    requires room { length ends.requests.sent < most_sent }
+    requires stays { Stays ends.requests.sent }
+    ensures heard { IfOk result (λ finished. finished ≡ after_reply ends Bye Gone) }
+    ensures finished { IfOk result IsFinished }
+{
+    let mut ends = ends;
+    match ends.exchange(rt, Body::Bye) {
+        Ok(answer) if answer.reply == Reply::Gone => Ok(Finished::new(ends)),
+        Ok(_) => Err(Unheard {
+            cause: Cause::Answered,
+        }),
+        Err(Unanswered { body, gone }) => Err(Unheard {
+            cause: match body {
+                Some(_) => Cause::Unsent(gone),
+                None => Cause::Sent(gone),
+            },
+        }),
+    }
+}

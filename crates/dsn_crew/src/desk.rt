@@ -1,0 +1,18 @@
+//! The desk: the one collector that answers the agents' requests over lanes, how it is opened with
+//! its agents, and how it is closed with them.
+mod answer_lane;
+mod close;
+mod crew_open_fault;
+mod crew_shut;
+mod desk;
+mod desk_fault;
+mod open;
+mod refused;
+mod stop;
+
+pub use close::close_crew;
+pub use crew_open_fault::CrewOpenFault;
+pub use crew_shut::CrewShut;
+pub use desk::Desk;
+pub use desk_fault::DeskFault;
+pub use open::open_crew;

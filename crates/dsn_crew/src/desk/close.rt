@@ -1,0 +1,64 @@
+//! The close of a crew.
+ghost use Rattle.std.specs.Prelude.{◌≡◌, ◌+◌, true, All};
+ghost use mathlib.Core.List.{IsPrefix};
+ghost use Rattle.dsn_book.specs.Book.{Represents};
+ghost use Rattle.dsn_crew.specs.agents.Agent.{IsFinished};
+ghost use Rattle.dsn_crew.specs.desk.Close.{AreCrew, AreOf, IsHeard};
+ghost use Rattle.dsn_crew.specs.desk.Desk.{all_gone, history};
+
+use crate::agents::Finished;
+use crate::desk::answer_lane::AnswerLane;
+use crate::desk::crew_shut::CrewShut;
+use crate::desk::desk::Desk;
+use dsn_lane::{LaneIn, close_lane};
+use dsn_outcome::Request;
+use std::snapshot::Snapshot;
+use std::sync::Wait;
+
+/// Closes a crew, of which it takes all agents, in their order, and the collector. Each of its
+/// lanes is closed, in room that was taken when the crew was opened. It asks that all agents said
+/// goodbye and the collector has not failed (`Desk::all_gone`); an agent that never started has no
+/// end to give back, so its crew is dropped instead.
+#[tactic(auto, using(crate::proofs::desk::Rules::closing))]
+pub fn close_crew(rt: &impl Wait, crew: Vec<Finished>, desk: Desk) -> CrewShut
+    requires crew { AreCrew crew.items desk }
+    requires gone { all_gone desk ≡ true }
+    ensures heard { All (IsHeard desk) crew.items }
+    ensures finished { All IsFinished crew.items }
+    ensures only { AreOf crew.items desk.requests.taken }
+    ensures shut { result ≡ record { book = desk.book; crew = crew.items; desk = desk } }
+    ensures stands { Represents result.book (history desk) }
+{
+    let agents = Snapshot::of(&crew);
+    let collector = Snapshot::of(&desk);
+    let Desk {
+        book,
+        requests,
+        lines,
+        mut room,
+        ..
+    } = desk;
+    let mut lines = lines.into_iter();
+    for finished in crew {
+        let Some(line) = lines.next() else {
+            unreachable!()
+        };
+        room.push_reserved(close_answers(rt, finished, line));
+    }
+    close_lane(rt, room, requests);
+    CrewShut::new(book, agents, collector)
+}
+
+/// Closes an agent's answer lane, and gives the end by which the agent asked.
+fn close_answers(rt: &impl Wait, finished: Finished, line: AnswerLane) -> LaneIn<Request>
+    requires lane { (line.lane ≡ finished.answers.lane) × (line.agent ≡ finished.requests.agent) }
+    ensures end { result ≡ finished.requests }
+    ensures got { IsPrefix finished.answers.taken line.sent }
+    ensures finished { IsFinished finished }
+{
+    let (requests, answers) = finished.into_ends();
+    let AnswerLane { end, mut room } = line;
+    room.push_reserved(end);
+    close_lane(rt, room, answers);
+    requests
+}

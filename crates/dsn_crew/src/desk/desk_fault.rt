@@ -1,0 +1,39 @@
+//! Why a collector stopped.
+ghost use Rattle.std.specs.Prelude.{◌≡◌, Err};
+ghost use Rattle.dsn_text.specs.FaultCode.{lane_lost_code};
+ghost use Rattle.dsn_book.specs.Step.{letters_in};
+ghost use Rattle.dsn_crew.specs.desk.Desk.{letter_kept};
+
+use dsn_outcome::Letter;
+use dsn_text::fault_code;
+
+/// Why a collector stopped. A letter that was sealed and not handed on comes back.
+#[derive(Drop)]
+pub enum DeskFault {
+    /// The agents are gone, the collector failed before, or 4,294,967,295 requests were taken.
+    Requests,
+    /// This agent is gone, and its answer is lost. The letter that the answer tells of comes back.
+    Answers(u32, Option<Letter>),
+    /// The sink is gone, or takes no more letters.
+    Letters(Letter),
+}
+
+impl DeskFault {
+    /// The letter that was sealed and not handed on, if there is one.
+    pub fn into_letter(self) -> Option<Letter>
+        ensures { letters_in result ≡ letter_kept (Err self) }
+    {
+        match self {
+            DeskFault::Requests => None,
+            DeskFault::Answers(_, letter) => letter,
+            DeskFault::Letters(letter) => Some(letter),
+        }
+    }
+
+    /// The number of the fault, 41.
+    pub fn code(&self) -> u32
+        ensures { result ≡ lane_lost_code }
+    {
+        fault_code::LANE_LOST
+    }
+}

@@ -1,0 +1,101 @@
+//! A crew, from its first step on.
+ghost use Rattle.std.specs.Prelude.{◌≡◌, ◌<◌, ◌≤◌, ◌↔◌, ◌⊎◌, [], IfOk, IfErr};
+ghost use Rattle.dsn_lane.specs.Lane.{most_agents};
+ghost use Rattle.dsn_crew.specs.desk.Open.{IsLine, IsOpened, opened_agent};
+
+use crate::agents::Agent;
+use crate::desk::answer_lane::AnswerLane;
+use crate::desk::crew_open_fault::CrewOpenFault;
+use crate::desk::desk::Desk;
+use dsn_book::{Book, Limits};
+use dsn_lane::{LaneIn, open_lane};
+use dsn_outcome::{NoMemory, Request};
+use std::alloc::Global;
+use std::sync::Wait;
+
+/// How many requests wait at most.
+const REQUESTS_WAITING: u32 = 64;
+
+/// A crew of so many agents, from agent 0 on, and its collector.
+///
+/// `AgentCount` (43) comes where there are not 1 to 16 agents, before any memory is taken;
+/// `NoMemory` (42) only where memory was refused.
+pub fn open_crew(
+    rt: &impl Wait,
+    alloc: Global,
+    limits: Limits,
+    agents: u32,
+) -> Result<(Vec<Agent>, Desk), CrewOpenFault>
+    ensures opened { IfOk result (λ crew. IsOpened limits agents crew.0.items crew.1) }
+    ensures count { IfOk result (λ _. (1 ≤ agents) × (agents ≤ most_agents)) }
+    ensures refused { IfErr result
+        (λ fault. (fault ≡ CrewOpenFault.AgentCount) ↔ ((agents ≡ 0) ⊎ (most_agents < agents))) }
+{
+    if agents == 0 || agents > 16 {
+        return Err(CrewOpenFault::AgentCount);
+    }
+    open_room(rt, alloc, limits, agents)
+}
+
+/// The crew itself.
+#[tactic(auto, using(crate::proofs::OpenLemmas::length_ends))]
+fn open_room(
+    rt: &impl Wait,
+    alloc: Global,
+    limits: Limits,
+    agents: u32,
+) -> Result<(Vec<Agent>, Desk), CrewOpenFault>
+    requires { (1 ≤ agents) × (agents ≤ most_agents) }
+    ensures opened { IfOk result (λ crew. IsOpened limits agents crew.0.items crew.1) }
+    ensures refused { IfErr result (λ fault. fault ≡ CrewOpenFault.NoMemory) }
+{
+    let Ok(book) = Book::new(alloc, limits) else {
+        return Err(CrewOpenFault::NoMemory);
+    };
+    let Ok((ends, requests)) = open_lane::<Request>(rt, alloc, 0, agents, REQUESTS_WAITING) else {
+        return Err(CrewOpenFault::NoMemory);
+    };
+    let Ok(mut crew) = Vec::with_capacity(alloc, agents as usize) else {
+        return Err(CrewOpenFault::NoMemory);
+    };
+    let Ok(mut lines) = Vec::with_capacity(alloc, agents as usize) else {
+        return Err(CrewOpenFault::NoMemory);
+    };
+    let Ok(room) = Vec::with_capacity(alloc, agents as usize) else {
+        return Err(CrewOpenFault::NoMemory);
+    };
+    let mut ends = ends.into_iter();
+    for agent in 0..agents {
+        let Some(end) = ends.next() else {
+            unreachable!()
+        };
+        let Ok((one, line)) = open_agent(rt, alloc, limits, agent, end) else {
+            return Err(CrewOpenFault::NoMemory);
+        };
+        crew.push_reserved(one);
+        lines.push_reserved(line);
+    }
+    Ok((crew, Desk::new(book, requests, lines, room)))
+}
+
+/// An agent with this end for its requests, and the collector's end for its answers.
+pub(crate) fn open_agent(
+    rt: &impl Wait,
+    alloc: Global,
+    limits: Limits,
+    agent: u32,
+    requests: LaneIn<Request>,
+) -> Result<(Agent, AnswerLane), NoMemory>
+    requires agent { (requests.agent ≡ agent) × (agent < most_agents) }
+    requires unused { requests.sent ≡ [] }
+    ensures agent { IfOk result
+        (λ pair. pair.0 ≡ opened_agent limits.requests requests.lane pair.1) }
+    ensures line { IfOk result (λ pair. IsLine agent pair.1) }
+{
+    let (mut ends, answers) = open_lane(rt, alloc, agent, 1, 1)?;
+    let Some(end) = ends.pop() else {
+        unreachable!()
+    };
+    let asks = Agent::new(agent, requests, answers, limits.requests());
+    Ok((asks, AnswerLane::new(end, ends)))
+}

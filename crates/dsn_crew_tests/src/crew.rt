@@ -1,0 +1,11 @@
+//! Tests of whole crews, over what `dsn_crew` makes public.
+mod frames;
+mod heard;
+mod hold;
+mod memory_port;
+mod outbox;
+mod outbox_text;
+mod ports;
+mod posting;
+mod side_by_side;
+mod whole_crew;

@@ -1,0 +1,12 @@
+//! Tests of agents and their collector, over what `dsn_crew` makes public.
+mod alone;
+mod bodies;
+mod collect;
+mod gone;
+mod letters;
+mod limit;
+mod memory;
+mod opened;
+mod peer;
+mod serving;
+mod sixteen;

@@ -1,5 +1,0 @@
-pub mod CloseLemmas
-pub mod DeskLemmas
-pub mod OpenLemmas
-pub mod Rules
-pub mod RunLemmas

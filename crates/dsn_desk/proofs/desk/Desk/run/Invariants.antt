@@ -1,7 +1,0 @@
--- The requests so far were a run.
-use Rattle.std.specs.Prelude.{Ok}
-use Rattle.dsn_desk.specs.Desk.{IsRun}
-use Rattle.dsn_desk.proofs.desk.Desk.run.Given as goal
-
-abbrev pub invariant-loop : goal.invariant-loop
-invariant-loop g l = IsRun g.K.Sink.takes l.fn.self l.self l.fn.sink l.sink (Ok tt)

@@ -1,0 +1,384 @@
+-- Requests that are written: the bytes that are written of a legal body encode it, and fit a frame.
+use Rattle.std.proofs.Common.{◌≡◌, ℕ, ◌+◌, ◌^◌, ◌<◌, ◌≤◌, Bool, true, false, List, [], ◌∷◌, ◌++◌, length, Option, Some, None, refl, sym, ◌∙◌, arith}
+use Rattle.std.specs.Prelude.{◌≢◌, nat_le, is_none, ◌==◌, ◌&&◌, if◌then◌else◌}
+use Rattle.std.specs.Int.{w16, w32, w64, to_be_bytes}
+use Rattle.std.specs.List.{list_all}
+use Rattle.std.proofs.lemmas.Bool.Decides.{nat_tests}
+use Rattle.std.proofs.lemmas.Bool.{and_parts, leb-true, le-leb}
+use Rattle.std.proofs.lemmas.List.{length-append}
+use Rattle.dsn_text.specs.Action.{action_byte, action_of_byte}
+use Rattle.dsn_outcome.specs.Draft.{Draft, IsLegalDraft}
+use Rattle.dsn_outcome.specs.Outcome.{Outcome, Fields, IsLegalOutcome, IsOutcomeOf, first_failed, first_outcome_fault}
+use Rattle.dsn_text.specs.Optional.{is_none_or, unless_empty}
+use Rattle.dsn_outcome.specs.Request.{Body, Append, Flush, Discard, Forget}
+use Rattle.dsn_text.specs.Service.{service_byte, service_of_byte}
+use Rattle.dsn_text.specs.Stamp.{is_moment, last_moment}
+use Rattle.dsn_text.specs.Status.{is_status_code, longest_status}
+use Rattle.dsn_text.specs.Text.{is_text, is_printable, is_queue_id, is_address, is_mta_name, is_envelope_id, is_remark, clean_text, is_letter_or_digit, is_address_byte, is_visible, longest_queue_id, longest_address, longest_mta_name, longest_envelope_id, longest_clean}
+use Rattle.dsn_text.specs.declared.action.Action.{Action}
+use Rattle.dsn_text.specs.declared.action.Action.TheVariants.{Failed, Delayed, Delivered, Relayed, Expanded}
+use Rattle.dsn_text.specs.declared.key.Key.{Key}
+use Rattle.dsn_text.specs.declared.service.Service.{Service}
+use Rattle.dsn_text.specs.declared.service.Service.TheVariants.{Bounce, Defer, Trace}
+use Rattle.dsn_text.proofs.StatusLemmas.{IsStatusCode-test, length-IsStatusCode}
+use Rattle.dsn_frame.specs.bodies.FrameBody.{IsFrameBody}
+use Rattle.dsn_frame.specs.bodies.Request.{text_or_empty, head_for, fields_for, no_moment, moment_if_any, moment_or_none, outcome_fields, undated_fields, dated_fields, retry_fields_for, append_written_as, flush_fields_for, draft_of, flush_checks, first_own_fault, StandsFor, Encodes, IsWritten}
+use Rattle.dsn_frame.specs.bodies.Wire.{Head, RecipientFields, RetryFields, FlushFields, WireBody, AppendFields, DatedAppendFields, FlushFieldsOf, DiscardFields, ForgetFields, head_of, own_bytes, body_bytes, number_bytes, text_bytes, head_bytes, append_bytes, retry_bytes, flush_bytes, FitsAppend, FitsOwn}
+
+-- ---- texts
+
+-- what a text's form says of its length
+text-short : (test : ℕ → Bool) (least most : ℕ) (text : List ℕ) → is_text test least most text ≡ true → length text ≤ most
+text-short test least most text legal = leb-true _ _ (and_parts _ _ (and_parts _ _ legal).0).1
+
+queue-id-short : (id : List ℕ) → is_queue_id id ≡ true → length id ≤ longest_queue_id
+queue-id-short = text-short is_letter_or_digit 1 longest_queue_id
+
+address-short : (address : List ℕ) → is_address address ≡ true → length address ≤ longest_address
+address-short = text-short is_address_byte 1 longest_address
+
+mta-name-short : (name : List ℕ) → is_mta_name name ≡ true → length name ≤ longest_mta_name
+mta-name-short = text-short is_visible 1 longest_mta_name
+
+envelope-id-short : (id : List ℕ) → is_envelope_id id ≡ true → length id ≤ longest_envelope_id
+envelope-id-short = text-short is_printable 1 longest_envelope_id
+
+remark-short : (remark : List ℕ) → is_remark remark ≡ true → length remark ≤ longest_clean
+remark-short = text-short is_printable 1 longest_clean
+
+status-short : (text : List ℕ) → is_status_code text ≡ true → length text ≤ longest_status
+status-short text legal = length-IsStatusCode text (IsStatusCode-test text legal)
+
+optional-short : (test : List ℕ → Bool) (most : ℕ) → ((text : List ℕ) → test text ≡ true → length text ≤ most) → (text : Option (List ℕ)) → is_none_or test text ≡ true → length (text_or_empty text) ≤ most
+optional-short test most short None legal = omega arith
+optional-short test most short (Some text) legal = short text legal
+
+-- a text that passes a test that the empty one doesn't
+said : (test : List ℕ → Bool) → test [] ≡ false → (text : Option (List ℕ)) → is_none_or test text ≡ true → text ≢ Some []
+said test never None legal is = cc
+said test never (Some []) legal is = let both : false ≡ true = sym never ∙ legal in cc
+said test never (Some (byte ∷ rest)) legal is = cc
+
+-- a text that is there and says something is read as it was written
+back : (text : Option (List ℕ)) → text ≢ Some [] → unless_empty (text_or_empty text) ≡ text
+back None there = refl
+back (Some []) there = absurd (there refl)
+back (Some (byte ∷ rest)) there = refl
+
+-- a clean text stays as it is
+clean-kept : (text : List ℕ) → list_all is_printable text ≡ true → clean_text text ≡ text
+clean-kept [] all = refl
+clean-kept (byte ∷ rest) all =
+    let parts = and_parts (is_printable byte) (list_all is_printable rest) all in
+    rw (parts.0, clean-kept rest parts.1) refl
+
+clean-optional : (text : Option (List ℕ)) → is_none_or is_remark text ≡ true → clean_text (text_or_empty text) ≡ text_or_empty text
+clean-optional None legal = refl
+clean-optional (Some text) legal = clean-kept text (and_parts _ _ legal).1
+
+-- ---- bytes
+
+service-back : (service : Service) → service_of_byte (service_byte service) ≡ Some service
+service-back Bounce = refl
+service-back Defer = refl
+service-back Trace = refl
+
+action-back : (action : Action) → action_of_byte (action_byte action) ≡ Some action
+action-back Failed = refl
+action-back Delayed = refl
+action-back Delivered = refl
+action-back Relayed = refl
+action-back Expanded = refl
+
+-- ---- moments
+
+-- a moment is no number of all ones
+moment-said : (moment : ℕ) → is_moment moment ≡ true → (moment == no_moment) ≡ false
+moment-said moment dated = let early = leb-true moment last_moment dated in grind (arith, nat_tests, early)
+
+moment-back : (moment : Option ℕ) → is_none_or is_moment moment ≡ true → moment_if_any (moment_or_none moment) ≡ moment
+moment-back None dated = refl
+moment-back (Some moment) dated = rw (moment-said moment dated) refl
+
+moment-fits : (moment : Option ℕ) → is_none_or is_moment moment ≡ true → moment_or_none moment < 2 ^ 64
+moment-fits None dated = omega arith
+moment-fits (Some moment) dated = let early = leb-true moment last_moment dated in omega (arith, early)
+
+none-is : (moment : Option ℕ) → is_none moment ≡ true → moment ≡ None
+none-is None e = refl
+none-is (Some moment) e = cc
+
+-- ---- an outcome's fields
+
+-- all fields of an outcome, as it is written
+abbrev all_fields_for : Outcome → Fields
+all_fields_for outcome = outcome_fields (fields_for outcome) outcome.last_attempt outcome.retry_until
+
+outcome-accepted : (outcome : Outcome) → IsLegalOutcome outcome → first_outcome_fault outcome.service (all_fields_for outcome) ≡ None
+unfolding first_outcome_fault
+outcome-accepted outcome legal =
+    let diagnostic : nat_le (length (text_or_empty outcome.diagnostic)) longest_clean ≡ true = le-leb _ _ (optional-short is_remark longest_clean remark-short outcome.diagnostic legal.diagnostic_clean) in
+    let reason : nat_le (length (text_or_empty outcome.reason)) longest_clean ≡ true = le-leb _ _ (optional-short is_remark longest_clean remark-short outcome.reason legal.reason_clean) in
+    let original = back outcome.original (said is_address refl outcome.original legal.original_legal) in
+    let mta = back outcome.mta (said is_mta_name refl outcome.mta legal.mta_legal) in
+    rw (legal.recipient_legal, original, legal.original_legal, action-back outcome.action, legal.action_taken, legal.status_legal, legal.class_fits, mta, legal.mta_legal, diagnostic, reason, legal.retry_fits) refl
+
+outcome-back : (outcome : Outcome) → IsLegalOutcome outcome → IsOutcomeOf outcome.service (all_fields_for outcome) outcome
+outcome-back outcome legal = record {
+  service_is = refl;
+  recipient_is = refl;
+  original_is = sym (back outcome.original (said is_address refl outcome.original legal.original_legal));
+  action_is = action-back outcome.action;
+  status_is = refl;
+  mta_is = sym (back outcome.mta (said is_mta_name refl outcome.mta legal.mta_legal));
+  diagnostic_is = sym (rw (clean-optional outcome.diagnostic legal.diagnostic_clean) (back outcome.diagnostic (said is_remark refl outcome.diagnostic legal.diagnostic_clean)));
+  reason_is = sym (rw (clean-optional outcome.reason legal.reason_clean) (back outcome.reason (said is_remark refl outcome.reason legal.reason_clean)));
+  last_attempt_is = refl;
+  retry_until_is = refl;
+}
+
+-- how long they are
+record AreShort (outcome : Outcome) : Type 0 where
+  recipient : length outcome.recipient ≤ longest_address
+  original : length (text_or_empty outcome.original) ≤ longest_address
+  status : length outcome.status ≤ longest_status
+  mta : length (text_or_empty outcome.mta) ≤ longest_mta_name
+  diagnostic : length (text_or_empty outcome.diagnostic) ≤ longest_clean
+  reason : length (text_or_empty outcome.reason) ≤ longest_clean
+
+outcome-short : (outcome : Outcome) → IsLegalOutcome outcome → AreShort outcome
+outcome-short outcome legal = record {
+  recipient = address-short outcome.recipient legal.recipient_legal;
+  original = optional-short is_address longest_address address-short outcome.original legal.original_legal;
+  status = status-short outcome.status legal.status_legal;
+  mta = optional-short is_mta_name longest_mta_name mta-name-short outcome.mta legal.mta_legal;
+  diagnostic = optional-short is_remark longest_clean remark-short outcome.diagnostic legal.diagnostic_clean;
+  reason = optional-short is_remark longest_clean remark-short outcome.reason legal.reason_clean;
+}
+
+-- ---- lengths
+
+pub text_length : (text : List ℕ) → length (text_bytes text) ≡ 2 + length text
+unfolding text_bytes number_bytes
+text_length text = length-append (to_be_bytes w16 (length text)) text
+
+pub head_length : (head : Head) → length (head_bytes head) ≡ 7 + length head.id
+unfolding head_bytes number_bytes
+head_length head = omega (arith, length-append (to_be_bytes w32 head.number) (head.service ∷ text_bytes head.id), text_length head.id)
+
+pub append_length : (fields : RecipientFields) → length (append_bytes fields) ≡ 13 + (length fields.original + (length fields.recipient + (length fields.status + (length fields.mta + (length fields.diagnostic + length fields.reason)))))
+unfolding append_bytes
+append_length fields =
+    omega (
+      arith,
+      length-append (text_bytes fields.original) (text_bytes fields.recipient ++ (fields.action ∷ (text_bytes fields.status ++ (text_bytes fields.mta ++ (text_bytes fields.diagnostic ++ text_bytes fields.reason))))),
+      length-append (text_bytes fields.recipient) (fields.action ∷ (text_bytes fields.status ++ (text_bytes fields.mta ++ (text_bytes fields.diagnostic ++ text_bytes fields.reason)))),
+      length-append (text_bytes fields.status) (text_bytes fields.mta ++ (text_bytes fields.diagnostic ++ text_bytes fields.reason)),
+      length-append (text_bytes fields.mta) (text_bytes fields.diagnostic ++ text_bytes fields.reason),
+      length-append (text_bytes fields.diagnostic) (text_bytes fields.reason),
+      text_length fields.original,
+      text_length fields.recipient,
+      text_length fields.status,
+      text_length fields.mta,
+      text_length fields.diagnostic,
+      text_length fields.reason,
+    )
+
+pub retry_length : (dates : RetryFields) → length (retry_bytes dates) ≡ 16
+unfolding retry_bytes number_bytes
+retry_length dates = length-append (to_be_bytes w64 dates.last_attempt) (to_be_bytes w64 dates.retry_until)
+
+pub dated_length : (fields : RecipientFields) (dates : RetryFields) → length (append_bytes fields ++ retry_bytes dates) ≡ length (append_bytes fields) + 16
+dated_length fields dates = omega (arith, length-append (append_bytes fields) (retry_bytes dates), retry_length dates)
+
+pub flush_length : (fields : FlushFields) → length (flush_bytes fields) ≡ 22 + (length fields.return_path + (length fields.envelope_id + length fields.header))
+unfolding flush_bytes number_bytes
+flush_length fields =
+    omega (
+      arith,
+      length-append (to_be_bytes w64 fields.moment) (to_be_bytes w64 fields.arrival ++ (text_bytes fields.return_path ++ (text_bytes fields.envelope_id ++ text_bytes fields.header))),
+      length-append (to_be_bytes w64 fields.arrival) (text_bytes fields.return_path ++ (text_bytes fields.envelope_id ++ text_bytes fields.header)),
+      length-append (text_bytes fields.return_path) (text_bytes fields.envelope_id ++ text_bytes fields.header),
+      length-append (text_bytes fields.envelope_id) (text_bytes fields.header),
+      text_length fields.return_path,
+      text_length fields.envelope_id,
+      text_length fields.header,
+    )
+
+pub body_length : (wire : WireBody) → length (body_bytes wire) ≡ 9 + (length (head_of wire).id + length (own_bytes wire))
+unfolding body_bytes
+body_length wire = omega (arith, length-append (head_bytes (head_of wire)) (own_bytes wire), head_length (head_of wire))
+
+-- ---- bodies
+
+fields-fit : (outcome : Outcome) → AreShort outcome → FitsAppend (fields_for outcome)
+fields-fit outcome short = record {
+  original = omega (arith, short.original);
+  recipient = omega (arith, short.recipient);
+  status = omega (arith, short.status);
+  mta = omega (arith, short.mta);
+  diagnostic = omega (arith, short.diagnostic);
+  reason = omega (arith, short.reason);
+}
+
+-- an action, six lengths of two bytes, and the texts
+abbrev longest_append : ℕ
+longest_append = 13 + (longest_address + (longest_address + (longest_status + (longest_mta_name + (longest_clean + longest_clean)))))
+
+fields-few : (outcome : Outcome) → AreShort outcome → length (append_bytes (fields_for outcome)) ≤ longest_append
+fields-few outcome short =
+    omega (arith, append_length (fields_for outcome), short.original, short.recipient, short.status, short.mta, short.diagnostic, short.reason)
+
+-- where there are no moments, none are missed
+undated-back : (outcome : Outcome) → IsOutcomeOf outcome.service (all_fields_for outcome) outcome → outcome.last_attempt ≡ None → outcome.retry_until ≡ None
+    → IsOutcomeOf outcome.service (undated_fields (fields_for outcome)) outcome
+undated-back outcome of no_attempt no_retry = record {
+  service_is = of.service_is;
+  recipient_is = of.recipient_is;
+  original_is = of.original_is;
+  action_is = of.action_is;
+  status_is = of.status_is;
+  mta_is = of.mta_is;
+  diagnostic_is = of.diagnostic_is;
+  reason_is = of.reason_is;
+  last_attempt_is = no_attempt;
+  retry_until_is = no_retry;
+}
+
+-- an append without moments
+undated_written : (number : ℕ) (id : List ℕ) (outcome : Outcome) → number < 2 ^ 32 → is_queue_id id ≡ true → IsLegalOutcome outcome → outcome.last_attempt ≡ None → outcome.retry_until ≡ None
+    → IsWritten number (Append id outcome) (AppendFields (head_for 1 number outcome.service id) (fields_for outcome))
+unfolding own_bytes FitsOwn first_own_fault StandsFor
+undated_written number id outcome few legal_id legal no_attempt no_retry =
+    let short = outcome-short outcome legal in
+    let id_short = queue-id-short id legal_id in
+    let accepted : first_outcome_fault outcome.service (undated_fields (fields_for outcome)) ≡ None = rw (no_attempt, no_retry) at (outcome-accepted outcome legal) in
+    let back_again : IsOutcomeOf outcome.service (undated_fields (fields_for outcome)) outcome = undated-back outcome (outcome-back outcome legal) no_attempt no_retry in record {
+      number_is = refl;
+      known = refl;
+      fits = (record { number = few; id = omega (arith, id_short) }, (refl, fields-fit outcome short));
+      own_short = omega (arith, fields-few outcome short);
+      id_short = id_short;
+      accepted = rw (service-back outcome.service, legal_id, accepted) refl;
+      stands_for = record { service_is = service-back outcome.service; id_is = refl; outcome_is = back_again };
+    }
+
+-- an append with its moments, also where it has none
+dated_written : (number : ℕ) (id : List ℕ) (outcome : Outcome) → number < 2 ^ 32 → is_queue_id id ≡ true → IsLegalOutcome outcome
+    → IsWritten number (Append id outcome) (DatedAppendFields (head_for 2 number outcome.service id) (fields_for outcome) (retry_fields_for outcome))
+unfolding own_bytes FitsOwn first_own_fault StandsFor
+dated_written number id outcome few legal_id legal =
+    let short = outcome-short outcome legal in
+    let id_short = queue-id-short id legal_id in
+    let attempt = moment-back outcome.last_attempt legal.last_attempt_dated in
+    let retry = moment-back outcome.retry_until legal.retry_until_dated in
+    let back_again : IsOutcomeOf outcome.service (dated_fields (fields_for outcome) (retry_fields_for outcome)) outcome = rw (attempt, retry) (outcome-back outcome legal) in record {
+      number_is = refl;
+      known = refl;
+      fits = (
+        record { number = few; id = omega (arith, id_short) },
+        (refl, (fields-fit outcome short, record { last_attempt = moment-fits outcome.last_attempt legal.last_attempt_dated; retry_until = moment-fits outcome.retry_until legal.retry_until_dated })),
+      );
+      own_short = omega (arith, fields-few outcome short, dated_length (fields_for outcome) (retry_fields_for outcome));
+      id_short = id_short;
+      accepted = rw (service-back outcome.service, legal_id, attempt, retry, legal.last_attempt_dated, legal.retry_until_dated, outcome-accepted outcome legal) refl;
+      stands_for = record { service_is = service-back outcome.service; id_is = refl; outcome_is = back_again };
+    }
+
+one-written : (number : ℕ) (body : Body) (first second : WireBody) (undated : Bool) → (undated ≡ true → IsWritten number body first) → IsWritten number body second
+    → IsWritten number body (if undated then first else second)
+one-written number body first second true p q = p refl
+one-written number body first second false p q = q
+
+pub append_written : (number : ℕ) (id : List ℕ) (outcome : Outcome) → number < 2 ^ 32 → is_queue_id id ≡ true → IsLegalOutcome outcome → IsWritten number (Append id outcome) (append_written_as number id outcome)
+unfolding append_written_as
+append_written number id outcome few legal_id legal =
+    one-written number (Append id outcome) _ _ (is_none outcome.last_attempt && is_none outcome.retry_until)
+    (λ e.
+    let both = and_parts (is_none outcome.last_attempt) (is_none outcome.retry_until) e in
+    undated_written number id outcome few legal_id legal (none-is outcome.last_attempt both.0) (none-is outcome.retry_until both.1))
+    (dated_written number id outcome few legal_id legal)
+
+flush-accepted : (draft : Draft) → IsLegalDraft draft → first_failed (flush_checks (flush_fields_for draft)) ≡ None
+flush-accepted draft legal =
+    let moment = le-leb _ _ legal.moment_dated in
+    let arrival = le-leb _ _ legal.arrival_dated in
+    let header = le-leb _ _ legal.header_short in
+    let path = back draft.return_path (said is_address refl draft.return_path legal.return_path_legal) in
+    let id = back draft.envelope_id (said is_envelope_id refl draft.envelope_id legal.envelope_id_legal) in
+    rw (moment, arrival, header, path, legal.return_path_legal, id, legal.envelope_id_legal) refl
+
+flush-back : (draft : Draft) → IsLegalDraft draft → draft ≡ draft_of (flush_fields_for draft)
+flush-back draft legal =
+    let path = back draft.return_path (said is_address refl draft.return_path legal.return_path_legal) in
+    let id = back draft.envelope_id (said is_envelope_id refl draft.envelope_id legal.envelope_id_legal) in
+    rw (path, id) refl
+
+pub flush_written : (number : ℕ) (key : Key) (draft : Draft) → number < 2 ^ 32 → is_queue_id key.id ≡ true → IsLegalDraft draft → IsWritten number (Flush key draft) (FlushFieldsOf (head_for 1 number key.service key.id) (flush_fields_for draft))
+unfolding own_bytes FitsOwn first_own_fault StandsFor
+flush_written number key draft few legal_id legal =
+    let id_short = queue-id-short key.id legal_id in
+    let path_short = optional-short is_address longest_address address-short draft.return_path legal.return_path_legal in
+    let envelope_id_short = optional-short is_envelope_id longest_envelope_id envelope-id-short draft.envelope_id legal.envelope_id_legal in record {
+      number_is = refl;
+      known = refl;
+      fits = (
+        record { number = few; id = omega (arith, id_short) },
+        record {
+          moment = omega (arith, legal.moment_dated);
+          arrival = omega (arith, legal.arrival_dated);
+          return_path = omega (arith, path_short);
+          envelope_id = omega (arith, envelope_id_short);
+          header = omega (arith, legal.header_short);
+        },
+      );
+      own_short = omega (arith, flush_length (flush_fields_for draft), path_short, envelope_id_short, legal.header_short);
+      id_short = id_short;
+      accepted = rw (service-back key.service, legal_id, flush-accepted draft legal) refl;
+      stands_for = (record { service_is = service-back key.service; id_is = refl }, flush-back draft legal);
+    }
+
+pub discard_written : (number : ℕ) (key : Key) → number < 2 ^ 32 → is_queue_id key.id ≡ true → IsWritten number (Discard key) (DiscardFields (head_for 1 number key.service key.id))
+unfolding own_bytes FitsOwn first_own_fault StandsFor
+discard_written number key few legal_id =
+    let id_short = queue-id-short key.id legal_id in record {
+      number_is = refl;
+      known = refl;
+      fits = (record { number = few; id = omega (arith, id_short) }, tt);
+      own_short = omega arith;
+      id_short = id_short;
+      accepted = rw (service-back key.service, legal_id) refl;
+      stands_for = record { service_is = service-back key.service; id_is = refl };
+    }
+
+pub forget_written : (number : ℕ) (key : Key) → number < 2 ^ 32 → is_queue_id key.id ≡ true → IsWritten number (Forget key) (ForgetFields (head_for 2 number key.service key.id))
+unfolding own_bytes FitsOwn first_own_fault StandsFor
+forget_written number key few legal_id =
+    let id_short = queue-id-short key.id legal_id in record {
+      number_is = refl;
+      known = refl;
+      fits = (record { number = few; id = omega (arith, id_short) }, tt);
+      own_short = omega arith;
+      id_short = id_short;
+      accepted = rw (service-back key.service, legal_id) refl;
+      stands_for = record { service_is = service-back key.service; id_is = refl };
+    }
+
+-- ---- frames
+
+-- what is written of a body is a frame's body, and encodes it
+pub written_encodes : (number : ℕ) (body : Body) (wire : WireBody) → IsWritten number body wire → Encodes (body_bytes wire) number body
+written_encodes number body wire written = record {
+  wire = wire;
+  laid_out = refl;
+  known = written.known;
+  fits = written.fits;
+  number_is = sym written.number_is;
+  accepted = written.accepted;
+  stands_for = written.stands_for;
+}
+
+pub written_fits : (number : ℕ) (body : Body) (wire : WireBody) → IsWritten number body wire → IsFrameBody (body_bytes wire)
+written_fits number body wire written =
+    let long = body_length wire in
+    (omega (arith, long), omega (arith, long, written.own_short, written.id_short))

@@ -1,0 +1,241 @@
+-- Worked examples of bodies, computed by the definitions.
+use Rattle.std.proofs.Common.{◌≡◌, ℕ, List, [], ◌∷◌, ◌++◌, refl, lit<}
+use Rattle.std.specs.Prelude.{Option, Some, None, codes, replicate}
+use Rattle.std.specs.Option.{option_map}
+use Rattle.dsn_outcome.specs.Outcome.{first_outcome_fault}
+use Rattle.dsn_outcome.specs.Request.{Body, Append, Flush, Forget}
+use Rattle.dsn_text.specs.declared.action.Action.TheVariants.{Failed, Delayed}
+use Rattle.dsn_text.specs.declared.service.Service.TheVariants.{Bounce, Defer}
+use Rattle.dsn_frame.specs.bodies.BodyFault.{body_fault_code}
+use Rattle.dsn_frame.specs.bodies.Request.{first_body_fault, has_kind, first_own_fault, append_written_as, StandsFor, Encodes, fields_written, request_body}
+use Rattle.dsn_frame.specs.bodies.Wire.{AppendFields, FlushFieldsOf, number_at, number_bytes, text_at, text_bytes, head_at, head_bytes, append_at, append_body_at, append_bytes, retry_at, retry_bytes, flush_at, flush_bytes, own_at, body_at, body_bytes, own_bytes, FitsOwn}
+
+-- the number of the refusal, if the body is refused
+abbrev refused : List ℕ → Option ℕ
+refused bytes = option_map body_fault_code (first_body_fault bytes)
+
+-- short bodies
+no_bytes : refused [] ≡ Some 23
+unfolding first_body_fault has_kind first_own_fault body_at head_at text_at number_at own_at
+no_bytes = refl
+
+wrong_version : refused (0 ∷ []) ≡ Some 21
+unfolding first_body_fault has_kind first_own_fault body_at head_at text_at number_at own_at
+wrong_version = refl
+
+wrong_kind : refused (1 ∷ 4 ∷ []) ≡ Some 22
+unfolding first_body_fault has_kind first_own_fault body_at head_at text_at number_at own_at
+wrong_kind = refl
+
+-- a Forget is of version 2; no version is above it
+forget_of_version_one : refused (1 ∷ 4 ∷ 0 ∷ 0 ∷ 0 ∷ 0 ∷ 1 ∷ 0 ∷ 2 ∷ 75 ∷ 49 ∷ []) ≡ Some 22
+unfolding first_body_fault has_kind first_own_fault body_at head_at text_at number_at own_at
+forget_of_version_one = refl
+
+append_of_version_two : refused (2 ∷ 1 ∷ []) ≡ Some 23
+unfolding first_body_fault has_kind first_own_fault body_at head_at text_at number_at own_at
+append_of_version_two = refl
+
+kind_five : refused (2 ∷ 5 ∷ []) ≡ Some 22
+unfolding first_body_fault has_kind first_own_fault body_at head_at text_at number_at own_at
+kind_five = refl
+
+version_three : refused (3 ∷ 4 ∷ 0 ∷ 0 ∷ 0 ∷ 0 ∷ 1 ∷ 0 ∷ 2 ∷ 75 ∷ 49 ∷ []) ≡ Some 21
+unfolding first_body_fault has_kind first_own_fault body_at head_at text_at number_at own_at
+version_three = refl
+
+whole_forget : refused (2 ∷ 4 ∷ 0 ∷ 0 ∷ 0 ∷ 0 ∷ 1 ∷ 0 ∷ 2 ∷ 75 ∷ 49 ∷ []) ≡ None
+unfolding first_body_fault has_kind first_own_fault body_at head_at text_at number_at own_at
+whole_forget = refl
+
+byte_after_forget : refused (2 ∷ 4 ∷ 0 ∷ 0 ∷ 0 ∷ 0 ∷ 1 ∷ 0 ∷ 2 ∷ 75 ∷ 49 ∷ 0 ∷ []) ≡ Some 24
+unfolding first_body_fault has_kind first_own_fault body_at head_at text_at number_at own_at
+byte_after_forget = refl
+
+-- a discard of version 2
+discard_of_version_two : refused (2 ∷ 3 ∷ 0 ∷ 0 ∷ 0 ∷ 0 ∷ 1 ∷ 0 ∷ 2 ∷ 75 ∷ 49 ∷ []) ≡ None
+unfolding first_body_fault has_kind first_own_fault body_at head_at text_at number_at own_at
+discard_of_version_two = refl
+
+kind_alone : refused (1 ∷ 3 ∷ []) ≡ Some 23
+unfolding first_body_fault has_kind first_own_fault body_at head_at text_at number_at own_at
+kind_alone = refl
+
+whole_discard : refused (1 ∷ 3 ∷ 0 ∷ 0 ∷ 0 ∷ 0 ∷ 1 ∷ 0 ∷ 2 ∷ 75 ∷ 49 ∷ []) ≡ None
+unfolding first_body_fault has_kind first_own_fault body_at head_at text_at number_at own_at
+whole_discard = refl
+
+byte_after_discard : refused (1 ∷ 3 ∷ 0 ∷ 0 ∷ 0 ∷ 0 ∷ 1 ∷ 0 ∷ 2 ∷ 75 ∷ 49 ∷ 0 ∷ []) ≡ Some 24
+unfolding first_body_fault has_kind first_own_fault body_at head_at text_at number_at own_at
+byte_after_discard = refl
+
+dash_in_id : refused (1 ∷ 3 ∷ 0 ∷ 0 ∷ 0 ∷ 0 ∷ 1 ∷ 0 ∷ 2 ∷ 75 ∷ 45 ∷ []) ≡ Some 26
+unfolding first_body_fault has_kind first_own_fault body_at head_at text_at number_at own_at
+dash_in_id = refl
+
+service_before_id : refused (1 ∷ 3 ∷ 0 ∷ 0 ∷ 0 ∷ 0 ∷ 4 ∷ 0 ∷ 2 ∷ 75 ∷ 45 ∷ []) ≡ Some 25
+unfolding first_body_fault has_kind first_own_fault body_at head_at text_at number_at own_at
+service_before_id = refl
+
+-- one append and one flush: the bodies of a delivery agent that gives up on one recipient and asks for the notice
+abbrev pub append_body : List ℕ
+append_body =
+    (1 ∷ 1 ∷ 0 ∷ 0 ∷ 0 ∷ 0 ∷ 1 ∷ 0 ∷ 6 ∷ []) ++ codes "A1B2C3" ++ (0 ∷ 0 ∷ 0 ∷ 15 ∷ []) ++ codes "bob@example.org"
+    ++ (1 ∷ 0 ∷ 5 ∷ []) ++ codes "5.1.1" ++ (0 ∷ 0 ∷ 0 ∷ 0 ∷ 0 ∷ 0 ∷ [])
+
+abbrev pub flush_body : List ℕ
+flush_body =
+    (1 ∷ 2 ∷ 0 ∷ 0 ∷ 0 ∷ 1 ∷ 1 ∷ 0 ∷ 6 ∷ []) ++ codes "A1B2C3" ++ (0 ∷ 0 ∷ 0 ∷ 0 ∷ 0x65 ∷ 0x53 ∷ 0xf1 ∷ 0 ∷ [])
+    ++ (0 ∷ 0 ∷ 0 ∷ 0 ∷ 0x65 ∷ 0x53 ∷ 0xe2 ∷ 0xf0 ∷ []) ++ (0 ∷ 15 ∷ []) ++ codes "ann@example.com" ++ (0 ∷ 0 ∷ 0 ∷ 0 ∷ [])
+
+append_is_accepted : refused append_body ≡ None
+unfolding first_body_fault has_kind first_own_fault body_at head_at text_at number_at own_at append_at append_body_at first_outcome_fault
+append_is_accepted = refl
+
+flush_is_accepted : refused flush_body ≡ None
+unfolding first_body_fault has_kind first_own_fault body_at head_at text_at number_at own_at flush_at
+flush_is_accepted = refl
+
+byte_after_append : refused (append_body ++ (0 ∷ [])) ≡ Some 24
+unfolding first_body_fault has_kind first_own_fault body_at head_at text_at number_at own_at append_at append_body_at
+byte_after_append = refl
+
+-- what they ask
+abbrev pub append_asked : Body
+append_asked =
+    Append (codes "A1B2C3") (record {
+      service = Bounce;
+      recipient = codes "bob@example.org";
+      original = None;
+      action = Failed;
+      status = codes "5.1.1";
+      mta = None;
+      diagnostic = None;
+      reason = None;
+      last_attempt = None;
+      retry_until = None;
+    })
+
+abbrev pub flush_asked : Body
+flush_asked =
+    Flush (record { service = Bounce; id = codes "A1B2C3" }) (record {
+      moment = 1700000000;
+      arrival = 1699996400;
+      return_path = Some (codes "ann@example.com");
+      envelope_id = None;
+      header = [];
+    })
+
+pub append_is_encoded : Encodes append_body 0 append_asked
+unfolding body_bytes own_bytes head_bytes append_bytes flush_bytes text_bytes number_bytes FitsOwn first_own_fault StandsFor first_outcome_fault
+append_is_encoded = record {
+  wire = AppendFields (record { version = 1; number = 0; service = 1; id = codes "A1B2C3" }) (record { recipient = codes "bob@example.org"; original = []; action = 1; status = codes "5.1.1"; mta = []; diagnostic = []; reason = [] });
+  laid_out = refl;
+  known = refl;
+  fits = (record { number = lit< tt; id = lit< tt }, (refl, record { original = lit< tt; recipient = lit< tt; status = lit< tt; mta = lit< tt; diagnostic = lit< tt; reason = lit< tt }));
+  number_is = refl;
+  accepted = refl;
+  stands_for = record {
+    service_is = refl;
+    id_is = refl;
+    outcome_is = record { service_is = refl; recipient_is = refl; original_is = refl; action_is = refl; status_is = refl; mta_is = refl; diagnostic_is = refl; reason_is = refl; last_attempt_is = refl; retry_until_is = refl };
+  };
+}
+
+pub flush_is_encoded : Encodes flush_body 1 flush_asked
+unfolding body_bytes own_bytes head_bytes append_bytes flush_bytes text_bytes number_bytes FitsOwn first_own_fault StandsFor
+flush_is_encoded = record {
+  wire = FlushFieldsOf (record { version = 1; number = 1; service = 1; id = codes "A1B2C3" }) (record { moment = 1700000000; arrival = 1699996400; return_path = codes "ann@example.com"; envelope_id = []; header = [] });
+  laid_out = refl;
+  known = refl;
+  fits = (record { number = lit< tt; id = lit< tt }, record { moment = lit< tt; arrival = lit< tt; return_path = lit< tt; envelope_id = lit< tt; header = lit< tt });
+  number_is = refl;
+  accepted = refl;
+  stands_for = (record { service_is = refl; id_is = refl }, refl);
+}
+
+-- and what they ask is written as these bodies
+append_is_written : request_body 0 append_asked ≡ append_body
+unfolding request_body fields_written append_written_as body_bytes own_bytes head_bytes append_bytes text_bytes number_bytes
+append_is_written = refl
+
+flush_is_written : request_body 1 flush_asked ≡ flush_body
+unfolding request_body fields_written body_bytes own_bytes head_bytes flush_bytes text_bytes number_bytes
+flush_is_written = refl
+
+-- a Forget, as it is written
+forget_is_written : request_body 0 (Forget (record { service = Bounce; id = codes "K1" })) ≡ 2 ∷ 4 ∷ 0 ∷ 0 ∷ 0 ∷ 0 ∷ 1 ∷ 0 ∷ 2 ∷ 75 ∷ 49 ∷ []
+unfolding request_body fields_written body_bytes own_bytes head_bytes text_bytes number_bytes
+forget_is_written = refl
+
+-- a delayed recipient, with its two moments: the body of a version 2 append, and what it asks
+abbrev with_moments : List ℕ → List ℕ → List ℕ
+with_moments last_attempt retry_until =
+    (2 ∷ 1 ∷ 0 ∷ 0 ∷ 0 ∷ 0 ∷ 2 ∷ 0 ∷ 2 ∷ []) ++ codes "X1" ++ (0 ∷ 0 ∷ 0 ∷ 15 ∷ []) ++ codes "bob@example.org"
+    ++ (2 ∷ 0 ∷ 5 ∷ []) ++ codes "4.4.1" ++ (0 ∷ 0 ∷ 0 ∷ 0 ∷ 0 ∷ 0 ∷ []) ++ last_attempt ++ retry_until
+
+abbrev delayed_body : List ℕ
+delayed_body = with_moments (0 ∷ 0 ∷ 0 ∷ 0 ∷ 0x65 ∷ 0x53 ∷ 0xf1 ∷ 0 ∷ []) (0 ∷ 0 ∷ 0 ∷ 0 ∷ 0x65 ∷ 0x5a ∷ 0x88 ∷ 0x80 ∷ [])
+
+delayed_is_accepted : refused delayed_body ≡ None
+unfolding first_body_fault first_own_fault body_at head_at text_at number_at own_at append_at append_body_at retry_at has_kind first_outcome_fault
+delayed_is_accepted = refl
+
+delayed_is_written :
+    request_body 0 (Append (codes "X1") (record {
+      service = Defer;
+      recipient = codes "bob@example.org";
+      original = None;
+      action = Delayed;
+      status = codes "4.4.1";
+      mta = None;
+      diagnostic = None;
+      reason = None;
+      last_attempt = Some 1700000000;
+      retry_until = Some 1700432000;
+    })) ≡ delayed_body
+unfolding request_body fields_written append_written_as body_bytes own_bytes head_bytes append_bytes retry_bytes text_bytes number_bytes
+delayed_is_written = refl
+
+-- all ones are no moment; a first second of the year 10000 is none
+moments_missing : refused (with_moments (replicate 8 255) (replicate 8 255)) ≡ None
+unfolding first_body_fault first_own_fault body_at head_at text_at number_at own_at append_at append_body_at retry_at has_kind first_outcome_fault
+moments_missing = refl
+
+attempt_in_year_ten_thousand : refused (with_moments (0 ∷ 0 ∷ 0 ∷ 0x3a ∷ 0xff ∷ 0xf4 ∷ 0x41 ∷ 0x80 ∷ []) (replicate 8 255)) ≡ Some 27
+unfolding first_body_fault first_own_fault body_at head_at text_at number_at own_at append_at append_body_at retry_at has_kind first_outcome_fault
+attempt_in_year_ten_thousand = refl
+
+byte_after_moments : refused (with_moments (replicate 8 255) (replicate 9 255)) ≡ Some 24
+unfolding first_body_fault first_own_fault body_at head_at text_at number_at own_at append_at append_body_at retry_at has_kind
+byte_after_moments = refl
+
+moments_cut : refused (with_moments (replicate 8 255) (replicate 7 255)) ≡ Some 23
+unfolding first_body_fault first_own_fault body_at head_at text_at number_at own_at append_at append_body_at retry_at has_kind
+moments_cut = refl
+
+-- statuses that are none, and one of a class that a failure can't have
+abbrev append_with_status : ℕ → List ℕ → List ℕ
+append_with_status size status =
+    (1 ∷ 1 ∷ 0 ∷ 0 ∷ 0 ∷ 0 ∷ 1 ∷ 0 ∷ 2 ∷ []) ++ codes "K1" ++ (0 ∷ 0 ∷ 0 ∷ 3 ∷ []) ++ codes "x@y" ++ (1 ∷ 0 ∷ size ∷ []) ++ status
+    ++ (0 ∷ 0 ∷ 0 ∷ 0 ∷ 0 ∷ 0 ∷ [])
+
+status_with_leading_zero : refused (append_with_status 6 (codes "5.01.1")) ≡ Some 4
+unfolding first_body_fault has_kind first_own_fault body_at head_at text_at number_at own_at append_at append_body_at first_outcome_fault
+status_with_leading_zero = refl
+
+status_of_unknown_class : refused (append_with_status 5 (codes "3.0.0")) ≡ Some 4
+unfolding first_body_fault has_kind first_own_fault body_at head_at text_at number_at own_at append_at append_body_at first_outcome_fault
+status_of_unknown_class = refl
+
+status_with_four_digits : refused (append_with_status 8 (codes "5.1000.1")) ≡ Some 4
+unfolding first_body_fault has_kind first_own_fault body_at head_at text_at number_at own_at append_at append_body_at first_outcome_fault
+status_with_four_digits = refl
+
+status_of_success : refused (append_with_status 5 (codes "2.0.0")) ≡ Some 5
+unfolding first_body_fault has_kind first_own_fault body_at head_at text_at number_at own_at append_at append_body_at first_outcome_fault
+status_of_success = refl
+
+status_of_delay : refused (append_with_status 5 (codes "4.4.7")) ≡ None
+unfolding first_body_fault has_kind first_own_fault body_at head_at text_at number_at own_at append_at append_body_at first_outcome_fault
+status_of_delay = refl

@@ -1,0 +1,50 @@
+-- The fields of a body as the program's references hold them.
+use Rattle.dsn_frame.specs.bodies.Wire.{Head, RecipientFields, RetryFields, FlushFields, WireBody, AppendFields, DatedAppendFields, FlushFieldsOf, DiscardFields, ForgetFields}
+use Rattle.dsn_frame.specs.declared.bodies.parts.BodyParts.{BodyParts}
+use Rattle.dsn_frame.specs.declared.bodies.parts.BodyParts.TheVariants as parts
+use Rattle.dsn_frame.specs.declared.bodies.parts.FlushParts.{FlushParts}
+use Rattle.dsn_frame.specs.declared.bodies.parts.HeadParts.{HeadParts}
+use Rattle.dsn_frame.specs.declared.bodies.parts.RecipientParts.{RecipientParts}
+use Rattle.dsn_frame.specs.declared.bodies.parts.RetryParts.{RetryParts}
+
+-- the texts that the references point to
+abbrev pub head_in : HeadParts → Head
+head_in parts =
+    record {
+      version = parts.version;
+      number = parts.number;
+      service = parts.service;
+      id = parts.id.now;
+    }
+
+abbrev pub recipient_fields_in : RecipientParts → RecipientFields
+recipient_fields_in parts = record {
+  recipient = parts.recipient.now;
+  original = parts.original.now;
+  action = parts.action;
+  status = parts.status.now;
+  mta = parts.mta.now;
+  diagnostic = parts.diagnostic.now;
+  reason = parts.reason.now;
+}
+
+abbrev pub retry_fields_in : RetryParts → RetryFields
+retry_fields_in parts =
+    record { last_attempt = parts.last_attempt; retry_until = parts.retry_until }
+
+abbrev pub flush_fields_in : FlushParts → FlushFields
+flush_fields_in parts = record {
+  moment = parts.moment;
+  arrival = parts.arrival;
+  return_path = parts.return_path.now;
+  envelope_id = parts.envelope_id.now;
+  header = parts.header.now;
+}
+
+abbrev pub wire_body_in : BodyParts → WireBody
+wire_body_in (parts.Append head fields) = AppendFields (head_in head) (recipient_fields_in fields)
+wire_body_in (parts.DatedAppend head fields dates) =
+    DatedAppendFields (head_in head) (recipient_fields_in fields) (retry_fields_in dates)
+wire_body_in (parts.Flush head fields) = FlushFieldsOf (head_in head) (flush_fields_in fields)
+wire_body_in (parts.Discard head) = DiscardFields (head_in head)
+wire_body_in (parts.Forget head) = ForgetFields (head_in head)

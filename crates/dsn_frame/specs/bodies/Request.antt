@@ -1,0 +1,256 @@
+-- Requests in bytes: which body some bytes stand for, and why they are refused where they stand for
+-- none (this project's profile, versions 1 and 2).
+use Rattle.std.specs.Prelude.{◌≡◌, ℕ, ◌+◌, Bool, true, false, ◌&&◌, ◌==◌, nat_le, List, [], ◌∷◌, length, ◌≤◌, Option, Some, None, is_none, is_some, if◌then◌else◌, slice_get, option_and_then}
+use Rattle.std.specs.Option.{option_map, option_map_or}
+use Rattle.dsn_text.specs.Action.{action_byte}
+use Rattle.dsn_outcome.specs.Draft.{Draft}
+use Rattle.dsn_outcome.specs.Outcome.{Outcome, Fields, IsOutcomeOf, first_outcome_fault, first_failed}
+use Rattle.dsn_text.specs.Optional.{is_none_or, unless_empty}
+use Rattle.dsn_outcome.specs.Request.{Body, Append, Flush, Discard, Forget, Bye}
+use Rattle.dsn_text.specs.Service.{service_byte, service_of_byte}
+use Rattle.dsn_text.specs.Stamp.{last_moment, is_moment}
+use Rattle.dsn_text.specs.Text.{is_queue_id, is_address, is_envelope_id, longest_address, longest_envelope_id, longest_header, longest_queue_id}
+use Rattle.dsn_text.specs.declared.key.Key.{Key}
+use Rattle.dsn_text.specs.declared.service.Service.{Service}
+use Rattle.dsn_frame.specs.bodies.BodyFault.{outcome_refusal}
+use Rattle.dsn_frame.specs.bodies.FrameBody.{frame}
+use Rattle.dsn_frame.specs.bodies.Wire.{Head, RecipientFields, RetryFields, FlushFields, WireBody, AppendFields, DatedAppendFields, FlushFieldsOf, DiscardFields, ForgetFields, is_version, is_kind, is_known, head_of, own_bytes, body_bytes, Fits, body_at}
+use Rattle.dsn_frame.specs.declared.bodies.body_fault.BodyFault.{BodyFault}
+use Rattle.dsn_frame.specs.declared.bodies.body_fault.BodyFault.TheVariants as faults
+
+-- ---- refusals
+
+-- the second byte, if there is one, is a kind of the version that the first byte is
+unfoldable pub has_kind : List ℕ → Bool
+has_kind bytes =
+    option_map_or (λ version. option_map_or (is_kind version) (slice_get bytes 1) true)
+    (slice_get bytes 0) true
+
+-- a first and a second byte that there are must be right; then the fields must end where the body
+-- does
+abbrev pub layout_checks : List ℕ → List (Bool × BodyFault)
+layout_checks bytes =
+    (option_map_or is_version (slice_get bytes 0) true, faults.Version)
+    ∷ (has_kind bytes, faults.Kind)
+    ∷ (is_some (body_at bytes), faults.Short)
+    ∷ (option_map_or (λ read. length read.1 == 0) (body_at bytes) false, faults.Extra)
+    ∷ []
+
+abbrev pub head_checks : Head → List (Bool × BodyFault)
+head_checks head =
+    (is_some (service_of_byte head.service), faults.Service)
+    ∷ (is_queue_id head.id, faults.QueueId)
+    ∷ []
+
+abbrev pub flush_checks : FlushFields → List (Bool × BodyFault)
+flush_checks fields =
+    (nat_le fields.moment last_moment && nat_le fields.arrival last_moment, faults.Moment)
+    ∷ (nat_le (length fields.header) longest_header, faults.Header)
+    ∷ (is_none_or is_address (unless_empty fields.return_path), faults.ReturnPath)
+    ∷ (is_none_or is_envelope_id (unless_empty fields.envelope_id), faults.EnvelopeId)
+    ∷ []
+
+-- the first of two faults
+abbrev pub or_else : {F : Type 0} → Option F → Option F → Option F
+or_else (Some fault) later = Some fault
+or_else None later = later
+
+-- the number that stands for no moment: all ones
+abbrev pub no_moment : ℕ
+no_moment = 18_446_744_073_709_551_615
+
+-- the moment that a number of a version 2 append stands for
+abbrev pub moment_if_any : ℕ → Option ℕ
+moment_if_any seconds = if seconds == no_moment then None else Some seconds
+
+abbrev pub retry_checks : RetryFields → List (Bool × BodyFault)
+retry_checks dates = (
+  is_none_or is_moment (moment_if_any dates.last_attempt)
+      && is_none_or is_moment (moment_if_any dates.retry_until),
+  faults.Moment,
+)
+    ∷ []
+
+-- the outcome's fields of an append with these moments
+abbrev pub outcome_fields : RecipientFields → Option ℕ → Option ℕ → Fields
+outcome_fields fields last_attempt retry_until = record {
+  recipient = fields.recipient;
+  original = fields.original;
+  action = fields.action;
+  status = fields.status;
+  mta = fields.mta;
+  diagnostic = fields.diagnostic;
+  reason = fields.reason;
+  last_attempt = last_attempt;
+  retry_until = retry_until;
+}
+
+-- the outcome's fields of an append of version 1, and of a later one
+abbrev pub undated_fields : RecipientFields → Fields
+undated_fields fields = outcome_fields fields None None
+
+abbrev pub dated_fields : RecipientFields → RetryFields → Fields
+dated_fields fields dates =
+    outcome_fields fields (moment_if_any dates.last_attempt) (moment_if_any dates.retry_until)
+
+-- the first fault of an append's outcome, which is one of its service
+abbrev pub first_append_fault : Head → Fields → Option BodyFault
+first_append_fault head fields =
+    option_and_then (λ service. option_map outcome_refusal (first_outcome_fault service fields))
+    (service_of_byte head.service)
+
+-- the first fault of the fields of a body's kind; an append's moments are judged before its outcome
+unfoldable pub first_own_fault : WireBody → Option BodyFault
+first_own_fault (AppendFields head fields) = first_append_fault head (undated_fields fields)
+first_own_fault (DatedAppendFields head fields dates) =
+    or_else (first_failed (retry_checks dates))
+    (first_append_fault head (dated_fields fields dates))
+first_own_fault (FlushFieldsOf head fields) = first_failed (flush_checks fields)
+first_own_fault (DiscardFields head) = None
+first_own_fault (ForgetFields head) = None
+
+-- the first fault of a body's fields: those of its key come first
+abbrev pub first_field_fault : WireBody → Option BodyFault
+first_field_fault wire = or_else (first_failed (head_checks (head_of wire))) (first_own_fault wire)
+
+-- the first fault of a body, if it has one: its layout is judged before its fields
+unfoldable pub first_body_fault : List ℕ → Option BodyFault
+first_body_fault bytes =
+    or_else (first_failed (layout_checks bytes))
+    (option_and_then (λ read. first_field_fault read.0) (body_at bytes))
+
+-- bytes that hold exactly the fields of one body
+pub record IsWhole (bytes : List ℕ) (wire : WireBody) : Type 0 where
+  pub accepted : first_failed (layout_checks bytes) ≡ None
+  pub read : body_at bytes ≡ Some (wire, [])
+
+-- ---- what a body stands for
+
+-- the draft that a flush's fields stand for
+abbrev pub draft_of : FlushFields → Draft
+draft_of fields = record {
+  moment = fields.moment;
+  arrival = fields.arrival;
+  return_path = unless_empty fields.return_path;
+  envelope_id = unless_empty fields.envelope_id;
+  header = fields.header;
+}
+
+pub record IsKeyOf (head : Head) (key : Key) : Type 0 where
+  pub service_is : service_of_byte head.service ≡ Some key.service
+  pub id_is : key.id ≡ head.id
+
+pub record IsAppendOf (head : Head) (fields : Fields) (id : List ℕ)
+    (outcome : Outcome) : Type 0 where
+  pub service_is : service_of_byte head.service ≡ Some outcome.service
+  pub id_is : id ≡ head.id
+  pub outcome_is : IsOutcomeOf outcome.service fields outcome
+
+-- the request that fields stand for; the values are theirs, but that an outcome's diagnostic and
+-- reason are cleaned
+unfoldable pub StandsFor : WireBody → Body → Type 0
+StandsFor (AppendFields head fields) (Append id outcome) =
+    IsAppendOf head (undated_fields fields) id outcome
+StandsFor (DatedAppendFields head fields dates) (Append id outcome) =
+    IsAppendOf head (dated_fields fields dates) id outcome
+StandsFor (FlushFieldsOf head fields) (Flush key draft) =
+    IsKeyOf head key × (draft ≡ draft_of fields)
+StandsFor (DiscardFields head) (Discard key) = IsKeyOf head key
+StandsFor (ForgetFields head) (Forget key) = IsKeyOf head key
+StandsFor wire body = ⊥
+
+-- bytes that are laid out as a request with this number and body, in a version that has its kind; a
+-- goodbye has no bytes
+pub record Encodes (bytes : List ℕ) (number : ℕ) (body : Body) : Type 0 where
+  pub wire : WireBody
+  pub laid_out : bytes ≡ body_bytes wire
+  pub known : is_known wire ≡ true
+  pub fits : Fits wire
+  pub number_is : number ≡ (head_of wire).number
+  pub accepted : first_field_fault wire ≡ None
+  pub stands_for : StandsFor wire body
+
+-- ---- how a request is written
+
+-- a text that is there, or the empty one
+abbrev pub text_or_empty : Option (List ℕ) → List ℕ
+text_or_empty None = []
+text_or_empty (Some text) = text
+
+abbrev pub head_for : ℕ → ℕ → Service → List ℕ → Head
+head_for version number service id =
+    record { version = version; number = number; service = service_byte service; id = id }
+
+-- an outcome's texts are written as it keeps them, so its diagnostic and its reason clean
+abbrev pub fields_for : Outcome → RecipientFields
+fields_for outcome = record {
+  recipient = outcome.recipient;
+  original = text_or_empty outcome.original;
+  action = action_byte outcome.action;
+  status = outcome.status;
+  mta = text_or_empty outcome.mta;
+  diagnostic = text_or_empty outcome.diagnostic;
+  reason = text_or_empty outcome.reason;
+}
+
+-- a moment that is there, or all ones
+abbrev pub moment_or_none : Option ℕ → ℕ
+moment_or_none None = no_moment
+moment_or_none (Some moment) = moment
+
+abbrev pub retry_fields_for : Outcome → RetryFields
+retry_fields_for outcome = record {
+  last_attempt = moment_or_none outcome.last_attempt;
+  retry_until = moment_or_none outcome.retry_until;
+}
+
+-- an append is written in version 1 where its outcome has neither of the two moments
+unfoldable pub append_written_as : ℕ → List ℕ → Outcome → WireBody
+append_written_as number id outcome =
+    if is_none outcome.last_attempt && is_none outcome.retry_until
+    then AppendFields (head_for 1 number outcome.service id) (fields_for outcome)
+    else DatedAppendFields (head_for 2 number outcome.service id) (fields_for outcome)
+    (retry_fields_for outcome)
+
+abbrev pub flush_fields_for : Draft → FlushFields
+flush_fields_for draft = record {
+  moment = draft.moment;
+  arrival = draft.arrival;
+  return_path = text_or_empty draft.return_path;
+  envelope_id = text_or_empty draft.envelope_id;
+  header = draft.header;
+}
+
+-- the fields that are written of a body with this number, in the lowest version that can say it; a
+-- goodbye has none
+unfoldable pub fields_written : ℕ → Body → Option WireBody
+fields_written number (Append id outcome) = Some (append_written_as number id outcome)
+fields_written number (Flush key draft) =
+    Some (FlushFieldsOf (head_for 1 number key.service key.id) (flush_fields_for draft))
+fields_written number (Discard key) = Some (DiscardFields (head_for 1 number key.service key.id))
+fields_written number (Forget key) = Some (ForgetFields (head_for 2 number key.service key.id))
+fields_written number Bye = None
+
+-- the most bytes that follow the queue id of a written body: a flush's, whose two moments and three
+-- lengths take 22, and each of whose texts is as long as it may be
+abbrev pub longest_own : ℕ
+longest_own = 22 + (longest_address + (longest_envelope_id + longest_header))
+
+-- fields that are written of a body: no check fails, they stand for the body, and a frame holds
+-- them
+pub record IsWritten (number : ℕ) (body : Body) (wire : WireBody) : Type 0 where
+  pub number_is : (head_of wire).number ≡ number
+  pub known : is_known wire ≡ true
+  pub fits : Fits wire
+  pub id_short : length (head_of wire).id ≤ longest_queue_id
+  pub own_short : length (own_bytes wire) ≤ longest_own
+  pub accepted : first_field_fault wire ≡ None
+  pub stands_for : StandsFor wire body
+
+-- the bytes that are written of a body; of a goodbye none
+unfoldable pub request_body : ℕ → Body → List ℕ
+request_body number body = option_map_or body_bytes (fields_written number body) []
+
+-- a request's frame
+unfoldable pub request_bytes : ℕ → Body → List ℕ
+request_bytes number body = frame (request_body number body)

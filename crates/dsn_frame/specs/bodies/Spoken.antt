@@ -1,0 +1,115 @@
+-- Answers in bytes: which bytes stand for an answer, and why some bytes stand for none (this
+-- project's profile, version 1).
+use Rattle.std.specs.Prelude.{ℕ, suc, ◌<◌, ◌^◌, Bool, true, ◌&&◌, ◌||◌, not, ◌==◌, nat_le, List, [], ◌∷◌, ◌++◌, length, drop, Option, slice_get}
+use Rattle.std.specs.Int.{w32, to_be_bytes, from_be_bytes}
+use Rattle.std.specs.Option.{option_map_or}
+use Rattle.dsn_outcome.specs.Outcome.{first_failed}
+use Rattle.dsn_outcome.specs.declared.answer.Reply.{Reply}
+use Rattle.dsn_outcome.specs.declared.answer.Reply.TheVariants.{Logged, Closed, TableFull, LogFull, Nothing, NoReturn, Sealed, Discarded, Gone, Forgotten, NotClosed}
+use Rattle.dsn_frame.specs.bodies.FrameBody.{frame}
+use Rattle.dsn_frame.specs.declared.bodies.answer_fault.AnswerFault.{AnswerFault}
+use Rattle.dsn_frame.specs.declared.bodies.answer_fault.AnswerFault.TheVariants as faults
+use Rattle.dsn_frame.specs.declared.bodies.spoken.Spoken.{Spoken}
+use Rattle.dsn_frame.specs.declared.bodies.spoken.Spoken.TheVariants as spoken
+
+-- ---- how an answer is written
+
+-- the byte of each reply
+abbrev pub reply_kind : Reply → ℕ
+reply_kind (Logged place) = 1
+reply_kind Closed = 2
+reply_kind TableFull = 3
+reply_kind LogFull = 4
+reply_kind Nothing = 5
+reply_kind (NoReturn count) = 6
+reply_kind (Sealed count) = 7
+reply_kind (Discarded count) = 8
+reply_kind Gone = 9
+reply_kind Forgotten = 11
+reply_kind NotClosed = 12
+
+-- the number in a reply: a place in a log, or a count of outcomes; 0 in a reply without one
+abbrev pub reply_value : Reply → ℕ
+reply_value (Logged place) = place
+reply_value Closed = 0
+reply_value TableFull = 0
+reply_value LogFull = 0
+reply_value Nothing = 0
+reply_value (NoReturn count) = count
+reply_value (Sealed count) = count
+reply_value (Discarded count) = count
+reply_value Gone = 0
+reply_value Forgotten = 0
+reply_value NotClosed = 0
+
+-- a refusal has a byte of its own, and its number as value
+abbrev pub spoken_kind : Spoken → ℕ
+spoken_kind (spoken.Reply reply) = reply_kind reply
+spoken_kind (spoken.Refused code) = 10
+
+abbrev pub spoken_value : Spoken → ℕ
+spoken_value (spoken.Reply reply) = reply_value reply
+spoken_value (spoken.Refused code) = code
+
+-- an answer's body: version 1, the byte of what is said, the place of the frame that is answered,
+-- and the value
+unfoldable pub answer_body : ℕ → Spoken → List ℕ
+answer_body number said =
+    1 ∷ spoken_kind said ∷ (to_be_bytes w32 number ++ to_be_bytes w32 (spoken_value said))
+
+-- an answer's frame
+unfoldable pub answer_bytes : ℕ → Spoken → List ℕ
+answer_bytes number said = frame (answer_body number said)
+
+-- the frames of answers to the frames from this place on
+unfoldable pub answer_frames_from : ℕ → List Spoken → List ℕ
+answer_frames_from place [] = []
+answer_frames_from place (answer ∷ rest) =
+    answer_bytes place answer ++ answer_frames_from (suc place) rest
+
+-- both numbers fit four bytes
+pub record FitsAnswer (number : ℕ) (said : Spoken) : Type 0 where
+  pub number_fits : number < 2 ^ 32
+  pub value_fits : spoken_value said < 2 ^ 32
+
+-- ---- replies
+
+-- the reply that an answer is, if it is one
+abbrev pub reply_of : Spoken → List Reply
+reply_of (spoken.Reply reply) = reply ∷ []
+reply_of (spoken.Refused code) = []
+
+-- ---- refusals
+
+-- the bytes of replies and of a refusal
+abbrev pub is_spoken_kind : ℕ → Bool
+is_spoken_kind kind = nat_le 1 kind && nat_le kind 12
+
+-- the bytes of replies that have no value: closed, table full, log full, nothing, gone, forgotten,
+-- and not closed
+abbrev pub is_without_value : ℕ → Bool
+is_without_value kind =
+    (nat_le 2 kind && nat_le kind 5) || ((kind == 9) || (nat_le 11 kind && nat_le kind 12))
+
+-- the value, which is the last four of ten bytes
+abbrev pub value_at : List ℕ → ℕ
+value_at bytes = from_be_bytes w32 (drop 6 bytes)
+
+-- a first and a second byte that there are must be right; then there must be ten bytes; then a
+-- reply without a value must have none
+abbrev pub answer_checks : List ℕ → List (Bool × AnswerFault)
+answer_checks bytes =
+    (option_map_or (λ version. version == 1) (slice_get bytes 0) true, faults.Version)
+    ∷ (option_map_or is_spoken_kind (slice_get bytes 1) true, faults.Kind)
+    ∷ (nat_le 10 (length bytes), faults.Short)
+    ∷ (nat_le (length bytes) 10, faults.Extra)
+    ∷ (
+      option_map_or (λ kind. not (is_without_value kind) || (value_at bytes == 0))
+          (slice_get bytes 1) true,
+      faults.Value,
+    )
+    ∷ []
+
+-- the first fault of an answer's body, if it has one
+unfoldable pub first_answer_fault : List ℕ → Option AnswerFault
+first_answer_fault bytes = first_failed (answer_checks bytes)

@@ -1,0 +1,26 @@
+//! Requests and answers in bytes: the bodies of frames to requests and back, answers to frames and
+//! back, and why bytes are neither (docs/FORMATS.md, sections 2 to 6).
+mod answer;
+mod answer_fault;
+mod body_fault;
+mod decode;
+mod encode;
+mod laws;
+mod parts;
+mod read_fields;
+mod spoken;
+mod write_fields;
+
+pub use answer::{decode_answer, encode_answer};
+pub use answer_fault::AnswerFault;
+pub use body_fault::BodyFault;
+pub use decode::decode_request;
+pub use encode::encode_request;
+pub use laws::bodies_are_requests_or_refused;
+pub use spoken::Spoken;
+
+/// The first version of the format: the first byte of each answer's body, and of most requests'.
+const VERSION: u8 = 1;
+
+/// The second version: the first byte of a Forget's body, and of an append's with moments.
+const SECOND_VERSION: u8 = 2;

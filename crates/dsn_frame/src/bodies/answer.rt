@@ -1,0 +1,130 @@
+//! Answers to frames, and back.
+ghost use Rattle.std.specs.Prelude.{◌≡◌, ◌≢◌, ℕ, ◌≤◌, length, true, IfOk, IfErr, IfSome, OnOk, Ok, Some, None};
+ghost use Rattle.std.specs.Int.{w32, from_be_bytes, to_be_bytes};
+ghost use Rattle.dsn_frame.specs.bodies.Spoken.{FitsAnswer, answer_body, answer_bytes, first_answer_fault, is_without_value, reply_kind, reply_value, spoken_kind, spoken_value};
+
+use crate::bodies::VERSION;
+use crate::bodies::answer_fault::AnswerFault;
+use crate::bodies::spoken::Spoken;
+use dsn_outcome::Reply;
+
+/// How many bytes an answer's body has.
+const BODY: usize = 10;
+
+/// The byte of a refusal.
+const REFUSED: u8 = 10;
+
+/// The last byte of a reply.
+const LAST: u8 = 12;
+
+/// The frame of an answer to the frame at this place: a length of 10, and the ten bytes of its
+/// body.
+#[tactic(auto, unfolding(crate::specs::bodies::Spoken::answer_bytes, crate::specs::bodies::Spoken::answer_body))]
+pub fn encode_answer(number: u32, answer: &Spoken) -> [u8; 14]
+    ensures { result ≡ answer_bytes number answer.now }
+{
+    let (kind, value) = fields_of(*answer);
+    let [n0, n1, n2, n3] = number.to_be_bytes();
+    let [v0, v1, v2, v3] = value.to_be_bytes();
+    [
+        0, 0, 0, BODY as u8, VERSION, kind, n0, n1, n2, n3, v0, v1, v2, v3,
+    ]
+}
+
+/// The place of the frame that is answered, and the answer. A fault is the first one in the order
+/// of `AnswerFault`'s variants. It takes no memory.
+#[tactic(auto, unfolding(crate::specs::bodies::Spoken::first_answer_fault, crate::specs::bodies::Spoken::answer_body))]
+pub fn decode_answer(bytes: &[u8]) -> Result<(u32, Spoken), AnswerFault>
+    ensures encoded { IfOk result (λ read. bytes.now ≡ answer_body read.0 read.1) }
+    ensures fits { IfOk result (λ read. FitsAnswer read.0 read.1) }
+    ensures exact { (number : ℕ) (said : Spoken) → FitsAnswer number said
+        → bytes.now ≡ answer_body number said → result ≡ Ok (number, said) }
+    ensures accepted { OnOk result (first_answer_fault bytes.now ≡ None) }
+    ensures refused { IfErr result (λ fault. first_answer_fault bytes.now ≡ Some fault) }
+{
+    if bytes.first().is_some_and(|version| *version != VERSION) {
+        return Err(AnswerFault::Version);
+    }
+    if bytes.get(1).is_some_and(|kind| *kind < 1 || LAST < *kind) {
+        return Err(AnswerFault::Kind);
+    }
+    if bytes.len() < BODY {
+        return Err(AnswerFault::Short);
+    }
+    if bytes.len() > BODY {
+        return Err(AnswerFault::Extra);
+    }
+    let number = number_in(&bytes[2..6]);
+    let value = number_in(&bytes[6..]);
+    let answer = answer_from(bytes[1], value).ok_or(AnswerFault::Value)?;
+    Ok((number, answer))
+}
+
+/// The byte and the value of an answer.
+fn fields_of(answer: Spoken) -> (u8, u32)
+    ensures kind { result.0 ≡ spoken_kind answer }
+    ensures value { result.1 ≡ spoken_value answer }
+{
+    match answer {
+        Spoken::Reply(reply) => reply_fields(reply),
+        Spoken::Refused(code) => (REFUSED, code),
+    }
+}
+
+/// The byte and the value of a reply.
+fn reply_fields(reply: Reply) -> (u8, u32)
+    ensures kind { result.0 ≡ reply_kind reply }
+    ensures value { result.1 ≡ reply_value reply }
+{
+    match reply {
+        Reply::Logged(place) => (1, place),
+        Reply::Closed => (2, 0),
+        Reply::TableFull => (3, 0),
+        Reply::LogFull => (4, 0),
+        Reply::Nothing => (5, 0),
+        Reply::NoReturn(count) => (6, count),
+        Reply::Sealed(count) => (7, count),
+        Reply::Discarded(count) => (8, count),
+        Reply::Gone => (9, 0),
+        Reply::Forgotten => (11, 0),
+        Reply::NotClosed => (12, 0),
+    }
+}
+
+/// The answer with this byte and this value; none where the byte's reply has no value and this is
+/// one.
+fn answer_from(kind: u8, value: u32) -> Option<Spoken>
+    requires low { 1 ≤ kind }
+    requires high { kind ≤ LAST }
+    ensures kind { IfSome result (λ said. spoken_kind said ≡ kind) }
+    ensures value { IfSome result (λ said. spoken_value said ≡ value) }
+    ensures without { result ≡ None → is_without_value kind ≡ true }
+    ensures some { result ≡ None → value ≢ 0 }
+{
+    let reply = match kind {
+        1 => Reply::Logged(value),
+        6 => Reply::NoReturn(value),
+        7 => Reply::Sealed(value),
+        8 => Reply::Discarded(value),
+        REFUSED => return Some(Spoken::Refused(value)),
+        _ if value != 0 => return None,
+        2 => Reply::Closed,
+        3 => Reply::TableFull,
+        4 => Reply::LogFull,
+        5 => Reply::Nothing,
+        9 => Reply::Gone,
+        11 => Reply::Forgotten,
+        _ => Reply::NotClosed,
+    };
+    Some(Spoken::Reply(reply))
+}
+
+/// The number that four bytes are, the highest first.
+#[tactic(auto, using(std::proofs::lemmas::Nat::be_bytes_4))]
+fn number_in(bytes: &[u8]) -> u32
+    requires { length bytes.now ≡ 4 }
+    ensures value { result ≡ from_be_bytes w32 bytes.now }
+    ensures written { bytes.now ≡ to_be_bytes w32 result }
+{
+    u32::from_be_bytes([bytes[0], bytes[1], bytes[2], bytes[3]])
+}

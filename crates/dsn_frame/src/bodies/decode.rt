@@ -1,0 +1,212 @@
+//! Bodies to requests.
+ghost use Rattle.std.specs.Prelude.{◌≡◌, ◌≢◌, ◌&&◌, nat_le, [], true, false, IfOk, IfErr, OnOk, Some, None, unwrap_or};
+ghost use Rattle.std.specs.Option.{option_map};
+ghost use Rattle.dsn_outcome.specs.Body.{body_of};
+ghost use Rattle.dsn_outcome.specs.Outcome.{IsOutcomeOf, first_failed, first_outcome_fault};
+ghost use Rattle.dsn_text.specs.Optional.{is_none_or};
+ghost use Rattle.dsn_outcome.specs.Request.{Bye};
+ghost use Rattle.dsn_text.specs.Stamp.{is_moment, last_moment};
+ghost use Rattle.dsn_frame.specs.bodies.BodyFault.{outcome_refusal};
+ghost use Rattle.dsn_frame.specs.bodies.BodyParts.{head_in, recipient_fields_in, retry_fields_in, flush_fields_in, wire_body_in};
+ghost use Rattle.dsn_frame.specs.bodies.Wire.{body_at, head_of};
+ghost use Rattle.dsn_frame.specs.bodies.Request.{Encodes, IsKeyOf, IsWhole, StandsFor, draft_of, first_body_fault, first_own_fault, flush_checks, moment_if_any, outcome_fields, retry_checks, has_kind, head_checks, layout_checks};
+
+use crate::bodies::body_fault::BodyFault;
+use crate::bodies::parts::{
+    BodyParts, FlushParts, HeadParts, NO_MOMENT, RecipientParts, RetryParts,
+};
+use crate::bodies::{SECOND_VERSION, VERSION, read_fields};
+use dsn_outcome::{Body, Draft, Key, Node, Outcome, Parts, QueueId, Service, Stamp};
+use std::alloc::Global;
+
+/// The request that a body stands for, with its number on the connection. It is never a goodbye.
+/// A fault is the first one in the order of `BodyFault`'s variants; memory is taken once none is
+/// left, so `NoMemory` comes only where a body without a fault met a refused growth.
+#[tactic(auto, unfolding(crate::specs::bodies::Request::first_body_fault))]
+pub fn decode_request(alloc: Global, bytes: &[u8]) -> Result<(u32, Body), BodyFault>
+    ensures encoded { IfOk result (λ read. Encodes bytes.now read.0 (body_of read.1)) }
+    ensures no_goodbye { IfOk result (λ read. body_of read.1 ≢ Bye) }
+    ensures accepted { OnOk result (first_body_fault bytes.now ≡ None) }
+    ensures refused { IfErr result
+        (λ fault. fault ≡ unwrap_or (first_body_fault bytes.now) BodyFault.NoMemory) }
+{
+    let parts = whole_body(bytes)?;
+    let head = parts.head();
+    let key = key_of(head)?;
+    let body = body_about(alloc, key, parts)?;
+    Ok((head.number, body))
+}
+
+/// The fields that are all of a body.
+fn whole_body(bytes: &[u8]) -> Result<BodyParts<'_>, BodyFault>
+    ensures accepted { OnOk result (first_failed (layout_checks bytes.now) ≡ None) }
+    ensures read { IfOk result (λ parts. body_at bytes.now ≡ Some (wire_body_in parts, [])) }
+    ensures refused { IfErr result (λ fault. first_failed (layout_checks bytes.now) ≡ Some fault) }
+{
+    if bytes
+        .first()
+        .is_some_and(|version| *version < VERSION || SECOND_VERSION < *version)
+    {
+        return Err(BodyFault::Version);
+    }
+    if !has_kind(bytes) {
+        return Err(BodyFault::Kind);
+    }
+    let (parts, rest) = read_fields::body_of(bytes).ok_or(BodyFault::Short)?;
+    if !rest.is_empty() {
+        return Err(BodyFault::Extra);
+    }
+    Ok(parts)
+}
+
+/// Whether the second byte, if there is one, is a kind of the version that the first byte is.
+#[tactic(auto, unfolding(crate::specs::bodies::Request::has_kind))]
+fn has_kind(bytes: &[u8]) -> bool
+    ensures { result ≡ has_kind bytes.now }
+{
+    match bytes {
+        [VERSION, kind, ..] => 1 <= *kind && *kind <= 3,
+        [_, kind, ..] => 1 <= *kind && *kind <= 4,
+        _ => true,
+    }
+}
+
+/// The key that a body is about.
+fn key_of(head: HeadParts<'_>) -> Result<Key, BodyFault>
+    ensures key { IfOk result (λ key. IsKeyOf (head_in head.entry) key) }
+    ensures accepted { OnOk result (first_failed (head_checks (head_in head.entry)) ≡ None) }
+    ensures refused { IfErr result
+        (λ fault. first_failed (head_checks (head_in head.entry)) ≡ Some fault) }
+{
+    let service = Service::from_byte(head.service).ok_or(BodyFault::Service)?;
+    let id = QueueId::new(head.id).ok_or(BodyFault::QueueId)?;
+    Ok(Key { service, id })
+}
+
+/// The body that fields stand for, about their key.
+#[tactic(auto, unfolding(crate::specs::bodies::Request::first_own_fault, crate::specs::bodies::Request::StandsFor))]
+fn body_about(alloc: Global, key: Key, parts: BodyParts<'_>) -> Result<Body, BodyFault>
+    requires { IsKeyOf (head_of (wire_body_in parts)) key }
+    ensures body { IfOk result (λ body. StandsFor (wire_body_in parts.entry) (body_of body)) }
+    ensures accepted { OnOk result (first_own_fault (wire_body_in parts.entry) ≡ None) }
+    ensures refused { IfErr result
+        (λ fault. fault
+        ≡ unwrap_or (first_own_fault (wire_body_in parts.entry)) BodyFault.NoMemory) }
+{
+    match parts {
+        BodyParts::Append(_, fields) => {
+            let node = outcome_from(alloc, key.service, fields, None, None)?;
+            Ok(Body::Append(key.id, node))
+        }
+        BodyParts::DatedAppend(_, fields, dates) => {
+            let (last_attempt, retry_until) = checked_dates(dates)?;
+            let node = outcome_from(alloc, key.service, fields, last_attempt, retry_until)?;
+            Ok(Body::Append(key.id, node))
+        }
+        BodyParts::Flush(_, fields) => Ok(Body::Flush(key, draft_from(alloc, fields)?)),
+        BodyParts::Discard(_) => Ok(Body::Discard(key)),
+        BodyParts::Forget(_) => Ok(Body::Forget(key)),
+    }
+}
+
+/// The outcome of a service that an append's fields and these moments stand for.
+fn outcome_from(
+    alloc: Global,
+    service: Service,
+    fields: RecipientParts<'_>,
+    last_attempt: Option<Stamp>,
+    retry_until: Option<Stamp>,
+) -> Result<Box<Node>, BodyFault>
+    ensures kept { IfOk result
+        (λ node. IsOutcomeOf service
+        (outcome_fields (recipient_fields_in fields.entry) last_attempt retry_until)
+        node.value.outcome) }
+    ensures accepted { OnOk result
+        (first_outcome_fault service
+        (outcome_fields (recipient_fields_in fields.entry) last_attempt retry_until) ≡ None) }
+    ensures refused { IfErr result
+        (λ fault. fault
+        ≡ unwrap_or
+        (option_map outcome_refusal
+        (first_outcome_fault service
+        (outcome_fields (recipient_fields_in fields.entry) last_attempt retry_until)))
+        BodyFault.NoMemory) }
+{
+    let parts = Parts {
+        recipient: fields.recipient,
+        original: fields.original,
+        action: fields.action,
+        status: fields.status,
+        mta: fields.mta,
+        diagnostic: fields.diagnostic,
+        reason: fields.reason,
+        last_attempt,
+        retry_until,
+    };
+    Ok(Outcome::new(alloc, service, parts)?)
+}
+
+/// The two moments of an append, if each is a moment or none.
+fn checked_dates(dates: RetryParts) -> Result<(Option<Stamp>, Option<Stamp>), BodyFault>
+    ensures last_attempt { IfOk result (λ moments. moments.0 ≡ moment_if_any dates.last_attempt) }
+    ensures retry_until { IfOk result (λ moments. moments.1 ≡ moment_if_any dates.retry_until) }
+    ensures accepted { OnOk result (first_failed (retry_checks (retry_fields_in dates)) ≡ None) }
+    ensures refused { IfErr result
+        (λ fault. first_failed (retry_checks (retry_fields_in dates)) ≡ Some fault) }
+{
+    let last_attempt = checked_date(dates.last_attempt)?;
+    let retry_until = checked_date(dates.retry_until)?;
+    Ok((last_attempt, retry_until))
+}
+
+/// The moment that a number stands for, if it is one or stands for none.
+fn checked_date(seconds: u64) -> Result<Option<Stamp>, BodyFault>
+    ensures moment { IfOk result (λ moment. moment ≡ moment_if_any seconds) }
+    ensures accepted { OnOk result (is_none_or is_moment (moment_if_any seconds) ≡ true) }
+    ensures refused { IfErr result (λ fault. fault ≡ BodyFault.Moment) }
+    ensures after { IfErr result (λ fault. is_none_or is_moment (moment_if_any seconds) ≡ false) }
+{
+    if seconds == NO_MOMENT {
+        return Ok(None);
+    }
+    match Stamp::new(seconds) {
+        Some(moment) => Ok(Some(moment)),
+        None => Err(BodyFault::Moment),
+    }
+}
+
+/// The draft that a flush's fields stand for.
+fn draft_from(alloc: Global, fields: FlushParts<'_>) -> Result<Draft, BodyFault>
+    ensures draft { IfOk result (λ draft. draft ≡ draft_of (flush_fields_in fields.entry)) }
+    ensures accepted { OnOk result
+        (first_failed (flush_checks (flush_fields_in fields.entry)) ≡ None) }
+    ensures refused { IfErr result
+        (λ fault. fault
+        ≡ unwrap_or
+        (first_failed (flush_checks (flush_fields_in fields.entry))) BodyFault.NoMemory) }
+{
+    let (moment, arrival) = checked_moments(fields.moment, fields.arrival)?;
+    Ok(Draft::read(
+        alloc,
+        moment,
+        arrival,
+        fields.return_path,
+        fields.envelope_id,
+        fields.header,
+    )?)
+}
+
+/// The moment and the arrival of a flush, if each is a moment.
+fn checked_moments(moment: u64, arrival: u64) -> Result<(Stamp, Stamp), BodyFault>
+    ensures moment { IfOk result (λ moments. moments.0 ≡ moment) }
+    ensures arrival { IfOk result (λ moments. moments.1 ≡ arrival) }
+    ensures accepted { OnOk result
+        (nat_le moment last_moment && nat_le arrival last_moment ≡ true) }
+    ensures refused { IfErr result (λ fault. fault ≡ BodyFault.Moment) }
+    ensures after { IfErr result
+        (λ fault. nat_le moment last_moment && nat_le arrival last_moment ≡ false) }
+{
+    let moment = Stamp::new(moment).ok_or(BodyFault::Moment)?;
+    let arrival = Stamp::new(arrival).ok_or(BodyFault::Moment)?;
+    Ok((moment, arrival))
+}

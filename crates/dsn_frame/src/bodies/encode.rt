@@ -1,0 +1,176 @@
+//! Requests to frames.
+ghost use Rattle.std.specs.Prelude.{◌≡◌, ◌≢◌, Some, IfOk, IsTrue};
+ghost use Rattle.std.specs.Option.{option_copied};
+ghost use Rattle.dsn_outcome.specs.Body.{body_of};
+ghost use Rattle.dsn_outcome.specs.Draft.{IsLegalDraft};
+ghost use Rattle.dsn_outcome.specs.Outcome.{IsLegalOutcome};
+ghost use Rattle.dsn_text.specs.Optional.{is_none_or};
+ghost use Rattle.dsn_outcome.specs.Request.{Bye};
+ghost use Rattle.dsn_text.specs.Text.{IsQueueId, is_address, is_envelope_id};
+ghost use Rattle.dsn_frame.specs.bodies.BodyParts.{head_in, recipient_fields_in, retry_fields_in, flush_fields_in, wire_body_in};
+ghost use Rattle.dsn_frame.specs.bodies.FrameBody.{IsFrameBody};
+ghost use Rattle.dsn_frame.specs.bodies.Request.{Encodes, IsWritten, append_written_as, fields_for, moment_or_none, retry_fields_for, fields_written, flush_fields_for, head_for, request_body, request_bytes, text_or_empty};
+
+use crate::bodies::parts::{
+    BodyParts, FlushParts, HeadParts, NO_MOMENT, RecipientParts, RetryParts,
+};
+use crate::bodies::write_fields::{body_len, push_frame};
+use crate::bodies::{SECOND_VERSION, VERSION};
+use dsn_outcome::{Address, Body, Draft, EnvelopeId, NoMemory, Outcome, QueueId, Service, Stamp};
+use std::alloc::Global;
+
+/// The whole frame of a request: its length, and a body that encodes this number and this request.
+/// A diagnostic and a reason are written as the outcome keeps them, clean. Memory for the frame is
+/// taken at once, so `NoMemory` comes before a byte is written.
+#[tactic(auto, using(crate::proofs::bodies::EncodingLaws::written_encodes, crate::proofs::bodies::EncodingLaws::written_fits), unfolding(crate::specs::bodies::Request::request_body, crate::specs::bodies::Request::request_bytes))]
+pub fn encode_request(alloc: Global, number: u32, body: &Body) -> Result<Vec<u8>, NoMemory>
+    requires { body_of body.now ≢ Bye }
+    ensures written { IfOk result (λ frame. frame.items ≡ request_bytes number (body_of body.now)) }
+    ensures whole { IsFrameBody (request_body number (body_of body.now)) }
+    ensures encoded { Encodes (request_body number (body_of body.now)) number (body_of body.now) }
+{
+    let parts = parts_of(number, body);
+    let size = body_len(parts);
+    let Ok(mut frame) = Vec::with_capacity(alloc, 4 + size) else {
+        return Err(NoMemory);
+    };
+    push_frame(&mut frame, parts);
+    Ok(frame)
+}
+
+/// The fields of a request.
+#[tactic(auto, unfolding(crate::specs::bodies::Request::fields_written))]
+fn parts_of(number: u32, body: &Body) -> BodyParts<'_>
+    requires { body_of body.now ≢ Bye }
+    ensures fields { fields_written number (body_of body.now) ≡ Some (wire_body_in result) }
+    ensures written { IsWritten number (body_of body.now) (wire_body_in result) }
+{
+    match body {
+        Body::Append(id, node) => { append_parts(number, id, node.outcome()) }
+        Body::Flush(key, draft) => {
+            let head = head_parts(VERSION, number, key.service, &key.id);
+            BodyParts::Flush(head, flush_parts(draft))
+        }
+        Body::Discard(key) => {
+            BodyParts::Discard(head_parts(VERSION, number, key.service, &key.id))
+        }
+        Body::Forget(key) => {
+            BodyParts::Forget(head_parts(SECOND_VERSION, number, key.service, &key.id))
+        }
+        Body::Bye => unreachable!(),
+    }
+}
+
+/// What the body of a request about this message begins with.
+fn head_parts(version: u8, number: u32, service: Service, id: &QueueId) -> HeadParts<'_>
+    ensures same { head_in result ≡ head_for version number service id.now }
+    ensures legal { IsQueueId id.now }
+{
+    HeadParts {
+        version,
+        number,
+        service: service.byte(),
+        id: id.bytes(),
+    }
+}
+
+/// The fields of an append.
+#[tactic(auto, unfolding(crate::specs::bodies::Request::append_written_as))]
+fn append_parts<'a>(number: u32, id: &'a QueueId, outcome: &'a Outcome) -> BodyParts<'a>
+    ensures same { wire_body_in result ≡ append_written_as number id.now outcome.now }
+    ensures id_legal { IsQueueId id.now }
+    ensures legal { IsLegalOutcome outcome.now }
+{
+    let service = outcome.service();
+    let fields = recipient_parts(outcome);
+    let dates = retry_parts(outcome);
+    if outcome.last_attempt().is_none() && outcome.retry_until().is_none() {
+        return BodyParts::Append(head_parts(VERSION, number, service, id), fields);
+    }
+    BodyParts::DatedAppend(
+        head_parts(SECOND_VERSION, number, service, id),
+        fields,
+        dates,
+    )
+}
+
+/// The two moments of an outcome.
+fn retry_parts(outcome: &Outcome) -> RetryParts
+    ensures { retry_fields_in result ≡ retry_fields_for outcome.now }
+{
+    RetryParts {
+        last_attempt: seconds_or_none(outcome.last_attempt()),
+        retry_until: seconds_or_none(outcome.retry_until()),
+    }
+}
+
+/// The seconds of a moment, or the number that stands for none.
+fn seconds_or_none(moment: Option<Stamp>) -> u64
+    ensures { result ≡ moment_or_none moment }
+{
+    match moment {
+        Some(moment) => moment.seconds(),
+        None => NO_MOMENT,
+    }
+}
+
+/// The fields of an outcome but for its moments.
+fn recipient_parts(outcome: &Outcome) -> RecipientParts<'_>
+    ensures { recipient_fields_in result ≡ fields_for outcome.now }
+{
+    RecipientParts {
+        recipient: outcome.recipient(),
+        original: text_or_empty(outcome.original()),
+        action: outcome.action().byte(),
+        status: outcome.status().bytes(),
+        mta: text_or_empty(outcome.mta()),
+        diagnostic: text_or_empty(outcome.diagnostic()),
+        reason: text_or_empty(outcome.reason()),
+    }
+}
+
+/// The fields of a flush.
+fn flush_parts(draft: &Draft) -> FlushParts<'_>
+    ensures same { flush_fields_in result ≡ flush_fields_for draft.now }
+    ensures legal { IsLegalDraft draft.now }
+{
+    FlushParts {
+        moment: draft.moment().seconds(),
+        arrival: draft.arrival().seconds(),
+        return_path: address_text(draft.return_path()),
+        envelope_id: envelope_id_text(draft.envelope_id()),
+        header: draft.header().bytes(),
+    }
+}
+
+/// The address, or the empty text.
+fn address_text(address: Option<&Address>) -> &[u8]
+    ensures same { result.now ≡ text_or_empty (option_copied address.entry) }
+    ensures legal { IsTrue (is_none_or is_address (option_copied address.entry)) }
+{
+    match address {
+        Some(address) => address.bytes(),
+        None => b"",
+    }
+}
+
+/// The envelope id, or the empty text.
+fn envelope_id_text(id: Option<&EnvelopeId>) -> &[u8]
+    ensures same { result.now ≡ text_or_empty (option_copied id.entry) }
+    ensures legal { IsTrue (is_none_or is_envelope_id (option_copied id.entry)) }
+{
+    match id {
+        Some(id) => id.bytes(),
+        None => b"",
+    }
+}
+
+/// The text, or the empty one where there is none.
+fn text_or_empty(text: Option<&[u8]>) -> &[u8]
+    ensures { result.now ≡ text_or_empty (option_copied text.entry) }
+{
+    match text {
+        Some(text) => text,
+        None => b"",
+    }
+}

@@ -1,0 +1,221 @@
+//! Fields, written one after another at the end of a text that has room for them.
+ghost use Rattle.std.specs.Prelude.{◌≡◌, ◌+◌, ◌<◌, ◌≤◌, ◌^◌, ◌++◌, length, vec_capacity};
+ghost use Rattle.std.specs.Int.{w64};
+ghost use Rattle.dsn_frame.specs.bodies.BodyParts.{head_in, recipient_fields_in, retry_fields_in, flush_fields_in, wire_body_in};
+ghost use Rattle.dsn_frame.specs.bodies.FrameBody.{frame, longest_body};
+ghost use Rattle.dsn_frame.specs.bodies.Wire;
+ghost use Rattle.dsn_frame.specs.bodies.Wire.{FitsAppend, FitsFlush, FitsHead, FitsOwn, FitsText, number_bytes, text_bytes, head_bytes, append_bytes, retry_bytes, flush_bytes, own_bytes, body_bytes};
+
+use crate::bodies::parts::{BodyParts, FlushParts, HeadParts, RecipientParts, RetryParts};
+
+/// Bytes of what every body begins with, beside its queue id: the version, the kind, the number, the
+/// service and the id's length.
+const HEAD_LEN: usize = 9;
+
+/// Bytes of what an append goes on with, beside its texts: the action, and six texts' lengths.
+const APPEND_LEN: usize = 13;
+
+/// Bytes of the two moments of an append of the second version.
+const RETRY_LEN: usize = 16;
+
+/// Bytes of what a flush goes on with, beside its texts: two moments, and three texts' lengths.
+const FLUSH_LEN: usize = 22;
+
+/// Adds bytes, and takes no memory.
+fn push_bytes(out: &mut Vec<u8>, bytes: &[u8])
+    requires room { length out.old.items + length bytes.now ≤ vec_capacity out.old }
+    ensures added { out.new.items ≡ out.old.items ++ bytes.now }
+    ensures capacity { vec_capacity out.old ≤ vec_capacity out.new }
+{
+    match out.extend_from_slice(bytes) {
+        Ok(()) => {}
+        Err(_) => unreachable!(),
+    }
+}
+
+/// Adds a text after its length.
+#[tactic(auto, using(crate::proofs::bodies::EncodingLaws::text_length), unfolding(crate::specs::bodies::Wire::text_bytes, crate::specs::bodies::Wire::number_bytes))]
+fn push_text(out: &mut Vec<u8>, text: &[u8])
+    requires fits { FitsText text.now }
+    requires room { length out.old.items + length (text_bytes text.now) ≤ vec_capacity out.old }
+    ensures added { out.new.items ≡ out.old.items ++ text_bytes text.now }
+    ensures capacity { vec_capacity out.old ≤ vec_capacity out.new }
+{
+    push_bytes(out, &(text.len() as u16).to_be_bytes());
+    push_bytes(out, text);
+}
+
+/// Adds what every body begins with after its version and its kind.
+#[tactic(auto, using(crate::proofs::bodies::EncodingLaws::head_length, crate::proofs::bodies::EncodingLaws::text_length), unfolding(crate::specs::bodies::Wire::head_bytes, crate::specs::bodies::Wire::number_bytes))]
+fn push_head(out: &mut Vec<u8>, head: HeadParts<'_>)
+    requires fits { FitsHead (head_in head) }
+    requires room { length out.old.items + length
+        (head_bytes (head_in head)) ≤ vec_capacity out.old }
+    ensures added { out.new.items ≡ out.old.items ++ head_bytes (head_in head.entry) }
+    ensures capacity { vec_capacity out.old ≤ vec_capacity out.new }
+{
+    push_bytes(out, &head.number.to_be_bytes());
+    push_bytes(out, &[head.service]);
+    push_text(out, head.id);
+}
+
+/// Adds what an append goes on with.
+#[tactic(auto, using(crate::proofs::bodies::EncodingLaws::append_length, crate::proofs::bodies::EncodingLaws::text_length), unfolding(crate::specs::bodies::Wire::append_bytes))]
+fn push_append(out: &mut Vec<u8>, parts: RecipientParts<'_>)
+    requires fits { FitsAppend (recipient_fields_in parts) }
+    requires room { length out.old.items + length
+        (append_bytes (recipient_fields_in parts)) ≤ vec_capacity out.old }
+    ensures added { out.new.items
+        ≡ out.old.items ++ append_bytes (recipient_fields_in parts.entry) }
+    ensures capacity { vec_capacity out.old ≤ vec_capacity out.new }
+{
+    push_text(out, parts.original);
+    push_text(out, parts.recipient);
+    push_bytes(out, &[parts.action]);
+    push_text(out, parts.status);
+    push_text(out, parts.mta);
+    push_text(out, parts.diagnostic);
+    push_text(out, parts.reason);
+}
+
+/// Adds a moment, its highest byte first.
+#[tactic(auto, unfolding(crate::specs::bodies::Wire::number_bytes))]
+fn push_moment(out: &mut Vec<u8>, moment: u64)
+    requires room { length out.old.items + 8 ≤ vec_capacity out.old }
+    ensures added { out.new.items ≡ out.old.items ++ number_bytes w64 moment }
+    ensures length { length out.new.items ≡ length out.old.items + 8 }
+    ensures capacity { vec_capacity out.old ≤ vec_capacity out.new }
+{
+    push_bytes(out, &moment.to_be_bytes());
+}
+
+/// Adds what an append of the second version goes on with.
+#[tactic(auto, using(crate::proofs::bodies::EncodingLaws::retry_length), unfolding(crate::specs::bodies::Wire::retry_bytes))]
+fn push_retry(out: &mut Vec<u8>, parts: RetryParts)
+    requires room { length out.old.items + RETRY_LEN ≤ vec_capacity out.old }
+    ensures added { out.new.items ≡ out.old.items ++ retry_bytes (retry_fields_in parts) }
+    ensures capacity { vec_capacity out.old ≤ vec_capacity out.new }
+{
+    push_moment(out, parts.last_attempt);
+    push_moment(out, parts.retry_until);
+}
+
+/// Adds all that an append of the second version goes on with.
+#[tactic(auto, using(crate::proofs::bodies::EncodingLaws::dated_length, crate::proofs::bodies::Rules::lengths))]
+fn push_dated_append(out: &mut Vec<u8>, fields: RecipientParts<'_>, dates: RetryParts)
+    requires fits { FitsAppend (recipient_fields_in fields) }
+    requires room { length out.old.items + length
+        (append_bytes (recipient_fields_in fields) ++ retry_bytes (retry_fields_in dates)) ≤
+        vec_capacity out.old }
+    ensures added { out.new.items
+        ≡ out.old.items
+        ++ (append_bytes (recipient_fields_in fields.entry)
+        ++ retry_bytes (retry_fields_in dates)) }
+    ensures capacity { vec_capacity out.old ≤ vec_capacity out.new }
+{
+    push_append(out, fields);
+    push_retry(out, dates);
+}
+
+/// Adds what a flush goes on with.
+#[tactic(auto, using(crate::proofs::bodies::EncodingLaws::flush_length, crate::proofs::bodies::EncodingLaws::text_length), unfolding(crate::specs::bodies::Wire::flush_bytes))]
+fn push_flush(out: &mut Vec<u8>, parts: FlushParts<'_>)
+    requires fits { FitsFlush (flush_fields_in parts) }
+    requires room { length out.old.items + length
+        (flush_bytes (flush_fields_in parts)) ≤ vec_capacity out.old }
+    ensures added { out.new.items ≡ out.old.items ++ flush_bytes (flush_fields_in parts.entry) }
+    ensures capacity { vec_capacity out.old ≤ vec_capacity out.new }
+{
+    push_moment(out, parts.moment);
+    push_moment(out, parts.arrival);
+    push_text(out, parts.return_path);
+    push_text(out, parts.envelope_id);
+    push_text(out, parts.header);
+}
+
+/// Adds what a kind of body goes on with.
+#[tactic(auto, unfolding(crate::specs::bodies::Wire::own_bytes, crate::specs::bodies::Wire::FitsOwn))]
+fn push_own(out: &mut Vec<u8>, parts: BodyParts<'_>)
+    requires fits { FitsOwn (wire_body_in parts) }
+    requires room { length out.old.items + length
+        (own_bytes (wire_body_in parts)) ≤ vec_capacity out.old }
+    ensures added { out.new.items ≡ out.old.items ++ own_bytes (wire_body_in parts.entry) }
+    ensures capacity { vec_capacity out.old ≤ vec_capacity out.new }
+{
+    match parts {
+        BodyParts::Append(_, fields) => push_append(out, fields),
+        BodyParts::DatedAppend(_, fields, dates) => push_dated_append(out, fields, dates),
+        BodyParts::Flush(_, fields) => push_flush(out, fields),
+        BodyParts::Discard(_) | BodyParts::Forget(_) => {}
+    }
+}
+
+/// Adds the frame of a body.
+pub(crate) fn push_frame(out: &mut Vec<u8>, parts: BodyParts<'_>)
+    requires fits { Wire.Fits (wire_body_in parts) }
+    requires small { length (body_bytes (wire_body_in parts)) ≤ longest_body }
+    requires room { length out.old.items +
+        (4 + length (body_bytes (wire_body_in parts))) ≤ vec_capacity out.old }
+    ensures { out.new.items ≡ out.old.items ++ frame (body_bytes (wire_body_in parts.entry)) }
+{
+    let size = body_len(parts) as u32;
+    push_bytes(out, &size.to_be_bytes());
+    push_body(out, parts);
+}
+
+/// Adds a body.
+#[tactic(auto, using(crate::proofs::bodies::EncodingLaws::body_length, crate::proofs::bodies::EncodingLaws::head_length), unfolding(crate::specs::bodies::Wire::body_bytes))]
+fn push_body(out: &mut Vec<u8>, parts: BodyParts<'_>)
+    requires fits { Wire.Fits (wire_body_in parts) }
+    requires room { length out.old.items + length
+        (body_bytes (wire_body_in parts)) ≤ vec_capacity out.old }
+    ensures added { out.new.items ≡ out.old.items ++ body_bytes (wire_body_in parts.entry) }
+    ensures capacity { vec_capacity out.old ≤ vec_capacity out.new }
+{
+    push_bytes(out, &[parts.head().version, parts.kind()]);
+    push_head(out, parts.head());
+    push_own(out, parts);
+}
+
+/// How many bytes a body has.
+#[tactic(auto, using(crate::proofs::bodies::EncodingLaws::body_length))]
+pub(crate) fn body_len(parts: BodyParts<'_>) -> usize
+    requires fits { Wire.Fits (wire_body_in parts) }
+    ensures { result ≡ length (body_bytes (wire_body_in parts.entry)) }
+{
+    HEAD_LEN + parts.head().id.len() + own_len(parts)
+}
+
+/// How many bytes an append goes on with in the first version.
+#[tactic(auto, using(crate::proofs::bodies::EncodingLaws::append_length))]
+fn append_len(fields: RecipientParts<'_>) -> usize
+    requires fits { FitsAppend (recipient_fields_in fields) }
+    ensures same { result ≡ length (append_bytes (recipient_fields_in fields.entry)) }
+    ensures small { result < 2 ^ 19 }
+{
+    APPEND_LEN
+        + fields.original.len()
+        + fields.recipient.len()
+        + fields.status.len()
+        + fields.mta.len()
+        + fields.diagnostic.len()
+        + fields.reason.len()
+}
+
+/// How many bytes a body goes on with.
+#[tactic(auto, using(crate::proofs::bodies::EncodingLaws::flush_length, crate::proofs::bodies::EncodingLaws::dated_length), unfolding(crate::specs::bodies::Wire::own_bytes, crate::specs::bodies::Wire::FitsOwn))]
+fn own_len(parts: BodyParts<'_>) -> usize
+    requires fits { FitsOwn (wire_body_in parts) }
+    ensures same { result ≡ length (own_bytes (wire_body_in parts.entry)) }
+    ensures small { result < 2 ^ 20 }
+{
+    match parts {
+        BodyParts::Append(_, fields) => append_len(fields),
+        BodyParts::DatedAppend(_, fields, _) => append_len(fields) + RETRY_LEN,
+        BodyParts::Flush(_, fields) => FLUSH_LEN
+            + fields.return_path.len()
+            + fields.envelope_id.len()
+            + fields.header.len(),
+        BodyParts::Discard(_) | BodyParts::Forget(_) => 0,
+    }
+}

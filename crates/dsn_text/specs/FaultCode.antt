@@ -1,0 +1,155 @@
+-- The numbers of refusals and of faults, each once (this project's profile; FORMATS section 16). The
+-- same numbers stand in the module fault_code.
+use Rattle.std.specs.Prelude.{ℕ}
+
+-- the final recipient is no address
+abbrev pub bad_recipient_code : ℕ
+bad_recipient_code = 1
+
+-- the original recipient is neither empty nor an address
+abbrev pub bad_original_code : ℕ
+bad_original_code = 2
+
+-- the action is unknown, or none that the service's log takes
+abbrev pub bad_action_code : ℕ
+bad_action_code = 3
+
+-- the status is no status code
+abbrev pub bad_status_code : ℕ
+bad_status_code = 4
+
+-- the class of the status does not stand with the action
+abbrev pub status_class_code : ℕ
+status_class_code = 5
+
+-- the remote system's name is neither empty nor a name
+abbrev pub bad_mta_code : ℕ
+bad_mta_code = 6
+
+-- the diagnostic is too long
+abbrev pub long_diagnostic_code : ℕ
+long_diagnostic_code = 7
+
+-- the reason is too long
+abbrev pub long_reason_code : ℕ
+long_reason_code = 8
+
+-- memory was refused; for a crew that is crew_refused_code
+abbrev pub no_memory_code : ℕ
+no_memory_code = 9
+
+-- a recipient that is not delayed is not tried again
+abbrev pub retry_until_code : ℕ
+retry_until_code = 10
+
+-- a frame is longer than a frame may be
+abbrev pub frame_too_long_code : ℕ
+frame_too_long_code = 11
+
+-- a frame has the length 0
+abbrev pub frame_empty_code : ℕ
+frame_empty_code = 12
+
+-- the input ends within a frame
+abbrev pub cut_short_code : ℕ
+cut_short_code = 13
+
+-- a read failed
+abbrev pub read_failed_code : ℕ
+read_failed_code = 14
+
+-- the version of a body is unknown
+abbrev pub version_code : ℕ
+version_code = 21
+
+-- the kind of a body, or of an answer's reply, is unknown
+abbrev pub kind_code : ℕ
+kind_code = 22
+
+-- a body ends before its fields do
+abbrev pub short_code : ℕ
+short_code = 23
+
+-- bytes follow a body's last field
+abbrev pub extra_code : ℕ
+extra_code = 24
+
+-- the service is unknown
+abbrev pub service_code : ℕ
+service_code = 25
+
+-- the queue id is none
+abbrev pub queue_id_code : ℕ
+queue_id_code = 26
+
+-- a moment is after the year 9999
+abbrev pub moment_code : ℕ
+moment_code = 27
+
+-- the returned header is too long
+abbrev pub long_header_code : ℕ
+long_header_code = 28
+
+-- the return path is neither empty nor an address
+abbrev pub return_path_code : ℕ
+return_path_code = 29
+
+-- the envelope id is neither empty nor one
+abbrev pub envelope_id_code : ℕ
+envelope_id_code = 30
+
+-- the outbox could not be written
+abbrev pub outbox_write_code : ℕ
+outbox_write_code = 31
+
+-- the outbox had failed before
+abbrev pub outbox_failed_code : ℕ
+outbox_failed_code = 32
+
+-- a line of the notes could not be written
+abbrev pub notes_write_code : ℕ
+notes_write_code = 33
+
+-- the value of an answer is none
+abbrev pub answer_value_code : ℕ
+answer_value_code = 34
+
+-- an answer or a frame could not be written to a connection
+abbrev pub connection_write_code : ℕ
+connection_write_code = 35
+
+-- a lane's other end is gone: the daemon gave up
+abbrev pub lane_lost_code : ℕ
+lane_lost_code = 41
+
+-- memory or a thread of a crew was refused
+abbrev pub crew_refused_code : ℕ
+crew_refused_code = 42
+
+-- there are not 1 to 16 agents
+abbrev pub agent_count_code : ℕ
+agent_count_code = 43
+
+-- an agent's requests are used up
+abbrev pub used_up_code : ℕ
+used_up_code = 44
+
+-- the number of a frame is out of turn
+abbrev pub out_of_turn_code : ℕ
+out_of_turn_code = 46
+
+-- a session has one frame more than it may have
+abbrev pub too_many_frames_code : ℕ
+too_many_frames_code = 47
+
+-- the daemon's bytes ended before an answer's first one
+abbrev pub unanswered_code : ℕ
+unanswered_code = 48
+
+-- the name of the host is none
+abbrev pub bad_host_code : ℕ
+bad_host_code = 51
+
+-- a socket could not be bound, connected or removed, or an accept failed
+abbrev pub socket_code : ℕ
+socket_code = 61

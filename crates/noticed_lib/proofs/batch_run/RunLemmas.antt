@@ -1,0 +1,174 @@
+-- Runs: one request more, and one frame more.
+use Rattle.std.proofs.Common.{◌≡◌, ℕ, suc, ◌+◌, ◌<◌, true, false, List, [], ◌∷◌, ◌++◌, length, refl, ap, sym, ◌∙◌, arith}
+use Rattle.std.specs.Prelude.{Option, ◌==◌, map, is_some}
+use Rattle.std.specs.List.{flat_map}
+use Rattle.dsn_device.specs.declared.drain.Drain.{Ghosts as Drain}
+use Rattle.dsn_frame.specs.bodies.Request.{Encodes}
+use Rattle.dsn_frame.specs.bodies.Spoken.{reply_of}
+use Rattle.dsn_frame.specs.Refusal.{refusal_end}
+use Rattle.dsn_frame.specs.declared.refusal.Refusal.{Refusal}
+use Rattle.dsn_frame.specs.declared.refusal.Refusal.TheVariants as refusals
+use Rattle.std.specs.Option.{option_to_list}
+use Rattle.std.proofs.lemmas.Grind.{flat_map-append}
+use Rattle.std.proofs.lemmas.List.{append-nil, length-append, map-append}
+use Rattle.dsn_book.specs.Book.{Book, Represents}
+use Rattle.dsn_book.specs.Step.{letters_in}
+use Rattle.dsn_outcome.specs.History.{Limits, Exchange, exchange_of, history_of, history_after, letters_after, reply_to, answer_of, answers_to, letter_of, sealed_letters}
+use Rattle.dsn_outcome.specs.Letter.{Letter}
+use Rattle.dsn_outcome.specs.Request.{Request, Body}
+use Rattle.dsn_outcome.specs.declared.answer.Answer.{Answer}
+use Rattle.dsn_outcome.specs.declared.answer.Reply.{Reply}
+use Rattle.dsn_outcome.proofs.HistoryLaws.{history_more, letters_more, answers_mine}
+use Rattle.dsn_frame.specs.declared.bodies.spoken.Spoken.{Spoken}
+use Rattle.dsn_frame.specs.Session.{Input, Takes, asked}
+use Rattle.noticed_lib.specs.batch_run.Requests.{batch_requests_from, requests_of, next_request, AreReplies}
+use Rattle.dsn_report.specs.Outgoing.{Delivered, Outgoing}
+use Rattle.noticed_lib.specs.batch_run.Run.{Stands, Asks, Answered, end_after}
+use Rattle.noticed_lib.specs.declared.batch_run.turn.Turn.{Turn}
+use Rattle.noticed_lib.specs.declared.batch_run.run.Run.{Run}
+use Rattle.dsn_frame.specs.declared.bodies.spoken.Spoken.TheVariants as spoken
+
+abbrev pub request_numbered : ℕ → Body → Request
+request_numbered number body = record { agent = 0; number = number; body = body }
+
+-- the reply of an exchange's answer
+pub reply-answer_of : (limits : Limits) (history : List Exchange) (request : Request) → (answer_of (exchange_of limits history request)).reply ≡ reply_to limits history request
+unfolding answer_of exchange_of
+reply-answer_of limits history request = refl
+
+mine : (limits : Limits) (history : List Exchange) (before : List Request) (body : Body) → ((exchange_of limits history (next_request before body)).request.agent == 0) ≡ true
+unfolding exchange_of
+mine limits history before body = refl
+
+-- ---- the requests of bodies
+
+-- the requests of more bodies follow on
+requests-append : (number : ℕ) (bodies more : List Body) → batch_requests_from number (bodies ++ more) ≡ batch_requests_from number bodies ++ batch_requests_from (number + length bodies) more
+unfolding batch_requests_from
+requests-append number [] more =
+    let same : number + 0 ≡ number = omega arith in
+    rw same refl
+requests-append number (first ∷ rest) more =
+    let same : (number + 1) + length rest ≡ number + suc (length rest) = omega arith in
+    rw (requests-append (number + 1) rest more, same) refl
+
+pub requests-length : (number : ℕ) (bodies : List Body) → length (batch_requests_from number bodies) ≡ length bodies
+unfolding batch_requests_from
+requests-length number [] = refl
+requests-length number (first ∷ rest) = ap (λ (n : ℕ). suc n) (requests-length (number + 1) rest)
+
+pub requests-more : (bodies more : List Body) → requests_of (bodies ++ more) ≡ requests_of bodies ++ batch_requests_from (length (requests_of bodies)) more
+requests-more bodies more =
+    let same : 0 + length bodies ≡ length (requests_of bodies) = omega (arith, requests-length 0 bodies) in
+    rw (← same) (requests-append 0 bodies more)
+
+pub requests-one : (before : List Request) (body : Body) → before ++ batch_requests_from (length before) (body ∷ []) ≡ before ++ next_request before body ∷ []
+unfolding batch_requests_from
+requests-one before body = refl
+
+pub requests-same : (before : List Request) (number : ℕ) → before ++ batch_requests_from number [] ≡ before
+unfolding batch_requests_from
+requests-same before number = append-nil before
+
+-- ---- the replies
+
+pub replies-none : (limits : Limits) → AreReplies limits [] (requests_of [])
+unfolding history_after batch_requests_from answers_to
+replies-none limits = record { replies = refl }
+
+-- a refusal is no reply
+pub replies-refused : (limits : Limits) (answers : List Spoken) (before : List Request) (number : ℕ) → AreReplies limits answers before → AreReplies limits (answers ++ spoken.Refused number ∷ []) before
+replies-refused limits answers before number are = record {
+  replies = flat_map-append reply_of answers (spoken.Refused number ∷ []) ∙ append-nil (flat_map reply_of answers) ∙ are.replies;
+}
+
+-- one more reply is that of one more request
+pub replies-asked : (limits : Limits) (answers : List Spoken) (before : List Request) (body : Body) → AreReplies limits answers before
+    → AreReplies limits (answers ++ spoken.Reply (reply_to limits (history_of limits before) (next_request before body)) ∷ []) (before ++ next_request before body ∷ [])
+replies-asked limits answers before body are =
+    let history = history_of limits before in
+    let request = next_request before body in
+    let exchange = exchange_of limits history request in
+    let reply = reply_to limits history request in
+    let told = flat_map-append reply_of answers (spoken.Reply reply ∷ []) in
+    let all : map (λ (a : Answer). a.reply) (answers_to 0 (history_of limits (before ++ request ∷ []))) ≡ map (λ (a : Answer). a.reply) (answers_to 0 history) ++ reply ∷ [] =
+    rw (history_more limits before request, answers_mine 0 history exchange (mine limits history before body), map-append (λ (a : Answer). a.reply) (answers_to 0 history) (answer_of exchange ∷ []), reply-answer_of limits history request) refl in
+    record { replies = told ∙ ap (λ (rs : List Reply). rs ++ reply ∷ []) are.replies ∙ sym all }
+
+-- ---- one frame's answer
+
+-- a refusal ends the session where it says so
+pub end-after-refusal : (refusal : Refusal) → end_after (is_some (refusal_end refusal)) ≡ refusal_end refusal
+end-after-refusal (refusals.Body fault) = refl
+end-after-refusal refusals.OutOfTurn = refl
+
+-- no requests have no history and no letters
+pub history-none : (limits : Limits) → history_of limits [] ≡ []
+unfolding history_after
+history-none limits = refl
+
+pub letters-none : (limits : Limits) → sealed_letters (history_of limits []) ≡ []
+unfolding history_after letters_after
+letters-none limits = refl
+
+module _ {W : Type 0} (outbox_device : Drain W) (limits : Limits) (host : List ℕ) (start : W) where
+  -- a request was applied, and the letter that it sealed was handed on
+  pub asked-next : (book next : Book) (outgoing later : Outgoing W) (accepted : ℕ) (requests : List Request) (body : Body) (answer : Answer) (letter : Option Letter)
+      → Stands outbox_device limits host start (record { book = book; outgoing = outgoing; accepted = accepted }) requests
+      → next.limits ≡ book.limits
+      → ((t : List Exchange) → Represents book t → answer ≡ answer_of (exchange_of book.limits t (request_numbered accepted body)))
+      → ((t : List Exchange) → Represents book t → letters_in letter ≡ letter_of t (exchange_of book.limits t (request_numbered accepted body)))
+      → ((t : List Exchange) → Represents book t → Represents next (t ++ exchange_of book.limits t (request_numbered accepted body) ∷ []))
+      → ((letters : List Letter) → Delivered outbox_device host start outgoing letters → Delivered outbox_device host start later (letters ++ option_to_list letter))
+      → Asks outbox_device limits host start (record { book = next; outgoing = later; accepted = accepted + 1 }) requests body (record { answer = spoken.Reply answer.reply; over = false })
+  asked-next book next outgoing later accepted requests body answer letter stands same answer_is letter_is stands_is handed =
+      let history = history_of limits requests in
+      let request = next_request requests body in
+      let kept : book.limits ≡ limits = stands.limits_kept in
+      let count : accepted ≡ length requests = stands.count in
+      let replied = rw (kept, count) at (answer_is history stands.book) in
+      let sealed = rw (kept, count) at (letter_is history stands.book) in
+      let represents = rw (kept, count) at (stands_is history stands.book) in
+      let delivered = rw sealed at (handed (sealed_letters history) stands.letters) in record {
+        answer_is = ap spoken.Reply (ap (λ (a : Answer). a.reply) replied ∙ reply-answer_of limits history request);
+        goes_on = refl;
+        stands = record {
+          limits_kept = same ∙ kept;
+          book = rw (history_more limits requests request) represents;
+          count = omega (arith, count, length-append requests (request ∷ []));
+          letters = rw (history_more limits requests request, letters_more history (exchange_of limits history request)) delivered;
+        };
+      }
+
+  -- a request's answer is that of its frame
+  pub answered-asked : (run : Run W) (requests : List Request) (body : Body) (turn : Turn) (position : ℕ) (bytes : List ℕ)
+      → Encodes bytes position body → length requests < limits.requests → Asks outbox_device limits host start run requests body turn
+      → Answered outbox_device limits host start run requests position bytes turn
+  answered-asked run requests body turn position bytes encoded few asks = record {
+    asked = body ∷ [];
+    takes = rw (asks.answer_is, asks.goes_on) (asked body _ encoded few);
+    replies = λ answers are. rw (requests-one requests body, asks.answer_is) (replies-asked limits answers requests body are);
+    stands = rw (requests-one requests body) asks.stands;
+  }
+
+  -- a frame that asks nothing leaves the run as it was
+  pub answered-refused : (run : Run W) (requests : List Request) (number position : ℕ) (bytes : List ℕ) (turn : Turn) (end : Option ℕ)
+      → turn.answer ≡ spoken.Refused number → end_after turn.over ≡ end → Takes Input limits.requests (length requests) position bytes [] (spoken.Refused number ∷ []) end
+      → Stands outbox_device limits host start run requests → Answered outbox_device limits host start run requests position bytes turn
+  answered-refused run requests number position bytes turn end answer_is over_is takes stands = record {
+    asked = [];
+    takes = rw (answer_is, over_is) takes;
+    replies = λ answers are. rw (requests-same requests (length requests), answer_is) (replies-refused limits answers requests number are);
+    stands = rw (requests-same requests (length requests)) stands;
+  }
+
+  -- a book with no key and no letters on their way stand for no requests
+  pub stands-nothing : (book : Book) (outgoing : Outgoing W) → book.limits ≡ limits → Represents book [] → Delivered outbox_device host start outgoing []
+      → Stands outbox_device limits host start (record { book = book; outgoing = outgoing; accepted = 0 }) (requests_of [])
+  unfolding batch_requests_from
+  stands-nothing book outgoing kept represents delivered = record {
+    limits_kept = kept;
+    book = rw (history-none limits) represents;
+    count = refl;
+    letters = rw (letters-none limits) delivered;
+  }

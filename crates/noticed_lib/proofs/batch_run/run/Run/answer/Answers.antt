@@ -1,0 +1,14 @@
+use Rattle.std.proofs.Common.{ap}
+use Rattle.dsn_frame.specs.declared.bodies.spoken.Spoken.TheVariants.{Refused}
+use Rattle.dsn_frame.specs.Session.{Input}
+use Rattle.noticed_lib.proofs.batch_run.RunLemmas.{answered-asked, answered-refused, end-after-refusal}
+use Rattle.noticed_lib.proofs.batch_run.run.Run.answer.Goals as goal
+
+pub returns-in-Ok-clause-answered : goal.returns-in-Ok-clause-answered
+returns-in-Ok-clause-answered g c = λ limits host start requests stands few.
+    answered-asked _ limits host start _ requests _ _ _ _ c.in-Ok.ensures.encoded few (c.ask.ensures.asked limits host start requests stands)
+
+pub returns-in-Err-clause-answered : goal.returns-in-Err-clause-answered
+returns-in-Err-clause-answered g c = λ limits host start requests stands few.
+    answered-refused _ limits host start _ requests _ _ _ _ _ (ap Refused c.code.ensures) (rw c.ends.ensures (end-after-refusal c.in-Err.refusal))
+    (c.in-Err.ensures.taken Input limits.requests _) stands

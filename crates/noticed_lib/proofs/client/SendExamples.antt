@@ -1,0 +1,82 @@
+-- Worked examples of sends, made by the definitions: an input of one frame.
+use Rattle.std.proofs.Common.{ℕ, List, [], ◌∷◌, ◌++◌, refl, lit<, lit≤}
+use Rattle.std.specs.Prelude.{Some, None, codes, decimal}
+use Rattle.dsn_outcome.specs.declared.answer.Reply.TheVariants.{Logged}
+use Rattle.dsn_frame.specs.bodies.Spoken.{answer_body, answer_bytes, answer_frames_from}
+use Rattle.dsn_frame.specs.declared.bodies.spoken.Spoken.TheVariants.{Refused, Reply}
+use Rattle.noticed_lib.specs.notes.Notes.{answer_line, answer_lines_from, spoken_words}
+use Rattle.noticed_lib.specs.client.Send.{Known, Sends}
+use Rattle.noticed_lib.specs.declared.client.send_fault.SendFault.TheVariants.{OutOfTurn, TooMany}
+
+-- a frame of one byte
+frame_of_seven : List ℕ
+frame_of_seven = 0 ∷ 0 ∷ 0 ∷ 1 ∷ 7 ∷ []
+
+-- the daemon refuses its body by 23, and what it says of place 5
+refused_23 : List ℕ
+refused_23 = 0 ∷ 0 ∷ 0 ∷ 10 ∷ 1 ∷ 10 ∷ 0 ∷ 0 ∷ 0 ∷ 0 ∷ 0 ∷ 0 ∷ 0 ∷ 23 ∷ []
+
+line_of_refused : List ℕ
+line_of_refused = (decimal 0 ++ codes " " ++ (codes "refused " ++ decimal 23) ++ codes "\n") ++ []
+
+place_5 : List ℕ
+place_5 = 0 ∷ 0 ∷ 0 ∷ 10 ∷ 1 ∷ 1 ∷ 0 ∷ 0 ∷ 0 ∷ 5 ∷ 0 ∷ 0 ∷ 0 ∷ 0 ∷ []
+
+bytes_of : List ℕ → List ℕ → List ℕ → List ℕ → Known
+bytes_of input sent unread lines = record { input = Some input; sent = Some sent; unread = Some unread; lines = Some lines }
+
+-- the frame is sent, and its answer is told
+one_refused : Sends 5 (bytes_of frame_of_seven [] refused_23 []) (bytes_of [] frame_of_seven [] line_of_refused) ((7 ∷ []) ∷ []) (Refused 23 ∷ []) None
+unfolding frame_of_seven refused_23 line_of_refused bytes_of answer_body answer_bytes answer_frames_from answer_line answer_lines_from spoken_words
+one_refused = record {
+  left = bytes_of [] frame_of_seven [] line_of_refused;
+  answered = record {
+    each = refl;
+    legal = ((lit≤ tt, lit≤ tt), tt);
+    fit = (record { number_fits = lit< tt; value_fits = lit< tt }, tt);
+    read = refl;
+    sent = refl;
+    got = refl;
+    told = refl;
+  };
+  ends = ((refl, refl), record { nothing_sent = refl; nothing_got = refl; nothing_told = refl });
+}
+
+-- where no frame may be sent, the first one is read and not sent
+one_too_many : Sends 0 (bytes_of frame_of_seven [] refused_23 []) (bytes_of [] [] refused_23 []) [] [] (Some TooMany)
+unfolding frame_of_seven refused_23 bytes_of answer_frames_from answer_lines_from
+one_too_many = record {
+  left = bytes_of frame_of_seven [] refused_23 [];
+  answered = record { each = refl; legal = tt; fit = tt; read = refl; sent = refl; got = refl; told = refl };
+  ends = record {
+    all = refl;
+    bytes = 7 ∷ [];
+    read = ((lit≤ tt, lit≤ tt), refl);
+    silent = record { nothing_sent = refl; nothing_got = refl; nothing_told = refl };
+  };
+}
+
+-- an answer to place 5 in place of 0: the frame is sent, and nothing is told
+one_out_of_turn : Sends 5 (bytes_of frame_of_seven [] place_5 []) (bytes_of [] frame_of_seven [] []) [] [] (Some OutOfTurn)
+unfolding frame_of_seven place_5 bytes_of answer_body answer_bytes answer_frames_from answer_lines_from
+one_out_of_turn = record {
+  left = bytes_of frame_of_seven [] place_5 [];
+  answered = record { each = refl; legal = tt; fit = tt; read = refl; sent = refl; got = refl; told = refl };
+  ends = record {
+    at_frame = record {
+      few = lit< tt;
+      bytes = 7 ∷ [];
+      read = ((lit≤ tt, lit≤ tt), refl);
+      asked = (
+        refl,
+        record {
+          number = 5;
+          answer = Reply (Logged 0);
+          is_answer = record { fits = record { number_fits = lit< tt; value_fits = lit< tt }; got = refl };
+          apart = λ same. cc;
+        },
+      );
+    };
+    nothing_told = refl;
+  };
+}

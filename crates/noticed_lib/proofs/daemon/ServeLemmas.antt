@@ -1,0 +1,102 @@
+-- Serve: a run over ports of which nothing is seen but their uses.
+use Rattle.std.proofs.Common.{◌≡◌, ℕ, suc, ◌<◌, ◌⊎◌, List, [], ◌∷◌, All, length, replicate, false, inl, inr, refl, subst}
+use Rattle.std.proofs.lemmas.List.{length-replicate}
+use Rattle.std.proofs.lemmas.List.Elements.{All-cons, All-head, All-nil, All-tail}
+use Rattle.std.specs.Prelude.{None}
+use Rattle.dsn_crew.specs.agents.Agent.{Ends}
+use Rattle.dsn_crew.specs.agents.Port.{AreOverPort, Given, all_given}
+use Rattle.dsn_crew.specs.Crew.{Account, AreAgentAccounts, IsAccount, IsAgentAccount, most_ports}
+use Rattle.dsn_crew.specs.declared.crew_cause.CrewCause.TheVariants.{PortCount}
+use Rattle.dsn_crew.specs.declared.agents.agent_line.AgentLine.{AgentLine}
+use Rattle.dsn_crew.specs.declared.agents.port.Port.{Ghosts as Port}
+use Rattle.dsn_device.specs.declared.drain.Drain.{Ghosts as Drain}
+use Rattle.dsn_outcome.specs.History.{Limits}
+use Rattle.dsn_outcome.specs.Request.{Request}
+use Rattle.noticed_lib.specs.daemon.Serve.{IsServe, TellsFault}
+use Rattle.noticed_lib.specs.daemon.SocketUses.{IsWithin, socket_port}
+use Rattle.noticed_lib.specs.declared.daemon.serve_end.ServeEnd.{ServeEnd}
+
+-- a port that doesn't tell its connections, and may give no more than these uses have it
+module _ {P S : Type 0} (port : Port P S) (untold : (one : P) → port.conns one ≡ None) (may_end : Type 0) (uses : ℕ) where
+  abbrev pub Fits : P → Type 0
+  Fits one = (given : List Given) → port.may_give one given → IsWithin may_end uses given
+
+  module _ (limits : Limits) (taken : List Request) where
+    agent-uses : (agent : ℕ) (one : P) (line : AgentLine) (ends : Ends) → Fits one → IsAgentAccount (port.conns one) (port.may_give one) limits taken agent line ends → IsAgentAccount None (IsWithin may_end uses) limits taken agent line ends
+    agent-uses agent one line ends fits is = record {
+      number = is.number;
+      taken_all = is.taken_all;
+      answered = is.answered;
+      sessions = is.sessions;
+      follow = is.follow;
+      over = subst (λ conns. AreOverPort conns is.sessions false line.port_failed) (untold one) is.over;
+      gave = record { last = is.gave.last; gave = fits (all_given line.connections is.gave.last) is.gave.gave; ends = is.gave.ends };
+      heard = is.heard;
+      sent = is.sent;
+      got = is.got;
+      requests = is.requests;
+      connections = is.connections;
+      faults = is.faults;
+      few = is.few;
+    }
+
+    agents-uses : (agent : ℕ) (ports : List P) (lines : List AgentLine) (crew : List Ends) → All Fits ports
+        → AreAgentAccounts port limits taken agent ports lines crew → AreAgentAccounts (socket_port may_end) limits taken agent (replicate (length ports) uses) lines crew
+    agents-uses agent [] [] [] fit are = are
+    agents-uses agent [] [] (ends ∷ crew) fit are = absurd are
+    agents-uses agent [] (line ∷ lines) crew fit are = absurd are
+    agents-uses agent (one ∷ ports) [] crew fit are = absurd are
+    agents-uses agent (one ∷ ports) (line ∷ lines) [] fit are = absurd are
+    agents-uses agent (one ∷ ports) (line ∷ lines) (ends ∷ crew) fit are = (
+      agent-uses agent one line ends (All-head Fits one ports fit) are.0,
+      agents-uses (suc agent) ports lines crew (All-tail Fits one ports fit) are.1,
+    )
+
+  module _ {W N : Type 0} (drain : Drain W) (notes_device : Drain N) (host : List ℕ) (limits : Limits) (ports : List P) (fit : All Fits ports) (start : W) (notes later : N) (end : ServeEnd W) where
+    account-uses : (account : Account W) → IsAccount port drain host limits ports start account → IsAccount (socket_port may_end) drain host limits (replicate (length ports) uses) start account
+    account-uses account is = record {
+      agents = agents-uses limits account.taken 0 ports account.agents account.ends fit is.agents;
+      only = rw (length-replicate (length ports)) is.only;
+      book_limits = is.book_limits;
+      book = is.book;
+      count = is.count;
+      outbox = is.outbox;
+    }
+
+    pub serve-uses : IsServe port drain notes_device host limits ports start notes later end → IsServe (socket_port may_end) drain notes_device host limits (replicate (length ports) uses) start notes later end
+    serve-uses (inl served) = inl (record {
+      account = served.account;
+      crew = account-uses served.account served.crew;
+      count = rw (length-replicate (length ports)) served.count;
+      told = served.told;
+    })
+    serve-uses (inr faulted) = inr (record {
+      fault = faulted.fault;
+      crew = rw (length-replicate (length ports)) faulted.crew;
+      counted = rw (length-replicate (length ports)) faulted.counted;
+      told = faulted.told;
+    })
+
+-- ports that have these uses, and this watch, may give no more than these uses have it
+module _ {P H : Type 0} (ends : H → Type 0) (watch_of : P → H) (left_of : P → ℕ) (watch : H) (uses : ℕ) where
+  abbrev IsOf : P → Type 0
+  IsOf one = (left_of one ≡ uses) × (watch_of one ≡ watch)
+
+  abbrev GivesWithin : P → Type 0
+  GivesWithin one = (given : List Given) → IsWithin (ends (watch_of one)) (left_of one) given → IsWithin (ends watch) uses given
+
+  port-fits : (one : P) → IsOf one → GivesWithin one
+  port-fits one is given within = subst (λ (n : ℕ). IsWithin (ends watch) n given) is.0 (subst (λ (w : H). IsWithin (ends w) (left_of one) given) is.1 within)
+
+  pub ports-fit : (ports : List P) → All IsOf ports → All GivesWithin ports
+  ports-fit [] are = All-nil GivesWithin
+  ports-fit (one ∷ ports) are = All-cons GivesWithin one ports (port-fits one (All-head IsOf one ports are)) (ports-fit ports (All-tail IsOf one ports are))
+
+-- a run that was refused for the number of its agents
+pub serve-refused : {W N : Type 0} (may_end : Type 0) (uses : ℕ) (drain : Drain W) (notes_device : Drain N) (host : List ℕ) (limits : Limits) (agents : ℕ) (start : W) (notes later : N) (end : ServeEnd W) → (agents ≡ 0) ⊎ (most_ports < agents) → TellsFault notes_device PortCount start [] notes later end → IsServe (socket_port may_end) drain notes_device host limits (replicate agents uses) start notes later end
+serve-refused may_end uses drain notes_device host limits agents start notes later end few told = inr (record {
+  fault = record { cause = PortCount; outbox = start; unsent = []; taken = [] };
+  crew = (refl, refl, refl);
+  counted = (λ is. rw (length-replicate agents) few, λ is. refl);
+  told = told;
+})

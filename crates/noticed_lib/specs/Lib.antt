@@ -1,0 +1,4 @@
+pub mod batch_run
+pub mod client
+pub mod daemon
+pub mod notes

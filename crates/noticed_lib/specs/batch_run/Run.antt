@@ -1,0 +1,52 @@
+-- Runs: what a run stands for after the requests that it took.
+use Rattle.std.specs.Prelude.{◌≡◌, ℕ, Bool, false, List, [], ◌∷◌, ◌++◌, length, Option, Some, None, if◌then◌else◌}
+use Rattle.dsn_device.specs.declared.drain.Drain.{Ghosts as Drain}
+use Rattle.dsn_text.specs.FaultCode.{out_of_turn_code}
+use Rattle.dsn_book.specs.Book.{Represents}
+use Rattle.dsn_outcome.specs.History.{Limits, history_of, reply_to, sealed_letters}
+use Rattle.dsn_outcome.specs.Request.{Request, Body}
+use Rattle.dsn_frame.specs.declared.bodies.spoken.Spoken.{Spoken}
+use Rattle.dsn_frame.specs.declared.bodies.spoken.Spoken.TheVariants as spoken
+use Rattle.dsn_frame.specs.Session.{Input, Takes}
+use Rattle.dsn_report.specs.Outgoing.{Delivered}
+use Rattle.noticed_lib.specs.batch_run.Requests.{AreReplies, next_request, batch_requests_from}
+use Rattle.noticed_lib.specs.declared.batch_run.run.Run.{Run}
+use Rattle.noticed_lib.specs.declared.batch_run.turn.Turn.{Turn}
+
+-- how many requests a run takes at most: so many are counted in four bytes
+abbrev pub most_accepted : ℕ
+most_accepted = 4294967295
+
+-- the book stands for the requests' history, and the letters of that history were handed on
+pub record Stands {W : Type 0} (outbox_device : Drain W) (limits : Limits) (host : List ℕ)
+    (start : W) (run : Run W) (requests : List Request) : Type 0 where
+  pub limits_kept : run.book.limits ≡ limits
+  pub book : Represents run.book (history_of limits requests)
+  pub count : run.accepted ≡ length requests
+  pub letters : Delivered outbox_device host start run.outgoing
+      (sealed_letters (history_of limits requests))
+
+-- a request was taken, and the run stands for the requests with it
+pub record Asks {W : Type 0} (outbox_device : Drain W) (limits : Limits) (host : List ℕ)
+    (start : W) (run : Run W) (before : List Request) (body : Body) (turn : Turn) : Type 0 where
+  pub answer_is : turn.answer
+      ≡ spoken.Reply (reply_to limits (history_of limits before) (next_request before body))
+  pub goes_on : turn.over ≡ false
+  pub stands : Stands outbox_device limits host start run (before ++ next_request before body ∷ [])
+
+-- the number that an answer ends the session with, if it does
+abbrev pub end_after : Bool → Option ℕ
+end_after over = if over then Some out_of_turn_code else None
+
+-- a frame was answered as a session answers it, and the run stands for the requests after it
+pub record Answered {W : Type 0} (outbox_device : Drain W) (limits : Limits) (host : List ℕ)
+    (start : W) (run : Run W) (before : List Request) (position : ℕ) (bytes : List ℕ)
+    (turn : Turn) : Type 0 where
+  pub asked : List Body
+  pub takes : Takes Input limits.requests (length before) position bytes asked (turn.answer ∷ [])
+      (end_after turn.over)
+  pub replies : (answers : List Spoken) → AreReplies limits answers before
+      → AreReplies limits (answers ++ turn.answer ∷ [])
+      (before ++ batch_requests_from (length before) asked)
+  pub stands : Stands outbox_device limits host start run
+      (before ++ batch_requests_from (length before) asked)

@@ -1,0 +1,4 @@
+pub mod Ask
+pub mod Send
+pub mod SendFault
+pub mod SendLaws

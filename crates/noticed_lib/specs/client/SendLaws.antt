@@ -1,0 +1,58 @@
+-- What holds of all sends: a send is a session, seen from the client's side (this project's
+-- profile).
+use Rattle.std.specs.Prelude.{◌≡◌, ℕ, List, ◌++◌, Option, Some, None}
+use Rattle.dsn_outcome.specs.Request.{Body}
+use Rattle.dsn_frame.specs.bodies.Spoken.{answer_frames_from}
+use Rattle.dsn_frame.specs.declared.bodies.spoken.Spoken.{Spoken}
+use Rattle.dsn_frame.specs.Session.{Connection, IsSession}
+use Rattle.dsn_frame.specs.declared.frame_fault.FrameFault.TheVariants.{NoMemory, TooLong, Empty, CutShort, Read}
+use Rattle.noticed_lib.specs.client.Send.{FitFrom, Known, Sends}
+use Rattle.noticed_lib.specs.declared.client.send_fault.SendFault.{SendFault}
+use Rattle.noticed_lib.specs.declared.client.send_fault.SendFault.TheVariants.{Input, TooMany, NotSent, Unanswered, AnswerFrame, Answer, OutOfTurn, NotesLost}
+
+-- no fault, or one for which no answer is to blame: an answer's frame meets want of memory or a
+-- read that failed alone, its body is an answer, and to the frame's place
+abbrev pub IsBlameless : Option SendFault → Type 0
+IsBlameless None = Unit {0}
+IsBlameless (Some (Input fault)) = Unit {0}
+IsBlameless (Some TooMany) = Unit {0}
+IsBlameless (Some NotSent) = Unit {0}
+IsBlameless (Some Unanswered) = Unit {0}
+IsBlameless (Some (AnswerFrame NoMemory)) = Unit {0}
+IsBlameless (Some (AnswerFrame TooLong)) = ⊥
+IsBlameless (Some (AnswerFrame Empty)) = ⊥
+IsBlameless (Some (AnswerFrame CutShort)) = ⊥
+IsBlameless (Some (AnswerFrame Read)) = Unit {0}
+IsBlameless (Some (Answer fault)) = ⊥
+IsBlameless (Some OutOfTurn) = ⊥
+IsBlameless (Some NotesLost) = Unit {0}
+
+-- a client that told these answers of those that were given: the first ones, without a fault of
+-- theirs, and all of them where none came any more
+pub record Sees (given told : List Spoken) (fault : Option SendFault) : Type 0 where
+  pub first : (more : List Spoken) × (given ≡ told ++ more)
+  pub blameless : IsBlameless fault
+  pub none_left : fault ≡ Some Unanswered → told ≡ given
+
+-- of a daemon that has the frames of these answers to say, in turn from the first place, a client
+-- tells the first ones
+abbrev pub SeesAnswers : List Spoken → Type 0
+SeesAnswers given =
+    (most : ℕ) (start now : Known) (frames : List (List ℕ)) (told : List Spoken)
+    (fault : Option SendFault)
+    → start.unread ≡ Some (answer_frames_from 0 given) → FitFrom 0 given
+    → Sends most start now frames told fault
+    → Sees given told fault
+
+-- and where they are those of a session over the bytes that the client wrote, it tells all of them
+-- where it ends well
+abbrev pub SeesSession : List Spoken → Type 0
+SeesSession given =
+    (limit before most : ℕ) (start now : Known) (earlier wrote : List ℕ) (left : Option (List ℕ))
+    (frames taken : List (List ℕ))
+    (bodies : List Body) (told : List Spoken) (end : Option ℕ)
+    → start.unread ≡ Some (answer_frames_from 0 given) → FitFrom 0 given
+    → start.sent ≡ Some earlier → now.sent ≡ Some (earlier ++ wrote)
+    → IsSession Connection limit before (Some wrote) left taken bodies given end
+    → Sends most start now frames told None
+    → told ≡ given

@@ -1,0 +1,4 @@
+pub mod Lines
+pub mod Serve
+pub mod SocketUses
+pub mod WatchedOutbox

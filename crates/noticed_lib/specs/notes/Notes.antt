@@ -1,0 +1,101 @@
+-- Notes: what is said of a run in lines of text, each ended by LF alone (this project's profile).
+use Rattle.std.specs.Prelude.{ℕ, suc, Bool, true, false, List, [], ◌∷◌, ◌++◌, codes, decimal, Option, Some, None}
+use Rattle.std.specs.List.{flat_map}
+use Rattle.dsn_text.specs.FaultCode.{no_memory_code, outbox_write_code}
+use Rattle.dsn_outcome.specs.Letter.{Letter}
+use Rattle.dsn_text.specs.Service.{service_letter}
+use Rattle.dsn_outcome.specs.declared.answer.Reply.{Reply}
+use Rattle.dsn_outcome.specs.declared.answer.Reply.TheVariants.{Logged, Closed, TableFull, LogFull, Nothing, NoReturn, Sealed, Discarded, Gone, Forgotten, NotClosed}
+use Rattle.dsn_text.specs.declared.key.Key.{Key}
+use Rattle.dsn_book.specs.declared.line.OpenLine.{OpenLine}
+use Rattle.dsn_frame.specs.declared.bodies.spoken.Spoken.{Spoken}
+use Rattle.dsn_frame.specs.declared.bodies.spoken.Spoken.TheVariants as spoken
+
+-- how many bytes stand before a reply in its line at most: 20 digits of a place, and a space
+abbrev pub longest_place : ℕ
+longest_place = 21
+
+-- how many bytes stand before the number of a reply at most
+abbrev pub longest_counted : ℕ
+longest_counted = 10
+
+-- how many bytes a reply in words has at most: those before its number, and 20 digits
+abbrev pub longest_reply : ℕ
+longest_reply = 30
+
+-- how many bytes stand before a key in its line at most
+abbrev pub longest_key_start : ℕ
+longest_key_start = 10
+
+-- how many bytes a key in words has at most: a letter, a space, and a queue id of 32
+abbrev pub longest_key : ℕ
+longest_key = 34
+
+-- a reply in words; the number is a place or a count
+unfoldable pub reply_words : Reply → List ℕ
+reply_words (Logged place) = codes "logged " ++ decimal place
+reply_words Closed = codes "closed"
+reply_words TableFull = codes "table full"
+reply_words LogFull = codes "log full"
+reply_words Nothing = codes "nothing"
+reply_words (NoReturn count) = codes "no return " ++ decimal count
+reply_words (Sealed count) = codes "sealed " ++ decimal count
+reply_words (Discarded count) = codes "discarded " ++ decimal count
+reply_words Gone = codes "gone"
+reply_words Forgotten = codes "forgotten"
+reply_words NotClosed = codes "not closed"
+
+unfoldable pub spoken_words : Spoken → List ℕ
+spoken_words (spoken.Reply reply) = reply_words reply
+spoken_words (spoken.Refused code) = codes "refused " ++ decimal code
+
+-- the line of an answer: the frame's place in the input, and what it was answered
+unfoldable pub answer_line : ℕ → Spoken → List ℕ
+answer_line position answer = decimal position ++ codes " " ++ spoken_words answer ++ codes "\n"
+
+-- the lines of answers to frames from this place on
+unfoldable pub answer_lines_from : ℕ → List Spoken → List ℕ
+answer_lines_from position [] = []
+answer_lines_from position (answer ∷ rest) =
+    answer_line position answer ++ answer_lines_from (suc position) rest
+
+-- the line of a fault
+unfoldable pub fault_line : ℕ → List ℕ
+fault_line code = codes "fault " ++ decimal code ++ codes "\n"
+
+-- a log's service and message
+unfoldable pub key_words : Key → List ℕ
+key_words key = (service_letter key.service ∷ codes " ") ++ key.id
+
+-- the line of a letter that was not written
+unfoldable pub unsent_line : Letter → List ℕ
+unsent_line letter = codes "unsent " ++ key_words letter.key ++ codes "\n"
+
+-- the line of a log that is still open, with how many outcomes it has
+unfoldable pub open_line : OpenLine → List ℕ
+open_line line =
+    codes "open " ++ key_words line.key ++ codes " " ++ decimal line.count ++ codes "\n"
+
+-- the line of a fault, where there is one
+unfoldable pub fault_lines : Option ℕ → List ℕ
+fault_lines None = []
+fault_lines (Some code) = fault_line code
+
+-- the line of an outbox that failed
+unfoldable pub outbox_lines : Bool → List ℕ
+outbox_lines true = []
+outbox_lines false = fault_line outbox_write_code
+
+unfoldable pub unsent_lines : List Letter → List ℕ
+unsent_lines letters = flat_map unsent_line letters
+
+-- the lines of the open logs, or of the want of memory to list them
+unfoldable pub open_lines : Option (List OpenLine) → List ℕ
+open_lines None = fault_line no_memory_code
+open_lines (Some lines) = flat_map open_line lines
+
+-- how a run ended: the fault of the reading, an outbox that failed, the letters that were not
+-- written, the open logs
+unfoldable pub end_lines : Option ℕ → Bool → List Letter → Option (List OpenLine) → List ℕ
+end_lines fault whole unsent logs =
+    fault_lines fault ++ (outbox_lines whole ++ (unsent_lines unsent ++ open_lines logs))

@@ -1,0 +1,16 @@
+//! A run on one thread: `batch` turns a stream of framed requests into an outbox and notes.
+mod batch_end;
+mod memory_run;
+mod memory_source;
+mod reading;
+mod reading_end;
+mod run;
+mod turn;
+mod whole_run;
+
+pub use batch_end::BatchEnd;
+pub use dsn_book::Limits;
+pub use dsn_frame::Spoken;
+pub use dsn_report::Site;
+pub use memory_run::{MemoryRun, batch_bytes};
+pub use whole_run::batch;

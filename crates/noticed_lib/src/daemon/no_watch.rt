@@ -1,0 +1,39 @@
+//! A run that nobody looks after.
+use crate::daemon::watch::Watch;
+use std::io;
+
+/// A watch under which a run goes on to its last connection, without time limits.
+#[derive(Clone, Copy)]
+pub struct NoWatch;
+
+impl Watch for NoWatch {
+    ghost may_end = { λ _. ⊥ };
+
+    fn looks_up(&self) -> bool {
+        false
+    }
+
+    fn idle_limit(&self) -> Option<u32> {
+        None
+    }
+
+    fn look(&self) {}
+
+    fn is_ending(&self) -> bool {
+        false
+    }
+
+    fn logs(&self) -> bool {
+        false
+    }
+
+    fn log(&self, _line: &str) {}
+
+    fn accept_failed(&self, _error: &io::Error) {}
+
+    fn connection_refused(&self) {}
+
+    fn client_cut_off(&self, _seconds: u32) {}
+
+    fn outbox_failed(&self, _error: &io::Error) {}
+}

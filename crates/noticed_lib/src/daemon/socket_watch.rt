@@ -1,0 +1,162 @@
+//! The watch of the program: over the socket's file, a limit of idle time, and a log.
+use crate::daemon::watch::{TICK, Watch};
+use dsn_text::fault_code;
+use std::fs::{Files, Metadata};
+use std::io::{Eprint, ErrorKind};
+use std::net::Shutdown;
+use std::os::fd::OwnedFd;
+use std::os::unix::fs::MetadataExt;
+use std::os::unix::net::{UnixListener, UnixStream};
+use std::sync::atomic::{AtomicBool, AtomicI32, Ordering};
+use std::time::Duration;
+use std::{fs, io};
+
+/// The device and the inode that no file has.
+const NO_FILE: (u64, u64) = (0, 0);
+
+/// What the watch of a run is told to do.
+#[derive(Clone, Copy)]
+pub struct WatchOptions {
+    /// After how many seconds a client that says nothing is cut off, if ever.
+    pub idle_limit: Option<u32>,
+    /// Whether the run is to end once its outbox could not be written.
+    pub ends_on_fault: bool,
+    /// Whether a line is written on standard error for what happens, when it happens.
+    pub logs: bool,
+}
+
+/// A watch over the socket's file: once it is gone, or another has its path, the run is to end.
+/// So whoever may remove the file may end the run, and [`noticed stop`] does so.
+#[derive(Drop)]
+pub struct SocketWatch<'a, R> {
+    rt: &'a R,
+    path: &'a str,
+    options: WatchOptions,
+    /// The device and the inode of the socket's file.
+    file: (u64, u64),
+    /// The listening socket once more: shut down, it wakes the agents that accept.
+    listening: UnixStream,
+    ending: AtomicBool,
+    /// The system's number of the first error of an accept; 0 for none.
+    accept_error: AtomicI32,
+}
+
+impl<'a, R: Files + Eprint> SocketWatch<'a, R> {
+    /// The watch over the socket that was just bound to this path, whose accepts it gives a time
+    /// limit. Where its file is gone already the run ends at once. An error comes where the system
+    /// doesn't tell of the file, or has no descriptor left.
+    pub fn new(
+        rt: &'a R,
+        listener: &UnixListener,
+        path: &'a str,
+        options: WatchOptions,
+    ) -> io::Result<SocketWatch<'a, R>> {
+        let file = match fs::symlink_metadata(rt, path) {
+            Ok(file) => identity(&file),
+            Err(error) if error.kind() == ErrorKind::NotFound => NO_FILE,
+            Err(error) => return Err(error),
+        };
+        let listening = UnixStream::from(OwnedFd::from(listener.try_clone()?));
+        listening.set_read_timeout(Some(Duration::from_secs(TICK)))?;
+        Ok(SocketWatch {
+            rt,
+            path,
+            options,
+            file,
+            listening,
+            ending: AtomicBool::new(false),
+            accept_error: AtomicI32::new(0),
+        })
+    }
+
+    /// The first error of an accept, if one failed.
+    pub fn accept_error(&self) -> Option<io::Error> {
+        match self.accept_error.load(Ordering::SeqCst) {
+            0 => None,
+            number => Some(io::Error::from_raw_os_error(number)),
+        }
+    }
+
+    /// Whether the path is that of the socket's file.
+    fn has_its_file(&self) -> bool {
+        match fs::symlink_metadata(self.rt, self.path) {
+            Ok(file) => identity(&file) == self.file,
+            Err(error) => error.kind() != ErrorKind::NotFound,
+        }
+    }
+
+    /// Ends the run, once, and says why. Agents that accept are woken.
+    fn end(&self, why: &str) {
+        if self.ending.swap(true, Ordering::SeqCst) {
+            return;
+        }
+        self.log(why);
+        let _ = self.listening.shutdown(Shutdown::Both);
+    }
+}
+
+/// The device and the inode of a file.
+fn identity(file: &Metadata) -> (u64, u64) {
+    (file.dev(), file.ino())
+}
+
+impl<R: Files + Eprint> Watch for SocketWatch<'_, R> {
+    ghost may_end = { λ _. Unit {0} };
+
+    fn looks_up(&self) -> bool {
+        true
+    }
+
+    fn idle_limit(&self) -> Option<u32> {
+        self.options.idle_limit
+    }
+
+    fn look(&self) {
+        if !self.is_ending() && !self.has_its_file() {
+            self.end("ending: the socket's file is gone");
+        }
+    }
+
+    fn is_ending(&self) -> bool {
+        self.ending.load(Ordering::SeqCst)
+    }
+
+    fn logs(&self) -> bool {
+        self.options.logs
+    }
+
+    fn log(&self, line: &str) {
+        if self.options.logs {
+            let _ = eprintln!(self.rt; "{line}");
+        }
+    }
+
+    fn accept_failed(&self, error: &io::Error) {
+        let number = error.raw_os_error().unwrap_or(0);
+        let _ = self
+            .accept_error
+            .compare_exchange(0, number, Ordering::SeqCst, Ordering::SeqCst);
+        if self.options.logs {
+            let _ = eprintln!(self.rt; "accept failed: {error}");
+        }
+    }
+
+    fn connection_refused(&self) {
+        self.log("connection refused: the run is ending");
+    }
+
+    fn client_cut_off(&self, seconds: u32) {
+        if self.options.logs {
+            let _ = eprintln!(self.rt; "client cut off: silent for {seconds} s");
+        }
+    }
+
+    fn outbox_failed(&self, error: &io::Error) {
+        if self.options.logs {
+            let _ = eprintln!(self.rt; "fault {}: {error}", fault_code::OUTBOX_WRITE);
+        }
+        if self.options.ends_on_fault {
+            self.end("ending: the outbox could not be written");
+        }
+    }
+}

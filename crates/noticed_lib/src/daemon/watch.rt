@@ -1,0 +1,48 @@
+//! What looks after a run of the daemon over a socket.
+ghost use Rattle.std.specs.Prelude.{◌≡◌, true};
+
+use std::io;
+
+/// How often what waits under a watch looks up, in seconds.
+pub(crate) const TICK: u64 = 1;
+
+/// Looks after a run over a socket: it says when the run is to end before its last connection, and
+/// hears of what happens in it. Contracts know of it whether it may end the run at all, and no more.
+pub trait Watch {
+    // Whether it may end the run before its last connection.
+    ghost may_end: { Self → Type 0 };
+
+    /// Whether what waits looks up each second: an agent that accepts for the run's end, and one
+    /// that serves a connection also for a client that says nothing. Else each waits for as long
+    /// as its client takes.
+    fn looks_up(&self) -> bool;
+
+    /// After how many seconds a client that says nothing is cut off, if ever.
+    fn idle_limit(&self) -> Option<u32>;
+
+    /// Finds out whether the run is to end.
+    fn look(&self);
+
+    /// Whether the run was found to be ending: its agents finish the request in hand, and take no
+    /// further connection.
+    fn is_ending(&self) -> bool
+        ensures { result ≡ true → may_end self.now };
+
+    /// Whether a line is wanted for what happens.
+    fn logs(&self) -> bool;
+
+    /// Writes a line, if lines are wanted.
+    fn log(&self, line: &str);
+
+    /// Hears that a connection could not be accepted.
+    fn accept_failed(&self, error: &io::Error);
+
+    /// Hears that a connection was refused, since the run is ending.
+    fn connection_refused(&self);
+
+    /// Hears that a client was cut off, since it said nothing for so many seconds.
+    fn client_cut_off(&self, seconds: u32);
+
+    /// Hears that the outbox could not be written or flushed. It hears so once.
+    fn outbox_failed(&self, error: &io::Error);
+}

@@ -1,5 +1,0 @@
--- Which lemmas the tactics use, by what they prove with them.
-use Rattle.noticed_send.proofs.SendLemmas.{sent-nothing, sent-one}
-
--- one frame after another
-pub ruleset sends = (sent-nothing, sent-one)

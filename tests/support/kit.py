@@ -1,0 +1,57 @@
+"""The kit, as the scripts of the gate call it: which `rt`, and how a crate is checked with a few of its texts changed.
+
+The environment's RT names the `rt` (`make RT=.. check`); else it is the one on PATH, or the kit's usual place.
+
+Nearly all is asked of `rt` in its public words. One thing isn't: `rt must-fail` tries one edit a check and each over the whole
+crate, some 280 checks here, and doesn't say which clause refuses it. So the edits are tried in groups by the prover itself
+(`rattle check`), with the words that `rt` would call it with, which only the kit's own module `rtlib.py` knows, and what it
+prints is read by the patterns below. All that the next kit may change of that is in this file."""
+import importlib.machinery
+import importlib.util
+import os
+import re
+import shutil
+import subprocess
+import sys
+from pathlib import Path
+
+NAMED = os.environ.get("RT") or "rt"
+RT = os.path.abspath(shutil.which(NAMED) or (NAMED if "/" in NAMED else "/opt/rattle/bin/rt"))
+
+# What a check prints: that the whole crate is proved, each function that is, each that isn't, with the clauses that are lacking,
+# a note on a clause with its place, an error in a proof that was written by hand, and a text that can't be read at all.
+WHOLE = re.compile(r"^logic=proved\b", re.M)
+ACCEPTED = re.compile(r"^fn (?P<path>[^:]+(?:::[^:]+)*): proved(?:, may wait)?$", re.M)
+UNPROVED = re.compile(r"^fn (?P<path>[^:]+(?:::[^:]+)*): (?:no proof|not proved)(?P<why>.*)$", re.M)
+CLAUSES = re.compile(r"did not prove ((?:`[^`]+`(?:, | and )?)+)")
+NOTE = re.compile(r"^note: (?P<file>src/\S+?):(?P<line>\d+):\d+: it is not proved that .*?\(`(?P<clause>[^`]+)`\)", re.M)
+PROOF = re.compile(r"^(?:\./)?proofs/(?P<file>\S+?)\.antt:\d+:\d+: error: (?P<why>.*)$", re.M)
+UNREAD = re.compile(r"^(?:\./)?(?:src|specs)/\S+:\d+:\d+: error: (?:(?!`[^`]*`: )|.*(?:is not in scope|has no field|is no name)).*$", re.M)
+# A proof that names what an edit took away says nothing of the contract.
+TAKEN_AWAY = re.compile(r"has no field|is not in scope|has no `|was not admitted")
+
+# What `rt ci` prints of a library that is proved in this run, or taken from what an earlier one proved of the same files, and
+# its last line.
+LIBRARY = re.compile(r"^rt: (\w+) (?:proved$|is kept: )", re.M)
+ENDED = re.compile(r"^\d+ passed, \d+ failed$", re.M)
+
+
+def crates_below(room: Path) -> dict:
+    """The crates of a repository, or of a copy of it, by their names, as the kit's own module has them: each says what it
+    stands on (`below()`), where its library is (`rlib`), and the words of its check (`words(..)`)."""
+    place = Path(RT).resolve().parent / "rtlib.py"
+    loader = importlib.machinery.SourceFileLoader("rtlib", str(place))
+    module = importlib.util.module_from_spec(importlib.util.spec_from_loader("rtlib", loader))
+    sys.modules["rtlib"] = module
+    loader.exec_module(module)
+    return {it.name: it for it in module.crates_below(str(room))}
+
+
+def check(crate, folder: str, kept: Path, only: list) -> str:
+    """What the prover says of a copy of a crate's texts in this folder: of these functions, or of all, over what earlier checks
+    kept there."""
+    words = [*crate.words(["--jobs", "1"], keeps=False), "--incremental", str(kept)]
+    words += [word for path in only for word in ("--only", path)]
+    prover = [str(Path(RT).resolve().parent / "rattle"), "check", *words]
+    ran = subprocess.run(prover, cwd=folder, capture_output=True, text=True, errors="replace", check=False)
+    return ran.stdout + ran.stderr

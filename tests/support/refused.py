@@ -83,12 +83,13 @@ class Edit:
 
 @dataclass
 class Verdict:
-    """What a check said of an edit: the clauses and worked examples that refuse it, the errors in proofs written by hand, and
-    whether everything that it changes was proved."""
+    """What a check said of an edit: the clauses and worked examples that refuse it, the errors in proofs written by hand,
+    whether everything that it changes was proved, and the error of a text that can't be read, where it is one."""
 
     clauses: set = field(default_factory=set)
     proofs: set = field(default_factory=set)
     is_accepted: bool = False
+    unread: str = ""
 
     @property
     def is_refused(self) -> bool:
@@ -103,8 +104,8 @@ class Verdict:
         return self.is_accepted if edit.is_control else self.is_refused
 
     def why(self) -> str:
-        """What refuses the edit, in a few words."""
-        return ", ".join([*sorted(self.clauses), *sorted(self.proofs)][:4])
+        """What refuses the edit, in a few words, or why it isn't one."""
+        return self.unread or ", ".join([*sorted(self.clauses), *sorted(self.proofs)][:4])
 
 
 def read(crate: str, path: Path) -> Edit:
@@ -191,8 +192,9 @@ class Tries:
 def verdict(edit: Edit, said: str) -> Verdict:
     """What a check says of an edit: of its functions, the clauses that aren't proved, and the errors in their proofs; of an edit
     of something else, those of every function, worked example and lemma."""
-    if kit.UNREAD.search(said):
-        return Verdict()
+    unread = kit.UNREAD.search(said)
+    if unread:
+        return Verdict(unread=f"it doesn't compile: {unread[0][:120]}")
     wrong = [it for it in kit.PROOF.finditer(said) if not kit.TAKEN_AWAY.search(it["why"])]
     found = Verdict({note["clause"] for note in kit.NOTE.finditer(said) if edit.is_about(note)})
     for function in kit.UNPROVED.finditer(said):
@@ -228,7 +230,7 @@ class Tally:
 
     def tell(self, crate: str, edit: Edit, found: Verdict, control):
         """Adds what came of an edit, and of its control where it has one (as a pair of both, and what came of it)."""
-        said = f"refused by {found.why()}" if found.is_refused else "NOT REFUSED"
+        said = f"refused by {found.why()}" if found.is_refused else f"NOT REFUSED {found.unread}".strip()
         self.refused, self.failed = self.refused + found.is_refused, self.failed + (not found.is_refused)
         if control and control[0].places != edit.places:
             self.failed, said = self.failed + 1, f"{said}; its CONTROL CHANGES ANOTHER PLACE"

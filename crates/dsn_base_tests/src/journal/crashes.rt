@@ -1,10 +1,10 @@
 //! Every moment of many histories at which a machine can stop: what is recovered then has each
 //! record that was told kept, and of the others none but the first, in their order.
-ghost use Rattle.std.specs.Prelude.{◌<◌, ◌≤◌};
+ghost use Rattle.std.specs.Prelude.{◌<◌, ◌≤◌, IfOk};
 ghost use Rattle.dsn_journal.specs.MemoryDisk.{memory_moment};
 
 use crate::same::same;
-use dsn_journal::{Journal, JournalError, MemoryDisk, recover};
+use dsn_journal::{Disk, Journal, JournalError, MemoryDisk, recover};
 use std::alloc::Global;
 use std::process::Abort;
 use std::test::Fail;
@@ -138,6 +138,46 @@ fn stop_at(
     same(rt, found.len() >= least && found.len() <= most, true);
     let first = &history.records[..found.len().min(history.records.len())];
     same(rt, found.as_slice() == first, true);
+    Ok(())
+}
+
+/// A file of four zeros over which two bytes are written, from the second on.
+fn written(alloc: Global) -> Result<MemoryDisk, Fail>
+    ensures { IfOk result (λ disk. 1 ≤ memory_moment disk) }
+{
+    let mut disk = MemoryDisk::new(alloc, vec![in alloc; 0; 4]?);
+    if disk.write_at(1, &[8, 9]).is_err() || disk.moment() == 0 {
+        return Err("the bytes were not written".into());
+    }
+    Ok(disk)
+}
+
+#[test]
+fn a_crash_tears_a_write_where_it_is_told(rt: HostRuntime) -> Result<(), Fail> {
+    let disk = written(rt.alloc())?;
+    let table: [(u64, [u8; 4]); 5] = [
+        (0, [0, 8, 9, 0]),
+        (0b010, [0, 0, 9, 0]),
+        (0b100, [0, 8, 0, 0]),
+        (0b110, [0, 0, 0, 0]),
+        (u64::MAX, [0, 0, 0, 0]),
+    ];
+    for (lost, want) in table {
+        let left = disk.crashed(1, lost)?;
+        same(&rt, left.as_slice(), want.as_slice());
+    }
+    same(&rt, disk.crashed(0, 0)?.as_slice(), [0, 0, 0, 0].as_slice());
+    Ok(())
+}
+
+#[test]
+fn a_crash_takes_nothing_that_is_synced(rt: HostRuntime) -> Result<(), Fail> {
+    let mut disk = written(rt.alloc())?;
+    if disk.sync().is_err() {
+        return Err("no sync".into());
+    }
+    let left = disk.crashed(disk.moment(), u64::MAX)?;
+    same(&rt, left.as_slice(), [0, 8, 9, 0].as_slice());
     Ok(())
 }
 

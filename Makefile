@@ -86,6 +86,7 @@ bench: $(NOTICED) $(PROBE)
 	@export NOTICED="$(CURDIR)/$(NOTICED)" PROBE="$(CURDIR)/$(PROBE)" PYTHONDONTWRITEBYTECODE=1
 	python3 bench/crew.py
 	python3 bench/daemon.py
+	python3 bench/journal.py
 	python3 bench/bench.py
 
 # Shows that the fuzzers of tests/ find small wrong edits of the plain reading; takes a minute or two.

@@ -13,6 +13,11 @@
 //! (`error`, `interruption`, `nothing`). Standard output has `conn` for each connection and the
 //! bytes of its answers before the rest.
 //!
+//! `probe journal FILE SIZE LOGS ENTRIES REQUESTS GROUP` opens the ledger of a file under these limits,
+//! and keeps and answers the frames that standard input gives, so many at once. The file is made, of
+//! `SIZE` bytes, where it isn't there; with 0 it has to be. Standard output has `opened` and where
+//! the next record goes, then the answers' frames, and a line where a group found no room.
+//!
 //! `probe channel MESSAGES` exchanges so many messages between two threads over channels alone, for
 //! comparison.
 #![tactic(auto)]
@@ -20,6 +25,7 @@
 mod calls;
 mod channel;
 mod crew;
+mod journal;
 mod task;
 
 use std::io::Read;
@@ -35,6 +41,10 @@ fn main(rt: HostRuntime) -> ExitCode {
         Some(Task::Crew(agents, requests)) => crew::run_peers(&rt, rt.alloc(), agents, requests),
         Some(Task::Given(most, failing)) => match sent(&rt) {
             Some(sent) => crew::run_given(&rt, rt.alloc(), &sent, most, &failing),
+            None => None,
+        },
+        Some(Task::Journal(keeping)) => match sent(&rt) {
+            Some(sent) => journal::keep(&rt, &keeping, &sent),
             None => None,
         },
         Some(Task::Channel(messages)) => channel::exchange(&rt, rt.alloc(), messages),

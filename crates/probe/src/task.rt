@@ -1,5 +1,7 @@
 //! What the arguments ask for.
 use crate::crew::{Call, Failing, Failure};
+use crate::journal::Keeping;
+use dsn_book::Limits;
 use std::env;
 use std::env::Args;
 
@@ -14,6 +16,8 @@ pub(crate) enum Task {
     Channel(u32),
     /// Runs a crew of one agent over given connections, each read giving at most so many bytes.
     Given(usize, Failing),
+    /// Keeps requests in a journal.
+    Journal(Keeping),
 }
 
 /// What the arguments ask for; none where they are wrong, or memory was refused.
@@ -26,6 +30,7 @@ pub(crate) fn asked_for(rt: &HostRuntime) -> Option<Task> {
         "crew" => Some(Task::Crew(number(&mut words)?, number(&mut words)?)),
         "given" => given(words),
         "channel" => Some(Task::Channel(number(&mut words)?)),
+        "journal" => journal(words),
         _ => None,
     }
 }
@@ -42,6 +47,22 @@ fn given(mut words: Args) -> Option<Task> {
     let at = number(&mut words)?;
     let failure = failure_of(words.next()?.as_str())?;
     Some(Task::Given(most as usize, Failing::new(call, u64::from(at), failure)))
+}
+
+/// The arguments `FILE SIZE LOGS ENTRIES REQUESTS GROUP` of a journal.
+fn journal(mut words: Args) -> Option<Task> {
+    let path = words.next()?;
+    let size = number(&mut words)?;
+    let logs = number(&mut words)?;
+    let entries = number(&mut words)?;
+    let limits = Limits::new(logs, entries, number(&mut words)?)?;
+    let group = number(&mut words)?;
+    Some(Task::Journal(Keeping {
+        path,
+        size,
+        limits,
+        group,
+    }))
 }
 
 /// The call that a word names.

@@ -1,0 +1,105 @@
+//! A ledger over a file: what standard input asks is kept in groups, and then answered.
+mod asking;
+mod taking;
+
+use asking::Asking;
+use dsn_book::{Limits, Step};
+use dsn_frame::{Spoken, encode_answer};
+use dsn_journal::{Disk, FileDisk, Journal, Ledger, Opened, create_file, open};
+use std::alloc::Global;
+use std::io::Write;
+use std::{fs, io};
+use taking::{Came, Taking};
+
+/// Where a ledger is, and how it is asked.
+#[derive(Drop)]
+pub(crate) struct Keeping {
+    /// The file.
+    pub(crate) path: String,
+    /// How many bytes it gets, where it is to be made; 0 where it is there.
+    pub(crate) size: u32,
+    /// The limits.
+    pub(crate) limits: Limits,
+    /// How many requests are kept at once.
+    pub(crate) group: u32,
+}
+
+/// Opens a ledger, and has what is given, frame by frame, kept and answered. Standard output gets a
+/// line once it is open, then the answers' frames, each group in one write after it is kept, and a
+/// line where a group found no room, or for the error that ended it.
+pub(crate) fn keep(rt: &HostRuntime, keeping: &Keeping, given: &[u8]) -> Option<()> {
+    let mut disk = match open_file(rt, keeping) {
+        Ok(disk) => disk,
+        Err(error) => {
+            println!(rt; "no file: {error}").ok()?;
+            return None;
+        }
+    };
+    let Opened { book, used } = match open(rt.alloc(), &mut disk, keeping.limits) {
+        Ok(opened) => opened,
+        Err(error) => {
+            println!(rt; "not opened: {error}").ok()?;
+            return None;
+        }
+    };
+    println!(rt; "opened {used}").ok()?;
+    let journal = Journal { disk, used };
+    let taking = Taking {
+        ledger: Ledger { journal, book },
+    };
+    answer_all(rt, rt.alloc(), taking, given, keeping.group)
+}
+
+/// Opens the file, which is made first where it is to be and isn't there.
+fn open_file(rt: &HostRuntime, keeping: &Keeping) -> io::Result<FileDisk> {
+    let path = keeping.path.as_str();
+    if keeping.size > 0 && !fs::exists(rt, path)? {
+        create_file(rt, path, keeping.size as usize)?;
+    }
+    FileDisk::open(rt, path)
+}
+
+/// Keeps what is given, and answers it.
+fn answer_all<D: Disk + Drop>(
+    rt: &impl Print,
+    alloc: Global,
+    first: Taking<D>,
+    given: &[u8],
+    most: u32,
+) -> Option<()> {
+    let mut asking = Asking::new(alloc, given);
+    let mut taking = first;
+    for _ in 0..u64::MAX {
+        let group = asking.next_group(alloc, most)?;
+        if group.is_empty() {
+            return Some(());
+        }
+        taking = match taking.take(alloc, group) {
+            Came::Kept(then, steps) => {
+                show_answers(rt, alloc, &steps)?;
+                then
+            }
+            Came::Full(then) => {
+                println!(rt; "full").ok()?;
+                then
+            }
+            Came::Ended(error) => {
+                println!(rt; "{error}").ok()?;
+                return None;
+            }
+        };
+    }
+    None
+}
+
+/// Writes the frames of a group's answers.
+fn show_answers(rt: &impl Print, alloc: Global, steps: &[Step]) -> Option<()> {
+    let mut frames = Vec::new(alloc);
+    for step in steps {
+        let said = Spoken::Reply(step.answer.reply);
+        frames
+            .extend_from_slice(&encode_answer(step.answer.number, &said))
+            .ok()?;
+    }
+    io::writer(rt).write_all(&frames).ok()
+}

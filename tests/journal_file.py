@@ -1,0 +1,225 @@
+#!/usr/bin/env python3
+"""A ledger over a real file (the program probe), beside a plain reading of docs/FORMATS.md, section 18: what is answered and
+what the file has; a file without room; and by a small library that is preloaded (tests/support/crash.c, compiled here with
+gcc) each call on the file failing in turn, and the machine stopping within each in turn, where all, some or none of what
+wasn't synced is kept. Whatever is found then is the asked requests in their order, up to one that stands after each answered
+one and within the group that was being kept, and the ledger that is opened goes on from there."""
+import os
+import random
+import subprocess
+import sys
+import tempfile
+from dataclasses import dataclass, field
+from pathlib import Path
+
+sys.path.insert(0, str(Path(__file__).parent / "support"))
+from formats import bodies, journal, sessions  # noqa: E402
+from formats.logs import Limits  # noqa: E402
+from preloading import built, preloading  # noqa: E402
+from running import ROOT, Checks, frames_module  # noqa: E402
+
+PROBE = os.environ.get("PROBE") or str(ROOT / "crates/probe/out/probe")
+PATIENCE = 60  # seconds that a run may take
+SIZE = 2_048  # bytes of a file: room for all that is asked here
+GROUP = 3
+STOPPED = 77  # the status of a run whose machine stopped
+EIO, ENOSPC = 5, 28
+FRAMES = frames_module()
+LIMITS = Limits(logs=3, entries=3, requests=100)
+KEYS = [(1, b"K1"), (1, b"K2"), (2, b"K3"), (3, b"K4")]
+VALUES = {1: (1, b"5.1.1"), 2: (2, b"4.4.1"), 3: (3, b"2.0.0")}  # an action and a status of each service
+
+
+def frame(number: int, asked: tuple) -> bytes:
+    """The frame of a request: its kind and its key."""
+    kind, (service, queue_id) = asked
+    if kind == "append":
+        return FRAMES.append(number, service, queue_id, b"bob@example.org", *VALUES[service])
+    return {"flush": FRAMES.flush, "discard": FRAMES.discard, "forget": FRAMES.forget}[kind](number, service, queue_id)
+
+
+def request(asked: tuple) -> bodies.Request:
+    """The request, as a record keeps it."""
+    return bodies.decoded(frame(0, asked)[4:])
+
+
+def any_requests(seed: int, count: int) -> list:
+    """So many requests."""
+    dice = random.Random(seed)
+    return [(dice.choice(["append"] * 5 + ["flush", "discard", "forget"]), dice.choice(KEYS)) for _ in range(count)]
+
+
+@dataclass
+class Ran:
+    """What a run showed: its lines, the answers' frames, and its status."""
+
+    lines: list = field(default_factory=list)
+    answers: list = field(default_factory=list)
+    status: int = 0
+
+
+def keep(path: Path, asked: list, size: int = SIZE, group: int = GROUP, limits: Limits = LIMITS, environment=None) -> Ran:
+    """Runs a ledger over a file."""
+    given = b"".join(frame(number, it) for number, it in enumerate(asked))
+    words = [path, size, limits.logs, limits.entries, limits.requests, group]
+    ended = subprocess.run([PROBE, "journal", *map(str, words)], input=given, capture_output=True, timeout=PATIENCE, check=False, env=environment)
+    ran, rest = Ran(status=ended.returncode), ended.stdout
+    if ended.stderr:
+        raise RuntimeError(ended.stderr)
+    while rest:
+        if rest.startswith(b"\0\0\0\x0a"):
+            ran.answers.append(rest[:14])
+            rest = rest[14:]
+        else:
+            line, _, rest = rest.partition(b"\n")
+            ran.lines.append(line)
+    return ran
+
+
+def wanted(kept: list, asked: list) -> list:
+    """The answers to what is asked, where this is kept already."""
+    logs = journal.replayed([request(it) for it in kept], LIMITS)
+    return [sessions.answer(number, *logs.apply(request(it))[:2]) for number, it in enumerate(asked)]
+
+
+def found(path: Path) -> list:
+    """The requests that a file keeps; none where there is no file."""
+    return journal.requests(path.read_bytes()) if path.exists() else []
+
+
+def check_answers(checks: Checks, room: Path):
+    """Runs one after another over one file: the answers, and what the file has."""
+    for group in (1, 2, 5, 16):
+        path, kept = room / f"plain-{group}", []
+        for seed in range(4):
+            asked = any_requests(100 * group + seed, 5)
+            ran = keep(path, asked, group=group)
+            checks.equal(f"groups of {group}, run {seed}: answers", ran.answers, wanted(kept, asked))
+            checks.equal(f"groups of {group}, run {seed}: status", ran.status, 0)
+            kept += asked
+            checks.equal(f"groups of {group}, run {seed}: kept", found(path), [request(it) for it in kept])
+            file = path.read_bytes()
+            checks.equal(f"groups of {group}, run {seed}: the file", file, journal.at_rest(journal.records(file), SIZE))
+        checks.true(f"groups of {group}: no file beside it", not Path(f"{path}.new").exists())
+
+
+def check_full(checks: Checks, room: Path):
+    """A file in which two groups have room, and then no group of two: one alone has."""
+    append = [("append", KEYS[0])]
+    path = room / "full"
+    keep(path, append, size=SIZE, group=1)
+    each = path.read_bytes().rstrip(b"\0")
+    path.unlink()
+    size = 5 * len(each)
+    checks.equal("full: answers", keep(path, 6 * append, size=size, group=2).answers, wanted([], 4 * append)[:4])
+    before = path.read_bytes()
+    ran = keep(path, 4 * append, size=size, group=2)
+    checks.equal("full: each group is refused", (ran.lines[1:], ran.answers, ran.status), ([b"full"] * 2, [], 0))
+    checks.equal("full: nothing is written", path.read_bytes(), before)
+    ran = keep(path, append, size=size, group=1)
+    checks.equal("full: one has room", (ran.answers, ran.lines[1:]), (wanted(4 * append, append), []))
+    checks.equal("full: to the last byte", path.read_bytes(), each * 5)
+
+
+def check_opening(checks: Checks, room: Path):
+    """What isn't opened."""
+    path = room / "damaged"
+    path.write_bytes(b"A\2".ljust(SIZE, b"\0"))
+    ran = keep(path, [])
+    checks.equal("a record that keeps no body", (ran.lines, ran.status), ([b"not opened: a record of the journal is damaged"], 1))
+    checks.equal("a record that keeps no body stays", path.read_bytes(), b"A\2".ljust(SIZE, b"\0"))
+    ran = keep(room / "none", [], size=0)
+    checks.true("a file that isn't there", (len(ran.lines), ran.lines[0][:8], ran.status) == (1, b"no file:", 1))
+
+
+def check_found(checks: Checks, about: str, path: Path, asked: list, ran: Ran) -> int:
+    """What a run that ended badly left: some first requests, with each answered one, and no more than the group after these."""
+    left = found(path)
+    checks.equal(f"{about}: what is found", left, [request(it) for it in asked[: len(left)]])
+    checks.true(f"{about}: answered {len(ran.answers)}, found {len(left)}", len(ran.answers) <= len(left) <= len(ran.answers) + GROUP)
+    checks.equal(f"{about}: answers", ran.answers, wanted([], asked)[: len(ran.answers)])
+    return len(left)
+
+
+def check_goes_on(checks: Checks, about: str, path: Path, asked: list, count: int):
+    """A run that goes on where so many of the requests are kept."""
+    more = asked[count:] + [("discard", key) for key in KEYS]
+    ran = keep(path, more)
+    checks.equal(f"{about}: goes on", (ran.answers, ran.status), (wanted(asked[:count], more), 0))
+    checks.equal(f"{about}: goes on, and keeps", found(path), [request(it) for it in asked[:count] + more])
+
+
+def disturbed(library: Path, path: Path, asked: list, **how) -> Ran:
+    """A run over a new file that is disturbed."""
+    for it in (path, Path(f"{path}.new")):
+        it.unlink(missing_ok=True)
+    return keep(path, asked, environment=preloading(library, JOURNAL=path, **how))
+
+
+def check_failures(checks: Checks, room: Path, library: Path):
+    """Each call on the file fails in turn."""
+    path, asked = room / "failing", any_requests(1, 7)
+    for how in ({"FAIL_WITH": EIO}, {"FAIL_WITH": ENOSPC, "HALF": 1}):
+        number, ran = 0, Ran(status=1)
+        while ran.status and number < 100:
+            number += 1
+            ran = disturbed(library, path, asked, FAIL_AT=number, **how)
+            about = f"call {number} failed with {how}"
+            count = check_found(checks, about, path, asked, ran)
+            if ran.status:
+                told = ran.lines[-1].endswith(b"the journal's disk failed") or ran.lines[0].startswith(b"no file:")
+                checks.true(f"{about}: told in {ran.lines}", told)
+            check_goes_on(checks, about, path, asked, count)
+        print(f"  {number - 1} calls, each failing once with {how}")
+
+
+def check_crashes(checks: Checks, room: Path, library: Path):
+    """The machine stops within each call in turn, and what wasn't synced is kept, lost or torn."""
+    path, stops = room / "stopping", 0
+    for seed in range(4):
+        asked = any_requests(10 + seed, 7)
+        for kept in ("none", "all", "first", *range(4)):
+            number, ran = 0, Ran(status=STOPPED)
+            while ran.status == STOPPED and number < 100:
+                number += 1
+                ran = disturbed(library, path, asked, CRASH_AT=number, KEEP=kept)
+                about = f"requests {seed}, stopped within call {number}, kept {kept}"
+                count = check_found(checks, about, path, asked, ran)
+                check_goes_on(checks, about, path, asked, count)
+            checks.equal(f"requests {seed}, kept {kept}: the last run is whole", ran.status, 0)
+            stops += number - 1
+    print(f"  {stops} stops")
+
+
+def check_crashes_of_an_opening(checks: Checks, room: Path, library: Path):
+    """The machine stops within a group, and again within each call of the opening after it."""
+    path, asked = room / "opening", any_requests(20, 7)
+    for kept in ("first", *range(4)):
+        disturbed(library, path, asked, CRASH_AT=10, KEEP=kept)
+        left, count = path.read_bytes(), len(found(path))
+        for number in range(1, 5):
+            for again in ("none", "all", *range(4)):
+                path.write_bytes(left)
+                ran = keep(path, [], environment=preloading(library, JOURNAL=path, CRASH_AT=number, KEEP=again))
+                about = f"kept {kept}, opening stopped within call {number}, kept {again}"
+                checks.equal(f"{about}: stopped", ran.status, STOPPED)
+                checks.equal(f"{about}: what is found", found(path), [request(it) for it in asked[:count]])
+                check_goes_on(checks, about, path, asked, count)
+
+
+def main():
+    checks = Checks("A ledger over a file, its calls failing and the machine stopping within each")
+    with tempfile.TemporaryDirectory(prefix="noticed-journal-") as name:
+        room = Path(name)
+        library = built(room, "crash")
+        check_answers(checks, room)
+        check_full(checks, room)
+        check_opening(checks, room)
+        check_failures(checks, room, library)
+        check_crashes(checks, room, library)
+        check_crashes_of_an_opening(checks, room, library)
+    checks.done()
+
+
+if __name__ == "__main__":
+    main()

@@ -2,3 +2,4 @@
 mod crashes;
 mod ledgers;
 mod records;
+mod replacing;

@@ -100,17 +100,18 @@ def check_answers(checks: Checks, room: Path):
             checks.equal(f"groups of {group}, run {seed}: kept", found(path), [request(it) for it in kept])
             file = path.read_bytes()
             checks.equal(f"groups of {group}, run {seed}: the file", file, journal.at_rest(journal.records(file), SIZE))
+            checks.equal(f"groups of {group}, run {seed}: the header", journal.records(file)[0], journal.header(LIMITS))
         checks.true(f"groups of {group}: no file beside it", not Path(f"{path}.new").exists())
 
 
 def check_full(checks: Checks, room: Path):
-    """A file in which two groups have room, and then no group of two: one alone has."""
+    """A file in which two groups have room, and then no group of two: one alone has. And one without room for a header."""
     append = [("append", KEYS[0])]
     path = room / "full"
     keep(path, append, size=SIZE, group=1)
-    each = path.read_bytes().rstrip(b"\0")
+    header, each = map(journal.spelled, journal.records(path.read_bytes()))
     path.unlink()
-    size = 5 * len(each)
+    size = len(header) + 5 * len(each)
     checks.equal("full: answers", keep(path, 6 * append, size=size, group=2).answers, wanted([], 4 * append)[:4])
     before = path.read_bytes()
     ran = keep(path, 4 * append, size=size, group=2)
@@ -118,16 +119,35 @@ def check_full(checks: Checks, room: Path):
     checks.equal("full: nothing is written", path.read_bytes(), before)
     ran = keep(path, append, size=size, group=1)
     checks.equal("full: one has room", (ran.answers, ran.lines[1:]), (wanted(4 * append, append), []))
-    checks.equal("full: to the last byte", path.read_bytes(), each * 5)
+    checks.equal("full: to the last byte", path.read_bytes(), header + each * 5)
+    for size, line in ((len(header) - 1, b"not opened: the journal is full"), (len(header), b"opened %d" % len(header))):
+        path = room / f"small-{size}"
+        checks.equal(f"a file of {size} bytes", keep(path, [], size=size).lines, [line])
+        checks.equal(f"a file of {size} bytes, then", path.read_bytes(), header if size == len(header) else bytes(size))
 
 
 def check_opening(checks: Checks, room: Path):
     """What isn't opened."""
-    path = room / "damaged"
-    path.write_bytes(b"A\2".ljust(SIZE, b"\0"))
-    ran = keep(path, [])
-    checks.equal("a record that keeps no body", (ran.lines, ran.status), ([b"not opened: a record of the journal is damaged"], 1))
-    checks.equal("a record that keeps no body stays", path.read_bytes(), b"A\2".ljust(SIZE, b"\0"))
+    damaged, other = b"a record of the journal is damaged", b"the journal is of another version, or was kept under other limits"
+    header = journal.header(LIMITS)
+    for about, kept, why in (
+        ("a record that keeps no body", [header, b"A"], damaged),
+        ("a header among the records", [header, header], damaged),
+        ("no header", [b"A"], other),
+        ("no header before a request", [frame(0, ("discard", KEYS[0]))[4:]], other),
+        ("an empty record as a header", [b""], other),
+        ("a header with a byte more", [header + b"\0"], other),
+        ("a header with a byte less", [header[:-1]], other),
+        ("a header of another version", [b"J\2" + header[2:]], other),
+        ("other limits of logs", [journal.header(Limits(4, 3, 100))], other),
+        ("other limits of entries", [journal.header(Limits(3, 4, 100))], other),
+        ("other limits of requests", [journal.header(Limits(3, 3, 101))], other),
+    ):
+        path, file = room / "refused", journal.at_rest(kept, SIZE)
+        path.write_bytes(file)
+        ran = keep(path, [])
+        checks.equal(about, (ran.lines, ran.status), ([b"not opened: " + why], 1))
+        checks.equal(f"{about}: the file stays", path.read_bytes(), file)
     ran = keep(room / "none", [], size=0)
     checks.true("a file that isn't there", (len(ran.lines), ran.lines[0][:8], ran.status) == (1, b"no file:", 1))
 
@@ -195,7 +215,7 @@ def check_crashes_of_an_opening(checks: Checks, room: Path, library: Path):
     """The machine stops within a group, and again within each call of the opening after it."""
     path, asked = room / "opening", any_requests(20, 7)
     for kept in ("first", *range(4)):
-        disturbed(library, path, asked, CRASH_AT=10, KEEP=kept)
+        disturbed(library, path, asked, CRASH_AT=12, KEEP=kept)
         left, count = path.read_bytes(), len(found(path))
         for number in range(1, 5):
             for again in ("none", "all", *range(4)):

@@ -1,5 +1,6 @@
-//! Tests of the journal, stopped at each moment, over what `dsn_journal` makes public.
+//! Tests of the journal, stopped at each moment, and of its file, over what `dsn_journal` makes public.
 mod crashes;
+mod files;
 mod ledgers;
 mod records;
 mod replacing;

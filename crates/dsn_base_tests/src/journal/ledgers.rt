@@ -17,8 +17,8 @@ use std::alloc::Global;
 use std::process::Abort;
 use std::test::Fail;
 
-/// How many bytes a disk has: room for all requests of a history.
-const SIZE: usize = 800;
+/// How many bytes a disk has: room for a header and for all requests of a history.
+const SIZE: usize = 826;
 
 /// The requests of a group, from one agent.
 fn make_group(alloc: Global, asks: &[Ask]) -> Result<Vec<Request>, Fail> {
@@ -132,7 +132,7 @@ fn stop_at(
 {
     let mut disk = MemoryDisk::new(alloc, history.disk.crashed(moment, lost)?);
     let mut book = open(alloc, &mut disk, limits)?.book;
-    let kept = recover(alloc, &mut disk)?.records.len();
+    let kept = recover(alloc, &mut disk)?.records.len().saturating_sub(1);
     let (least, most) = bounds(&history.answered, moment);
     same(rt, kept >= least && kept <= most, true);
     let asks = history.asks.as_slice();
@@ -167,10 +167,17 @@ fn each_moment_of_many_ledgers(rt: HostRuntime) -> Result<(), Fail> {
     Ok(())
 }
 
-/// Why a disk with these bytes is not opened.
-fn refusal_of(alloc: Global, bytes: &[u8]) -> Result<Option<LedgerError>, Fail> {
+/// The header of a disk under the limits of 10 logs, 10 entries and 100 requests.
+const HEADER: [u8; 26] = [
+    74, 1, 2, 1, 1, 1, 1, 1, 1, 10, 1, 1, 1, 1, 1, 1, 10, 1, 1, 1, 1, 1, 1, 100, 2, 0,
+];
+
+/// Why a disk with a header and then these bytes is not opened.
+fn refusal_of(alloc: Global, header: &[u8], bytes: &[u8]) -> Result<Option<LedgerError>, Fail> {
     let limits = Limits::new(10, 10, 100).ok_or("not limits")?;
-    let mut disk = MemoryDisk::new(alloc, bytes.to_vec(alloc)?);
+    let mut file = header.to_vec(alloc)?;
+    file.extend_from_slice(bytes)?;
+    let mut disk = MemoryDisk::new(alloc, file);
     Ok(open(alloc, &mut disk, limits).err())
 }
 
@@ -197,7 +204,25 @@ fn records_that_keep_no_body_are_damaged(rt: HostRuntime) -> Result<(), Fail> {
         // What isn't ended doesn't count.
         ([65, 0, 2].as_slice(), None),
     ] {
-        same(&rt, refusal_of(rt.alloc(), bytes)?, refusal);
+        same(&rt, refusal_of(rt.alloc(), &HEADER[..25], bytes)?, refusal);
+    }
+    Ok(())
+}
+
+#[test]
+fn a_disk_without_the_header_of_its_limits_is_refused(rt: HostRuntime) -> Result<(), Fail> {
+    let other = Some(LedgerError::OtherHeader);
+    let full = Some(LedgerError::Journal(JournalError::Full));
+    for (bytes, refusal) in [
+        (HEADER.as_slice(), None),
+        ([2].as_slice(), other),
+        ([65, 2].as_slice(), other),
+        ([0; 25].as_slice(), None),
+        ([0; 24].as_slice(), full),
+        // What isn't ended is no header.
+        (&HEADER[..24], full),
+    ] {
+        same(&rt, refusal_of(rt.alloc(), bytes, &[])?, refusal);
     }
     Ok(())
 }

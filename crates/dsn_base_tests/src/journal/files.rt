@@ -1,0 +1,52 @@
+//! A file of the system as a disk: made, opened, written and opened anew.
+use crate::same::same;
+use dsn_journal::{Disk, FileDisk, create_file};
+use std::fs;
+use std::io::ErrorKind;
+use std::test::Fail;
+
+/// A folder of its own, and the file in it.
+const FOLDER: &str = "dsn_journal_files";
+
+const PATH: &str = "dsn_journal_files/journal";
+
+#[test]
+fn a_file_keeps_what_was_written(rt: HostRuntime) -> Result<(), Fail> {
+    let _ = fs::remove_dir_all(&rt, FOLDER);
+    fs::create_dir(&rt, FOLDER)?;
+    create_file(&rt, PATH, 5_000)?;
+    same(
+        &rt,
+        fs::exists(&rt, "dsn_journal_files/journal.new")?,
+        false,
+    );
+    let again = create_file(&rt, PATH, 10);
+    same(
+        &rt,
+        again.err().map(|error| error.kind()),
+        Some(ErrorKind::AlreadyExists),
+    );
+    let mut disk = FileDisk::open(&rt, PATH)?;
+    let second = FileDisk::open(&rt, PATH);
+    same(
+        &rt,
+        second.err().map(|error| error.kind()),
+        Some(ErrorKind::WouldBlock),
+    );
+    if disk.size() != 5_000 {
+        return Err(Fail::from("another size"));
+    }
+    disk.write_at(4_990, b"abc")?;
+    disk.sync()?;
+    drop(disk);
+    let bytes = fs::read(&rt, PATH)?;
+    same(&rt, bytes.len(), 5_000);
+    let part = bytes.get(4_988..4_995);
+    same(&rt, part, Some(b"\0\0abc\0\0".as_slice()));
+    let mut disk = FileDisk::open(&rt, PATH)?;
+    let mut read = vec![in rt.alloc(); 7; disk.size()]?;
+    disk.read(&mut read)?;
+    same(&rt, read == bytes, true);
+    fs::remove_dir_all(&rt, FOLDER)?;
+    Ok(())
+}

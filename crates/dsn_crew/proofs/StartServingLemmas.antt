@@ -40,10 +40,11 @@ module _ {P : Type 0} where
   abbrev pub Fits : List Agent × List P → List (Option (PromisedHandle PortEnd (Serves P))) → Type 0
   Fits both handles = AreStarted both.0 both.1 handles
 
-  pub starts-more : (agents rest : List Agent) (ports left : List P) (agent : Agent) (port : P) (handle : Option (PromisedHandle PortEnd (Serves P))) → agents ≡ agent ∷ rest → ports ≡ port ∷ left → IfSome handle (λ started. IsStarted agent port started.promise)
+  -- a thread that was started with the port in its place
+  pub starts-more : (agents rest : List Agent) (ports left : List P) (agent : Agent) (port given : P) (handle : Option (PromisedHandle PortEnd (Serves P))) → agents ≡ agent ∷ rest → ports ≡ port ∷ left → IfSome handle (λ started. IsStarted agent given started.promise) → given ≡ port
       → (more : List (Option (PromisedHandle PortEnd (Serves P)))) → AreStarted rest left more → AreStarted agents ports (handle ∷ more)
-  starts-more agents rest ports left agent port handle agents_are ports_are begun more started =
-      subst (λ l. AreStarted l ports (handle ∷ more)) (sym agents_are) (subst (λ l. AreStarted (agent ∷ rest) l (handle ∷ more)) (sym ports_are) (begun, started))
+  starts-more agents rest ports left agent port given handle agents_are ports_are begun given_is more started =
+      subst (λ l. AreStarted l ports (handle ∷ more)) (sym agents_are) (subst (λ l. AreStarted (agent ∷ rest) l (handle ∷ more)) (sym ports_are) (rw given_is at begun, started))
 
   -- as many threads as agents, those counted that there are not
   pub starts-length : (agents : List Agent) (ports : List P) (handles : List (Option (PromisedHandle PortEnd (Serves P)))) → AreStarted agents ports handles → length handles ≡ length agents

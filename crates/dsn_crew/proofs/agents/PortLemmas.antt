@@ -237,6 +237,13 @@ serves_nothing port start agent requests is goes_on = record {
   good = refl;
 }
 
+-- a line that counts what this one does, and tells this of the port
+pub record IsLine (line : AgentLine) (told : Bool) (then : AgentLine) : Type 0 where
+  pub requests : then.requests ≡ line.requests
+  pub connections : then.connections ≡ line.connections
+  pub faults : then.faults ≡ line.faults
+  pub port_failed : then.port_failed ≡ told
+
 module _ {P T : Type 0} (port : Port P T) (start : P) (old : Agent) (now : P) (agent : Agent) (line : AgentLine) (count : ℕ) (so_far : ServesSoFar port start old now agent line count) (most : count ≤ 1000000) where
   -- the line, with what is told of the port
   abbrev line-with : Bool → AgentLine
@@ -265,24 +272,27 @@ module _ {P T : Type 0} (port : Port P T) (start : P) (old : Agent) (now : P) (a
     only = λ rest may. subst (λ (n : ℕ). port.may_give start (all_given n last ++ rest)) (sym so_far.connections) (gave.before rest may);
   }
 
-  serves-well : (end : P) (last : Option Given) → AreOverPort (port.conns start) so_far.sessions false false → GivenAll (port.may_give start) (port.may_give end) count last → IsLastGiven count false false last → Serves port start old end agent line
-  serves-well end last over gave ends = subst (λ (told : Bool). Serves port start old end agent (line-with told)) (sym so_far.good) (serves-end end false last over gave ends)
+  -- and a line that is this one
+  serves-told : (end : P) (told : Bool) (last : Option Given) (then : AgentLine) → IsLine line told then → AreOverPort (port.conns start) so_far.sessions false told → GivenAll (port.may_give start) (port.may_give end) count last → IsLastGiven count false told last → Serves port start old end agent then
+  serves-told end told last then same over gave ends =
+      let is : line-with told ≡ then = λ i. record { requests = sym same.requests i; connections = sym same.connections i; faults = sym same.faults i; port_failed = sym same.port_failed i } in
+      subst (Serves port start old end agent) is (serves-end end told last over gave ends)
 
   pub serves-full : 1000000 ≤ count → Serves port start old now agent line
   serves-full full =
       let all : count ≡ 1000000 = omega (arith, most, full) in
-      serves-well now None (port-full (port.conns start) so_far.sessions (port.conns now) so_far.over (so_far.counted ∙ all))
+      serves-told now false None line (record { requests = refl; connections = refl; faults = refl; port_failed = so_far.good }) (port-full (port.conns start) so_far.sessions (port.conns now) so_far.over (so_far.counted ∙ all))
       (record { alone = so_far.given (omega (arith, all)); before = so_far.gave }) (refl, inr all)
 
   module _ {S : Type 0} (source : Source S) (new : P) where
-    pub serves-done : Gives source (port.conns now) (port.conns new) next.Done → GivesFirst (port.may_give now) (port.may_give new) done → Serves port start old new agent line
-    serves-done gives given =
-        serves-well new (Some done) (port-done source (port.conns start) so_far.sessions (port.conns now) (port.conns new) so_far.over gives)
+    pub serves-done : (then : AgentLine) → IsLine line false then → Gives source (port.conns now) (port.conns new) next.Done → GivesFirst (port.may_give now) (port.may_give new) done → Serves port start old new agent then
+    serves-done then same gives given =
+        serves-told new false (Some done) then same (port-done source (port.conns start) so_far.sessions (port.conns now) (port.conns new) so_far.over gives)
         (given-last (port.may_give start) (port.may_give now) (port.may_give new) count done so_far.gave given) (refl, refl)
 
-    pub serves-failed : Gives source (port.conns now) (port.conns new) next.Failed → GivesFirst (port.may_give now) (port.may_give new) failed → Serves port start old new agent (record { requests = line.requests; connections = line.connections; faults = line.faults; port_failed = true })
-    serves-failed gives given =
-        serves-end new true (Some failed) (port-failed source (port.conns start) so_far.sessions (port.conns now) (port.conns new) so_far.over gives)
+    pub serves-failed : (then : AgentLine) → IsLine line true then → Gives source (port.conns now) (port.conns new) next.Failed → GivesFirst (port.may_give now) (port.may_give new) failed → Serves port start old new agent then
+    serves-failed then same gives given =
+        serves-told new true (Some failed) then same (port-failed source (port.conns start) so_far.sessions (port.conns now) (port.conns new) so_far.over gives)
         (given-last (port.may_give start) (port.may_give now) (port.may_give new) count failed so_far.gave given) (refl, refl)
 
 is-fault : (result : Result Served ServeFault) → is_some (served_end result) ≡ is_err result
@@ -298,9 +308,9 @@ byte_is : (b : Bool) → bool_byte b ≡ one_if b
 byte_is true = refl
 byte_is false = refl
 
-module _ {P T S : Type 0} (source : Source S) (drain : Drain S) (port : Port P T) (start : P) (old : Agent) (now new : P) (agent then : Agent) (line : AgentLine) (count requests faults : ℕ) (stream after : S) (result : Result Served ServeFault)
-    (so_far : ServesSoFar port start old now agent line count) (gives : Gives source (port.conns now) (port.conns new) (next.Conn stream)) (first : GivesFirst (port.may_give now) (port.may_give new) connection) (goes_on : port.may_be_asked new) (served : IsServed source drain agent then stream after result)
-    (few : count < 1000000) (requests_are : requests ≡ length then.ends.requests.sent) (faults_are : faults ≡ line.faults + bool_byte (is_err result)) where
+module _ {P T S : Type 0} (source : Source S) (drain : Drain S) (port : Port P T) (start : P) (old : Agent) (now new : P) (agent then : Agent) (line : AgentLine) (count requests connections faults : ℕ) (given stream after : S) (result : Result Served ServeFault)
+    (so_far : ServesSoFar port start old now agent line count) (gives : Gives source (port.conns now) (port.conns new) (next.Conn given)) (stream_is : stream ≡ given) (first : GivesFirst (port.may_give now) (port.may_give new) connection) (goes_on : port.may_be_asked new) (served : IsServed source drain agent then stream after result)
+    (few : count < 1000000) (requests_are : requests ≡ length then.ends.requests.sent) (connections_are : connections ≡ line.connections + 1) (faults_are : faults ≡ line.faults + bool_byte (is_err result)) where
   session : Session
   session = record {
     start = source.remaining stream;
@@ -332,7 +342,7 @@ module _ {P T S : Type 0} (source : Source S) (drain : Drain S) (port : Port P T
 
   all-over : ServedPort (port.conns start) all (port.conns new)
   unfolding all session
-  all-over = port-more source (port.conns start) so_far.sessions (port.conns now) (port.conns new) stream session so_far.over gives refl
+  all-over = port-more source (port.conns start) so_far.sessions (port.conns now) (port.conns new) stream session so_far.over (rw (← stream_is) at gives) refl
       (λ steady below. not-failed result (still (is_stream_failed result) (source.failures stream) (sym served.counts.count ∙ (served.counts.stays_steady steady).1) below))
 
   all-faults : faults ≡ faults_of all
@@ -343,6 +353,9 @@ module _ {P T S : Type 0} (source : Source S) (drain : Drain S) (port : Port P T
   unfolding all
   all-counted = omega (arith, so_far.counted, length-append so_far.sessions (session ∷ []))
 
+  now-connections : connections ≡ count + 1
+  now-connections = omega (arith, connections_are, so_far.connections)
+
   all-gave : GivenSoFar (port.may_give start) (port.may_give new) (count + 1)
   all-gave = given-more (port.may_give start) (port.may_give now) (port.may_give new) count so_far.gave first
 
@@ -350,7 +363,7 @@ module _ {P T S : Type 0} (source : Source S) (drain : Drain S) (port : Port P T
   all-given = given-alone (port.may_give start) (port.may_give now) count so_far.gave first.alone
 
   -- one more connection was served
-  pub serves-more : is_lost result ≡ false → ServesSoFar port start old new then (record { requests = requests; connections = line.connections + 1; faults = faults; port_failed = false }) (count + 1)
+  pub serves-more : is_lost result ≡ false → ServesSoFar port start old new then (record { requests = requests; connections = connections; faults = faults; port_failed = false }) (count + 1)
   unfolding all session
   serves-more kept = record {
     sessions = all;
@@ -363,14 +376,14 @@ module _ {P T S : Type 0} (source : Source S) (drain : Drain S) (port : Port P T
     heard = All-push (λ (s : Session). s.end ≢ Some 41) so_far.sessions session so_far.heard (not-lost result kept);
     counted = all-counted;
     requests = requests_are;
-    connections = ap (λ n. n + 1) so_far.connections;
+    connections = now-connections;
     faults = all-faults;
     fewer = omega (arith, faults_are, so_far.fewer, byte_most (is_err result));
     good = refl;
   }
 
   -- the collector was found gone
-  pub serves-lost : is_lost result ≡ true → Serves port start old new then (record { requests = requests; connections = line.connections + 1; faults = faults; port_failed = false })
+  pub serves-lost : is_lost result ≡ true → Serves port start old new then (record { requests = requests; connections = connections; faults = faults; port_failed = false })
   serves-lost gone = record {
     served = record {
       sessions = all;
@@ -379,17 +392,17 @@ module _ {P T S : Type 0} (source : Source S) (drain : Drain S) (port : Port P T
       over = port-lost (port.conns start) all (port.conns new) all-over;
       gave = record {
         last = None;
-        gave = subst (λ (n : ℕ). port.may_give start (all_given n None)) (sym (ap (λ n. n + 1) so_far.connections)) all-given;
+        gave = subst (λ (n : ℕ). port.may_give start (all_given n None)) (sym now-connections) all-given;
         ends = (refl, inl refl);
       };
       asked = subst (HasAsked old then (bodies_of all) (answers_of all)) gone all-asked;
       heard = λ kept. absurd (let never : true ≡ false = kept in cc);
       few = omega (arith, all-counted, few);
       requests = requests_are;
-      connections = omega (arith, so_far.connections, all-counted);
+      connections = now-connections ∙ sym all-counted;
       faults = all-faults;
     };
-    only = λ rest may. subst (λ (n : ℕ). port.may_give start (all_given n None ++ rest)) (sym (ap (λ n. n + 1) so_far.connections)) (all-gave rest may);
+    only = λ rest may. subst (λ (n : ℕ). port.may_give start (all_given n None ++ rest)) (sym now-connections) (all-gave rest may);
   }
 
 -- the agent says goodbye, or a lane is lost

@@ -121,23 +121,24 @@ module _ {S : Type 0} (source : Source S) (drain : Drain S) where
       counts = counts-then source.failures drain.flushes source.steady false before stream read so_far.counts good;
     }
 
-    module _ (sent : S) (unread : Keeps (source.remaining read) (source.remaining sent)) (turn : Turn) (is : IsTurn now next count bytes (Some turn)) where
+    -- an answer was sent, with this number, which is the frame's place
+    module _ (sent : S) (unread : Keeps (source.remaining read) (source.remaining sent)) (turn : Turn) (is : IsTurn now next count bytes (Some turn)) (number : ℕ) (number_is : number ≡ count) where
       reads-then : ReadsNext (source.remaining stream) (source.remaining sent) (Some bytes)
       reads-then = (reads.0, Consumes-kept (source.remaining stream) (source.remaining read) (source.remaining sent) (frame bytes) reads.1 unread)
 
       then-asked : HasAsked old next (so_far.bodies ++ is.bodies) (so_far.answers ++ turn.answer ∷ []) false
       then-asked = asked-then old now next so_far.bodies is.bodies so_far.answers (turn.answer ∷ []) false so_far.asked is.asked
 
-      then-written : Appends (drain.contents read) (drain.contents sent) (answer_bytes count turn.answer) → Appends (drain.contents before) (drain.contents sent) (answer_frames_from 0 (so_far.answers ++ turn.answer ∷ []))
+      then-written : Appends (drain.contents read) (drain.contents sent) (answer_bytes number turn.answer) → Appends (drain.contents before) (drain.contents sent) (answer_frames_from 0 (so_far.answers ++ turn.answer ∷ []))
       then-written one =
           sent-more answer_bytes answer_frames_from (drain.contents before) (drain.contents read) (drain.contents sent) so_far.answers turn.answer count so_far.answers_counted written-by-then
-          (answer_frames_from-more 0 so_far.answers turn.answer) one
+          (answer_frames_from-more 0 so_far.answers turn.answer) (rw number_is at one)
 
       then-counts : (failed : Bool) → Counts source.failures drain.flushes source.steady failed read sent → Counts source.failures drain.flushes source.steady failed before sent
       then-counts failed counts = counts-then source.failures drain.flushes source.steady failed before stream sent so_far.counts (counts-then source.failures drain.flushes source.steady failed stream read sent good counts)
 
       -- one more frame was read and answered
-      pub served-more : turn.over ≡ false → Appends (drain.contents read) (drain.contents sent) (answer_bytes count turn.answer) → Counts source.failures drain.flushes source.steady false read sent
+      pub served-more : turn.over ≡ false → Appends (drain.contents read) (drain.contents sent) (answer_bytes number turn.answer) → Counts source.failures drain.flushes source.steady false read sent
           → ServedSoFar old before (count + 1) next sent
       served-more goes_on one counts = record {
         frames = so_far.frames ++ bytes ∷ [];
@@ -152,7 +153,7 @@ module _ {S : Type 0} (source : Source S) (drain : Drain S) where
       }
 
       -- the answer could not be written
-      pub served-unwritten : AppendsPart (drain.contents read) (drain.contents sent) (answer_bytes count turn.answer) → Counts source.failures drain.flushes source.steady true read sent
+      pub served-unwritten : AppendsPart (drain.contents read) (drain.contents sent) (answer_bytes number turn.answer) → Counts source.failures drain.flushes source.steady true read sent
           → IsServed source drain old next before sent (Err WriteBack)
       served-unwritten part counts = record {
         frames = so_far.frames ++ bytes ∷ [];
@@ -160,13 +161,13 @@ module _ {S : Type 0} (source : Source S) (drain : Drain S) where
         answers = so_far.answers ++ turn.answer ∷ [];
         session = session_unwritten Connection old.limit (length old.ends.requests.sent) (source.remaining before) (source.remaining stream) (source.remaining sent) so_far.frames so_far.bodies so_far.answers bytes so_far.session fewer reads-then is.bodies turn.answer (turn_end (Some turn)) (takes-here (Some turn) is);
         asked = then-asked;
-        written = sent-lost answer_bytes answer_frames_from (drain.contents before) (drain.contents read) (drain.contents sent) so_far.answers turn.answer count so_far.answers_counted written-by-then part;
+        written = sent-lost answer_bytes answer_frames_from (drain.contents before) (drain.contents read) (drain.contents sent) so_far.answers turn.answer count so_far.answers_counted written-by-then (rw number_is at part);
         answered = tt;
         counts = then-counts true counts;
       }
 
       -- the number was out of turn, and that was answered
-      pub served-out-of-turn : turn.over ≡ true → Appends (drain.contents read) (drain.contents sent) (answer_bytes count turn.answer) → Counts source.failures drain.flushes source.steady false read sent
+      pub served-out-of-turn : turn.over ≡ true → Appends (drain.contents read) (drain.contents sent) (answer_bytes number turn.answer) → Counts source.failures drain.flushes source.steady false read sent
           → IsServed source drain old next before sent (Err Number)
       served-out-of-turn over one counts = record {
         frames = so_far.frames ++ bytes ∷ [];

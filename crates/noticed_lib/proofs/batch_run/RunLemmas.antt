@@ -1,5 +1,5 @@
 -- Runs: one request more, and one frame more.
-use Rattle.std.proofs.Common.{◌≡◌, ℕ, suc, ◌+◌, ◌<◌, true, false, List, [], ◌∷◌, ◌++◌, length, refl, ap, sym, ◌∙◌, arith}
+use Rattle.std.proofs.Common.{◌≡◌, ℕ, suc, ◌+◌, ◌<◌, Bool, true, false, List, [], ◌∷◌, ◌++◌, length, refl, ap, sym, ◌∙◌, arith}
 use Rattle.std.specs.Prelude.{Option, ◌==◌, map, is_some}
 use Rattle.std.specs.List.{flat_map}
 use Rattle.dsn_device.specs.declared.drain.Drain.{Ghosts as Drain}
@@ -27,9 +27,6 @@ use Rattle.noticed_lib.specs.batch_run.Run.{Stands, Asks, Answered, end_after}
 use Rattle.noticed_lib.specs.declared.batch_run.turn.Turn.{Turn}
 use Rattle.noticed_lib.specs.declared.batch_run.run.Run.{Run}
 use Rattle.dsn_frame.specs.declared.bodies.spoken.Spoken.TheVariants as spoken
-
-abbrev pub request_numbered : ℕ → Body → Request
-request_numbered number body = record { agent = 0; number = number; body = body }
 
 -- the reply of an exchange's answer
 pub reply-answer_of : (limits : Limits) (history : List Exchange) (request : Request) → (answer_of (exchange_of limits history request)).reply ≡ reply_to limits history request
@@ -98,9 +95,9 @@ replies-asked limits answers before body are =
 -- ---- one frame's answer
 
 -- a refusal ends the session where it says so
-pub end-after-refusal : (refusal : Refusal) → end_after (is_some (refusal_end refusal)) ≡ refusal_end refusal
-end-after-refusal (refusals.Body fault) = refl
-end-after-refusal refusals.OutOfTurn = refl
+pub end-after-refusal : (refusal : Refusal) (over : Bool) → over ≡ is_some (refusal_end refusal) → end_after over ≡ refusal_end refusal
+end-after-refusal (refusals.Body fault) over is = ap end_after is
+end-after-refusal refusals.OutOfTurn over is = ap end_after is
 
 -- no requests have no history and no letters
 pub history-none : (limits : Limits) → history_of limits [] ≡ []
@@ -112,24 +109,27 @@ unfolding history_after letters_after
 letters-none limits = refl
 
 module _ {W : Type 0} (outbox_device : Drain W) (limits : Limits) (host : List ℕ) (start : W) where
-  -- a request was applied, and the letter that it sealed was handed on
-  pub asked-next : (book next : Book) (outgoing later : Outgoing W) (accepted : ℕ) (requests : List Request) (body : Body) (answer : Answer) (letter : Option Letter)
+  -- the next request was applied, and the letter that it sealed was handed on
+  pub asked-next : (book next : Book) (outgoing later : Outgoing W) (accepted : ℕ) (requests : List Request) (body : Body) (applied : Request) (answer : Answer) (letter : Option Letter) (handed : List Letter)
       → Stands outbox_device limits host start (record { book = book; outgoing = outgoing; accepted = accepted }) requests
       → next.limits ≡ book.limits
-      → ((t : List Exchange) → Represents book t → answer ≡ answer_of (exchange_of book.limits t (request_numbered accepted body)))
-      → ((t : List Exchange) → Represents book t → letters_in letter ≡ letter_of t (exchange_of book.limits t (request_numbered accepted body)))
-      → ((t : List Exchange) → Represents book t → Represents next (t ++ exchange_of book.limits t (request_numbered accepted body) ∷ []))
-      → ((letters : List Letter) → Delivered outbox_device host start outgoing letters → Delivered outbox_device host start later (letters ++ option_to_list letter))
+      → ((t : List Exchange) → Represents book t → answer ≡ answer_of (exchange_of book.limits t applied))
+      → ((t : List Exchange) → Represents book t → letters_in letter ≡ letter_of t (exchange_of book.limits t applied))
+      → ((t : List Exchange) → Represents book t → Represents next (t ++ exchange_of book.limits t applied ∷ []))
+      → applied.agent ≡ 0 → applied.number ≡ accepted → applied.body ≡ body
+      → ((letters : List Letter) → Delivered outbox_device host start outgoing letters → Delivered outbox_device host start later (letters ++ handed))
+      → handed ≡ option_to_list letter
       → Asks outbox_device limits host start (record { book = next; outgoing = later; accepted = accepted + 1 }) requests body (record { answer = spoken.Reply answer.reply; over = false })
-  asked-next book next outgoing later accepted requests body answer letter stands same answer_is letter_is stands_is handed =
+  asked-next book next outgoing later accepted requests body applied answer letter handed stands same answer_is letter_is stands_is agent_is number_is body_is delivers handed_is =
       let history = history_of limits requests in
       let request = next_request requests body in
       let kept : book.limits ≡ limits = stands.limits_kept in
       let count : accepted ≡ length requests = stands.count in
-      let replied = rw (kept, count) at (answer_is history stands.book) in
-      let sealed = rw (kept, count) at (letter_is history stands.book) in
-      let represents = rw (kept, count) at (stands_is history stands.book) in
-      let delivered = rw sealed at (handed (sealed_letters history) stands.letters) in record {
+      let next_is : applied ≡ request = λ i. record { agent = agent_is i; number = (number_is ∙ count) i; body = body_is i } in
+      let replied = rw (kept, next_is) at (answer_is history stands.book) in
+      let sealed = rw (kept, next_is) at (letter_is history stands.book) in
+      let represents = rw (kept, next_is) at (stands_is history stands.book) in
+      let delivered = rw (handed_is, sealed) at (delivers (sealed_letters history) stands.letters) in record {
         answer_is = ap spoken.Reply (ap (λ (a : Answer). a.reply) replied ∙ reply-answer_of limits history request);
         goes_on = refl;
         stands = record {

@@ -1,12 +1,13 @@
 -- Worked examples of sends, made by the definitions: an input of one frame.
-use Rattle.std.proofs.Common.{ℕ, List, [], ◌∷◌, ◌++◌, refl, lit<, lit≤}
+use Rattle.std.proofs.Common.{◌≡◌, ℕ, ◌+◌, ◌<◌, List, [], ◌∷◌, ◌++◌, length, length-append, refl, lit<, lit≤, arith}
 use Rattle.std.specs.Prelude.{Some, None, codes, decimal}
 use Rattle.dsn_outcome.specs.declared.answer.Reply.TheVariants.{Logged}
 use Rattle.dsn_frame.specs.bodies.Spoken.{answer_body, answer_bytes, answer_frames_from}
 use Rattle.dsn_frame.specs.declared.bodies.spoken.Spoken.TheVariants.{Refused, Reply}
 use Rattle.noticed_lib.specs.notes.Notes.{answer_line, answer_lines_from, spoken_words}
 use Rattle.noticed_lib.specs.client.Send.{Known, Sends}
-use Rattle.noticed_lib.specs.declared.client.send_fault.SendFault.TheVariants.{OutOfTurn, TooMany}
+use Rattle.noticed_lib.specs.client.SendLaws.{Sees}
+use Rattle.noticed_lib.specs.declared.client.send_fault.SendFault.TheVariants.{NotesLost, OutOfTurn, TooMany}
 
 -- a frame of one byte
 frame_of_seven : List ℕ
@@ -41,6 +42,35 @@ one_refused = record {
   };
   ends = ((refl, refl), record { nothing_sent = refl; nothing_got = refl; nothing_told = refl });
 }
+
+some_line : 0 < length (answer_line 0 (Refused 23))
+unfolding answer_line
+some_line =
+    let text = decimal 0 ++ codes " " ++ spoken_words (Refused 23) in
+    let long : length (answer_line 0 (Refused 23)) ≡ length text + 1 = length-append text (codes "\n") in
+    omega arith
+
+-- the frame is answered, and nothing of the answer's line is written
+one_untold : Sends 5 (bytes_of frame_of_seven [] refused_23 []) (bytes_of [] frame_of_seven [] []) [] [] (Some NotesLost)
+unfolding frame_of_seven refused_23 bytes_of answer_body answer_bytes answer_frames_from answer_line answer_lines_from spoken_words
+one_untold = record {
+  left = bytes_of frame_of_seven [] refused_23 [];
+  answered = record { each = refl; legal = tt; fit = tt; read = refl; sent = refl; got = refl; told = refl };
+  ends = record {
+    answer = Refused 23;
+    at_frame = record {
+      few = lit< tt;
+      bytes = 7 ∷ [];
+      read = ((lit≤ tt, lit≤ tt), refl);
+      asked = (refl, record { fits = record { number_fits = lit< tt; value_fits = lit< tt }; got = refl });
+    };
+    part = record { front = []; unsent = answer_line 0 (Refused 23); some = some_line; split = refl; appended = refl };
+  };
+}
+
+-- no answer is to blame for the line that was lost: the one answer was right, and the client tells none
+one_untold_seen : Sees (Refused 23 ∷ []) [] (Some NotesLost)
+one_untold_seen = record { first = (Refused 23 ∷ [], refl); blameless = tt; none_left = λ same. cc }
 
 -- where no frame may be sent, the first one is read and not sent
 one_too_many : Sends 0 (bytes_of frame_of_seven [] refused_23 []) (bytes_of [] [] refused_23 []) [] [] (Some TooMany)

@@ -3,7 +3,6 @@ use Rattle.std.proofs.Common.{◌≡◌, ℕ, suc, ◌+◌, ◌<◌, ◌≤◌, 
 use Rattle.std.specs.Prelude.{Some}
 use Rattle.std.proofs.Math.Seq.{take-suc}
 use Rattle.std.proofs.lemmas.List.{length-take-le}
-use Rattle.dsn_book.specs.declared.line.OpenLine.{OpenLine}
 use Rattle.dsn_crew.specs.Crew.{crew_cause_code}
 use Rattle.dsn_crew.specs.declared.agents.agent_line.AgentLine.{AgentLine}
 use Rattle.dsn_crew.specs.declared.crew_cause.CrewCause.{CrewCause}
@@ -35,6 +34,6 @@ agent_lines-take-more lines i d within =
     rw (add-one, take-suc lines i d within, more, long, from) refl
 
 -- a fault and the letters that were not written, and nothing more
-pub end_lines-fault : (cause : CrewCause) (unsent : List Letter) (logs : List OpenLine) → logs ≡ [] → end_lines (Some (crew_cause_code cause)) true unsent (Some logs) ≡ crew_fault_lines cause unsent
+pub end_lines-fault : (cause : CrewCause) (unsent : List Letter) → end_lines (Some (crew_cause_code cause)) true unsent (Some []) ≡ crew_fault_lines cause unsent
 unfolding end_lines fault_lines outbox_lines open_lines crew_fault_lines
-end_lines-fault cause unsent logs none = rw none (ap (λ text. fault_line (crew_cause_code cause) ++ text) (append-nil (unsent_lines unsent)))
+end_lines-fault cause unsent = ap (λ text. fault_line (crew_cause_code cause) ++ text) (append-nil (unsent_lines unsent))

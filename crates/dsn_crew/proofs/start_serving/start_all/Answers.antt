@@ -14,12 +14,12 @@ loop-agent-preserved g c =
       len = (let before = c.loop-agent.invariant.len in let one = c.in-Some-next.ensures.len in omega arith);
       asked = All-rest g.P.Port.may_be_asked c.in-Some-next.port _ _ c.in-Some-next.ensures.items c.loop-agent.invariant.asked;
       room = (let before = c.loop-agent.invariant.room in let one = ap length c.push_reserved.ensures.items ∙ length-append c.loop-agent.handles.items (c.start_one.result ∷ []) in let same = c.push_reserved.ensures.capacity in omega arith);
-      started = completes-more (Fits {P = g.row.P.Denot}) _ _ _ _ _ c.start_one.result (starts-more _ _ _ _ c.in-Some.agent c.in-Some-next.port c.start_one.result c.in-Some.ensures.steps.0 c.in-Some-next.ensures.items c.start_one.ensures) c.push_reserved.ensures.items c.loop-agent.invariant.started;
+      started = completes-more (Fits {P = g.row.P.Denot}) _ _ _ _ _ c.start_one.result (starts-more _ _ _ _ c.in-Some.agent c.in-Some-next.port _ c.start_one.result c.in-Some.ensures.steps.0 c.in-Some-next.ensures.items c.start_one.ensures (cc)) c.push_reserved.ensures.items c.loop-agent.invariant.started;
     }
 
 pub start_one-requires-clause-asked : goal.start_one-requires-clause-asked
 start_one-requires-clause-asked g c κs within =
-    All-head g.P.Port.may_be_asked c.in-Some-next.port _ (subst (All g.P.Port.may_be_asked) c.in-Some-next.ensures.items c.loop-agent.invariant.asked)
+    let first = All-head g.P.Port.may_be_asked c.in-Some-next.port _ (subst (All g.P.Port.may_be_asked) c.in-Some-next.ensures.items c.loop-agent.invariant.asked) in subst g.P.Port.may_be_asked (cc) first
 
 pub returns : goal.returns
 returns g c = completes-all (Fits {P = g.row.P.Denot}) _ _ _ (starts-end _ _ (search rules) c.loop-agent.invariant.pairs) c.loop-agent.invariant.started

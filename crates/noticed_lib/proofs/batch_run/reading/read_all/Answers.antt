@@ -28,7 +28,7 @@ pub returns-then-is_err-clause-heard : goal.returns-then-is_err-clause-heard
 returns-then-is_err-clause-heard g c = λ limits host start same stands.
     let read = rw (← c.in-Some.ensures) at c.in_default.ensures.next in
     let so_far = c.loop-position.invariant.2 limits host start same stands in
-    let few : c.loop-position.position < limits.requests = omega (arith, same, c.loop-position-test.true) in
+    let few : c.loop-position.position < limits.requests = omega arith in
     let room : length (requests_of so_far.bodies) < limits.requests = omega (arith, few, so_far.stands.count, c.loop-position.invariant.0) in
     let line = c.bytes.ensures.same ∙ c.answer_line.ensures in
     let failed = sym c.is_err.ensures.value ∙ c.if-is_err.true in
@@ -41,7 +41,7 @@ pub returns-then-turn-clause-heard : goal.returns-then-turn-clause-heard
 returns-then-turn-clause-heard g c = λ limits host start same stands.
     let read = rw (← c.in-Some.ensures) at c.in_default.ensures.next in
     let so_far = c.loop-position.invariant.2 limits host start same stands in
-    let few : c.loop-position.position < limits.requests = omega (arith, same, c.loop-position-test.true) in
+    let few : c.loop-position.position < limits.requests = omega arith in
     let room : length (requests_of so_far.bodies) < limits.requests = omega (arith, few, so_far.stands.count, c.loop-position.invariant.0) in
     let line = c.bytes.ensures.same ∙ c.answer_line.ensures in
     let fine = sym c.is_err.ensures.value ∙ c.if-is_err.false in
@@ -57,7 +57,7 @@ loop-position-preserved g c = (
   (λ limits host start same stands.
       let read = rw (← c.in-Some.ensures) at c.in_default.ensures.next in
       let so_far = c.loop-position.invariant.2 limits host start same stands in
-      let few : c.loop-position.position < limits.requests = omega (arith, same, c.loop-position-test.true) in
+      let few : c.loop-position.position < limits.requests = omega arith in
       let room : length (requests_of so_far.bodies) < limits.requests = omega (arith, few, so_far.stands.count, c.loop-position.invariant.0) in
       let line = c.bytes.ensures.same ∙ c.answer_line.ensures in
       let fine = sym c.is_err.ensures.value ∙ c.if-is_err.false in
@@ -81,7 +81,7 @@ returns-clause-heard g c = λ limits host start same stands.
 pub returns-in-Some-frame-clause-heard : goal.returns-in-Some-frame-clause-heard
 returns-in-Some-frame-clause-heard g c = λ limits host start same stands.
     let next = rw (← c.in-Some-frame.ensures) at c.in_default-read_next.ensures.next in
-    let all : c.loop-position.position ≡ limits.requests = omega (arith, same, c.loop-position-test.false, c.loop-position.auto.position-end) in
+    let all : c.loop-position.position ≡ limits.requests = omega arith in
     let so_far = c.loop-position.invariant.2 limits host start same stands in
     heard-end _ _ _ limits host start _ _ _ _ _ _ _ TooMany so_far
     (session_too_many Input limits.requests 0 _ _ _ _ _ _ so_far.session _ (so_far.frames_counted ∙ all) next) refl c.in_default-read_next.ensures.count

@@ -2,7 +2,7 @@ use Rattle.std.proofs.Common.{refl, subst}
 use Rattle.std.proofs.lemmas.Result.{IfOk-weaker}
 use Rattle.dsn_book.specs.Book.{Represents}
 use Rattle.dsn_crew.specs.Crew.{Account}
-use Rattle.dsn_device.proofs.UntilFailureLemmas.{writes-then}
+use Rattle.dsn_device.proofs.UntilFailureLemmas.{writes-as, writes-then}
 use Rattle.noticed_lib.proofs.notes.OpenLogsLemmas.{AreOpenLines-listed, is_none-listed}
 use Rattle.noticed_lib.specs.daemon.Lines.{account_lines}
 use Rattle.noticed_lib.specs.daemon.Serve.{TellsAccount}
@@ -17,7 +17,7 @@ returns g c =
       logs = _;
       logs_are = AreOpenLines-listed _ c.open_lines-logs.result _ (IfOk-weaker c.open_lines-logs.result _ _ (λ lines listed. listed _ stands) c.open_lines-logs.ensures.history) c.open_lines-logs.ensures.order;
       lost = c.tell_end.new.telling.failed;
-      told = rw (c.as_slice.ensures.value, c.port_fault-fault.ensures, c.as_slice-2.ensures.value, c.new-telling.ensures) at told;
+      told = writes-as (cc) (rw c.new-telling.ensures at told);
       outbox_is = refl;
-      status_is = rw (is_none-listed, ← c.is_ok.ensures.value) (rw (c.port_fault-fault.ensures, c.as_slice-2.ensures.value) at c.status_of-status.ensures);
+      status_is = cc (is_none-listed c.open_lines-logs.result (λ lines. lines.items));
     })

@@ -6,7 +6,7 @@ use Rattle.noticed_lib.proofs.daemon.telling.tell_fault.Goals as goal
 pub returns : goal.returns
 returns g c = record {
   lost = c.tell_end.new.telling.failed;
-  told = writes-as (end_lines-fault c.args.cause c.args.unsent _ c.new.ensures.items) (rw (← c.new-telling.ensures, ← c.code.ensures) c.tell_end.ensures.told);
+  told = writes-as (cc (end_lines-fault c.args.cause c.args.unsent)) (rw c.new-telling.ensures at c.tell_end.ensures.told);
   outbox_is = refl;
   status_is = refl;
 }

@@ -34,7 +34,7 @@ returns-in_default-answer-clause-served g c =
     let read = rw (← c.in-Some.ensures) at c.in_default.ensures.next in
     let so_far = c.loop-place.invariant.0 in
     let limit = ap (λ (agent : Agent). agent.limit) c.self.view_is in
-    let few : c.loop-place.place < c.args.self.now.limit = omega (arith, limit, c.loop-place-test.true) in
+    let few : c.loop-place.place < c.args.self.now.limit = omega arith in
     let kept = keeps-as g.S.Source.holds g.S.Drain.contents laws.held_is_written _ _ c.in_default.ensures.held in
     let counts = counts-read g.S.Source g.S.Drain laws.one_count laws.one_flush_count laws.one_promise _ _ false c.in_default.ensures.count c.in_default.ensures.no_flush c.in_default.ensures.steady in
     served-lost g.S.Source g.S.Drain _ _ _ _ _ _ c.loop-place.place c.body.result.now so_far few (rw c.body.ensures.same read) kept counts c.in_default-answer.ensures.turn
@@ -45,13 +45,13 @@ returns-then-is_err-clause-served g c =
     let read = rw (← c.in-Some.ensures) at c.in_default.ensures.next in
     let so_far = c.loop-place.invariant.0 in
     let limit = ap (λ (agent : Agent). agent.limit) c.self.view_is in
-    let few : c.loop-place.place < c.args.self.now.limit = omega (arith, limit, c.loop-place-test.true) in
+    let few : c.loop-place.place < c.args.self.now.limit = omega arith in
     let kept = keeps-as g.S.Source.holds g.S.Drain.contents laws.held_is_written _ _ c.in_default.ensures.held in
     let counts = counts-read g.S.Source g.S.Drain laws.one_count laws.one_flush_count laws.one_promise _ _ false c.in_default.ensures.count c.in_default.ensures.no_flush c.in_default.ensures.steady in
     let failed = sym c.is_err.ensures.value ∙ c.if-is_err.true in
     let unread = keeps-as g.S.Drain.left g.S.Source.remaining laws.left_is_unread _ _ c.send.ensures.unread in
     let sent = counts-sent g.S.Source g.S.Drain laws.one_count laws.one_flush_count laws.one_promise _ _ _ c.send.ensures.count c.send.ensures.no_flush c.send.ensures.steady in
-    served-unwritten g.S.Source g.S.Drain _ _ _ _ _ _ c.loop-place.place c.body.result.now so_far few (rw c.body.ensures.same read) kept counts _ unread c.in-Some-answer.turn c.in-Some-answer.ensures.turn
+    served-unwritten g.S.Source g.S.Drain _ _ _ _ _ _ c.loop-place.place c.body.result.now so_far few (rw c.body.ensures.same read) kept counts _ unread c.in-Some-answer.turn c.in-Some-answer.ensures.turn _ (omega arith)
     (rw c.encode_answer.ensures at (OnErr-is_err c.send.result _ failed c.send.ensures.part)) (rw failed at sent)
 
 pub returns-then-turn-clause-served : goal.returns-then-turn-clause-served
@@ -60,13 +60,13 @@ returns-then-turn-clause-served g c =
     let read = rw (← c.in-Some.ensures) at c.in_default.ensures.next in
     let so_far = c.loop-place.invariant.0 in
     let limit = ap (λ (agent : Agent). agent.limit) c.self.view_is in
-    let few : c.loop-place.place < c.args.self.now.limit = omega (arith, limit, c.loop-place-test.true) in
+    let few : c.loop-place.place < c.args.self.now.limit = omega arith in
     let kept = keeps-as g.S.Source.holds g.S.Drain.contents laws.held_is_written _ _ c.in_default.ensures.held in
     let counts = counts-read g.S.Source g.S.Drain laws.one_count laws.one_flush_count laws.one_promise _ _ false c.in_default.ensures.count c.in_default.ensures.no_flush c.in_default.ensures.steady in
     let fine = sym c.is_err.ensures.value ∙ c.if-is_err.false in
     let unread = keeps-as g.S.Drain.left g.S.Source.remaining laws.left_is_unread _ _ c.send.ensures.unread in
     let sent = counts-sent g.S.Source g.S.Drain laws.one_count laws.one_flush_count laws.one_promise _ _ _ c.send.ensures.count c.send.ensures.no_flush c.send.ensures.steady in
-    served-out-of-turn g.S.Source g.S.Drain _ _ _ _ _ _ c.loop-place.place c.body.result.now so_far few (rw c.body.ensures.same read) kept counts _ unread c.in-Some-answer.turn c.in-Some-answer.ensures.turn
+    served-out-of-turn g.S.Source g.S.Drain _ _ _ _ _ _ c.loop-place.place c.body.result.now so_far few (rw c.body.ensures.same read) kept counts _ unread c.in-Some-answer.turn c.in-Some-answer.ensures.turn _ (omega arith)
     c.if-turn.true (rw c.encode_answer.ensures at (OnOk-is_err c.send.result _ fine c.send.ensures.sent)) (rw fine at sent)
 
 pub loop-place-preserved : goal.loop-place-preserved
@@ -75,13 +75,13 @@ loop-place-preserved g c =
     let read = rw (← c.in-Some.ensures) at c.in_default.ensures.next in
     let so_far = c.loop-place.invariant.0 in
     let limit = ap (λ (agent : Agent). agent.limit) c.self.view_is in
-    let few : c.loop-place.place < c.args.self.now.limit = omega (arith, limit, c.loop-place-test.true) in
+    let few : c.loop-place.place < c.args.self.now.limit = omega arith in
     let kept = keeps-as g.S.Source.holds g.S.Drain.contents laws.held_is_written _ _ c.in_default.ensures.held in
     let counts = counts-read g.S.Source g.S.Drain laws.one_count laws.one_flush_count laws.one_promise _ _ false c.in_default.ensures.count c.in_default.ensures.no_flush c.in_default.ensures.steady in
     let fine = sym c.is_err.ensures.value ∙ c.if-is_err.false in
     let unread = keeps-as g.S.Drain.left g.S.Source.remaining laws.left_is_unread _ _ c.send.ensures.unread in
     let sent = counts-sent g.S.Source g.S.Drain laws.one_count laws.one_flush_count laws.one_promise _ _ _ c.send.ensures.count c.send.ensures.no_flush c.send.ensures.steady in (
-      served-more g.S.Source g.S.Drain _ _ _ _ _ _ c.loop-place.place c.body.result.now so_far few (rw c.body.ensures.same read) kept counts _ unread c.in-Some-answer.turn c.in-Some-answer.ensures.turn
+      served-more g.S.Source g.S.Drain _ _ _ _ _ _ c.loop-place.place c.body.result.now so_far few (rw c.body.ensures.same read) kept counts _ unread c.in-Some-answer.turn c.in-Some-answer.ensures.turn _ (omega arith)
           c.if-turn.false (rw c.encode_answer.ensures at (OnOk-is_err c.send.result _ fine c.send.ensures.sent)) (rw fine at sent),
       c.answer.ensures.kept,
     )
@@ -91,7 +91,7 @@ returns-clause-served g c =
     let laws = g.met.S.Stream in
     let next = rw (← c.in-None.ensures) at c.in_default-read_next.ensures.next in
     let so_far = c.loop-place.invariant.0 in
-    let all : c.self.inside.limit ≡ c.loop-place.place = omega (arith, c.loop-place-test.false, c.loop-place.auto.place-end) in
+    let all : c.self.inside.limit ≡ c.loop-place.place = omega arith in
     served-end g.S.Source g.S.Drain _ _ _ _ _ c.loop-place.place _ so_far
     (session_well Connection _ _ _ _ _ _ _ _ so_far.session next) refl refl all
     (keeps-as g.S.Source.holds g.S.Drain.contents laws.held_is_written _ _ c.in_default-read_next.ensures.held)
@@ -103,7 +103,7 @@ returns-in-Some-frame-clause-served g c =
     let next = rw (← c.in-Some-frame.ensures) at c.in_default-read_next.ensures.next in
     let so_far = c.loop-place.invariant.0 in
     let limit = ap (λ (agent : Agent). agent.limit) c.self.view_is in
-    let all : c.loop-place.place ≡ c.args.self.now.limit = omega (arith, limit, c.loop-place-test.false, c.loop-place.auto.place-end) in
+    let all : c.loop-place.place ≡ c.args.self.now.limit = omega arith in
     served-end g.S.Source g.S.Drain _ _ _ _ _ c.loop-place.place _ so_far
     (session_too_many Connection _ _ _ _ _ _ _ _ so_far.session _ (so_far.frames_counted ∙ all) next) refl refl tt
     (keeps-as g.S.Source.holds g.S.Drain.contents laws.held_is_written _ _ c.in_default-read_next.ensures.held)

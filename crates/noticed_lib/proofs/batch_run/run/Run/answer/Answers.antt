@@ -1,4 +1,4 @@
-use Rattle.std.proofs.Common.{ap}
+use Rattle.std.proofs.Common.{ap, rules}
 use Rattle.dsn_frame.specs.declared.bodies.spoken.Spoken.TheVariants.{Refused}
 use Rattle.dsn_frame.specs.Session.{Input}
 use Rattle.noticed_lib.proofs.batch_run.RunLemmas.{answered-asked, answered-refused, end-after-refusal}
@@ -10,5 +10,5 @@ returns-in-Ok-clause-answered g c = λ limits host start requests stands few.
 
 pub returns-in-Err-clause-answered : goal.returns-in-Err-clause-answered
 returns-in-Err-clause-answered g c = λ limits host start requests stands few.
-    answered-refused _ limits host start _ requests _ _ _ _ _ (ap Refused c.code.ensures) (rw c.ends.ensures (end-after-refusal c.in-Err.refusal))
+    answered-refused _ limits host start _ requests _ _ _ _ _ (ap Refused c.code.ensures) (end-after-refusal c.in-Err.refusal _ (search rules))
     (c.in-Err.ensures.taken Input limits.requests _) stands

@@ -12,8 +12,8 @@ worked examples.
 A refusal is weak where no clause and no worked example refuses the edit, and only a proof that was written by hand has an
 error: a right body of another shape may get that error too. It isn't weak where a control shows that a right body doesn't: a
 file crates/*/controls/ with the name of the edit, which changes the same texts into right ones, and which the prover must
-accept. The weak edits that are known stand in tests/support/weak_edits.txt; it is a failure where another one is weak, and
-where one of these isn't any more; but for the crates of which not each edit was looked at yet (`CRATE *` there).
+accept. The weak edits that are known stand in tests/support/weak_edits.txt (none now); it is a failure where another one is
+weak, and where one of these isn't any more.
 
 The libraries below must have been built (`rt all check`). With `--beside ROOM LOG` they are those that `rt ci` builds in
 ROOM and tells of in LOG, and the edits of a crate are tried as soon as what the crate stands on is there. The last lines
@@ -312,22 +312,19 @@ def try_all(wanted: list, libraries):
 
 
 def known_weak(names: set) -> set:
-    """The weak edits of these crates that are known; `CRATE *` stands for all of a crate."""
+    """The weak edits of these crates that are known."""
     lines = [line.strip() for line in KNOWN.read_text().splitlines()]
     return {line for line in lines if line and not line.startswith("#") and line.split()[0] in names}
 
 
 def compare(weak: set, known: set) -> int:
     """Tells the weak edits that aren't on the list, and those of the list that aren't weak: how many these are."""
-    open_crates = {edit.removesuffix(" *") for edit in known if edit.endswith(" *")}
-    named = {edit for edit in known if not edit.endswith(" *")}
-    new = {edit for edit in weak - named if edit.split()[0] not in open_crates}
-    for edit in sorted(new):
+    for edit in sorted(weak - known):
         print(f"weak, and not in {KNOWN.relative_to(ROOT)}: {edit}")
-    for edit in sorted(named - weak):
+    for edit in sorted(known - weak):
         print(f"in {KNOWN.relative_to(ROOT)}, and not weak: {edit}")
-    print(f"{len(weak)} weak refusals, {len(weak - new)} of them known")
-    return len(new | named - weak)
+    print(f"{len(weak)} weak refusals, {len(weak & known)} of them known")
+    return len(weak ^ known)
 
 
 def main() -> int:

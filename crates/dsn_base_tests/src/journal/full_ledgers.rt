@@ -1,0 +1,65 @@
+//! A ledger without room for a group: nothing is asked of its disk, and a smaller group is kept.
+use crate::same::same;
+use dsn_book::Limits;
+use dsn_journal::{Journal, JournalError, Ledger, MemoryDisk, Opened, open};
+use dsn_outcome::{Body, Request};
+use std::alloc::Global;
+use std::test::Fail;
+
+/// How many bytes a disk has: a header of 25 and three goodbyes of one byte each.
+const SIZE: usize = 28;
+
+/// A group of goodbyes.
+fn goodbyes(alloc: Global, count: u32) -> Result<Vec<Request>, Fail> {
+    let mut group = Vec::new(alloc);
+    for agent in 0..count {
+        group.push(Request {
+            agent,
+            number: 0,
+            body: Body::Bye,
+        })?;
+    }
+    Ok(group)
+}
+
+/// Opens a disk, and has a group kept. The disk comes back, with whether it was kept; it was full
+/// where it wasn't, and no call changed it then.
+fn keep(
+    alloc: Global,
+    mut disk: MemoryDisk,
+    group: Vec<Request>,
+) -> Result<(MemoryDisk, bool), Fail> {
+    let limits = Limits::new(10, 10, 100).ok_or("not limits")?;
+    let Opened { book, used } = open(alloc, &mut disk, limits)?;
+    if book.sealed() > 1_000 || group.len() > 100 {
+        return Err(Fail::from("too many"));
+    }
+    let mut ledger = Ledger {
+        journal: Journal { disk, used },
+        book,
+    };
+    let before = ledger.journal.disk.moment();
+    let kept = match ledger.apply_all(alloc, group) {
+        Ok(_) => true,
+        Err(JournalError::Full) => false,
+        Err(_) => return Err(Fail::from("another error")),
+    };
+    let Ledger { journal, book: _ } = ledger;
+    let Journal { disk, used: _ } = journal;
+    if !kept && disk.moment() != before {
+        return Err(Fail::from("a full disk was changed"));
+    }
+    Ok((disk, kept))
+}
+
+#[test]
+fn a_full_ledger_stays_and_keeps_less(rt: HostRuntime) -> Result<(), Fail> {
+    let alloc = rt.alloc();
+    let mut disk = MemoryDisk::new(alloc, vec![in alloc; 0; SIZE]?);
+    for (count, kept) in [(4, false), (2, true), (2, false), (1, true), (1, false)] {
+        let (then, answered) = keep(alloc, disk, goodbyes(alloc, count)?)?;
+        disk = then;
+        same(&rt, answered, kept);
+    }
+    Ok(())
+}

@@ -1,8 +1,7 @@
 #!/usr/bin/env python3
 """Checks `make build`, with a stand-in for `rt` in a folder of this script's own: it works on a copy of the program and the
-crates below it alone, without wrong edits; crates that others wait for are proved in a run before; each crate is named once, as
-it is proved, while the stand-in still runs; the log has all that it said; and where it fails, in either run, the log and the
-failure are shown, make fails too, and the program of before stays."""
+crates below it alone, without wrong edits; each crate is named as it is proved, while the stand-in still runs; the log has all
+that it said; and where it fails, the log and the failure are shown, make fails too, and the program of before stays."""
 import os
 import shutil
 import subprocess
@@ -32,16 +31,9 @@ rt: high: its tests are proved
 == side
 rt: side proved
 """
-KEPT = "".join(f"rt: {it} is kept: an earlier run on this machine proved the same files over the same libraries\n" for it in NAMED)
 PROVES = f"""#!/bin/sh
-if [ $# -gt 1 ]; then
-    cat << 'END'
-{SAID}END
-    echo "$*"
-    exit "$FIRST"
-fi
 cat << 'END'
-{KEPT}END
+{SAID}END
 echo "$*"
 cat crates.txt HANDLES
 find * | LC_ALL=C sort
@@ -54,7 +46,6 @@ mkdir crates/noticed/out
 echo new > crates/noticed/out/noticed
 echo "rt: noticed proved"
 """
-FIRST = SAID + "ci low side high\n"
 COPY = """ci
 low: thiserror
 side: thiserror
@@ -101,13 +92,13 @@ def names(lines: list) -> list:
 
 
 def built(checks: Checks, status: int):
-    """A run of `make build` whose second `rt` ends with this status."""
+    """A run of `make build` whose `rt` ends with this status."""
     with tempfile.TemporaryDirectory(prefix="noticed-") as name:
         room = Path(name)
         prepared(room)
         words = ["make", "build", f"RT={room}/rt"]
         with open(room / "said", "wb") as said:
-            making = subprocess.Popen(words, cwd=room, stdout=said, stderr=said, env={**os.environ, "FIRST": "0", "STATUS": str(status), "GO_ON": f"{room}/go-on"})
+            making = subprocess.Popen(words, cwd=room, stdout=said, stderr=said, env={**os.environ, "STATUS": str(status), "GO_ON": f"{room}/go-on"})
         checks.equal(f"status {status}: named while rt runs", names(early_lines(room, making)), NAMED)
         (room / "go-on").touch()
         ended = making.wait(timeout=PATIENCE)
@@ -115,26 +106,13 @@ def built(checks: Checks, status: int):
         end = "rt: noticed NOT PROVED\n" if status else "rt: noticed proved\n"
         checks.equal(f"status {status}: make's own", ended, 2 if status else 0)
         checks.equal(f"status {status}: all that is named", names(lines), [*NAMED, "noticed"])
-        checks.equal(f"status {status}: the log", (room / "out/noticed.log").read_text(), FIRST + KEPT + COPY + end)
+        checks.equal(f"status {status}: the log", (room / "out/noticed.log").read_text(), SAID + COPY + end)
         checks.equal(f"status {status}: a failure is told", "noticed could not be proved or built" in lines, status != 0)
         checks.equal(f"status {status}: the log of a failure is shown", SAID.splitlines()[0] in lines, status != 0)
         checks.equal(f"status {status}: the program", (room / "crates/noticed/out/noticed").read_text(), "old\n" if status else "new\n")
         if not status:
             again = subprocess.run(words, cwd=room, capture_output=True, check=False, timeout=PATIENCE)
             checks.equal("what is up to date isn't built again", (again.returncode, names(again.stdout.decode().splitlines())), (0, []))
-
-
-def stopped(checks: Checks):
-    """A run of `make build` whose first `rt` fails."""
-    with tempfile.TemporaryDirectory(prefix="noticed-") as name:
-        room = Path(name)
-        prepared(room)
-        ran = subprocess.run(["make", "build", f"RT={room}/rt"], cwd=room, capture_output=True, check=False, timeout=PATIENCE, env={**os.environ, "FIRST": "4"})
-        lines = ran.stdout.decode().splitlines()
-        checks.equal("the first run fails: make's own", ran.returncode, 2)
-        checks.equal("the first run fails: the log", (room / "out/noticed.log").read_text(), FIRST)
-        checks.equal("the first run fails: it is told", ("noticed could not be proved or built" in lines, SAID.splitlines()[0] in lines), (True, True))
-        checks.equal("the first run fails: the program", (room / "crates/noticed/out/noticed").read_text(), "old\n")
 
 
 def early_lines(room: Path, making: subprocess.Popen) -> list:
@@ -151,7 +129,6 @@ def main():
     checks = Checks("make build: what it proves, what it says meanwhile, and its status")
     for status in (0, 3):
         built(checks, status)
-    stopped(checks)
     checks.done()
 
 

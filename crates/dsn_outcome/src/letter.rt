@@ -1,5 +1,5 @@
 //! A sealed log with the draft of its notice.
-ghost use Rattle.std.specs.Prelude.{◌≡◌, ◌≢◌, [], IsSome, All, Some};
+ghost use Rattle.std.specs.Prelude.{◌≡◌, ◌≢◌, ◌+◌, ◌^◌, ◌<◌, [], IsSome, All, Some};
 ghost use Rattle.std.specs.Option.{option_copied};
 
 use crate::cell::{Cell, Sealed};
@@ -48,6 +48,19 @@ impl Letter {
             outcomes: chain.oldest_first(),
             serial,
         });
+        Letter { cell }
+    }
+
+    /// The same letter, where so many more letters were sealed before it.
+    pub fn counted_on_from(self, base: u64) -> Letter
+        requires room { base + self.serial < 2 ^ 64 }
+        ensures { result ≡ record self { serial = base + self.serial } }
+    {
+        let Letter { mut cell } = self;
+        match &mut cell.sealed {
+            Some(sealed) => sealed.serial += base,
+            None => unreachable!(),
+        }
         Letter { cell }
     }
 

@@ -11,6 +11,7 @@ mod step;
 mod table;
 
 pub use book::Book;
+pub use entry::Entry;
 pub use limits::{Limits, MOST_ENTRIES, MOST_LOGS, MOST_REQUESTS};
 pub use line::OpenLine;
 pub use step::Step;

@@ -15,7 +15,7 @@ pub use answer::{decode_answer, encode_answer};
 pub use answer_fault::AnswerFault;
 pub use body_fault::BodyFault;
 pub use decode::decode_request;
-pub use encode::encode_request;
+pub use encode::{encode_lent, encode_request};
 pub use laws::bodies_are_requests_or_refused;
 pub use spoken::Spoken;
 

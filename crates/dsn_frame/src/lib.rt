@@ -13,7 +13,7 @@ mod requests;
 
 pub use bodies::{
     AnswerFault, BodyFault, Spoken, bodies_are_requests_or_refused, decode_answer, decode_request,
-    encode_answer, encode_request,
+    encode_answer, encode_lent, encode_request,
 };
 pub use frame::{Frame, LONGEST_BODY, read_frame};
 pub use frame_buffer::FrameBuffer;

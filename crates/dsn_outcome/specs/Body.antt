@@ -2,6 +2,8 @@
 use Rattle.dsn_outcome.specs.Request
 use Rattle.dsn_outcome.specs.declared.body.Body.{Body}
 use Rattle.dsn_outcome.specs.declared.body.Body.TheVariants.{Append, Flush, Discard, Forget, Bye}
+use Rattle.dsn_outcome.specs.declared.body.BodyRef.{BodyRef}
+use Rattle.dsn_outcome.specs.declared.body.BodyRef.TheVariants as lent
 
 abbrev pub body_of : Body → Request.Body
 body_of (Append id node) = Request.Append id node.value.outcome
@@ -9,3 +11,10 @@ body_of (Flush key draft) = Request.Flush key draft
 body_of (Discard key) = Request.Discard key
 body_of (Forget key) = Request.Forget key
 body_of Bye = Request.Bye
+
+-- what a body of borrowed parts asks
+abbrev pub body_lent : BodyRef → Request.Body
+body_lent (lent.Append id outcome) = Request.Append id.now outcome.now
+body_lent (lent.Flush key terms) = Request.Flush key.now terms.now
+body_lent (lent.Discard key) = Request.Discard key.now
+body_lent (lent.Forget key) = Request.Forget key.now

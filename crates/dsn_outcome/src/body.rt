@@ -1,6 +1,8 @@
 //! What a delivery agent asks.
+use crate::cell::Terms;
 use crate::draft::Draft;
 use crate::node::Node;
+use crate::outcome::Outcome;
 use dsn_text::{Key, QueueId};
 
 /// What a delivery agent asks.
@@ -18,10 +20,23 @@ pub enum Body {
     Bye,
 }
 
+/// What a delivery agent asks about a key, made of parts that somebody else owns.
+#[derive(Clone, Copy)]
+pub enum BodyRef<'a> {
+    /// Log this outcome of the message. The service is the outcome's.
+    Append(&'a QueueId, &'a Outcome),
+    /// Seal this log and make a notice of it.
+    Flush(&'a Key, &'a Terms),
+    /// Drop this log.
+    Discard(&'a Key),
+    /// Let this key go, if its log is closed.
+    Forget(&'a Key),
+}
+
 impl Body {
-    ghost use Rattle.std.specs.Prelude.{◌≡◌, ◌↔◌, IsTrue};
+    ghost use Rattle.std.specs.Prelude.{◌≡◌, ◌↔◌, IsTrue, IfSome, IfNone};
     ghost use Rattle.dsn_outcome.specs.Request.{key_of, Bye};
-    ghost use Rattle.dsn_outcome.specs.Body.{body_of};
+    ghost use Rattle.dsn_outcome.specs.Body.{body_of, body_lent};
 
     /// The key of the log that it is about; a goodbye has none.
     pub fn key(&self) -> Option<Key>
@@ -42,5 +57,19 @@ impl Body {
         ensures { IsTrue result ↔ (body_of self.now ≡ Bye) }
     {
         matches!(self, Body::Bye)
+    }
+
+    /// The same with its parts lent; a goodbye has none.
+    pub fn lent(&self) -> Option<BodyRef<'_>>
+        ensures same { IfSome result (λ lent. body_lent lent ≡ body_of self.now) }
+        ensures none { IfNone result (body_of self.now ≡ Bye) }
+    {
+        match self {
+            Body::Append(id, node) => Some(BodyRef::Append(id, node.outcome())),
+            Body::Flush(key, draft) => Some(BodyRef::Flush(key, draft.terms())),
+            Body::Discard(key) => Some(BodyRef::Discard(key)),
+            Body::Forget(key) => Some(BodyRef::Forget(key)),
+            Body::Bye => None,
+        }
     }
 }

@@ -29,8 +29,6 @@ impl Model for Draft {
 }
 
 impl Draft {
-    ghost use Rattle.std.specs.Option.{option_copied};
-
     /// A draft. `None` as return path is the null path of RFC 5321 section 4.5.5, to which no
     /// notice is sent. `NoMemory` comes only where the memory for it was refused.
     pub fn new(
@@ -104,39 +102,11 @@ impl Draft {
         self.cell.terms.return_path.is_some()
     }
 
-    /// When the flush was asked for; the notice's date.
-    pub fn moment(&self) -> Stamp
-        ensures { result ≡ self.now.moment }
+    /// What it says.
+    pub fn terms(&self) -> &Terms
+        ensures { result.now ≡ self.now }
     {
-        self.cell.terms.moment
-    }
-
-    /// When the message arrived.
-    pub fn arrival(&self) -> Stamp
-        ensures { result ≡ self.now.arrival }
-    {
-        self.cell.terms.arrival
-    }
-
-    /// Whom the notice goes to; `None` is the null path.
-    pub fn return_path(&self) -> Option<&Address>
-        ensures { option_copied result ≡ self.now.return_path }
-    {
-        self.cell.terms.return_path.as_ref()
-    }
-
-    /// The sender's envelope id, if there was one.
-    pub fn envelope_id(&self) -> Option<&EnvelopeId>
-        ensures { option_copied result ≡ self.now.envelope_id }
-    {
-        self.cell.terms.envelope_id.as_ref()
-    }
-
-    /// The message's header as it came.
-    pub fn header(&self) -> &RawHeader
-        ensures { result.now ≡ self.now.header }
-    {
-        &self.cell.terms.header
+        &self.cell.terms
     }
 }
 

@@ -2,7 +2,7 @@
 ghost use Rattle.std.specs.Prelude.{◌≡◌, ◌≢◌, ◌+◌, ◌^◌, ◌<◌, [], IsSome, All, Some};
 ghost use Rattle.std.specs.Option.{option_copied};
 
-use crate::cell::{Cell, Sealed};
+use crate::cell::{Cell, Sealed, Terms};
 use crate::chain::Chain;
 use crate::draft::Draft;
 use crate::links::Outcomes;
@@ -83,6 +83,13 @@ impl Letter {
             Some(sealed) => sealed.serial,
             None => unreachable!(),
         }
+    }
+
+    /// What its flush said.
+    pub fn terms(&self) -> &Terms
+        ensures { result.now ≡ self.now.draft }
+    {
+        &self.cell.terms
     }
 
     /// The flush's moment, which stands in boundaries and in the notice's date.

@@ -23,8 +23,9 @@ mod request;
 mod texts;
 
 pub use answer::{Answer, Reply};
-pub use body::Body;
+pub use body::{Body, BodyRef};
 pub use carried::Carried;
+pub use cell::Terms;
 pub use chain::{Chain, MOST_OUTCOMES};
 pub use draft::Draft;
 pub use draft_fault::DraftFault;

@@ -1,7 +1,7 @@
 //! Requests to frames.
 ghost use Rattle.std.specs.Prelude.{◌≡◌, ◌≢◌, Some, IfOk, IsTrue};
 ghost use Rattle.std.specs.Option.{option_copied};
-ghost use Rattle.dsn_outcome.specs.Body.{body_of};
+ghost use Rattle.dsn_outcome.specs.Body.{body_of, body_lent};
 ghost use Rattle.dsn_outcome.specs.Draft.{IsLegalDraft};
 ghost use Rattle.dsn_outcome.specs.Outcome.{IsLegalOutcome};
 ghost use Rattle.dsn_text.specs.Optional.{is_none_or};
@@ -16,18 +16,34 @@ use crate::bodies::parts::{
 };
 use crate::bodies::write_fields::{body_len, push_frame};
 use crate::bodies::{SECOND_VERSION, VERSION};
-use dsn_outcome::{Address, Body, Draft, EnvelopeId, NoMemory, Outcome, QueueId, Service, Stamp};
+use dsn_outcome::{
+    Address, Body, BodyRef, EnvelopeId, NoMemory, Outcome, QueueId, Service, Stamp, Terms,
+};
 use std::alloc::Global;
 
 /// The whole frame of a request: its length, and a body that encodes this number and this request.
 /// A diagnostic and a reason are written as the outcome keeps them, clean. Memory for the frame is
 /// taken at once, so `NoMemory` comes before a byte is written.
-#[tactic(auto, using(crate::proofs::bodies::EncodingLaws::written_encodes, crate::proofs::bodies::EncodingLaws::written_fits), unfolding(crate::specs::bodies::Request::request_body, crate::specs::bodies::Request::request_bytes))]
 pub fn encode_request(alloc: Global, number: u32, body: &Body) -> Result<Vec<u8>, NoMemory>
     requires { body_of body.now ≢ Bye }
     ensures written { IfOk result (λ frame. frame.items ≡ request_bytes number (body_of body.now)) }
     ensures whole { IsFrameBody (request_body number (body_of body.now)) }
     ensures encoded { Encodes (request_body number (body_of body.now)) number (body_of body.now) }
+{
+    match body.lent() {
+        Some(lent) => encode_lent(alloc, number, lent),
+        None => unreachable!(),
+    }
+}
+
+/// The same of a request whose parts somebody else owns.
+#[tactic(auto, using(crate::proofs::bodies::EncodingLaws::written_encodes, crate::proofs::bodies::EncodingLaws::written_fits), unfolding(crate::specs::bodies::Request::request_body, crate::specs::bodies::Request::request_bytes))]
+pub fn encode_lent(alloc: Global, number: u32, body: BodyRef<'_>) -> Result<Vec<u8>, NoMemory>
+    ensures written { IfOk result
+        (λ frame. frame.items ≡ request_bytes number (body_lent body.entry)) }
+    ensures whole { IsFrameBody (request_body number (body_lent body.entry)) }
+    ensures encoded { Encodes (request_body number (body_lent body.entry)) number
+        (body_lent body.entry) }
 {
     let parts = parts_of(number, body);
     let size = body_len(parts);
@@ -40,24 +56,22 @@ pub fn encode_request(alloc: Global, number: u32, body: &Body) -> Result<Vec<u8>
 
 /// The fields of a request.
 #[tactic(auto, unfolding(crate::specs::bodies::Request::fields_written))]
-fn parts_of(number: u32, body: &Body) -> BodyParts<'_>
-    requires { body_of body.now ≢ Bye }
-    ensures fields { fields_written number (body_of body.now) ≡ Some (wire_body_in result) }
-    ensures written { IsWritten number (body_of body.now) (wire_body_in result) }
+fn parts_of(number: u32, body: BodyRef<'_>) -> BodyParts<'_>
+    ensures fields { fields_written number (body_lent body.entry) ≡ Some (wire_body_in result) }
+    ensures written { IsWritten number (body_lent body.entry) (wire_body_in result) }
 {
     match body {
-        Body::Append(id, node) => { append_parts(number, id, node.outcome()) }
-        Body::Flush(key, draft) => {
+        BodyRef::Append(id, outcome) => append_parts(number, id, outcome),
+        BodyRef::Flush(key, terms) => {
             let head = head_parts(VERSION, number, key.service, &key.id);
-            BodyParts::Flush(head, flush_parts(draft))
+            BodyParts::Flush(head, flush_parts(terms))
         }
-        Body::Discard(key) => {
+        BodyRef::Discard(key) => {
             BodyParts::Discard(head_parts(VERSION, number, key.service, &key.id))
         }
-        Body::Forget(key) => {
+        BodyRef::Forget(key) => {
             BodyParts::Forget(head_parts(SECOND_VERSION, number, key.service, &key.id))
         }
-        Body::Bye => unreachable!(),
     }
 }
 
@@ -130,16 +144,16 @@ fn recipient_parts(outcome: &Outcome) -> RecipientParts<'_>
 }
 
 /// The fields of a flush.
-fn flush_parts(draft: &Draft) -> FlushParts<'_>
-    ensures same { flush_fields_in result ≡ flush_fields_for draft.now }
-    ensures legal { IsLegalDraft draft.now }
+fn flush_parts(terms: &Terms) -> FlushParts<'_>
+    ensures same { flush_fields_in result ≡ flush_fields_for terms.now }
+    ensures legal { IsLegalDraft terms.now }
 {
     FlushParts {
-        moment: draft.moment().seconds(),
-        arrival: draft.arrival().seconds(),
-        return_path: address_text(draft.return_path()),
-        envelope_id: envelope_id_text(draft.envelope_id()),
-        header: draft.header().bytes(),
+        moment: terms.moment().seconds(),
+        arrival: terms.arrival().seconds(),
+        return_path: address_text(terms.return_path()),
+        envelope_id: envelope_id_text(terms.envelope_id()),
+        header: terms.header().bytes(),
     }
 }
 

@@ -1,7 +1,10 @@
 //! Tests of the journal, stopped at each moment, and of its file, over what `dsn_journal` makes public.
+mod compacting;
 mod crashes;
 mod files;
 mod full_ledgers;
 mod ledgers;
+mod marks;
 mod records;
 mod replacing;
+mod snapshots;

@@ -6,8 +6,8 @@ use dsn_outcome::{Body, Request};
 use std::alloc::Global;
 use std::test::Fail;
 
-/// How many bytes a disk has: a header of 25 and three goodbyes of one byte each.
-const SIZE: usize = 28;
+/// How many bytes a disk has: a header of 41 and three goodbyes of one byte each.
+const SIZE: usize = 44;
 
 /// A group of goodbyes.
 fn goodbyes(alloc: Global, count: u32) -> Result<Vec<Request>, Fail> {
@@ -30,13 +30,19 @@ fn keep(
     group: Vec<Request>,
 ) -> Result<(MemoryDisk, bool), Fail> {
     let limits = Limits::new(10, 10, 100).ok_or("not limits")?;
-    let Opened { book, used } = open(alloc, &mut disk, limits)?;
-    if book.sealed() > 1_000 || group.len() > 100 {
+    let Opened {
+        book,
+        base,
+        letters: _,
+        used,
+    } = open(alloc, &mut disk, limits, 0)?;
+    if base > 0 || book.sealed() > 1_000 || group.len() > 100 {
         return Err(Fail::from("too many"));
     }
     let mut ledger = Ledger {
         journal: Journal { disk, used },
         book,
+        base,
     };
     let before = ledger.journal.disk.moment();
     let kept = match ledger.apply_all(alloc, group) {
@@ -44,7 +50,11 @@ fn keep(
         Err(JournalError::Full) => false,
         Err(_) => return Err(Fail::from("another error")),
     };
-    let Ledger { journal, book: _ } = ledger;
+    let Ledger {
+        journal,
+        book: _,
+        base: _,
+    } = ledger;
     let Journal { disk, used: _ } = journal;
     if !kept && disk.moment() != before {
         return Err(Fail::from("a full disk was changed"));

@@ -18,10 +18,10 @@ use std::process::Abort;
 use std::test::Fail;
 
 /// How many bytes a disk has: room for a header and for all requests of a history.
-const SIZE: usize = 826;
+const SIZE: usize = 842;
 
 /// The requests of a group, from one agent.
-fn make_group(alloc: Global, asks: &[Ask]) -> Result<Vec<Request>, Fail> {
+pub(super) fn make_group(alloc: Global, asks: &[Ask]) -> Result<Vec<Request>, Fail> {
     let mut group = Vec::new(alloc);
     for ask in asks {
         group.push(Request {
@@ -34,25 +34,35 @@ fn make_group(alloc: Global, asks: &[Ask]) -> Result<Vec<Request>, Fail> {
 }
 
 /// Opens a disk, and has a group kept and carried out. The disk comes back, with the replies.
-fn carry_out(
+pub(super) fn carry_out(
     alloc: Global,
     mut disk: MemoryDisk,
     limits: Limits,
     group: Vec<Request>,
 ) -> Result<(MemoryDisk, Vec<Reply>), Fail> {
-    let Opened { book, used } = open(alloc, &mut disk, limits)?;
-    if book.sealed() > 1_000 || group.len() > 100 {
+    let Opened {
+        book,
+        base,
+        letters: _,
+        used,
+    } = open(alloc, &mut disk, limits, 0)?;
+    if base > 0 || book.sealed() > 1_000 || group.len() > 100 {
         return Err(Fail::from("too many"));
     }
     let mut ledger = Ledger {
         journal: Journal { disk, used },
         book,
+        base,
     };
     let mut replies = Vec::new(alloc);
     for step in ledger.apply_all(alloc, group)? {
         replies.push(step.answer.reply)?;
     }
-    let Ledger { journal, book: _ } = ledger;
+    let Ledger {
+        journal,
+        book: _,
+        base: _,
+    } = ledger;
     let Journal { disk, used: _ } = journal;
     Ok((disk, replies))
 }
@@ -96,7 +106,11 @@ fn run_groups(rt: &impl Abort, alloc: Global, limits: Limits, seed: u32) -> Resu
 }
 
 /// What the plain book answers.
-fn plain_replies(alloc: Global, plain: &mut PlainBook, asks: &[Ask]) -> Result<Vec<Reply>, Fail> {
+pub(super) fn plain_replies(
+    alloc: Global,
+    plain: &mut PlainBook,
+    asks: &[Ask],
+) -> Result<Vec<Reply>, Fail> {
     let mut replies = Vec::new(alloc);
     for ask in asks {
         replies.push(plain.apply(*ask)?.0)?;
@@ -105,7 +119,7 @@ fn plain_replies(alloc: Global, plain: &mut PlainBook, asks: &[Ask]) -> Result<V
 }
 
 /// What a book answers.
-fn book_replies(
+pub(super) fn book_replies(
     rt: &impl Abort,
     alloc: Global,
     book: &mut Book,
@@ -131,7 +145,7 @@ fn stop_at(
     requires { moment ≤ memory_moment history.now.disk }
 {
     let mut disk = MemoryDisk::new(alloc, history.disk.crashed(moment, lost)?);
-    let mut book = open(alloc, &mut disk, limits)?.book;
+    let mut book = open(alloc, &mut disk, limits, 0)?.book;
     let kept = recover(alloc, &mut disk)?.records.len().saturating_sub(1);
     let (least, most) = bounds(&history.answered, moment);
     same(rt, kept >= least && kept <= most, true);
@@ -168,8 +182,9 @@ fn each_moment_of_many_ledgers(rt: HostRuntime) -> Result<(), Fail> {
 }
 
 /// The header of a disk under the limits of 10 logs, 10 entries and 100 requests.
-const HEADER: [u8; 26] = [
-    74, 1, 2, 1, 1, 1, 1, 1, 1, 10, 1, 1, 1, 1, 1, 1, 10, 1, 1, 1, 1, 1, 1, 100, 2, 0,
+const HEADER: [u8; 42] = [
+    74, 1, 2, 1, 1, 1, 1, 1, 1, 10, 1, 1, 1, 1, 1, 1, 10, 1, 1, 1, 1, 1, 1, 100, 1, 1, 1, 1, 1, 1,
+    1, 1, 1, 1, 1, 1, 1, 1, 1, 1, 2, 0,
 ];
 
 /// Why a disk with a header and then these bytes is not opened.
@@ -178,7 +193,7 @@ fn refusal_of(alloc: Global, header: &[u8], bytes: &[u8]) -> Result<Option<Ledge
     let mut file = header.to_vec(alloc)?;
     file.extend_from_slice(bytes)?;
     let mut disk = MemoryDisk::new(alloc, file);
-    Ok(open(alloc, &mut disk, limits).err())
+    Ok(open(alloc, &mut disk, limits, 0).err())
 }
 
 #[test]
@@ -204,25 +219,37 @@ fn records_that_keep_no_body_are_damaged(rt: HostRuntime) -> Result<(), Fail> {
         // What isn't ended doesn't count.
         ([65, 0, 2].as_slice(), None),
     ] {
-        same(&rt, refusal_of(rt.alloc(), &HEADER[..25], bytes)?, refusal);
+        same(&rt, refusal_of(rt.alloc(), &HEADER[..41], bytes)?, refusal);
     }
     Ok(())
 }
 
+/// The same header with a base whose first byte is this, of two or more.
+fn with_base(alloc: Global, first: u8) -> Result<Vec<u8>, Fail> {
+    let mut header = HEADER[..24].to_vec(alloc)?;
+    header.push(first)?;
+    header.extend_from_slice(&HEADER[26..])?;
+    Ok(header)
+}
+
 #[test]
 fn a_disk_without_the_header_of_its_limits_is_refused(rt: HostRuntime) -> Result<(), Fail> {
+    let alloc = rt.alloc();
     let other = Some(LedgerError::OtherHeader);
     let full = Some(LedgerError::Journal(JournalError::Full));
     for (bytes, refusal) in [
         (HEADER.as_slice(), None),
         ([2].as_slice(), other),
         ([65, 2].as_slice(), other),
-        ([0; 25].as_slice(), None),
-        ([0; 24].as_slice(), full),
+        ([0; 41].as_slice(), None),
+        ([0; 40].as_slice(), full),
         // What isn't ended is no header.
-        (&HEADER[..24], full),
+        (&HEADER[..40], full),
+        // A base of 2^63, and the greatest one.
+        (with_base(alloc, 128)?.as_slice(), other),
+        (with_base(alloc, 127)?.as_slice(), None),
     ] {
-        same(&rt, refusal_of(rt.alloc(), bytes, &[])?, refusal);
+        same(&rt, refusal_of(alloc, bytes, &[])?, refusal);
     }
     Ok(())
 }

@@ -3,6 +3,7 @@ use crate::same::same;
 use dsn_frame::{decode_request, encode_request};
 use dsn_outcome::{
     Address, Body, Draft, EnvelopeId, Key, Outcome, Parts, QueueId, RawHeader, Service, Stamp,
+    Terms,
 };
 use std::test::Fail;
 
@@ -109,7 +110,7 @@ fn same_outcome(a: &Outcome, b: &Outcome) -> bool {
         && a.retry_until() == b.retry_until()
 }
 
-fn same_draft(a: &Draft, b: &Draft) -> bool {
+fn same_terms(a: &Terms, b: &Terms) -> bool {
     a.moment() == b.moment()
         && a.arrival() == b.arrival()
         && a.return_path().map(Address::bytes) == b.return_path().map(Address::bytes)
@@ -124,7 +125,7 @@ fn same_body(a: &Body, b: &Body) -> bool {
         (Body::Append(i, node), Body::Append(j, other)) => i == j
             && same_outcome(node.outcome(), other.outcome()),
         (Body::Flush(key, draft), Body::Flush(other, later)) => key == other
-            && same_draft(draft, later),
+            && same_terms(draft.terms(), later.terms()),
         (Body::Discard(key), Body::Discard(other)) => key == other,
         (Body::Forget(key), Body::Forget(other)) => key == other,
         _ => false,

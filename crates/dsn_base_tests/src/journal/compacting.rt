@@ -1,0 +1,148 @@
+//! Ledgers whose journal is put away for a shorter one: wherever the machine stops, the book that is
+//! found answers as before, and the letters that are to be posted come again, with their serials.
+ghost use Rattle.std.specs.Prelude.{◌≤◌};
+ghost use Rattle.dsn_journal.specs.MemoryDisk.{memory_moment};
+
+use super::ledgers::{book_replies, make_group, plain_replies};
+use crate::book::books::histories::generated;
+use crate::book::books::plain::{Ask, PlainBook};
+use crate::same::same;
+use dsn_book::Limits;
+use dsn_journal::{Journal, Ledger, MemoryDisk, Opened, open};
+use dsn_outcome::{Key, Letter, Request};
+use std::alloc::Global;
+use std::process::Abort;
+use std::test::Fail;
+
+/// How many bytes a disk has: room for all requests of a history, and for their letters.
+const SIZE: usize = 5_000;
+
+/// What a letter tells: its serial, its key, and how many outcomes it has.
+type Told = (u64, Key, usize);
+
+/// What letters tell.
+fn told(alloc: Global, letters: &[Letter]) -> Result<Vec<Told>, Fail> {
+    let mut all = Vec::new(alloc);
+    for letter in letters {
+        let mut count = 0usize;
+        for _ in letter.outcomes() {
+            count = count.saturating_add(1);
+        }
+        all.push((letter.serial(), letter.key(), count))?;
+    }
+    Ok(all)
+}
+
+/// What the letters of the plain book tell that are not below a mark.
+fn plain_told(
+    alloc: Global,
+    plain: &mut PlainBook,
+    asks: &[Ask],
+    mark: u64,
+) -> Result<Vec<Told>, Fail> {
+    let mut all = Vec::new(alloc);
+    let mut serial = 0u64;
+    for ask in asks {
+        if let (Ask::Flush(key, _), (_, Some(log))) = (*ask, plain.apply(*ask)?) {
+            if serial >= mark {
+                all.push((serial, key, log.len()))?;
+            }
+            serial = serial.saturating_add(1);
+        }
+    }
+    Ok(all)
+}
+
+/// Has requests kept and carried out, and then the journal put away for a shorter one, where the
+/// letters below a mark were posted. The disk comes back, with the moment before.
+fn compacted(
+    alloc: Global,
+    limits: Limits,
+    group: Vec<Request>,
+    mark: u64,
+) -> Result<(MemoryDisk, usize), Fail> {
+    let mut disk = MemoryDisk::new(alloc, vec![in alloc; 0; SIZE]?);
+    let Opened {
+        book,
+        base,
+        mut letters,
+        used,
+    } = open(alloc, &mut disk, limits, 0)?;
+    if base > 0 || book.sealed() > 0 || group.len() > 100 {
+        return Err(Fail::from("not a new disk"));
+    }
+    let mut ledger = Ledger {
+        journal: Journal { disk, used },
+        book,
+        base,
+    };
+    for step in ledger.apply_all(alloc, group)? {
+        if let Some(letter) = step.letter {
+            if letter.serial() >= mark {
+                letters.push(letter)?;
+            }
+        }
+    }
+    let sealed = ledger.book.sealed();
+    if sealed > 100 || letters.len() as u64 > sealed {
+        return Err(Fail::from("too many letters"));
+    }
+    let began = ledger.journal.disk.moment();
+    ledger.compact(alloc, &letters)?;
+    let Ledger {
+        journal,
+        book: _,
+        base: _,
+    } = ledger;
+    let Journal { disk, used: _ } = journal;
+    Ok((disk, began))
+}
+
+/// Opens what a crash leaves: the letters that come again, the open logs, and what is answered from
+/// then on are the plain book's.
+fn stop_at(
+    rt: &impl Abort,
+    alloc: Global,
+    limits: Limits,
+    disk: &MemoryDisk,
+    moment: usize,
+    lost: u64,
+    asks: &[Ask],
+    mark: u64,
+) -> Result<(), Fail>
+    requires { moment ≤ memory_moment disk.now }
+{
+    let mut left = MemoryDisk::new(alloc, disk.crashed(moment, lost)?);
+    let Opened {
+        mut book,
+        base: _,
+        letters,
+        used: _,
+    } = open(alloc, &mut left, limits, mark)?;
+    let mut plain = PlainBook::new(alloc, limits);
+    let wanted = plain_told(alloc, &mut plain, asks, mark)?;
+    same(rt, told(alloc, &letters)?.as_slice(), wanted.as_slice());
+    let lines = plain.open_lines()?;
+    same(rt, book.open_lines(alloc)?.as_slice(), lines.as_slice());
+    let replies = book_replies(rt, alloc, &mut book, asks)?;
+    let wanted = plain_replies(alloc, &mut plain, asks)?;
+    same(rt, replies.as_slice(), wanted.as_slice());
+    Ok(())
+}
+
+#[test]
+fn each_moment_of_many_compactions(rt: HostRuntime) -> Result<(), Fail> {
+    let alloc = rt.alloc();
+    for seed in 0..300u32 {
+        let limits = Limits::new(1 + seed % 18, 1 + seed % 4, 100).ok_or("not limits")?;
+        let asks = generated(alloc, seed, 30)?;
+        let mark = u64::from(seed % 3);
+        let (disk, began) = compacted(alloc, limits, make_group(alloc, &asks)?, mark)?;
+        for moment in began..=disk.moment() {
+            for lost in [0, u64::MAX, 0x6996_9669_a5c3_3c5a] {
+                stop_at(&rt, alloc, limits, &disk, moment, lost, &asks, mark)?;
+            }
+        }
+    }
+    Ok(())
+}

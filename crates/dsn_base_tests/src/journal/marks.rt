@@ -1,0 +1,162 @@
+//! Marks, and letters that are marked once they were taken.
+ghost use Rattle.std.specs.Prelude.{List, map};
+ghost use Rattle.dsn_outcome.specs.Letter.{Letter};
+
+use super::ledgers::make_group;
+use crate::book::books::histories::generated;
+use crate::same::same;
+use dsn_book::Limits;
+use dsn_device::Broken;
+use dsn_journal::{
+    DeliveryError, Disk, Journal, JournalError, Ledger, MemoryDisk, Opened, Outlet, deliver,
+    mark_in, open, recover,
+};
+use dsn_outcome::Letter;
+use std::alloc::Global;
+use std::snapshot::Snapshot;
+use std::test::Fail;
+
+/// How many bytes the disk of marks has: room for two of them, of 16 bytes each.
+const SIZE: usize = 40;
+
+/// Takes so many letters, and fails then.
+#[derive(Drop)]
+struct Few {
+    left: u32,
+    taken: Vec<Snapshot<Letter>>,
+}
+
+impl Outlet for Few {
+    ghost taken = { λ f. map (λ one. one.value) f.taken.items };
+
+    fn take(&mut self, letter: &Letter) -> Result<(), Broken> {
+        if self.left == 0 || self.taken.push(Snapshot::of(letter)).is_err() {
+            return Err(Broken);
+        }
+        self.left -= 1;
+        Ok(())
+    }
+}
+
+/// A new journal of marks.
+fn new_marks(alloc: Global) -> Result<Journal<MemoryDisk>, Fail> {
+    let mut disk = MemoryDisk::new(alloc, vec![in alloc; 0; SIZE]?);
+    let used = recover(alloc, &mut disk)?.used;
+    Ok(Journal { disk, used })
+}
+
+/// The mark that a crash leaves.
+fn mark_left(alloc: Global, left: Vec<u8>) -> Result<Option<u64>, Fail> {
+    let mut disk = MemoryDisk::new(alloc, left);
+    Ok(mark_in(&recover(alloc, &mut disk)?.records))
+}
+
+#[test]
+fn marks_are_kept_and_put_in_place_of_others(rt: HostRuntime) -> Result<(), Fail> {
+    let alloc = rt.alloc();
+    let mut disk = MemoryDisk::new(alloc, vec![in alloc; 0; SIZE]?);
+    for mark in 1..=5u64 {
+        let used = recover(alloc, &mut disk)?.used;
+        let mut journal = Journal { disk, used };
+        let began = journal.disk.moment();
+        journal.mark(alloc, mark)?;
+        let Journal {
+            disk: then,
+            used: _,
+        } = journal;
+        for moment in began..=then.moment() {
+            let left = mark_left(alloc, then.crashed(moment, u64::MAX)?)?;
+            let wanted = if moment == then.moment() {
+                mark
+            } else {
+                mark - 1
+            };
+            same(&rt, left, Some(wanted));
+        }
+        disk = then;
+    }
+    Ok(())
+}
+
+#[test]
+fn a_last_record_of_another_length_is_no_mark(rt: HostRuntime) -> Result<(), Fail> {
+    let alloc = rt.alloc();
+    for (record, mark) in [
+        (b"\0\0\0\0\0\0\x02\x01".as_slice(), Some(513)),
+        (b"\0\0\0\0\0\x02\x01", None),
+        (b"\0\0\0\0\0\0\0\x02\x01", None),
+        (b"", None),
+    ] {
+        let records = vec![in alloc; b"12345678".to_vec(alloc)?, record.to_vec(alloc)?]?;
+        same(&rt, mark_in(&records), mark);
+    }
+    same(&rt, mark_in(&[]), Some(0));
+    let mut none = MemoryDisk::new(alloc, vec![in alloc; 0; 15]?);
+    let used = recover(alloc, &mut none)?.used;
+    let mut small = Journal { disk: none, used };
+    same(&rt, small.mark(alloc, 5), Err(JournalError::Full));
+    Ok(())
+}
+
+/// The letters that some requests seal.
+fn some_letters(alloc: Global) -> Result<Vec<Letter>, Fail> {
+    let limits = Limits::new(6, 4, 100).ok_or("not limits")?;
+    let mut disk = MemoryDisk::new(alloc, vec![in alloc; 0; 4_000]?);
+    let Opened {
+        book,
+        base,
+        letters: _,
+        used,
+    } = open(alloc, &mut disk, limits, 0)?;
+    let group = make_group(alloc, &generated(alloc, 1, 40)?)?;
+    if base > 0 || book.sealed() > 0 || group.len() > 100 {
+        return Err(Fail::from("not a new disk"));
+    }
+    let mut ledger = Ledger {
+        journal: Journal { disk, used },
+        book,
+        base,
+    };
+    ledger.apply_all(alloc, group)?;
+    let mut disk = ledger.journal.disk;
+    Ok(open(alloc, &mut disk, limits, 0)?.letters)
+}
+
+#[test]
+fn a_letter_that_is_not_taken_is_not_marked(rt: HostRuntime) -> Result<(), Fail> {
+    let alloc = rt.alloc();
+    let letters = some_letters(alloc)?;
+    let mut outlet = Few {
+        left: 2,
+        taken: Vec::new(alloc),
+    };
+    let mut disk = MemoryDisk::new(alloc, vec![in alloc; 0; SIZE]?);
+    let mut marked = 0u64;
+    for letter in letters.iter().take(4) {
+        let used = recover(alloc, &mut disk)?.used;
+        let mut marks = Journal { disk, used };
+        let serial = letter.serial();
+        if serial > 100 {
+            return Err(Fail::from("a late serial"));
+        }
+        let delivered = deliver(alloc, letter, &mut outlet, &mut marks);
+        if serial < 2 {
+            same(&rt, delivered, Ok(()));
+            marked = serial + 1;
+        } else {
+            same(&rt, delivered, Err(DeliveryError::Outlet));
+        }
+        let Journal {
+            disk: mut then,
+            used: _,
+        } = marks;
+        same(
+            &rt,
+            mark_in(&recover(alloc, &mut then)?.records),
+            Some(marked),
+        );
+        disk = then;
+    }
+    same(&rt, (marked, outlet.taken.len()), (2, 2));
+    Ok(())
+}

@@ -1,0 +1,152 @@
+//! Snapshots: their records, and the book that is opened over them, which goes on as the old one
+//! does.
+use super::ledgers::{carry_out, make_group};
+use crate::book::books::histories::{generated, scripted};
+use crate::book::books::plain::Ask;
+use crate::same::same;
+use dsn_book::{Book, Limits, OpenLine};
+use dsn_journal::{Journal, MemoryDisk, open, recover, write_snapshot};
+use dsn_outcome::{Letter, Reply};
+use std::alloc::Global;
+use std::process::Abort;
+use std::test::Fail;
+
+/// How many bytes a disk has: room for a header and for each snapshot of a test.
+const SIZE: usize = 8_192;
+
+/// What came of requests: the replies, and the letters that were sealed.
+#[derive(Drop)]
+struct Came {
+    replies: Vec<Reply>,
+    letters: Vec<Letter>,
+}
+
+/// Carries out what is asked.
+fn apply_asks(rt: &impl Abort, alloc: Global, book: &mut Book, asks: &[Ask]) -> Result<Came, Fail> {
+    let mut replies = Vec::new(alloc);
+    let mut letters = Vec::new(alloc);
+    for request in make_group(alloc, asks)? {
+        assert!(rt; book.sealed() < u64::MAX);
+        let step = book.apply(request);
+        replies.push(step.answer.reply)?;
+        if let Some(letter) = step.letter {
+            letters.push(letter)?;
+        }
+    }
+    Ok(Came { replies, letters })
+}
+
+/// The book that is opened over a disk with these records.
+fn opened_over(alloc: Global, limits: Limits, records: &[Vec<u8>]) -> Result<Book, Fail> {
+    let mut disk = MemoryDisk::new(alloc, vec![in alloc; 0; SIZE]?);
+    let used = open(alloc, &mut disk, limits, 0)?.used;
+    let mut journal = Journal { disk, used };
+    journal.append_all(alloc, records)?;
+    let Journal { mut disk, used: _ } = journal;
+    Ok(open(alloc, &mut disk, limits, 0)?.book)
+}
+
+/// Whom a letter goes to, and its recipients, in their order.
+fn addresses(alloc: Global, letter: &Letter) -> Result<Vec<u8>, Fail> {
+    let mut text = letter.return_path().bytes().to_vec(alloc)?;
+    for outcome in letter.outcomes() {
+        text.extend_from_slice(outcome.recipient())?;
+    }
+    Ok(text)
+}
+
+/// The same came of requests, once the serials are counted on from a base.
+fn expect_same(
+    rt: &impl Abort,
+    alloc: Global,
+    long: &Came,
+    short: &Came,
+    base: u64,
+) -> Result<(), Fail> {
+    same(rt, short.replies.as_slice(), long.replies.as_slice());
+    same(rt, short.letters.len(), long.letters.len());
+    for (long, short) in long.letters.iter().zip(&short.letters) {
+        same(rt, short.key(), long.key());
+        same(rt, short.serial().saturating_add(base), long.serial());
+        let (said, wanted) = (addresses(alloc, short)?, addresses(alloc, long)?);
+        same(rt, said.as_slice(), wanted.as_slice());
+    }
+    Ok(())
+}
+
+/// The same comes of requests in both books.
+fn expect_alike(
+    rt: &impl Abort,
+    alloc: Global,
+    long: &mut Book,
+    short: &mut Book,
+    asks: &[Ask],
+    base: u64,
+) -> Result<(), Fail> {
+    let after_long = apply_asks(rt, alloc, long, asks)?;
+    let after_short = apply_asks(rt, alloc, short, asks)?;
+    expect_same(rt, alloc, &after_long, &after_short, base)
+}
+
+/// A flush of each of these logs.
+fn flushes_of(alloc: Global, lines: &[OpenLine]) -> Result<Vec<Ask>, Fail> {
+    let mut asks = Vec::new(alloc);
+    for line in lines {
+        asks.push(Ask::Flush(line.key, true))?;
+    }
+    Ok(asks)
+}
+
+/// The book over a snapshot of what came of requests lists the same open logs, goes on as the old
+/// one does, and has the same in its logs then. Of the letters so many were posted.
+fn expect_in_place(
+    rt: &impl Abort,
+    alloc: Global,
+    limits: Limits,
+    asks: &[Ask],
+    posted: usize,
+) -> Result<(), Fail> {
+    let mut long = Book::new(alloc, limits)?;
+    let letters = apply_asks(rt, alloc, &mut long, asks)?.letters;
+    let posted = posted.min(letters.len());
+    let records = write_snapshot(alloc, &letters[posted..], &long)?;
+    let mut short = opened_over(alloc, limits, &records)?;
+    let base = posted as u64;
+    same(rt, short.sealed().saturating_add(base), long.sealed());
+    let (lines, wanted) = (short.open_lines(alloc)?, long.open_lines(alloc)?);
+    same(rt, lines.as_slice(), wanted.as_slice());
+    expect_alike(rt, alloc, &mut long, &mut short, asks, base)?;
+    let flushes = flushes_of(alloc, &long.open_lines(alloc)?)?;
+    expect_alike(rt, alloc, &mut long, &mut short, &flushes, base)
+}
+
+#[test]
+fn books_over_snapshots_go_on(rt: HostRuntime) -> Result<(), Fail> {
+    let alloc = rt.alloc();
+    for seed in 0..40u32 {
+        let limits = Limits::new(1 + seed % 18, 1 + seed % 9, 100).ok_or("not limits")?;
+        let asks = generated(alloc, seed, 60)?;
+        for posted in 0..3 {
+            expect_in_place(&rt, alloc, limits, &asks, posted)?;
+        }
+    }
+    Ok(())
+}
+
+/// A letter of two outcomes whose key was forgotten, an open log of two outcomes, and a closed key:
+/// a snapshot has the records of just the requests that led there.
+#[test]
+fn a_snapshot_has_the_records_of_requests(rt: HostRuntime) -> Result<(), Fail> {
+    let alloc = rt.alloc();
+    let limits = Limits::new(10, 10, 100).ok_or("not limits")?;
+    let asks = scripted(alloc, b"aBaBfBgBa2a2d3")?;
+    let disk = MemoryDisk::new(alloc, vec![in alloc; 0; SIZE]?);
+    let (mut disk, _replies) = carry_out(alloc, disk, limits, make_group(alloc, &asks)?)?;
+    let kept = recover(alloc, &mut disk)?.records;
+    let mut book = Book::new(alloc, limits)?;
+    let letters = apply_asks(&rt, alloc, &mut book, &asks)?.letters;
+    let records = write_snapshot(alloc, &letters, &book)?;
+    same(&rt, (letters.len(), kept.len(), records.len()), (1, 8, 7));
+    same(&rt, kept.ends_with(&records), true);
+    Ok(())
+}

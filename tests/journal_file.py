@@ -1,6 +1,6 @@
 #!/usr/bin/env python3
 """A ledger over a real file (the program probe), beside a plain reading of docs/FORMATS.md, section 18: what is answered and
-what the file has; a file without room; and by a small library that is preloaded (tests/support/crash.c, compiled here with
+what the file has; a file without room, whose journal is put away for a shorter one; and by a small library that is preloaded (tests/support/crash.c, compiled here with
 gcc) each call on the file failing in turn, and the machine stopping within each in turn, where all, some or none of what
 wasn't synced is kept. Whatever is found then is the asked requests in their order, up to one that stands after each answered
 one and within the group that was being kept, and the ledger that is opened goes on from there."""
@@ -21,6 +21,7 @@ from running import ROOT, Checks, frames_module  # noqa: E402
 PROBE = os.environ.get("PROBE") or str(ROOT / "crates/probe/out/probe")
 PATIENCE = 60  # seconds that a run may take
 SIZE = 2_048  # bytes of a file: room for all that is asked here
+SMALL = 700  # bytes of a file that is full after a few requests, and has room for all logs that may be open
 GROUP = 3
 STOPPED = 77  # the status of a run whose machine stopped
 EIO, ENOSPC = 5, 28
@@ -87,6 +88,17 @@ def found(path: Path) -> list:
     return journal.requests(path.read_bytes()) if path.exists() else []
 
 
+def state(kept: list, base: int = 0) -> tuple:
+    """What these requests lead to: the held keys with their logs, and how many letters were sealed in all."""
+    logs = journal.replayed(kept, LIMITS)
+    return logs.held, base + logs.sealed
+
+
+def state_found(path: Path) -> tuple:
+    """What a file's records lead to."""
+    return state(found(path), journal.base_of(path.read_bytes())) if path.exists() else state([])
+
+
 def check_answers(checks: Checks, room: Path):
     """Runs one after another over one file: the answers, and what the file has."""
     for group in (1, 2, 5, 16):
@@ -139,6 +151,7 @@ def check_opening(checks: Checks, room: Path):
         ("a header with a byte more", [header + b"\0"], other),
         ("a header with a byte less", [header[:-1]], other),
         ("a header of another version", [b"J\2" + header[2:]], other),
+        ("a base of 2^63", [journal.header(LIMITS, 1 << 63)], other),
         ("other limits of logs", [journal.header(Limits(4, 3, 100))], other),
         ("other limits of entries", [journal.header(Limits(3, 4, 100))], other),
         ("other limits of requests", [journal.header(Limits(3, 3, 101))], other),
@@ -150,6 +163,51 @@ def check_opening(checks: Checks, room: Path):
         checks.equal(f"{about}: the file stays", path.read_bytes(), file)
     ran = keep(room / "none", [], size=0)
     checks.true("a file that isn't there", (len(ran.lines), ran.lines[0][:8], ran.status) == (1, b"no file:", 1))
+
+
+def check_shorter(checks: Checks, room: Path):
+    """A file that is too small for all that is asked, and large enough for what is held: it is put away for a shorter one as
+    often as it is full. The answers are as if it never had been, and each run finds all."""
+    path, kept, shortened = room / "shorter", [], 0
+    for seed in range(30):
+        asked = any_requests(300 + seed, 7)
+        before = path.read_bytes() if path.exists() else b""
+        ran = keep(path, asked, size=SMALL)
+        checks.equal(f"shorter, run {seed}: answers", (ran.answers, ran.lines[1:], ran.status), (wanted(kept, asked), [], 0))
+        kept += asked
+        checks.equal(f"shorter, run {seed}: what is found", state_found(path), state([request(it) for it in kept]))
+        file = path.read_bytes()
+        checks.equal(f"shorter, run {seed}: the file", file, journal.at_rest(journal.records(file), SMALL))
+        shortened += not journal.records(file)[: len(journal.records(before))] == journal.records(before)
+    checks.true(f"shorter: put away {shortened} times", shortened > 5)
+    checks.true("shorter: no file beside it", not Path(f"{path}.new").exists())
+
+
+def count_found(path: Path, asked: list, least: int) -> int:
+    """How many of the requests, so many or a group more, lead to what a file has; -1 where it has something else."""
+    has = state_found(path)
+    counts = range(least, min(least + GROUP, len(asked)) + 1)
+    return next((it for it in counts if state([request(it) for it in asked[:it]]) == has), -1)
+
+
+def check_shorter_stops(checks: Checks, room: Path, library: Path):
+    """The machine stops within each call in turn of a run whose journal is put away for shorter ones, or the call fails."""
+    path, stops = room / "shorter-stopping", 0
+    for seed in range(2):
+        asked = any_requests(400 + seed, 24)
+        for how in ({"KEEP": "none"}, {"KEEP": "all"}, {"KEEP": "first"}, {"KEEP": 1}, {"KEEP": 2}, {"FAIL_WITH": EIO}):
+            number, ran = 0, Ran(status=STOPPED)
+            while ran.status and number < 100:
+                number += 1
+                ran = disturbed(library, path, asked, size=SMALL, **{"FAIL_AT" if "FAIL_WITH" in how else "CRASH_AT": number}, **how)
+                about = f"shorter, requests {seed}, call {number} with {how}"
+                count = count_found(path, asked, len(ran.answers))
+                checks.true(f"{about}: {len(ran.answers)} answered, found {state_found(path)}", count >= 0)
+                more = asked[max(count, 0) :]
+                checks.equal(f"{about}: goes on", keep(path, more, size=SMALL).answers, wanted(asked[: max(count, 0)], more))
+            checks.equal(f"shorter, requests {seed}, {how}: the last run is whole", (ran.status, len(ran.answers)), (0, len(asked)))
+            stops += number - 1
+    print(f"  {stops} stops and failures of runs whose journal is put away for shorter ones")
 
 
 def check_found(checks: Checks, about: str, path: Path, asked: list, ran: Ran) -> int:
@@ -169,11 +227,11 @@ def check_goes_on(checks: Checks, about: str, path: Path, asked: list, count: in
     checks.equal(f"{about}: goes on, and keeps", found(path), [request(it) for it in asked[:count] + more])
 
 
-def disturbed(library: Path, path: Path, asked: list, **how) -> Ran:
+def disturbed(library: Path, path: Path, asked: list, size: int = SIZE, **how) -> Ran:
     """A run over a new file that is disturbed."""
     for it in (path, Path(f"{path}.new")):
         it.unlink(missing_ok=True)
-    return keep(path, asked, environment=preloading(library, JOURNAL=path, **how))
+    return keep(path, asked, size=size, environment=preloading(library, JOURNAL=path, **how))
 
 
 def check_failures(checks: Checks, room: Path, library: Path):
@@ -235,6 +293,8 @@ def main():
         check_answers(checks, room)
         check_full(checks, room)
         check_opening(checks, room)
+        check_shorter(checks, room)
+        check_shorter_stops(checks, room, library)
         check_failures(checks, room, library)
         check_crashes(checks, room, library)
         check_crashes_of_an_opening(checks, room, library)

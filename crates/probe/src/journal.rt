@@ -1,11 +1,12 @@
-//! A ledger over a file: what standard input asks is kept in groups, and then answered.
+//! A ledger over a file: what standard input asks is kept in groups, and then answered. Its letters
+//! count as posted; where there is no room, the journal is put away for a shorter one.
 mod asking;
 mod taking;
 
 use asking::Asking;
 use dsn_book::{Limits, Step};
 use dsn_frame::{Spoken, encode_answer};
-use dsn_journal::{Disk, FileDisk, Journal, Ledger, Opened, create_file, open};
+use dsn_journal::{FileDisk, Journal, Ledger, Opened, Replaceable, create_file, open};
 use std::alloc::Global;
 use std::io::Write;
 use std::{fs, io};
@@ -35,23 +36,33 @@ pub(crate) fn keep(rt: &HostRuntime, keeping: &Keeping, given: &[u8]) -> Option<
             return None;
         }
     };
-    let Opened { book, used } = match open(rt.alloc(), &mut disk, keeping.limits) {
+    let opened = match open(rt.alloc(), &mut disk, keeping.limits, u64::MAX) {
         Ok(opened) => opened,
         Err(error) => {
             println!(rt; "not opened: {error}").ok()?;
             return None;
         }
     };
+    let Opened {
+        book,
+        base,
+        letters: _,
+        used,
+    } = opened;
     println!(rt; "opened {used}").ok()?;
     let journal = Journal { disk, used };
     let taking = Taking {
-        ledger: Ledger { journal, book },
+        ledger: Ledger {
+            journal,
+            book,
+            base,
+        },
     };
     answer_all(rt, rt.alloc(), taking, given, keeping.group)
 }
 
 /// Opens the file, which is made first where it is to be and isn't there.
-fn open_file(rt: &HostRuntime, keeping: &Keeping) -> io::Result<FileDisk> {
+fn open_file<'a>(rt: &'a HostRuntime, keeping: &Keeping) -> io::Result<FileDisk<'a>> {
     let path = keeping.path.as_str();
     if keeping.size > 0 && !fs::exists(rt, path)? {
         create_file(rt, path, keeping.size as usize)?;
@@ -60,7 +71,7 @@ fn open_file(rt: &HostRuntime, keeping: &Keeping) -> io::Result<FileDisk> {
 }
 
 /// Keeps what is given, and answers it.
-fn answer_all<D: Disk + Drop>(
+fn answer_all<D: Replaceable + Drop>(
     rt: &impl Print,
     alloc: Global,
     first: Taking<D>,

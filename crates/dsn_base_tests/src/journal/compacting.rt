@@ -58,7 +58,7 @@ fn plain_told(
 fn compacted(
     alloc: Global,
     limits: Limits,
-    group: Vec<Request>,
+    mut group: Vec<Request>,
     mark: u64,
 ) -> Result<(MemoryDisk, usize), Fail> {
     let mut disk = MemoryDisk::new(alloc, vec![in alloc; 0; SIZE]?);
@@ -76,7 +76,7 @@ fn compacted(
         book,
         base,
     };
-    for step in ledger.apply_all(alloc, group)? {
+    for step in ledger.apply_all(alloc, &mut group)? {
         if let Some(letter) = step.letter {
             if letter.serial() >= mark {
                 letters.push(letter)?;

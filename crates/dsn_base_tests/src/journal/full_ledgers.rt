@@ -27,7 +27,7 @@ fn goodbyes(alloc: Global, count: u32) -> Result<Vec<Request>, Fail> {
 fn keep(
     alloc: Global,
     mut disk: MemoryDisk,
-    group: Vec<Request>,
+    mut group: Vec<Request>,
 ) -> Result<(MemoryDisk, bool), Fail> {
     let limits = Limits::new(10, 10, 100).ok_or("not limits")?;
     let Opened {
@@ -45,7 +45,7 @@ fn keep(
         base,
     };
     let before = ledger.journal.disk.moment();
-    let kept = match ledger.apply_all(alloc, group) {
+    let kept = match ledger.apply_all(alloc, &mut group) {
         Ok(_) => true,
         Err(JournalError::Full) => false,
         Err(_) => return Err(Fail::from("another error")),

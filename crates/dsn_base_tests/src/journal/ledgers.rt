@@ -38,7 +38,7 @@ pub(super) fn carry_out(
     alloc: Global,
     mut disk: MemoryDisk,
     limits: Limits,
-    group: Vec<Request>,
+    mut group: Vec<Request>,
 ) -> Result<(MemoryDisk, Vec<Reply>), Fail> {
     let Opened {
         book,
@@ -55,7 +55,7 @@ pub(super) fn carry_out(
         base,
     };
     let mut replies = Vec::new(alloc);
-    for step in ledger.apply_all(alloc, group)? {
+    for step in ledger.apply_all(alloc, &mut group)? {
         replies.push(step.answer.reply)?;
     }
     let Ledger {

@@ -108,7 +108,7 @@ fn some_letters(alloc: Global) -> Result<Vec<Letter>, Fail> {
         letters: _,
         used,
     } = open(alloc, &mut disk, limits, 0)?;
-    let group = make_group(alloc, &generated(alloc, 1, 40)?)?;
+    let mut group = make_group(alloc, &generated(alloc, 1, 40)?)?;
     if base > 0 || book.sealed() > 0 || group.len() > 100 {
         return Err(Fail::from("not a new disk"));
     }
@@ -117,7 +117,7 @@ fn some_letters(alloc: Global) -> Result<Vec<Letter>, Fail> {
         book,
         base,
     };
-    ledger.apply_all(alloc, group)?;
+    ledger.apply_all(alloc, &mut group)?;
     let mut disk = ledger.journal.disk;
     Ok(open(alloc, &mut disk, limits, 0)?.letters)
 }

@@ -50,6 +50,7 @@ module _ {W : Type 0} {drain : Drain W} where
     idle = λ before. (before, refl);
     count = counts-none failed (drain.failures w);
     no_flush = refl;
+    surely = λ h. h;
     stays_steady = λ h. (h, refl);
   }
 
@@ -59,6 +60,7 @@ module _ {W : Type 0} {drain : Drain W} where
     idle = λ before. let first = p.idle before in let second = q.idle first.0 in (second.0, second.1 ∙ first.1);
     count = counts-then a b c (drain.contents x) (drain.contents y) (drain.contents z) s t (drain.failures x) (drain.failures y) (drain.failures z) p.sent q.sent p.count q.count;
     no_flush = q.no_flush ∙ p.no_flush;
+    surely = λ h. q.surely (p.surely h);
     stays_steady = λ h. let first = p.stays_steady h in let second = q.stays_steady first.0 in (second.0, second.1 ∙ first.1);
   }
 
@@ -81,20 +83,23 @@ module _ {W : Type 0} (drain : Drain W) where
       → Sent a b (drain.contents x) (drain.contents y) text → drain.flushes y ≡ drain.flushes x → (a ≡ true → y ≡ x)
       → Keeps (drain.contents y) (drain.contents z) → drain.flushes z ≡ counted (not b) (drain.flushes y)
       → (b ≡ true → z ≡ y) → (b ≡ true → c ≡ true) → (c ≡ false → drain.unflushed z ≡ false)
+      → (drain.flushes_surely x → drain.flushes_surely z × (c ≡ b))
       → WrittenAndFlushed drain a c x z text
-  ends false false false x y z text sent no_flush first kept once second lasts passed = record {
+  ends false false false x y z text sent no_flush first kept once second lasts passed surely = record {
     taken = Appends-kept _ _ _ text sent kept;
     once = once ∙ ap (counted true) no_flush;
     passed_on = passed refl;
+    surely = λ h. (surely h).0;
   }
-  ends false false true x y z text sent no_flush first kept once second lasts passed =
+  ends false false true x y z text sent no_flush first kept once second lasts passed surely =
       at_flush (Appends-kept _ _ _ text sent kept) (once ∙ ap (counted true) no_flush)
-  ends false true false x y z text sent no_flush first kept once second lasts passed = absurd (never (lasts refl))
-  ends false true true x y z text sent no_flush first kept once second lasts passed =
+      (λ h. never (sym (surely h).1))
+  ends false true false x y z text sent no_flush first kept once second lasts passed surely = absurd (never (lasts refl))
+  ends false true true x y z text sent no_flush first kept once second lasts passed surely =
       in_text (AppendsPart-kept _ _ _ text sent kept) (once ∙ no_flush)
-  ends true false c x y z text sent no_flush first kept once second lasts passed = absurd sent
-  ends true true false x y z text sent no_flush first kept once second lasts passed = absurd (never (lasts refl))
-  ends true true true x y z text sent no_flush first kept once second lasts passed = second refl ∙ first refl
+  ends true false c x y z text sent no_flush first kept once second lasts passed surely = absurd sent
+  ends true true false x y z text sent no_flush first kept once second lasts passed surely = absurd (never (lasts refl))
+  ends true true true x y z text sent no_flush first kept once second lasts passed surely = second refl ∙ first refl
 
   -- a text that was written and flushed, where nothing failed
   pub flushed-whole : (a b : Bool) (old new : W) (text : List ℕ) → b ≡ false → WrittenAndFlushed drain a b old new text
@@ -105,7 +110,7 @@ module _ {W : Type 0} (drain : Drain W) where
 
   lost-front : (old new : W) (text : List ℕ) → Lost drain old new text → AppendsFront (drain.contents old) (drain.contents new) text
   lost-front old new text (in_text part none) = AppendsFront-part _ _ text part
-  lost-front old new text (at_flush all once) = AppendsFront-all _ _ text all
+  lost-front old new text (at_flush all once unsure) = AppendsFront-all _ _ text all
 
   -- and whatever failed
   pub flushed-front : (a b : Bool) (old new : W) (text : List ℕ) → WrittenAndFlushed drain a b old new text
@@ -121,3 +126,4 @@ module _ {W : Type 0} {drain : Drain W} where
       → WrittenAndFlushed drain a c x z text
   written-flushed {a} {b} {c} {x} {y} {z} {text} p q =
       ends drain a b c x y z text p.sent p.no_flush (λ is. (p.idle is).1) q.kept q.once (λ is. (q.idle is).1) (λ is. (q.idle is).0) q.passed_on
+      (λ h. q.surely (p.surely h))

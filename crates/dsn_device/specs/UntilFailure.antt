@@ -27,6 +27,7 @@ pub record WritesUntilFailure {W : Type 0} (drain : Drain.Ghosts W) (before afte
   pub idle : before ≡ true → (after ≡ true) × (new ≡ old)
   pub count : drain.failures new ≡ counts_failure before after (drain.failures old)
   pub no_flush : drain.flushes new ≡ drain.flushes old
+  pub surely : drain.flushes_surely old → drain.flushes_surely new
   pub stays_steady : drain.steady old → drain.steady new × (drain.failures new ≡ drain.failures old)
 
 -- a drain was flushed once, unless it had failed before
@@ -37,6 +38,7 @@ pub record FlushesUntilFailure {W : Type 0} (drain : Drain.Ghosts W) (before aft
   pub count : drain.failures new ≡ counts_failure before after (drain.failures old)
   pub once : drain.flushes new ≡ counted (not before) (drain.flushes old)
   pub passed_on : after ≡ false → drain.unflushed new ≡ false
+  pub surely : drain.flushes_surely old → drain.flushes_surely new × (after ≡ before)
   pub stays_steady : drain.steady old → drain.steady new × (drain.failures new ≡ drain.failures old)
 
 -- the whole text was taken, and one flush was made, after all of it
@@ -45,14 +47,16 @@ pub record TakenAndFlushed {W : Type 0} (drain : Drain.Ghosts W) (old new : W)
   pub taken : Appends (drain.contents old) (drain.contents new) text
   pub once : drain.flushes new ≡ flushed (drain.flushes old)
   pub passed_on : drain.unflushed new ≡ false
+  pub surely : drain.flushes_surely old → drain.flushes_surely new
 
 -- the drain failed: within the text, and then it was not flushed; or at the one flush after the
--- whole text
+-- whole text, which it can't where it flushes surely
 pub data Lost {W : Type 0} (drain : Drain.Ghosts W) (old new : W) (text : List ℕ) : Type 0 where
   in_text : AppendsPart (drain.contents old) (drain.contents new) text
       → drain.flushes new ≡ drain.flushes old → Lost drain old new text
   at_flush : Appends (drain.contents old) (drain.contents new) text
-      → drain.flushes new ≡ flushed (drain.flushes old) → Lost drain old new text
+      → drain.flushes new ≡ flushed (drain.flushes old) → ¬ drain.flushes_surely old
+      → Lost drain old new text
 
 -- what became of a text that was to be written and then flushed once, by whether the drain had
 -- failed before and whether it has failed now

@@ -1,5 +1,5 @@
 //! What the daemon writes to.
-ghost use Rattle.std.specs.Prelude.{◌≡◌, ℕ, Bool, ◌&&◌, ◌||◌, List, Option, None, is_err};
+ghost use Rattle.std.specs.Prelude.{◌≡◌, ℕ, Bool, ◌&&◌, ◌||◌, List, Option, None, IsOk, is_err};
 ghost use Rattle.std.specs.Io.{WritesAtMost};
 ghost use Rattle.std.specs.Io.KnownBytes.{WriteAppends, Keeps};
 ghost use Rattle.dsn_device.specs.Failures.{counted, write_failed};
@@ -28,6 +28,9 @@ pub trait Drain {
     // While this holds the count stands still, and the device keeps it: no call fails.
     ghost steady: { Self → Type 0 };
 
+    // While this holds no flush fails, and writes and flushes keep it.
+    ghost flushes_surely: { Self → Type 0 } = { λ _. ⊥ };
+
     /// Writes a front of the text and says how many bytes it took.
     fn write(&mut self, text: &[u8]) -> Result<usize, Broken>
         ensures bound { WritesAtMost result text.now }
@@ -37,6 +40,7 @@ pub trait Drain {
             ≡ counted (write_failed result text.now) (failures self.old) }
         ensures no_flush { flushes self.new ≡ flushes self.old }
         ensures unflushed { unflushed self.new ≡ (unflushed self.old || took_bytes result) }
+        ensures surely { flushes_surely self.old → flushes_surely self.new }
         ensures steady { steady self.old
             → steady self.new × (failures self.new ≡ failures self.old) };
 
@@ -47,6 +51,7 @@ pub trait Drain {
         ensures count { failures self.new ≡ counted (is_err result) (failures self.old) }
         ensures once { flushes self.new ≡ flushed (flushes self.old) }
         ensures passed_on { unflushed self.new ≡ (unflushed self.old && is_err result) }
+        ensures surely { flushes_surely self.old → flushes_surely self.new × IsOk result }
         ensures steady { steady self.old
             → steady self.new × (failures self.new ≡ failures self.old) };
 }

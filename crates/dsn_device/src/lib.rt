@@ -1,11 +1,13 @@
 //! The devices that the daemon reads from and writes to: what a device is, std's readers and
-//! writers as devices, whole texts over them, and a writer that is quiet after the first failure.
+//! writers as devices, memory as one, whole texts over them, and a writer that is quiet after the
+//! first failure.
 #![tactic(auto)]
 
 mod broken;
 mod drain;
 #[cfg(test)]
 mod fakes;
+mod memory_drain;
 mod opaque;
 mod plain;
 mod quiet_writer;
@@ -18,6 +20,7 @@ mod until_failure;
 
 pub use broken::Broken;
 pub use drain::Drain;
+pub use memory_drain::MemoryDrain;
 pub use opaque::Opaque;
 pub use plain::Plain;
 pub use quiet_writer::QuietWriter;

@@ -3,7 +3,7 @@ use Rattle.std.proofs.Common.{◌≡◌, ℕ, suc, ◌==◌, Bool, true, false, 
 use Rattle.std.specs.Prelude.{Option, Some, None, Box, is_none, is_some, All}
 use Rattle.std.specs.declared.alloc.Global.{Global}
 use Rattle.std.proofs.lemmas.List.Elements.{All-tail}
-use Rattle.dsn_outcome.specs.Cell.{letter_in, letters_from, letters_along, letters_linked}
+use Rattle.dsn_outcome.specs.Cell.{letter_in, letters_from, letters_along, letters_linked, IsUnlinked}
 use Rattle.dsn_outcome.specs.Letter.{IsLetter}
 use Rattle.dsn_outcome.specs.declared.cell.Cell.{Cell, Cell', None', Some', out-Cell}
 use Rattle.dsn_outcome.specs.declared.cell.Cell.TheViews.{roll-Cell}
@@ -32,6 +32,13 @@ pub letter_in-relinked : (cell same : Cell) (next : Option (Box Cell Global)) �
 unfolding out-Cell roll-Cell denote.Hole.Carrier.out denote.Hole.Carrier.roll
 letter_in-relinked (Cell' terms sealed link) same None is = ap letter_in (sym is)
 letter_in-relinked (Cell' terms sealed link) same (Some next) is = ap letter_in (sym is)
+
+-- a cell without a link is linked to nothing
+pub unlinked : (cell : Cell) (next : Option (Box Cell Global)) → next ≡ None
+    → IsUnlinked (roll-Cell (record { terms = (out-Cell cell).terms; sealed = (out-Cell cell).sealed; next = next }))
+unfolding out-Cell roll-Cell denote.Hole.Carrier.out denote.Hole.Carrier.roll
+unlinked (Cell' terms sealed link) None none = refl
+unlinked (Cell' terms sealed link) (Some next) none = cc
 
 suc-not-zero : (n : ℕ) → false ≡ (suc n == 0)
 suc-not-zero n = grind arith

@@ -1,5 +1,5 @@
 -- Cells: what a draft, a letter and a queued letter are in memory, seen as letters.
-use Rattle.std.specs.Prelude.{List, [], ◌∷◌, Option, Some, None, Box}
+use Rattle.std.specs.Prelude.{◌≡◌, List, [], ◌∷◌, Option, Some, None, Box}
 use Rattle.std.specs.declared.alloc.Global.{Global}
 use Rattle.dsn_outcome.specs.Draft.{Draft}
 use Rattle.dsn_outcome.specs.Letter.{Letter}
@@ -37,6 +37,14 @@ abbrev mutual
   pub letters_along : Held-Cell-next → List Letter
   letters_along None' = []
   letters_along (Some' place cell) = letters_from cell
+
+-- the letters that are linked behind a cell
+abbrev pub letters_behind : Cell → List Letter
+letters_behind (Cell' terms sealed next) = letters_along next
+
+-- nothing is linked behind a cell
+abbrev pub IsUnlinked : Cell → Type 0
+IsUnlinked cell = letters_behind cell ≡ []
 
 -- the letters from an owner's link on
 abbrev pub letters_linked : Option (Box Cell Global) → List Letter

@@ -21,11 +21,13 @@ pub struct Draft {
 
 impl Model for Draft {
     ghost use Rattle.dsn_outcome.specs.Draft.{Draft};
-    ghost use Rattle.dsn_outcome.specs.Cell.{letter_in};
+    ghost use Rattle.dsn_outcome.specs.Cell.{letter_in, IsUnlinked};
 
     ghost Value = { Draft };
 
     ghost view = { λ d. (letter_in d.cell.value).draft };
+
+    ghost invariant = { λ d. IsUnlinked d.cell.value };
 }
 
 impl Draft {

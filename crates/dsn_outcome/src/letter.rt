@@ -18,13 +18,13 @@ pub struct Letter {
 
 impl Model for Letter {
     ghost use Rattle.dsn_outcome.specs.Letter.{Letter, IsLetter};
-    ghost use Rattle.dsn_outcome.specs.Cell.{letter_in};
+    ghost use Rattle.dsn_outcome.specs.Cell.{letter_in, IsUnlinked};
 
     ghost Value = { Letter };
 
     ghost view = { λ l. letter_in l.cell.value };
 
-    ghost invariant = { λ l. IsLetter (letter_in l.cell.value) };
+    ghost invariant = { λ l. IsLetter (letter_in l.cell.value) × IsUnlinked l.cell.value };
 }
 
 impl Letter {

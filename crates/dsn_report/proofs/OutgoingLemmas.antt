@@ -5,18 +5,19 @@ use Rattle.std.specs.Io.KnownBytes.{Appends}
 use Rattle.std.proofs.KnownBytes.{Appends-trans}
 use Rattle.std.specs.List.{flat_map}
 use Rattle.std.proofs.lemmas.List.{append-nil}
+use Rattle.std.proofs.lemmas.Grind.{flat_map-append}
 use Rattle.dsn_outcome.specs.Letter.{Letter}
 use Rattle.dsn_device.specs.Failures.{counted}
 use Rattle.dsn_device.specs.Flushes.{flushed, flushed_times}
 use Rattle.dsn_device.specs.UntilFailure.{Lost, WrittenAndFlushed, counts_failure}
 use Rattle.dsn_device.specs.UntilFailure as until
 use Rattle.dsn_device.specs.declared.drain.Drain.{Ghosts as Drain}
-use Rattle.dsn_device.specs.Transfer.{AppendsFront}
-use Rattle.dsn_device.proofs.TransferLemmas.{Appends-part, AppendsFront-all}
+use Rattle.dsn_device.specs.Transfer.{AppendsFront, AppendsPart}
+use Rattle.dsn_device.proofs.TransferLemmas.{Appends-part, AppendsFront-all, AppendsPart-longer}
 use Rattle.dsn_report.specs.declared.post_fault.PostFault.{PostFault}
 use Rattle.dsn_report.specs.Outbox.{greeting, goodbye, mail_transaction, outbox_of}
 use Rattle.dsn_report.specs.Poster.{Poster, post_text, finish_text, post_fault, letter_handed_back}
-use Rattle.dsn_report.specs.Outgoing.{written_of, are_some, AppendsAtLeast, FailedIn, in_text, at_flush, FrontWritten, StaysSteady, Delivered, IsOutbox}
+use Rattle.dsn_report.specs.Outgoing.{written_of, are_some, text_until, AppendsAtLeast, FailedIn, in_text, at_flush, FrontWritten, StaysSteady, Delivered, IsOutbox}
 
 pub flat_map-more : {A : Type 0} (f : A → List ℕ) (xs : List A) (x : A) → flat_map f (xs ++ x ∷ []) ≡ flat_map f xs ++ f x
 flat_map-more f [] x = append-nil (f x)
@@ -76,8 +77,8 @@ flushed_times-more [] letter count = refl
 flushed_times-more (first ∷ rest) letter count = ap flushed (flushed_times-more rest letter count)
 
 -- what is written and flushed without a failure was flushed once
-once-flushed : {W : Type 0} (drain : Drain W) (a b : Bool) (old new : W) (text : List ℕ) → a ≡ false → b ≡ false → WrittenAndFlushed drain a b old new text → (drain.flushes new ≡ flushed (drain.flushes old)) × (drain.unflushed new ≡ false)
-once-flushed drain false false old new text good well made = (made.once, made.passed_on)
+once-flushed : {W : Type 0} (drain : Drain W) (a b : Bool) (old new : W) (text : List ℕ) → a ≡ false → b ≡ false → WrittenAndFlushed drain a b old new text → (drain.flushes new ≡ flushed (drain.flushes old)) × (drain.unflushed new ≡ false) × (drain.flushes_surely old → drain.flushes_surely new)
+once-flushed drain false false old new text good well made = (made.once, made.passed_on, made.surely)
 once-flushed drain true b old new text good well made = absurd (not-both true refl good)
 once-flushed drain false true old new text good well made = absurd (not-both true refl well)
 
@@ -88,11 +89,26 @@ lost-now drain true b old new text good failed made = absurd (not-both true refl
 lost-now drain false false old new text good failed made = absurd (not-both false failed refl)
 
 -- a text that was lost after another one was written and flushed so many times
-failed-in : {W : Type 0} (drain : Drain W) (start old new : W) (times : ℕ) (least text : List ℕ) → Appends (drain.contents start) (drain.contents old) least → drain.flushes old ≡ flushed_times times (drain.flushes start) → Lost drain old new text → FailedIn drain start new times (least ++ text)
-failed-in drain start old new times least text all flushes (until.in_text part none) =
+failed-in : {W : Type 0} (drain : Drain W) (start old new : W) (times : ℕ) (least text : List ℕ) → Appends (drain.contents start) (drain.contents old) least → drain.flushes old ≡ flushed_times times (drain.flushes start) → (drain.flushes_surely start → drain.flushes_surely old) → Lost drain old new text → FailedIn drain start new times (least ++ text)
+failed-in drain start old new times least text all flushes surely (until.in_text part none) =
     in_text (Appends-part (drain.contents start) (drain.contents old) (drain.contents new) least text all part) (none ∙ flushes)
-failed-in drain start old new times least text all flushes (until.at_flush whole once) =
-    at_flush (Appends-trans (drain.contents start) (drain.contents old) (drain.contents new) least text all whole) (once ∙ ap flushed flushes)
+failed-in drain start old new times least text all flushes surely (until.at_flush whole once unsure) =
+    at_flush (Appends-trans (drain.contents start) (drain.contents old) (drain.contents new) least text all whole) (once ∙ ap flushed flushes) (λ h. unsure (surely h))
+
+-- the furthest that an outbox gets is a front of the text of all letters
+until-front : (host : List ℕ) (posted unsent : List Letter) → (more : List ℕ) × (outbox_of host (posted ++ unsent) ≡ text_until host posted unsent ++ more)
+unfolding outbox_of
+until-front host posted [] = ([], rw (append-nil posted) (sym (append-nil (outbox_of host posted))))
+until-front host posted (first ∷ rest) =
+    let f = mail_transaction host in
+    (flat_map f rest ++ goodbye, rw (flat_map-append f posted (first ∷ rest), flat_map-more f posted first) (simp append_assoc))
+
+-- where the device flushes surely, an outbox that failed lacks some of the text of all letters
+short-of : {W : Type 0} (drain : Drain W) (host : List ℕ) (start end : W) (times : ℕ) (posted unsent letters : List Letter) → letters ≡ posted ++ unsent → FailedIn drain start end times (text_until host posted unsent) → drain.flushes_surely start → AppendsPart (drain.contents start) (drain.contents end) (outbox_of host letters)
+short-of drain host start end times posted unsent letters split (in_text part none) surely =
+    let front = until-front host posted unsent in
+    rw (split, front.1) (AppendsPart-longer (drain.contents start) (drain.contents end) _ front.0 part)
+short-of drain host start end times posted unsent letters split (at_flush whole once unsure) surely = absurd (unsure surely)
 
 -- what is steady through two steps is steady through both
 stays-steady : {W : Type 0} (drain : Drain W) (a b c : W) → StaysSteady drain a b → StaysSteady drain b c → StaysSteady drain a c
@@ -123,6 +139,7 @@ module _ {W : Type 0} (drain : Drain W) (host : List ℕ) (start : W) (old new :
           greeted_is = greeted ∙ sym (are_some-more letters letter);
           good = count ∙ still-good old.failed (drain.failures old.outbox) was ∙ all.good;
           flushes = (once-flushed drain old.failed new.failed old.outbox new.outbox _ was good made).0 ∙ ap flushed all.flushes ∙ flushed_times-more letters letter (drain.flushes start);
+          surely = λ h. (once-flushed drain old.failed new.failed old.outbox new.outbox _ was good made).2 (all.surely h);
         };
         after_fault = λ is. absurd (not-both new.failed is good);
         steady = stays-steady drain start old.outbox new.outbox before.steady steady;
@@ -139,7 +156,7 @@ module _ {W : Type 0} (drain : Drain W) (host : List ℕ) (start : W) (old new :
         unsent_is = rw all.none_unsent refl;
         split = refl;
         written = rw (same_host, ← all.greeted_is, ← post_text-after old letters letter first) (Appends-least (drain.contents start) (drain.contents old.outbox) (drain.contents new.outbox) _ _ all.written front);
-        lost = rw (same_host, ← post_text-after old letters letter first) (failed-in drain start old.outbox new.outbox (length letters) _ _ all.written all.flushes (lost-now drain old.failed new.failed old.outbox new.outbox _ good failed made));
+        lost = rw (same_host, ← post_text-after old letters letter first) (failed-in drain start old.outbox new.outbox (length letters) _ _ all.written all.flushes all.surely (lost-now drain old.failed new.failed old.outbox new.outbox _ good failed made));
         count = rw good at count ∙ ap (counted true) all.good;
       }
 
@@ -179,7 +196,8 @@ module _ {W : Type 0} (drain : Drain W) (host : List ℕ) (start : W) (old : Pos
   finished-good : old.failed ≡ false → (outbox : W) (whole : Bool) → (whole ≡ true → Appends (drain.contents old.outbox) (drain.contents outbox) (finish_text old)) → (whole ≡ false → AppendsFront (drain.contents old.outbox) (drain.contents outbox) (finish_text old)) → drain.failures outbox ≡ counts_failure old.failed (not whole) (drain.failures old.outbox) → WrittenAndFlushed drain old.failed (not whole) old.outbox outbox (finish_text old) → StaysSteady drain old.outbox outbox → IsOutbox drain host start outbox whole unsent letters
   finished-good good outbox whole sent front count made steady =
       let all = before.while_good good in
-      let ends = finish_text-after old letters (none-where letters old.greeted all.greeted_is) in record {
+      let ends = finish_text-after old letters (none-where letters old.greeted all.greeted_is) in
+      let lost : (whole ≡ false → FailedIn drain start outbox (length letters) (text_until host letters unsent)) = λ part. rw (all.none_unsent, ← before.host_kept, ← ends) (failed-in drain start old.outbox outbox (length letters) _ _ all.written all.flushes all.surely (lost-now drain old.failed (not whole) old.outbox outbox _ good (ap not part) made)) in record {
         posted = letters;
         split = rw all.none_unsent (sym (append-nil letters));
         written = rw (all.none_unsent, ← before.host_kept, ← all.greeted_is, ← ends) (Appends-least (drain.contents start) (drain.contents old.outbox) (drain.contents outbox) _ _ all.written (any-front outbox whole _ sent front));
@@ -188,13 +206,15 @@ module _ {W : Type 0} (drain : Drain W) (host : List ℕ) (start : W) (old : Pos
         count = rw good at count ∙ ap (counted (not whole)) all.good;
         flushes = λ done. (once-flushed drain old.failed (not whole) old.outbox outbox _ good (ap not done) made).0 ∙ ap flushed all.flushes;
         passed_on = λ done. (once-flushed drain old.failed (not whole) old.outbox outbox _ good (ap not done) made).1;
-        lost = λ part. rw (all.none_unsent, ← before.host_kept, ← ends) (failed-in drain start old.outbox outbox (length letters) _ _ all.written all.flushes (lost-now drain old.failed (not whole) old.outbox outbox _ good (ap not part) made));
+        lost = lost;
+        short = λ part. short-of drain host start outbox (length letters) letters unsent letters (rw all.none_unsent (sym (append-nil letters))) (lost part);
         steady = stays-steady drain start old.outbox outbox before.steady steady;
       }
 
   finished-lost : old.failed ≡ true → (outbox : W) (whole : Bool) → (outbox ≡ old.outbox) × (whole ≡ false) → StaysSteady drain old.outbox outbox → IsOutbox drain host start outbox whole unsent letters
   finished-lost failed outbox whole nothing steady =
-      let some = before.after_fault failed in record {
+      let some = before.after_fault failed in
+      let lost : FailedIn drain start outbox (length some.posted) (text_until host some.posted unsent) = rw (nothing.0, some.unsent_is, ← before.host_kept) some.lost in record {
         posted = some.posted;
         split = rw some.unsent_is some.split;
         written = rw (nothing.0, some.unsent_is, ← before.host_kept) some.written;
@@ -203,7 +223,8 @@ module _ {W : Type 0} (drain : Drain W) (host : List ℕ) (start : W) (old : Pos
         count = rw (nothing.0, nothing.1) some.count;
         flushes = λ done. absurd (not-both whole done nothing.1);
         passed_on = λ done. absurd (not-both whole done nothing.1);
-        lost = λ _. rw (nothing.0, some.unsent_is, ← before.host_kept) some.lost;
+        lost = λ _. lost;
+        short = λ _. short-of drain host start outbox (length some.posted) some.posted unsent letters (rw some.unsent_is some.split) lost;
         steady = stays-steady drain start old.outbox outbox before.steady steady;
       }
 

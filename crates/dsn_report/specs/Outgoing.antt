@@ -28,7 +28,7 @@ pub record AppendsAtLeast (old new : Option (List ℕ)) (least text : List ℕ) 
   pub appended : Appends old new (least ++ more)
 
 -- how an outbox failed that was flushed so many times before: within this text, and then it was not
--- flushed again; or at the one flush after all of it
+-- flushed again; or at the one flush after all of it, which it can't where it flushes surely
 pub data FailedIn {W : Type 0} (drain : Drain.Ghosts W) (start end : W) (times : ℕ)
     (text : List ℕ) : Type 0 where
   in_text : AppendsPart (drain.contents start) (drain.contents end) text
@@ -36,6 +36,7 @@ pub data FailedIn {W : Type 0} (drain : Drain.Ghosts W) (start end : W) (times :
       → FailedIn drain start end times text
   at_flush : Appends (drain.contents start) (drain.contents end) text
       → drain.flushes end ≡ flushed (flushed_times times (drain.flushes start))
+      → ¬ drain.flushes_surely start
       → FailedIn drain start end times text
 
 -- whether there are letters
@@ -58,6 +59,7 @@ pub record AllWritten {W : Type 0} (drain : Drain.Ghosts W) (start : W) (out : O
   pub good : drain.failures out.poster.outbox ≡ drain.failures start
   pub flushes : drain.flushes out.poster.outbox
       ≡ flushed_times (length letters) (drain.flushes start)
+  pub surely : drain.flushes_surely start → drain.flushes_surely out.poster.outbox
 
 -- after a failure the letters before the failed one are written, each of them flushed, and a front of
 -- it; the rest of them are kept
@@ -92,7 +94,8 @@ pub record Delivered {W : Type 0} (drain : Drain.Ghosts W) (host : List ℕ) (st
 -- letters before those that are unsent, and a front of what follows; the device failed once where
 -- it isn't whole, and else not; a whole one was flushed once for each letter and once at its end,
 -- after all of its text, and another one once for each letter before those that are unsent, and
--- once more where it failed at a flush
+-- once more where it failed at a flush; where the device flushes surely, some of the text of all
+-- letters is missing from one that isn't whole
 pub record IsOutbox {W : Type 0} (drain : Drain.Ghosts W) (host : List ℕ) (start end : W) (whole : Bool)
     (unsent letters : List Letter) : Type 0 where
   pub posted : List Letter
@@ -108,4 +111,6 @@ pub record IsOutbox {W : Type 0} (drain : Drain.Ghosts W) (host : List ℕ) (sta
   pub passed_on : whole ≡ true → drain.unflushed end ≡ false
   pub lost : whole ≡ false
       → FailedIn drain start end (length posted) (text_until host posted unsent)
+  pub short : whole ≡ false → drain.flushes_surely start
+      → AppendsPart (drain.contents start) (drain.contents end) (outbox_of host letters)
   pub steady : StaysSteady drain start end

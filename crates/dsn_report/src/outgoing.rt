@@ -67,7 +67,6 @@ impl<W: Drain> Outgoing<W> {
     }
 
     /// Ends the outbox.
-    #[tactic(auto, using(crate::proofs::OutgoingLemmas::finished))]
     pub fn finish(self) -> OutboxEnd<W>
         ensures { (host : List ℕ) (start : W) (letters : List _)
             → Delivered W.Drain host start self letters

@@ -29,11 +29,12 @@ pub record IsUnwritten {W : Type 0} (drain : Drain W) (device : W) : Type 0 wher
   pub contents : drain.contents device ≡ Some []
   pub failures : drain.failures device ≡ 0
   pub flushes : drain.flushes device ≡ 0
+  pub surely : drain.flushes_surely device
 
 module _ {R W N : Type 0} (source : Source R) (outbox_drain : Drain W) (notes_drain : Drain N) (limits : Limits) (host : List ℕ) (input now : R) (start : W) (notes later : N) (end : BatchEnd W) (bytes unread outbox_bytes notes_bytes : List ℕ) where
   failed-known : (times : ℕ) (text : List ℕ) → IsUnwritten outbox_drain start → outbox_drain.contents end.outbox ≡ Some outbox_bytes → FailedIn outbox_drain start end.outbox times text → FailedIn memory_drain no_bytes (memory_of outbox_drain outbox_bytes end.outbox) times text
   failed-known times text unwritten end_is (in_text part flushes) = in_text (rw (unwritten.contents, end_is) at part) (rw unwritten.flushes at flushes)
-  failed-known times text unwritten end_is (at_flush whole flushes) = at_flush (appends-known _ _ [] outbox_bytes _ unwritten.contents end_is whole) (rw unwritten.flushes at flushes)
+  failed-known times text unwritten end_is (at_flush whole flushes unsure) = absurd (unsure unwritten.surely)
 
   pub in-memory : source.remaining input ≡ Some bytes → source.remaining now ≡ Some unread → source.failures input ≡ 0 → source.failures now ≡ 0
       → IsUnwritten outbox_drain start → outbox_drain.contents end.outbox ≡ Some outbox_bytes → IsUnwritten notes_drain notes → notes_drain.contents later ≡ Some notes_bytes
@@ -58,6 +59,7 @@ module _ {R W N : Type 0} (source : Source R) (outbox_drain : Drain W) (notes_dr
       flushes = λ whole. rw unwritten.flushes at (batch.outbox.flushes whole);
       passed_on = batch.outbox.passed_on;
       lost = λ part. failed-known _ _ unwritten end_is (batch.outbox.lost part);
+      short = λ part surely. rw (unwritten.contents, end_is) at (batch.outbox.short part unwritten.surely);
       steady = λ never. absurd never;
     };
     logs = batch.logs;

@@ -21,7 +21,7 @@ memory_source =
     }
 
 -- bytes in memory that are written, how many of the calls that wrote them failed, how often they
--- were flushed, and whether bytes were taken since the last flush that went well
+-- were flushed, and whether bytes were taken since the last flush; no flush fails
 pub record Memory : Type 0 where
   pub bytes : List ℕ
   pub failures : ℕ
@@ -36,6 +36,7 @@ memory_drain = record {
   flushes = λ memory. memory.flushes;
   unflushed = λ memory. memory.unflushed;
   steady = λ memory. ⊥;
+  flushes_surely = λ memory. Unit {0};
 }
 
 abbrev pub no_bytes : Memory

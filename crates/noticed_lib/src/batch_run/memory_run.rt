@@ -5,7 +5,8 @@ use crate::batch_run::batch_end::BatchEnd;
 use crate::batch_run::memory_source::MemorySource;
 use crate::batch_run::whole_run::batch;
 use dsn_book::Limits;
-use dsn_outcome::{Letters, Plain};
+use dsn_device::MemoryDrain;
+use dsn_outcome::Letters;
 use dsn_report::Site;
 use std::alloc::Global;
 
@@ -32,8 +33,8 @@ pub fn batch_bytes(alloc: Global, limits: &Limits, site: Site, input: &[u8]) -> 
     ensures { IsMemoryRun limits.now site input.now result }
 {
     let mut source = MemorySource { rest: input };
-    let mut notes = Plain::new(Vec::new(alloc));
-    let outbox = Plain::new(Vec::new(alloc));
+    let mut notes = MemoryDrain::new(Vec::new(alloc));
+    let outbox = MemoryDrain::new(Vec::new(alloc));
     let end = batch(alloc, limits, site, &mut source, outbox, &mut notes);
     let BatchEnd {
         outbox,
@@ -43,8 +44,8 @@ pub fn batch_bytes(alloc: Global, limits: &Limits, site: Site, input: &[u8]) -> 
         status,
     } = end;
     MemoryRun {
-        outbox: outbox.into_inner(),
-        notes: notes.into_inner(),
+        outbox: outbox.into_bytes(),
+        notes: notes.into_bytes(),
         whole,
         fault,
         unsent,

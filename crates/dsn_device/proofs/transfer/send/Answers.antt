@@ -14,5 +14,6 @@ loop-unsent-preserved g c =
       unread = Keeps-trans _ _ _ c.loop-unsent.invariant.unread took.unread;
       no_flush = took.no_flush ∙ c.loop-unsent.invariant.no_flush;
       count = grind (arith, nat_tests, took.count);
+      surely = λ h. took.surely (c.loop-unsent.invariant.surely h);
       steady = λ h. (took.steady (c.loop-unsent.invariant.steady h)).0;
     }

@@ -1,6 +1,6 @@
 use Rattle.std.proofs.Common.{◌∙◌, ap, subst}
 use Rattle.dsn_outcome.specs.declared.cell.Cell.{out-Cell}
-use Rattle.dsn_outcome.proofs.CellLemmas.{All-first, All-next, letter_in-relinked}
+use Rattle.dsn_outcome.proofs.CellLemmas.{All-first, All-next, letter_in-relinked, unlinked}
 use Rattle.dsn_outcome.specs.Letter.{IsLetter}
 use Rattle.dsn_outcome.proofs.cells.Cells.pop_front.Goals as goal
 
@@ -10,6 +10,8 @@ invariant_of-self-2 c =
     (c.take-2.ensures.value ∙ ap (λ cell. (out-Cell cell).next) c.deref_mut.ensures.value) c.self.invariant
 
 pub invariant_of-result : goal.invariant_of-result
-invariant_of-result c =
-    subst IsLetter (letter_in-relinked c.deref_mut.result.now c.in_ok-cell.cell.value c.take-2.new.self c.deref_mut.ensures.value)
-    (All-first _ c.in_ok-cell.cell c.in_ok-cell.ensures.value c.self.invariant)
+invariant_of-result c = (
+  subst IsLetter (letter_in-relinked c.deref_mut.result.now c.in_ok-cell.cell.value c.take-2.new.self c.deref_mut.ensures.value)
+      (All-first _ c.in_ok-cell.cell c.in_ok-cell.ensures.value c.self.invariant),
+  unlinked c.deref_mut.result.now c.take-2.new.self c.take-2.ensures.after,
+)

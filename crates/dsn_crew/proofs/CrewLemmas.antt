@@ -45,7 +45,7 @@ use Rattle.dsn_crew.specs.declared.desk.desk_fault.DeskFault.{DeskFault}
 use Rattle.dsn_crew.specs.declared.gathered.Gathered.{Gathered}
 use Rattle.dsn_crew.specs.declared.gathered.Gathered.TheVariants as gathered
 use Rattle.dsn_crew.specs.declared.agents.port.Port.{Ghosts as Port}
-use Rattle.dsn_crew.specs.declared.agents.port_end.PortEnd.{PortEnd}
+use Rattle.dsn_crew.specs.agents.PortEnd.{PortEnd}
 use Rattle.dsn_crew.specs.declared.start_serving.Serves.{Serves}
 use Rattle.dsn_crew.proofs.agents.ServeLemmas.{numbered-length}
 use Rattle.dsn_crew.proofs.StartServingLemmas.{are-served, starts-length}
@@ -208,8 +208,8 @@ pub no_count : {W : Type 0} (collected : Collected) (all : Gathered) (posted : P
 no_count collected all posted (Ok account) ends_so = tt
 no_count (Whole new) (gathered.All lines crew) posted (Err fault) faulted = λ same. missing≢count false (sym (ap (λ it. it.cause) faulted.1) ∙ same)
 no_count (Whole new) gathered.Missing posted (Err fault) faulted = λ same. missing≢count posted.all (sym (ap (λ it. it.cause) faulted) ∙ same)
-no_count (Whole new) gathered.Lost posted (Err fault) faulted = λ same. missing≢count false (sym (ap (λ it. it.cause) faulted) ∙ same)
-no_count (Failed held new) all posted (Err fault) faulted = λ same. missing≢count false (sym (ap (λ it. it.cause) faulted) ∙ same)
+no_count (Whole new) (gathered.Lost unheard) posted (Err fault) faulted = λ same. missing≢count false (sym (ap (λ it. it.cause) faulted) ∙ same)
+no_count (Failed stop held new) all posted (Err fault) faulted = λ same. missing≢count false (sym (ap (λ it. it.cause) faulted) ∙ same)
 
 -- ---- the whole
 
@@ -238,7 +238,7 @@ module _ {P S W : Type 0} (port : Port P S) (drain : Drain W) (host : List ℕ) 
     module _ (missed : ℕ) (begun : Desk) (begun_is : begun ≡ missing_more desk missed) (sink after : LetterSink) (fresh : sink.letters ≡ []) where
       pub collected_lane : (collected : Collected) → HasCollected begun sink after collected → after.lane ≡ sink.lane
       collected_lane (Whole new) has = (run_letters begun new sink after (Ok tt) has.0 (ap (λ (d : Desk). d.requests.taken) begun_is ∙ opened.taken) fresh).1
-      collected_lane (Failed held new) has = (run_letters begun new.value sink after (Err has.0) has.1 (ap (λ (d : Desk). d.requests.taken) begun_is ∙ opened.taken) fresh).1
+      collected_lane (Failed stop held new) has = (run_letters begun new.value sink after (Err has.0) has.1 (ap (λ (d : Desk). d.requests.taken) begun_is ∙ opened.taken) fresh).1
 
       pub may_close : (collected : Collected) (all : Gathered) → HasCollected begun sink after collected → IsGathered ends all → MayClose collected all
       may_close (Whole new) (gathered.All lines crew) has is = (
@@ -247,8 +247,8 @@ module _ {P S W : Type 0} (port : Port P S) (drain : Drain W) (host : List ℕ) 
         has.1,
       )
       may_close (Whole new) gathered.Missing has is = tt
-      may_close (Whole new) gathered.Lost has is = tt
-      may_close (Failed held new) all has is = tt
+      may_close (Whole new) (gathered.Lost unheard) has is = tt
+      may_close (Failed stop held new) all has is = has.4
 
       module _ (posted : Posted W) (post : IsPosted drain host start 16 after.letters posted) where
         module _ (new : Desk) {result : Result (Unit {0}) DeskFault} (run : IsRun TakesLetter begun new sink after result) where
@@ -282,8 +282,8 @@ module _ {P S W : Type 0} (port : Port P S) (drain : Drain W) (host : List ℕ) 
             subst (IsAccount port drain host limits ports start) (sym closed.account_is)
             (account_at new lines.items crew.items has.0 has.2 is closed.all closed.heard (subst (λ (it : Account W). Represents it.book (history new)) closed.account_is closed.stands))
         account_is (Whole new) gathered.Missing (Ok account) has is closed = absurd closed
-        account_is (Whole new) gathered.Lost (Ok account) has is closed = absurd closed
-        account_is (Failed held new) all (Ok account) has is closed = absurd closed
+        account_is (Whole new) (gathered.Lost unheard) (Ok account) has is closed = absurd closed
+        account_is (Failed stop held new) all (Ok account) has is closed = absurd closed
 
         module _ (new : Desk) (fault : CrewFault W) (run : IsRun TakesLetter begun new sink after (Ok tt)) (kept : IsDesk new) where
           sealed_are : sealed_letters (history new) ≡ after.letters
@@ -299,7 +299,7 @@ module _ {P S W : Type 0} (port : Port P S) (drain : Drain W) (host : List ℕ) 
         fault_is collected all (Ok account) has ends_so = tt
         fault_is (Whole new) (gathered.All lines crew) (Err fault) has faulted = lost_at new fault has.0 has.2 faulted.1
         fault_is (Whole new) gathered.Missing (Err fault) has faulted = missing_at new fault has.0 has.2 faulted
-        fault_is (Whole new) gathered.Lost (Err fault) has faulted = lost_at new fault has.0 has.2 faulted
-        fault_is (Failed held new) all (Err fault) has faulted =
+        fault_is (Whole new) (gathered.Lost unheard) (Err fault) has faulted = lost_at new fault has.0 has.2 faulted
+        fault_is (Failed stop held new) all (Err fault) has faulted =
             failed_fault drain host limits start after.letters posted post new.value (limits_are new.value has.1) has.3 (length ports) (lines_length new.value has.1) fault held faulted
             (letters_are new.value has.1 ∙ ap (λ (ls : List Letter). after.letters ++ ls) (sym has.2))

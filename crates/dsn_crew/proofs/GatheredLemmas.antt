@@ -8,7 +8,7 @@ use Rattle.std.proofs.lemmas.List.{append-nil, nil_from_length}
 use Rattle.dsn_crew.specs.agents.Agent.{Ends}
 use Rattle.dsn_crew.specs.Gathered.{AreEnded}
 use Rattle.dsn_crew.specs.declared.agents.agent_line.AgentLine.{AgentLine}
-use Rattle.dsn_crew.specs.declared.agents.port_end.PortEnd.{PortEnd}
+use Rattle.dsn_crew.specs.agents.PortEnd.{PortEnd}
 
 -- with these lines and agents, any that end what is left end all
 abbrev pub EndedSoFar : List (Option PortEnd) → List (Option PortEnd) → List AgentLine → List Ends → Type 0

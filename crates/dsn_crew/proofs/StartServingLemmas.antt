@@ -8,7 +8,7 @@ use Rattle.dsn_crew.specs.agents.Agent.{Agent}
 use Rattle.dsn_crew.specs.agents.Port.{IsPortServed}
 use Rattle.dsn_crew.specs.StartServing.{AreServed, AreStarted, IsStarted, IsJoined}
 use Rattle.dsn_crew.specs.declared.agents.port.Port.{Ghosts as Port}
-use Rattle.dsn_crew.specs.declared.agents.port_end.PortEnd.{PortEnd}
+use Rattle.dsn_crew.specs.agents.PortEnd.{PortEnd}
 use Rattle.dsn_crew.specs.declared.start_serving.Serves.{Serves}
 
 -- ---- results that are made one after another

@@ -2,15 +2,15 @@
 use Rattle.std.specs.Prelude.{◌≡◌, true, Ok, Err}
 use Rattle.dsn_book.specs.Step.{letters_in}
 use Rattle.dsn_post.specs.LetterSink.{LetterSink, TakesLetter}
-use Rattle.dsn_crew.specs.desk.Desk.{Desk, IsDesk, IsRun, all_gone, letter_kept}
+use Rattle.dsn_crew.specs.desk.Desk.{Desk, IsDesk, IsRun, IsStopped, all_gone, letter_kept}
 use Rattle.dsn_crew.specs.declared.collected.Collected.{Collected}
 use Rattle.dsn_crew.specs.declared.collected.Collected.TheVariants.{Whole, Failed}
 use Rattle.dsn_crew.specs.declared.desk.desk_fault.DeskFault.{DeskFault}
 
--- the collector ran to its end, or failed with the letter that it held
+-- the collector ran to its end, or failed, for this reason, with the letter that it held
 abbrev pub HasCollected : Desk → LetterSink → LetterSink → Collected → Type 0
 HasCollected old sink after (Whole new) =
     IsRun TakesLetter old new sink after (Ok tt) × (all_gone new ≡ true) × IsDesk new
-HasCollected old sink after (Failed letter new) =
+HasCollected old sink after (Failed stop letter new) =
     (fault : DeskFault) × IsRun TakesLetter old new.value sink after (Err fault)
-    × (letters_in letter ≡ letter_kept (Err fault)) × IsDesk new.value
+    × (letters_in letter ≡ letter_kept (Err fault)) × IsDesk new.value × IsStopped new.value.requests.taken stop

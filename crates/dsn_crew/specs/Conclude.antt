@@ -9,7 +9,7 @@ use Rattle.dsn_post.specs.declared.posted.Posted.{Posted}
 use Rattle.dsn_crew.specs.agents.Agent.{Ends, IsFinished}
 use Rattle.dsn_crew.specs.desk.Close.{AreCrew, AreOf, IsHeard}
 use Rattle.dsn_crew.specs.Crew.{Account, CrewFault}
-use Rattle.dsn_crew.specs.desk.Desk.{Desk, all_gone, history}
+use Rattle.dsn_crew.specs.desk.Desk.{Desk, IsStopped, all_gone, history}
 use Rattle.dsn_crew.specs.declared.agents.agent_line.AgentLine.{AgentLine}
 use Rattle.dsn_crew.specs.declared.collected.Collected.{Collected}
 use Rattle.dsn_crew.specs.declared.collected.Collected.TheVariants.{Whole, Failed}
@@ -18,12 +18,13 @@ use Rattle.dsn_crew.specs.declared.crew_cause.CrewCause.TheVariants as causes
 use Rattle.dsn_crew.specs.declared.gathered.Gathered.{Gathered}
 use Rattle.dsn_crew.specs.declared.gathered.Gathered.TheVariants.{All, Missing, Lost}
 
--- where all went well, the agents are those of the collector, and all of them are gone
+-- where all went well, the agents are those of the collector, and all of them are gone; a collector
+-- that has failed did so for this reason
 abbrev pub MayClose : Collected → Gathered → Type 0
 MayClose (Whole desk) (All lines agents) = AreCrew agents.items desk × (all_gone desk ≡ true)
 MayClose (Whole desk) Missing = Unit {0}
-MayClose (Whole desk) Lost = Unit {0}
-MayClose (Failed held desk) gathered = Unit {0}
+MayClose (Whole desk) (Lost unheard) = Unit {0}
+MayClose (Failed stop held desk) gathered = IsStopped desk.value.requests.taken stop
 
 -- what a closed crew comes to, with its outbox
 abbrev pub account_of : {W : Type 0} → List AgentLine → List Ends → Desk → Posted W → Account W
@@ -74,8 +75,9 @@ Concludes (Whole desk) (All lines agents) posted (Err fault) =
 Concludes (Whole desk) Missing posted (Ok account) = ⊥
 Concludes (Whole desk) Missing posted (Err fault) =
     fault ≡ fault_of (missing_cause posted.all) [] desk posted
-Concludes (Whole desk) Lost posted (Ok account) = ⊥
-Concludes (Whole desk) Lost posted (Err fault) = fault ≡ fault_of causes.Lost [] desk posted
-Concludes (Failed held desk) gathered posted (Ok account) = ⊥
-Concludes (Failed held desk) gathered posted (Err fault) =
+Concludes (Whole desk) (Lost unheard) posted (Ok account) = ⊥
+Concludes (Whole desk) (Lost unheard) posted (Err fault) =
+    fault ≡ fault_of causes.Lost [] desk posted
+Concludes (Failed stop held desk) gathered posted (Ok account) = ⊥
+Concludes (Failed stop held desk) gathered posted (Err fault) =
     fault ≡ fault_of causes.Lost (letters_in held) desk.value posted

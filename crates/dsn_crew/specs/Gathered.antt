@@ -5,7 +5,7 @@ use Rattle.dsn_crew.specs.agents.Agent.{Ends}
 use Rattle.dsn_crew.specs.declared.agents.agent_line.AgentLine.{AgentLine}
 use Rattle.dsn_crew.specs.declared.gathered.Gathered.{Gathered}
 use Rattle.dsn_crew.specs.declared.gathered.Gathered.TheVariants.{All, Missing, Lost}
-use Rattle.dsn_crew.specs.declared.agents.port_end.PortEnd.{PortEnd}
+use Rattle.dsn_crew.specs.agents.PortEnd.{PortEnd}
 
 -- each agent said goodbye, with the line and the ends in its place
 abbrev pub AreEnded : List (Option PortEnd) → List AgentLine → List Ends → Type 0
@@ -24,4 +24,4 @@ has_port_lost (Some end) = is_none end.finished
 abbrev pub IsGathered : List (Option PortEnd) → Gathered → Type 0
 IsGathered ends (All lines agents) = AreEnded ends lines.items agents.items
 IsGathered ends Missing = (list_any is_none ends ≡ true) × (list_any has_port_lost ends ≡ false)
-IsGathered ends Lost = list_any has_port_lost ends ≡ true
+IsGathered ends (Lost unheard) = list_any has_port_lost ends ≡ true

@@ -1,3 +1,4 @@
+pub mod Breach
 pub mod Collected
 pub mod Conclude
 pub mod Crew

@@ -1,4 +1,5 @@
 pub mod Agent
 pub mod Place
 pub mod Port
+pub mod PortEnd
 pub mod Serve

@@ -27,3 +27,4 @@ pub use port_end::PortEnd;
 pub use serve_fault::ServeFault;
 pub use served::Served;
 pub use serving::serve_port;
+pub(crate) use unheard::Unheard;

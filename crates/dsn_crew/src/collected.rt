@@ -1,7 +1,7 @@
 //! How the collector's part of a run ended.
 ghost use Rattle.dsn_crew.specs.Collected.{HasCollected};
 
-use crate::desk::Desk;
+use crate::desk::{Desk, Stop};
 use dsn_outcome::Letter;
 use dsn_post::LetterSink;
 use std::snapshot::Snapshot;
@@ -12,9 +12,9 @@ use std::sync::Wait;
 pub(crate) enum Collected {
     /// All agents are gone.
     Whole(Desk),
-    /// The collector has failed, and its ends are given up, so that no agent waits for them: the
-    /// letter that it still held, and the collector as it was, for contracts.
-    Failed(Option<Letter>, Snapshot<Desk>),
+    /// The collector has failed, and its ends are given up, so that no agent waits for them: why it
+    /// has, the letter that it still held, and the collector as it was, for contracts.
+    Failed(Stop, Option<Letter>, Snapshot<Desk>),
 }
 
 impl Collected {
@@ -25,7 +25,11 @@ impl Collected {
         let mut desk = desk;
         match desk.run(rt, sink) {
             Ok(()) => Collected::Whole(desk),
-            Err(fault) => Collected::Failed(fault.into_letter(), Snapshot::of(&desk)),
+            Err(fault) => Collected::Failed(
+                desk.stopped(),
+                fault.into_letter(),
+                Snapshot::of(&desk),
+            ),
         }
     }
 }

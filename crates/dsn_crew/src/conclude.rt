@@ -1,10 +1,10 @@
 //! The end of a run: an account of it, or its fault.
-ghost use Rattle.std.specs.Prelude.{◌≡◌, true};
+ghost use Rattle.std.specs.Prelude.{◌≡◌, ◌↔◌, true, None};
 ghost use Rattle.dsn_crew.specs.Conclude.{Concludes, MayClose};
 
 use crate::account::Account;
+use crate::breach::{Breach, Loss};
 use crate::collected::Collected;
-use crate::crew_cause::CrewCause;
 use crate::crew_fault::CrewFault;
 use crate::desk::close_crew;
 use crate::gathered::Gathered;
@@ -20,6 +20,7 @@ pub(crate) fn conclude<W>(
     posted: Posted<W>,
 ) -> Result<Account<W>, CrewFault<W>>
     requires close { MayClose collected gathered }
+    requires told { (posted.all ≡ true) ↔ (posted.lost ≡ None) }
     ensures { Concludes collected gathered posted result }
 {
     let Posted {
@@ -27,22 +28,26 @@ pub(crate) fn conclude<W>(
         whole,
         unsent,
         posted,
-        all,
-        ..
+        lost,
+        all: _,
     } = posted;
     let desk = match collected {
         Collected::Whole(desk) => desk,
-        Collected::Failed(held, desk) => {
-            return Err(CrewFault::broken_off(CrewCause::Lost, outbox, unsent, held, desk));
+        Collected::Failed(stop, held, desk) => {
+            let breach = Breach::Lost(Loss::Collector(stop));
+            return Err(CrewFault::broken_off(breach, outbox, unsent, held, desk));
         }
     };
-    let cause = match gathered {
-        Gathered::All(lines, agents) if all => {
-            let shut = close_crew(rt, agents, desk);
-            return Ok(Account::new(shut, lines, outbox, whole, unsent, posted));
-        }
-        Gathered::Missing if all => CrewCause::Refused,
-        _ => CrewCause::Lost,
+    let breach = match lost {
+        Some(gone) => Breach::Lost(Loss::Poster(gone)),
+        None => match gathered {
+            Gathered::All(lines, agents) => {
+                let shut = close_crew(rt, agents, desk);
+                return Ok(Account::new(shut, lines, outbox, whole, unsent, posted));
+            }
+            Gathered::Missing => Breach::Refused,
+            Gathered::Lost(unheard) => Breach::Lost(Loss::Agent(unheard)),
+        },
     };
-    Err(CrewFault::broken_off(cause, outbox, unsent, None, Snapshot::of(&desk)))
+    Err(CrewFault::broken_off(breach, outbox, unsent, None, Snapshot::of(&desk)))
 }

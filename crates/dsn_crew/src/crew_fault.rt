@@ -1,16 +1,18 @@
 //! What is left of a crew whose run ended with a fault.
 ghost use Rattle.std.specs.Prelude.{◌≡◌, [], ◌∷◌, ◌++◌};
 ghost use Rattle.dsn_book.specs.Step.{letters_in};
+ghost use Rattle.dsn_crew.specs.Breach.{cause_of, IsShown};
 ghost use Rattle.dsn_crew.specs.Crew.{crew_cause_code};
 
+use crate::breach::Breach;
 use crate::crew_cause::CrewCause;
 use crate::desk::Desk;
 use dsn_outcome::{Letter, Letters};
 use std::marker::Model;
 use std::snapshot::Snapshot;
 
-/// A crew's run that ended with a fault. Contracts see, beside its fields, the requests that the
-/// collector took; that takes no bytes.
+/// A crew's run that ended with a fault. It says that a lane was lost only with what shows it.
+/// Contracts see, beside its fields, the requests that the collector took; that takes no bytes.
 #[derive(Drop)]
 pub struct CrewFault<W> {
     /// Why.
@@ -21,9 +23,13 @@ pub struct CrewFault<W> {
     /// that the collector still held.
     pub unsent: Letters,
     desk: Option<Snapshot<Desk>>,
+    /// Why, with what shows that a lane was lost where it was.
+    breach: Breach,
 }
 
 impl<W> Model for CrewFault<W> {
+    ghost use Rattle.std.specs.Prelude.{◌≡◌};
+    ghost use Rattle.dsn_crew.specs.Breach.{cause_of, IsShown};
     ghost use Rattle.dsn_crew.specs.Crew.{CrewFault};
     ghost use Rattle.dsn_crew.specs.TakenBy.{taken_by};
 
@@ -35,6 +41,8 @@ impl<W> Model for CrewFault<W> {
       unsent = f.unsent;
       taken = taken_by f.desk;
     } };
+
+    ghost invariant = { λ f. (f.cause ≡ cause_of f.breach) × IsShown (taken_by f.desk) f.breach };
 }
 
 impl<W> CrewFault<W> {
@@ -46,28 +54,36 @@ impl<W> CrewFault<W> {
     }
 
     /// The fault of a run that never began.
-    pub(crate) fn unbegun(cause: CrewCause, outbox: W) -> CrewFault<W>
-        ensures { result ≡ record { cause = cause; outbox = outbox; unsent = []; taken = [] } }
+    pub(crate) fn unbegun(breach: Breach, outbox: W) -> CrewFault<W>
+        requires shown { IsShown [] breach }
+        ensures { result ≡ record {
+          cause = cause_of breach;
+          outbox = outbox;
+          unsent = [];
+          taken = [];
+        } }
     {
         CrewFault {
-            cause,
+            cause: breach.cause(),
             outbox,
             unsent: Letters::new(),
             desk: None,
+            breach,
         }
     }
 
     /// The fault of a run that was broken off, with the collector as it was then, and with the
     /// letter that the collector still held.
     pub(crate) fn broken_off(
-        cause: CrewCause,
+        breach: Breach,
         outbox: W,
         unsent: Letters,
         held: Option<Letter>,
         desk: Snapshot<Desk>,
     ) -> CrewFault<W>
+        requires shown { IsShown desk.value.requests.taken breach }
         ensures { result ≡ record {
-          cause = cause;
+          cause = cause_of breach;
           outbox = outbox;
           unsent = unsent ++ letters_in held;
           taken = desk.value.requests.taken;
@@ -78,10 +94,11 @@ impl<W> CrewFault<W> {
             unsent.push(letter);
         }
         CrewFault {
-            cause,
+            cause: breach.cause(),
             outbox,
             unsent,
             desk: Some(desk),
+            breach,
         }
     }
 }

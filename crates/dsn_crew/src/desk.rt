@@ -16,3 +16,4 @@ pub use crew_shut::CrewShut;
 pub use desk::Desk;
 pub use desk_fault::DeskFault;
 pub use open::open_crew;
+pub(crate) use stop::Stop;

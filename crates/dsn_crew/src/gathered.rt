@@ -2,7 +2,7 @@
 ghost use Rattle.std.specs.Prelude.{◌≡◌, ◌≤◌, [], length, vec_capacity};
 ghost use Rattle.dsn_crew.specs.Gathered.{IsGathered};
 
-use crate::agents::{AgentLine, Finished, PortEnd};
+use crate::agents::{AgentLine, Finished, PortEnd, Unheard};
 
 /// What came of the agents' threads, taken together.
 #[derive(Drop)]
@@ -11,8 +11,8 @@ pub(crate) enum Gathered {
     All(Vec<AgentLine>, Vec<Finished>),
     /// Threads could not be made; all other agents said goodbye.
     Missing,
-    /// An agent lost a lane.
-    Lost,
+    /// An agent lost a lane, so that its goodbye was not heard.
+    Lost(Unheard),
 }
 
 impl Gathered {
@@ -30,21 +30,22 @@ impl Gathered {
         let mut lines = lines;
         let mut agents = finished;
         let mut missing = false;
-        let mut lost = false;
+        let mut lost = None;
         for end in ends {
             match end {
                 None => missing = true,
-                Some(PortEnd { line, finished }) => {
+                Some(end) => {
+                    let (line, finished) = end.into_parts();
                     lines.push_reserved(line);
                     match finished {
-                        None => lost = true,
-                        Some(agent) => agents.push_reserved(agent),
+                        Err(unheard) => lost = Some(unheard),
+                        Ok(agent) => agents.push_reserved(agent),
                     }
                 }
             }
         }
-        if lost {
-            Gathered::Lost
+        if let Some(unheard) = lost {
+            Gathered::Lost(unheard)
         } else if missing {
             Gathered::Missing
         } else {

@@ -4,6 +4,7 @@
 
 mod account;
 mod agents;
+mod breach;
 mod collected;
 mod conclude;
 mod crew_cause;

@@ -4,6 +4,7 @@ ghost use Rattle.dsn_crew.specs.Crew.{IsAccount, IsCrewFault, most_ports};
 
 use crate::account::Account;
 use crate::agents::{Gate, Port};
+use crate::breach::Breach;
 use crate::collected::Collected;
 use crate::conclude::conclude;
 use crate::crew_cause::CrewCause;
@@ -61,7 +62,7 @@ pub fn run_crew<
 {
     let agents = ports.len();
     if agents == 0 || agents > MOST_PORTS {
-        return Err(CrewFault::unbegun(CrewCause::PortCount, outbox));
+        return Err(CrewFault::unbegun(Breach::PortCount, outbox));
     }
     thread::scope(
         thread::scope_env(),
@@ -99,7 +100,7 @@ fn run_in<
     ensures counted { IfErr result (λ fault. fault.cause ≢ CrewCause.PortCount) }
 {
     let Ok(room) = Room::take(rt, alloc, limits, ports.len() as u32) else {
-        return Err(CrewFault::unbegun(CrewCause::Refused, outbox));
+        return Err(CrewFault::unbegun(Breach::Refused, outbox));
     };
     let Room {
         agents,
@@ -110,7 +111,7 @@ fn run_in<
     } = room;
     let (mut sink, poster) = match start_posting(scope, rt, site, outbox, sink, source) {
         Ok(started) => started,
-        Err(outbox) => return Err(CrewFault::unbegun(CrewCause::Refused, outbox)),
+        Err(outbox) => return Err(CrewFault::unbegun(Breach::Refused, outbox)),
     };
     let Slots {
         handles,

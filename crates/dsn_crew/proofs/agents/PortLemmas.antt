@@ -12,10 +12,10 @@ use Rattle.dsn_device.specs.Failures.{counted, most_failures}
 use Rattle.dsn_device.specs.declared.drain.Drain.{Ghosts as Drain}
 use Rattle.dsn_device.specs.declared.source.Source.{Ghosts as Source}
 use Rattle.dsn_frame.specs.declared.frame_fault.FrameFault.TheVariants as frames
-use Rattle.dsn_crew.specs.agents.Agent.{Agent, Ends, IsGoodbye}
+use Rattle.dsn_crew.specs.agents.Agent.{Agent, Ends, IsLeave}
 use Rattle.dsn_crew.specs.agents.Port.{Conn, Given, connection, done, failed, Gives, GivesFirst, HasServed, HasServedOnly, IsLastGiven, IsPortServed, AreOverConns, AreOverPort, AreSessions, IsOver, IsSessionAt, Session, all_given, answers_of, bodies_of, faults_of}
 use Rattle.dsn_crew.specs.agents.Serve.{HasAsked, IsServed, is_lost, is_stream_failed, served_end}
-use Rattle.dsn_crew.specs.declared.agents.ask_fault.AskFault.{AskFault}
+use Rattle.dsn_crew.specs.declared.agents.unheard.Unheard.{Unheard}
 use Rattle.dsn_crew.specs.declared.agents.agent_line.AgentLine.{AgentLine}
 use Rattle.dsn_crew.specs.declared.agents.next.Next.TheVariants as next
 use Rattle.dsn_crew.specs.declared.agents.port.Port.{Ghosts as Port}
@@ -406,13 +406,13 @@ module _ {P T S : Type 0} (source : Source S) (drain : Drain S) (port : Port P T
   }
 
 -- the agent says goodbye, or a lane is lost
-pub service-ends : (conns : Option (List Conn)) (may_give : List Given → Type 0) (agent last : Agent) (line : AgentLine) → HasServed conns may_give agent last line → (result : Result Ends AskFault) → IsGoodbye last result
+pub service-ends : (conns : Option (List Conn)) (may_give : List Given → Type 0) (agent last : Agent) (line : AgentLine) → HasServed conns may_give agent last line → (result : Result Ends Unheard) → IsLeave last result
     → IsPortServed conns may_give agent (record { line = line; finished = result_ok result })
 service-ends conns may_give agent last line served (Ok finished) bye = record {
   last = last;
   served = served;
   goodbye = ((or_parts agent.lost served.lost (sym (ap (λ (a : Agent). a.lost) served.asked.agent_is) ∙ bye.0)).1, bye.1);
 }
-service-ends conns may_give agent last line served (Err fault) bye = record { last = last; served = served; goodbye = tt }
+service-ends conns may_give agent last line served (Err unheard) bye = record { last = last; served = served; goodbye = tt }
 
 -- ---- what follows for an agent that was heard

@@ -14,7 +14,7 @@ use Rattle.dsn_crew.specs.agents.Serve.{HasAsked}
 use Rattle.dsn_crew.specs.declared.agents.agent_line.AgentLine.{AgentLine}
 use Rattle.dsn_crew.specs.declared.agents.next.Next.{Next}
 use Rattle.dsn_crew.specs.declared.agents.next.Next.TheVariants as next
-use Rattle.dsn_crew.specs.declared.agents.port_end.PortEnd.{PortEnd}
+use Rattle.dsn_crew.specs.agents.PortEnd.{PortEnd}
 
 -- how many connections an agent serves at most
 abbrev pub most_connections : ℕ

@@ -1,12 +1,75 @@
 //! What an agent's thread gives back.
+ghost use Rattle.std.specs.Prelude.{◌≡◌, None, Some};
+
 use crate::agents::agent_line::AgentLine;
 use crate::agents::finished::Finished;
+use crate::agents::unheard::Unheard;
+use std::marker::Model;
 
-/// What came of an agent that served its port.
+/// What came of an agent that served its port. One whose goodbye was not heard keeps why.
 #[derive(Drop)]
 pub struct PortEnd {
     /// What the agent did, up to its goodbye.
     pub line: AgentLine,
     /// The agent, once it said goodbye and was heard; none where a lane was lost.
     pub finished: Option<Finished>,
+    /// Why its goodbye was not heard.
+    unheard: Option<Unheard>,
+}
+
+impl Model for PortEnd {
+    ghost use Rattle.std.specs.Prelude.{◌≡◌, is_none, is_some};
+    ghost use Rattle.dsn_crew.specs.agents.PortEnd.{PortEnd};
+
+    ghost Value = { PortEnd };
+
+    ghost view = { λ e. record { line = e.line; finished = e.finished } };
+
+    ghost invariant = { λ e. is_some e.unheard ≡ is_none e.finished };
+}
+
+impl PortEnd {
+    ghost use Rattle.std.specs.Result.{result_ok};
+
+    /// The end of an agent whose goodbye was heard.
+    pub(crate) fn heard(line: AgentLine, finished: Finished) -> PortEnd
+        ensures { result ≡ record { line = line; finished = Some finished } }
+    {
+        PortEnd {
+            line,
+            finished: Some(finished),
+            unheard: None,
+        }
+    }
+
+    /// The end of an agent whose goodbye was not heard.
+    pub(crate) fn unheard(line: AgentLine, unheard: Unheard) -> PortEnd
+        ensures { result ≡ record { line = line; finished = None } }
+    {
+        PortEnd {
+            line,
+            finished: None,
+            unheard: Some(unheard),
+        }
+    }
+
+    /// What the agent did, and the agent, or why it was not heard.
+    pub(crate) fn into_parts(self) -> (AgentLine, Result<Finished, Unheard>)
+        ensures line { result.0 ≡ self.line }
+        ensures finished { result_ok result.1 ≡ self.finished }
+    {
+        let PortEnd {
+            line,
+            finished,
+            unheard,
+        } = self;
+        let heard = match finished {
+            Some(finished) => Ok(finished),
+            None => match unheard {
+                Some(unheard) => Err(unheard),
+                None => unreachable!(),
+            },
+        };
+        (line, heard)
+    }
 }

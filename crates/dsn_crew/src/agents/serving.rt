@@ -34,9 +34,9 @@ pub fn serve_port<P: Port + Drop, G: Gate>(
     let mut agent = agent;
     let mut port = port;
     let line = serve_connections(rt, alloc, &mut agent, &mut port, gate);
-    PortEnd {
-        line,
-        finished: agent.bye(rt).ok(),
+    match agent.leave(rt) {
+        Ok(finished) => PortEnd::heard(line, finished),
+        Err(unheard) => PortEnd::unheard(line, unheard),
     }
 }
 

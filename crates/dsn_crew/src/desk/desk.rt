@@ -6,7 +6,7 @@ ghost use Rattle.dsn_lane.specs.Ends.{End};
 ghost use Rattle.dsn_lane.specs.Lane.{most_agents, most_sent};
 ghost use Rattle.dsn_outcome.specs.declared.answer.Answer.{Answer};
 ghost use Rattle.dsn_crew.specs.desk.Open.{AreLines};
-ghost use Rattle.dsn_crew.specs.desk.Desk.{AreTold, HasRoom, IsDesk, IsRun, IsRequestTaken, all_gone, desk_of, goodbyes, missing, most_taken, places_of, with_failed};
+ghost use Rattle.dsn_crew.specs.desk.Desk.{AreTold, HasRoom, IsDesk, IsRun, IsRequestTaken, IsStopped, all_gone, desk_of, goodbyes, missing, most_taken, places_of, with_failed};
 
 use crate::desk::answer_lane::AnswerLane;
 use crate::desk::desk_fault::DeskFault;
@@ -84,6 +84,17 @@ impl Desk {
         ensures kept { IsDesk self.now }
     {
         self.stop.is_none() && self.gone as usize + self.missed as usize == self.lines.len()
+    }
+
+    /// Why it has failed. It asks that it has.
+    pub(crate) fn stopped(&self) -> Stop
+        requires { self.now.failed ≡ true }
+        ensures { IsStopped self.now.requests.taken result }
+    {
+        match self.stop {
+            Some(stop) => stop,
+            None => unreachable!(),
+        }
     }
 
     /// Counts so many agents more as gone: agents whose threads could not be started, so that they

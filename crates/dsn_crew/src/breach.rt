@@ -1,0 +1,43 @@
+//! Why a crew's run ended with a fault, with what shows it.
+ghost use Rattle.std.specs.Prelude.{◌≡◌};
+ghost use Rattle.dsn_crew.specs.Breach.{cause_of};
+
+use crate::agents::Unheard;
+use crate::crew_cause::CrewCause;
+use crate::desk::Stop;
+use dsn_lane::LaneGone;
+
+/// What shows that a lane of the crew was lost.
+#[derive(Clone, Copy)]
+pub(crate) enum Loss {
+    /// A lane told the poster that the collector is gone.
+    Poster(LaneGone),
+    /// An agent's goodbye was not heard.
+    Agent(Unheard),
+    /// The collector has failed.
+    Collector(Stop),
+}
+
+/// Why a crew's run ended with a fault, with what shows that a lane was lost where it was.
+#[derive(Clone, Copy)]
+pub(crate) enum Breach {
+    /// A lane was lost.
+    Lost(Loss),
+    /// Memory or a thread was refused.
+    Refused,
+    /// There are not 1 to 16 ports.
+    PortCount,
+}
+
+impl Breach {
+    /// The cause that is told of it.
+    pub(crate) fn cause(&self) -> CrewCause
+        ensures { result ≡ cause_of self.now }
+    {
+        match self {
+            Breach::Lost(_) => CrewCause::Lost,
+            Breach::Refused => CrewCause::Refused,
+            Breach::PortCount => CrewCause::PortCount,
+        }
+    }
+}

@@ -1,5 +1,6 @@
 -- Agent by agent, the close gives what each was answered; the close of the request lane gives what was taken of each.
 use Rattle.std.proofs.Common.{rules, ap, sym, subst, ◌∙◌, ◌≡◌, List, [], ◌∷◌, ◌++◌, length, length-append, map, All, arith}
+use Rattle.std.proofs.lemmas.List.{length-map}
 use Rattle.std.proofs.lemmas.List.Elements.{All-head, All-tail}
 use mathlib.Core.List.{IsPrefix}
 use Rattle.std.specs.Vec.Iter.{into_iter_items}
@@ -11,7 +12,7 @@ use Rattle.dsn_outcome.specs.Request.{Request}
 use Rattle.dsn_crew.specs.agents.Agent.{Ends}
 use Rattle.dsn_crew.specs.agents.Place.{Place, place_at, place_of}
 use Rattle.dsn_crew.specs.desk.Desk.{Desk, IsDesk, history}
-use Rattle.dsn_crew.proofs.desk.CloseLemmas.{IsAnswered, all_heard, as_many, closed_more, kept_all, kept_more, lines_answered, none_answered, paired}
+use Rattle.dsn_crew.proofs.desk.CloseLemmas.{IsAnswered, all_heard, all_of_crew, as_many, closed_more, kept_all, kept_more, lines_answered, none_answered, paired, room_of_one_lane}
 use Rattle.dsn_crew.proofs.desk.close.close_crew.Goals as goal
 
 pub loop-finished-init : goal.loop-finished-init
@@ -45,8 +46,24 @@ loop-finished-preserved g c =
       closed = closed_more _ _ _ _ c.in-Some.finished c.in-Some.ensures.steps.0 (record { finished = c.close_answers.ensures.finished; got = subst (IsPrefix c.in-Some.finished.answers.taken) answers c.close_answers.ensures.got }) c.loop-finished.invariant.closed;
     }
 
+pub close_lane-requires-clause-lane : goal.close_lane-requires-clause-lane
+close_lane-requires-clause-lane g c =
+    let same = subst (λ (desk : Desk). map place_of c.args.crew.items ≡ map (place_at desk.requests.lane) desk.answers) (sym c.desk.view_is) c.requires.crew in
+    room_of_one_lane _ _ _ _ same (kept_all _ _ _ (search rules) c.loop-finished.invariant.asked)
+
+pub close_lane-requires-clause-all : goal.close_lane-requires-clause-all
+close_lane-requires-clause-all g c =
+    let room = ap length (kept_all _ _ _ (search rules) c.loop-finished.invariant.asked) in
+    let ends = length-map c.args.crew.items (λ (ends : Ends). ends.requests) in
+    let count = as_many _ c.args.crew.items c.args.desk.answers c.requires.crew in
+    let lines = ap (λ (desk : Desk). length desk.answers) c.desk.view_is in
+    omega (arith, c.desk.invariant.0.first, c.desk.invariant.0.past)
+
 pub returns-clause-heard : goal.returns-clause-heard
 returns-clause-heard g c =
     let room = kept_all _ _ _ (search rules) c.loop-finished.invariant.asked in
     let taken = subst (λ (desk : Desk). All (λ (end : End Request). IsPrefix (from_agent (λ (request : Request). request.agent) end.agent desk.requests.taken) end.sent) c.loop-finished.room.items) c.desk.view_is c.close_lane.ensures.prefix in
     all_heard c.args.desk _ _ (c.loop-finished.invariant.closed (none_answered _ _ (search rules))) room taken
+
+pub returns-clause-only : goal.returns-clause-only
+returns-clause-only g c = all_of_crew c.args.desk c.args.crew.items (subst IsDesk c.desk.view_is c.desk.invariant.0) c.requires.crew

@@ -180,7 +180,24 @@ def check_shorter(checks: Checks, room: Path):
         checks.equal(f"shorter, run {seed}: the file", file, journal.at_rest(journal.records(file), SMALL))
         shortened += not journal.records(file)[: len(journal.records(before))] == journal.records(before)
     checks.true(f"shorter: put away {shortened} times", shortened > 5)
-    checks.true("shorter: no file beside it", not Path(f"{path}.new").exists())
+    checks.true("shorter: no file beside it", not Path(f"{path}.next").exists())
+
+
+def check_left_over(checks: Checks, room: Path):
+    """A crash may leave the journal a second name beside it, of when it was made, or any file where the next one is made: neither
+    is in the way, and the journal stays whole."""
+    path, asked = room / "left-over", any_requests(500, 24)
+    for name in ("new", "next"):
+        path.unlink(missing_ok=True)
+        keep(path, asked[:3], size=SMALL)
+        os.link(path, f"{path}.{name}")
+        ran = keep(path, asked[3:], size=SMALL)
+        checks.equal(f"a second name .{name}: answers", (ran.answers, ran.status), (wanted(asked[:3], asked[3:]), 0))
+        checks.equal(f"a second name .{name}: what is found", state_found(path), state([request(it) for it in asked]))
+        Path(f"{path}.{name}").unlink(missing_ok=True)
+        Path(f"{path}.{name}").write_bytes(b"left")
+        ran = keep(path, asked, size=SMALL)
+        checks.equal(f"a file .{name} left over: answers", (ran.answers, ran.status), (wanted(asked, asked), 0))
 
 
 def count_found(path: Path, asked: list, least: int) -> int:
@@ -229,7 +246,7 @@ def check_goes_on(checks: Checks, about: str, path: Path, asked: list, count: in
 
 def disturbed(library: Path, path: Path, asked: list, size: int = SIZE, **how) -> Ran:
     """A run over a new file that is disturbed."""
-    for it in (path, Path(f"{path}.new")):
+    for it in (path, Path(f"{path}.new"), Path(f"{path}.next")):
         it.unlink(missing_ok=True)
     return keep(path, asked, size=size, environment=preloading(library, JOURNAL=path, **how))
 
@@ -294,6 +311,7 @@ def main():
         check_full(checks, room)
         check_opening(checks, room)
         check_shorter(checks, room)
+        check_left_over(checks, room)
         check_shorter_stops(checks, room, library)
         check_failures(checks, room, library)
         check_crashes(checks, room, library)

@@ -1,5 +1,5 @@
-/* Preloaded into a program (LD_PRELOAD), it counts the calls that change or sync the file that JOURNAL names, or the one beside
-   it (`.new` after its name): write, pwrite, fsync, fdatasync, link, unlink and rename; and, once a file was renamed, the sync
+/* Preloaded into a program (LD_PRELOAD), it counts the calls that change or sync the file that JOURNAL names, or one beside
+   it (`.new` or `.next` after its name): write, pwrite, fsync, fdatasync, link, unlink and rename; and, once a file was renamed, the sync
    of its folder.
 
    FAIL_AT: the call of this number, from 1, does nothing and answers the error FAIL_WITH (a number). A pwrite may have written
@@ -43,7 +43,7 @@ static unsigned long number_of(const char *name)
     return it ? strtoul(it, NULL, 10) : 0;
 }
 
-/* 1 for the journal's file, 2 for the one beside it, 3 for their folder while a rename isn't synced, else 0. */
+/* 1 for the journal's file, 2 for one beside it, 3 for their folder while a rename isn't synced, else 0. */
 static int which(const char *path)
 {
     const char *journal = getenv("JOURNAL");
@@ -54,7 +54,7 @@ static int which(const char *path)
         return 3;
     if (strncmp(path, journal, length))
         return 0;
-    return !path[length] ? 1 : !strcmp(path + length, ".new") ? 2 : 0;
+    return !path[length] ? 1 : !strcmp(path + length, ".new") || !strcmp(path + length, ".next") ? 2 : 0;
 }
 
 /* The journal's file, opened anew. */

@@ -38,13 +38,6 @@ impl Outlet for Few {
     }
 }
 
-/// A new journal of marks.
-fn new_marks(alloc: Global) -> Result<Journal<MemoryDisk>, Fail> {
-    let mut disk = MemoryDisk::new(alloc, vec![in alloc; 0; SIZE]?);
-    let used = recover(alloc, &mut disk)?.used;
-    Ok(Journal { disk, used })
-}
-
 /// The mark that a crash leaves.
 fn mark_left(alloc: Global, left: Vec<u8>) -> Result<Option<u64>, Fail> {
     let mut disk = MemoryDisk::new(alloc, left);
@@ -122,41 +115,56 @@ fn some_letters(alloc: Global) -> Result<Vec<Letter>, Fail> {
     Ok(open(alloc, &mut disk, limits, 0)?.letters)
 }
 
+/// Opens a disk of marks, and delivers a letter. The disk comes back, with what came of it.
+fn deliver_one(
+    alloc: Global,
+    mut disk: MemoryDisk,
+    letter: &Letter,
+    outlet: &mut Few,
+) -> Result<(MemoryDisk, Result<(), DeliveryError>), Fail> {
+    let Recovered { records, used } = recover(alloc, &mut disk)?;
+    let mark = mark_in(&records).ok_or("no mark")?;
+    if mark > 100 {
+        return Err(Fail::from("a late mark"));
+    }
+    let mut marks = Marks {
+        journal: Journal { disk, used },
+        mark,
+    };
+    let delivered = deliver(alloc, letter, outlet, &mut marks);
+    Ok((marks.journal.disk, delivered))
+}
+
 #[test]
-fn a_letter_that_is_not_taken_is_not_marked(rt: HostRuntime) -> Result<(), Fail> {
+fn a_letter_is_marked_in_its_turn_and_once_it_was_taken(rt: HostRuntime) -> Result<(), Fail> {
     let alloc = rt.alloc();
     let letters = some_letters(alloc)?;
+    let [first, second, third] = letters.as_slice() else {
+        return Err(Fail::from("not three letters"));
+    };
     let mut outlet = Few {
         left: 2,
         taken: Vec::new(alloc),
     };
     let mut disk = MemoryDisk::new(alloc, vec![in alloc; 0; SIZE]?);
-    let mut marked = 0u64;
-    for letter in letters.iter().take(4) {
-        let used = recover(alloc, &mut disk)?.used;
-        let mut marks = Journal { disk, used };
-        let serial = letter.serial();
-        if serial > 100 {
-            return Err(Fail::from("a late serial"));
-        }
-        let delivered = deliver(alloc, letter, &mut outlet, &mut marks);
-        if serial < 2 {
-            same(&rt, delivered, Ok(()));
-            marked = serial + 1;
-        } else {
-            same(&rt, delivered, Err(DeliveryError::Outlet));
-        }
-        let Journal {
-            disk: mut then,
-            used: _,
-        } = marks;
+    let (late, refused) = (Err(DeliveryError::OutOfTurn), Err(DeliveryError::Outlet));
+    for (letter, wanted, mark) in [
+        (second, late, 0),
+        (first, Ok(()), 1),
+        (first, late, 1),
+        (third, late, 1),
+        (second, Ok(()), 2),
+        (third, refused, 2),
+    ] {
+        let (mut then, delivered) = deliver_one(alloc, disk, letter, &mut outlet)?;
+        same(&rt, delivered, wanted);
         same(
             &rt,
             mark_in(&recover(alloc, &mut then)?.records),
-            Some(marked),
+            Some(mark),
         );
         disk = then;
     }
-    same(&rt, (marked, outlet.taken.len()), (2, 2));
+    same(&rt, outlet.taken.len(), 2);
     Ok(())
 }

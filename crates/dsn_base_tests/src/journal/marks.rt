@@ -8,8 +8,8 @@ use crate::same::same;
 use dsn_book::Limits;
 use dsn_device::Broken;
 use dsn_journal::{
-    DeliveryError, Disk, Journal, JournalError, Ledger, MemoryDisk, Opened, Outlet, deliver,
-    mark_in, open, recover,
+    DeliveryError, Journal, JournalError, Ledger, Marks, MemoryDisk, Opened, Outlet, Recovered,
+    deliver, mark_in, open, recover,
 };
 use dsn_outcome::Letter;
 use std::alloc::Global;

@@ -117,21 +117,22 @@ def check_answers(checks: Checks, room: Path):
 
 
 def check_full(checks: Checks, room: Path):
-    """A file in which two groups have room, and then no group of two: one alone has. And one without room for a header."""
-    append = [("append", KEYS[0])]
-    path = room / "full"
-    keep(path, append, size=SIZE, group=1)
+    """A file in which two groups have room, and then no group of two, also once it is put away for a shorter one, since nothing
+    in it is of no use any more: one request alone has. And one without room for a header."""
+    first, second = ("append", KEYS[0]), ("append", KEYS[1])
+    asked, path = [first] * 3 + [second] * 3, room / "full"
+    keep(path, [first], size=SIZE, group=1)
     header, each = map(journal.spelled, journal.records(path.read_bytes()))
     path.unlink()
     size = len(header) + 5 * len(each)
-    checks.equal("full: answers", keep(path, 6 * append, size=size, group=2).answers, wanted([], 4 * append)[:4])
+    checks.equal("full: answers", keep(path, asked, size=size, group=2).answers, wanted([], asked)[:4])
     before = path.read_bytes()
-    ran = keep(path, 4 * append, size=size, group=2)
+    ran = keep(path, [second] * 4, size=size, group=2)
     checks.equal("full: each group is refused", (ran.lines[1:], ran.answers, ran.status), ([b"full"] * 2, [], 0))
-    checks.equal("full: nothing is written", path.read_bytes(), before)
-    ran = keep(path, append, size=size, group=1)
-    checks.equal("full: one has room", (ran.answers, ran.lines[1:]), (wanted(4 * append, append), []))
-    checks.equal("full: to the last byte", path.read_bytes(), header + each * 5)
+    checks.equal("full: nothing else is there", path.read_bytes(), before)
+    ran = keep(path, [second], size=size, group=1)
+    checks.equal("full: one has room", (ran.answers, ran.lines[1:]), (wanted(asked[:4], [second]), []))
+    checks.equal("full: to the last byte", path.read_bytes(), header + each * 3 + each.replace(b"K1", b"K2") * 2)
     for size, line in ((len(header) - 1, b"not opened: the journal is full"), (len(header), b"opened %d" % len(header))):
         path = room / f"small-{size}"
         checks.equal(f"a file of {size} bytes", keep(path, [], size=size).lines, [line])

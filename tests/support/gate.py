@@ -1,8 +1,8 @@
 #!/usr/bin/env python3
 """The gate (`make check`), in three parts: `rt ci` proves every crate and its tests from nothing, builds and runs the tests
-and the programs; tests/support/refused.py tries the wrong edits over the libraries that this builds, beside it and with
-what it leaves of the processors; then the scripts of tests/ run on the programs. The last line is 'N passed, M failed', and
-the status is 1 where anything failed.
+and the programs; then the scripts of tests/ run on the programs. Beside both, with what they leave of the processors,
+tests/support/refused.py tries the wrong edits over the libraries that `rt ci` builds. The last line is 'N passed, M failed',
+and the status is 1 where anything failed.
 
 It works in a copy of the repository, so that `rt ci` leaves alone the edits, which refused.py tries in fewer checks, and
 so that what was proved here before is neither used nor lost. Logs go to out/, programs to crates/*/out/."""
@@ -17,7 +17,6 @@ import time
 from pathlib import Path
 
 sys.path.insert(0, str(Path(__file__).parent))
-from jobs import jobs  # noqa: E402
 from kit import RT  # noqa: E402
 from running import ROOT  # noqa: E402
 
@@ -62,9 +61,8 @@ class Part:
         self.begun, self.log = time.monotonic(), log
         print(f"{what} (log: {log.relative_to(ROOT)}) ..", flush=True)
         with open(log, "wb") as out:
-            environment = {**os.environ, "RT_JOBS": str(jobs()), **more}
             # A group of processes, to be stopped as one, and no session: the system may weigh sessions alike, whatever their priority.
-            self.running = subprocess.Popen(words, cwd=folder, env=environment, stdout=out, stderr=subprocess.STDOUT, preexec_fn=os.setpgrp)
+            self.running = subprocess.Popen(words, cwd=folder, env={**os.environ, **more}, stdout=out, stderr=subprocess.STDOUT, preexec_fn=os.setpgrp)
 
     def ends(self) -> tuple:
         """Waits for its end, shows what it said, and tells its minutes: the status, and what it said."""
@@ -89,19 +87,21 @@ def keep_programs(room: Path):
             shutil.copy2(built, ROOT / "crates" / name / "out" / name)
 
 
-def run_scripts() -> list:
-    """Runs the scripts of tests/: the names of those that failed."""
+def run_scripts(verdict: Verdict):
+    """Runs the scripts of tests/, names those that failed, and counts them."""
+    begun = time.monotonic()
     named = {word: str(ROOT / "crates" / name / "out" / name) for word, name in PROGRAMS.items()}
     failed = []
     for script in sorted((ROOT / "tests").glob("*.py")):
         print(f"== tests/{script.name}", flush=True)
         if subprocess.run([sys.executable, str(script)], cwd=ROOT, env={**os.environ, **named}, check=False).returncode:
             failed.append(script.name)
-    return failed
+    print(f"== {(time.monotonic() - begun) / 60:.0f} minutes; failed scripts: {', '.join(failed) or 'none'}", flush=True)
+    verdict.failed += len(failed)
 
 
-def prove_and_refuse(place: Path, verdict: Verdict) -> bool:
-    """Proves a copy of the repository, tries the wrong edits beside it, and keeps the programs: whether all was proved."""
+def prove_run_and_refuse(place: Path, verdict: Verdict):
+    """Proves a copy of the repository, and runs the scripts on its programs where all was proved; tries the wrong edits beside both."""
     room, edits, log = place / "repository", place / "edits", ROOT / "out/gate.log"
     copied(room)
     edits.mkdir()
@@ -111,10 +111,10 @@ def prove_and_refuse(place: Path, verdict: Verdict) -> bool:
     try:
         verdict.count(*proving.ends())
         if verdict.failed:
-            return False
+            return
         keep_programs(room)
+        run_scripts(verdict)
         verdict.count(*refusing.ends())
-        return True
     finally:
         proving.stop()
         refusing.stop()
@@ -129,11 +129,7 @@ def main() -> int:
         verdict.failed = 1
         return verdict.ends()
     with tempfile.TemporaryDirectory(prefix="noticed-gate-", ignore_cleanup_errors=True) as name:
-        if not prove_and_refuse(Path(name), verdict):
-            return verdict.ends()
-    begun, failed = time.monotonic(), run_scripts()
-    print(f"== {(time.monotonic() - begun) / 60:.0f} minutes; failed scripts: {', '.join(failed) or 'none'}")
-    verdict.failed += len(failed)
+        prove_run_and_refuse(Path(name), verdict)
     return verdict.ends()
 
 

@@ -13,6 +13,7 @@ import re
 import shutil
 import subprocess
 import sys
+import tempfile
 from pathlib import Path
 
 NAMED = os.environ.get("RT") or "rt"
@@ -47,11 +48,16 @@ def crates_below(room: Path) -> dict:
     return {it.name: it for it in module.crates_below(str(room))}
 
 
-def check(crate, folder: str, kept: Path, only: list) -> str:
-    """What the prover says of a copy of a crate's texts in this folder: of these functions, or of all, over what earlier checks
-    kept there."""
+def check(crate, folder: str, kept: Path, only: list) -> tuple:
+    """What the prover says of a copy of a crate's texts in this folder, of these functions or of all, over what earlier checks kept
+    there; and its seconds of processor time."""
     words = [*crate.words(["--jobs", "1"], keeps=False), "--incremental", str(kept)]
     words += [word for path in only for word in ("--only", path)]
     prover = [str(Path(RT).resolve().parent / "rattle"), "check", *words]
-    ran = subprocess.run(prover, cwd=folder, capture_output=True, text=True, errors="replace", check=False)
-    return ran.stdout + ran.stderr
+    with tempfile.TemporaryFile("w+", errors="replace") as said, tempfile.TemporaryFile("w+", errors="replace") as more:
+        running = subprocess.Popen(prover, cwd=folder, stdin=subprocess.DEVNULL, stdout=said, stderr=more)
+        _, status, usage = os.wait4(running.pid, 0)
+        running.returncode = os.waitstatus_to_exitcode(status)
+        said.seek(0)
+        more.seek(0)
+        return said.read() + more.read(), usage.ru_utime + usage.ru_stime

@@ -5,9 +5,9 @@ part of `make check`): the prover must refuse each for what it says, and not for
 A function is proved against the contracts of those that it calls, so edits of different functions are tried in one check,
 and each is refused by what the check says of its own function: a clause that isn't proved, or an error in its proof. An
 edit of anything but a function's body (a definition, a constant, a type) is tried alone, and refused by whatever is no
-longer proved. A check reads the changed functions alone, over what the crate's other checks proved; an edit that this
+longer proved. A check reads the changed functions alone, over what a check of the crate as it stands proved; an edit that this
 doesn't refuse, or one of a definition that only proofs refuse so far, is tried once more alone, over the whole crate with its
-worked examples.
+worked examples. The checks of all crates stand in one queue, and as many run side by side as processors and memory allow.
 
 A refusal is weak where no clause and no worked example refuses the edit, and only a proof that was written by hand has an
 error: a right body of another shape may get that error too. It isn't weak where a control shows that a right body doesn't: a
@@ -25,14 +25,16 @@ import shutil
 import sys
 import tempfile
 import time
+from collections import Counter
 from concurrent.futures import FIRST_COMPLETED, ThreadPoolExecutor, wait
 from dataclasses import dataclass, field
+from functools import partial
 from pathlib import Path
 
 sys.path.insert(0, str(Path(__file__).parent))
 import kit  # noqa: E402
 from wrong_edits import crates, item_with  # noqa: E402
-from jobs import jobs  # noqa: E402
+from jobs import EACH, available, jobs  # noqa: E402
 from running import ROOT  # noqa: E402
 
 POLL = 2  # seconds between two looks at what was built
@@ -152,41 +154,94 @@ def nearby(crate: str, edit: Edit) -> list:
     return [it.replace("/", "::") for it in laws if (ROOT / "crates" / crate / f"src/{it}.rt").exists()]
 
 
-class Tries:
-    """The checks of a crate with wrong edits, each over what those before it proved."""
+def copied(folder: Path, to: Path):
+    """Copies what checks kept: what was proved by links where these can be made, since a check replaces such a file and changes none."""
 
-    def __init__(self, crate, kept: Path):
-        self.crate, self.kept = crate, kept
+    def copy(one: str, other: str):
+        try:
+            if one.endswith(".oantt"):
+                return os.link(one, other)
+        except OSError:
+            pass
+        return shutil.copy2(one, other)
 
-    def check(self, edits: list, only: list) -> str:
-        """What a check says of a copy of the crate with these edits, of these functions or of all."""
-        with tempfile.TemporaryDirectory(prefix="noticed-edit-") as name:
+    shutil.copytree(folder, to, symlinks=True, copy_function=copy)
+
+
+class Trial:
+    """The edits of a crate: its checks, and what came of each edit so far. A check is a call that gives further ones. The first,
+    `prove`, proves the crate as it stands; each of the others begins with a copy of what that one kept."""
+
+    def __init__(self, crate, place: Path):
+        self.crate, self.seed = crate, place / crate.name
+        self.edits = edits_of(crate.name)
+        self.groups = groups_of(self.edits)
+        self.found, self.seconds = {}, []
+
+    def prove(self) -> list:
+        """Proves the crate as it stands: the checks of its groups, those that read the most first."""
+        before = Path(self.crate.folder) / "out/incremental"
+        if before.is_dir():
+            copied(before, self.seed)
+        self.seed.mkdir(exist_ok=True)
+        self.check([], [], self.seed)
+        return [partial(self.try_group, it) for it in sorted(self.groups, key=lambda it: bool(it[0].functions))]
+
+    def try_group(self, group: list) -> list:
+        """Tries the edits of a group in one check: the checks of those that must be tried alone."""
+        only = sorted(set().union(*(it.functions for it in group))) or nearby(self.crate.name, group[0])
+        said = self.over_seed(group, only) if only else ""
+        self.found |= {it.path: verdict(it, said) for it in group}
+        return [partial(self.try_alone, it) for it in group if self.is_open(it)]
+
+    def is_open(self, edit: Edit) -> bool:
+        """Whether what is known of an edit doesn't settle what becomes of it."""
+        known = self.found[edit.path]
+        return not known.settles(edit) or known.is_weak and not edit.functions
+
+    def try_alone(self, edit: Edit) -> list:
+        """Tries an edit over the whole crate."""
+        self.found[edit.path] = verdict(edit, self.over_seed([edit], []))
+        return []
+
+    def over_seed(self, edits: list, only: list) -> str:
+        """What a check of these functions, or of all, says of the crate with these edits."""
+        with tempfile.TemporaryDirectory(prefix="kept-", dir=self.seed.parent) as name:
+            copied(self.seed, Path(name) / "kept")
+            return self.check(edits, only, Path(name) / "kept")
+
+    def check(self, edits: list, only: list, kept: Path) -> str:
+        """What a check says of a copy of the crate with these edits, over what is kept in this folder."""
+        with tempfile.TemporaryDirectory(prefix="edit-", dir=self.seed.parent) as name:
             for part in ("src", "specs", "proofs"):
                 if (Path(self.crate.folder) / part).is_dir():
                     shutil.copytree(Path(self.crate.folder) / part, Path(name) / part)
             for edit in edits:
-                self.apply(edit, Path(name))
-            return kit.check(self.crate, name, self.kept, only)
+                apply(edit, Path(name))
+            said, seconds = kit.check(self.crate, name, kept, only)
+        self.seconds.append(seconds)
+        return said
 
-    @staticmethod
-    def apply(edit: Edit, folder: Path):
-        """Makes the changes of an edit."""
-        for file, old, new in edit.changes:
-            text = (folder / file).read_text()
-            if text.count(old) != 1:
-                raise ValueError(f"{edit.name}: an old text is in {file} {text.count(old)} times, and not once")
-            (folder / file).write_text(text.replace(old, new))
+    def tally(self):
+        """What came of all of them."""
+        controls = {it.name: (it, self.found[it.path]) for it in self.edits if it.is_control}
+        wrong = [it for it in self.edits if not it.is_control]
+        tally = Tally()
+        tally.lines = [f"{self.crate.name}: {len(wrong)} wrong edits and {len(controls)} controls in {len(self.seconds)} checks, {sum(self.seconds):.0f} seconds of processor time"]
+        for edit in wrong:
+            tally.tell(self.crate.name, edit, self.found[edit.path], controls.pop(edit.name, None))
+        tally.lines += [f"  {name}: CONTROL OF NO EDIT" for name in controls]
+        tally.failed += len(controls)
+        return tally
 
-    def verdicts(self, group: list) -> dict:
-        """What became of each edit of a group, by its path."""
-        only = sorted(set().union(*(it.functions for it in group))) or nearby(self.crate.name, group[0])
-        said = self.check(group, only) if only else ""
-        found = {it.path: verdict(it, said) for it in group}
-        for edit in group:
-            known = found[edit.path]
-            if not known.settles(edit) or known.is_weak and not edit.functions:
-                found[edit.path] = verdict(edit, self.check([edit], []))
-        return found
+
+def apply(edit: Edit, folder: Path):
+    """Makes the changes of an edit."""
+    for file, old, new in edit.changes:
+        text = (folder / file).read_text()
+        if text.count(old) != 1:
+            raise ValueError(f"{edit.name}: an old text is in {file} {text.count(old)} times, and not once")
+        (folder / file).write_text(text.replace(old, new))
 
 
 def verdict(edit: Edit, said: str) -> Verdict:
@@ -244,24 +299,6 @@ class Tally:
         self.lines.append(f"  {edit.name}: {said}")
 
 
-def try_crate(crate) -> Tally:
-    """Tries the wrong edits of a crate with their controls."""
-    edits = edits_of(crate.name)
-    groups, found = groups_of(edits), {}
-    with tempfile.TemporaryDirectory(prefix="noticed-kept-") as kept:
-        tries = Tries(crate, Path(kept))
-        for group in groups:
-            found |= tries.verdicts(group)
-    controls = {it.name: (it, found[it.path]) for it in edits if it.is_control}
-    wrong = [it for it in edits if not it.is_control]
-    tally = Tally(lines=[f"{crate.name}: {len(wrong)} wrong edits and {len(controls)} controls in {len(groups)} checks"])
-    for edit in wrong:
-        tally.tell(crate.name, edit, found[edit.path], controls.pop(edit.name, None))
-    tally.lines += [f"  {name}: CONTROL OF NO EDIT" for name in controls]
-    tally.failed += len(controls)
-    return tally
-
-
 class Proving:
     """A run of `rt ci` that goes on, in a copy of the repository: what its log says of it."""
 
@@ -292,22 +329,34 @@ class Built:
         return True
 
 
-def try_all(wanted: list, libraries):
-    """Tries the wrong edits of these crates, each once the libraries below it are built, and gives what came of each. While
-    libraries are proved beside it half as many checks run at once as the processors allow."""
-    left, running = list(wanted), set()
+def most(libraries) -> int:
+    """How many checks may run at once: half as many as the processors allow while libraries are proved beside them."""
+    return jobs() if libraries.has_ended() else max(1, jobs() // 2)
+
+
+def try_all(trials: list, libraries):
+    """Tries the wrong edits of these crates, each once the libraries below it are built, and gives each crate's trial once it has
+    ended. What comes last is done first: a crate's proof, the edits of the highest crate, and one that must be tried alone."""
+    waiting, ready, running, left = list(trials), [], {}, Counter()
     with ThreadPoolExecutor(jobs()) as pool:
-        while left or running:
+        while waiting or ready or running:
             ended = libraries.has_ended()
-            ready = [it for it in left if not libraries.lacking(it)]
-            if ended and not running and not ready:
-                raise ValueError(f"not built: {', '.join(sorted(set().union(*map(libraries.lacking, left))))}; run rt all check first")
-            for crate in ready[: (jobs() if ended else max(1, jobs() // 2)) - len(running)]:
-                left.remove(crate)
-                running.add(pool.submit(try_crate, crate))
-            done, running = wait(running, timeout=POLL, return_when=FIRST_COMPLETED) if running else (set(), running)
-            yield from (it.result() for it in done)
-            if not done:
+            begun = [it for it in waiting if not libraries.lacking(it.crate)]
+            if ended and not begun and not ready and not running:
+                raise ValueError(f"not built: {', '.join(sorted(set().union(*(libraries.lacking(it.crate) for it in waiting))))}; run rt all check first")
+            waiting = [it for it in waiting if it not in begun]
+            ready = [(it, it.prove) for it in begun] + ready
+            left.update(begun)
+            while ready and len(running) < most(libraries) and (not running or available() >= EACH):
+                trial, call = ready.pop(0)
+                running[pool.submit(call)] = trial
+            for it in wait(running, timeout=POLL, return_when=FIRST_COMPLETED).done if running else ():
+                trial, further = running.pop(it), it.result()
+                ready = [(trial, call) for call in further] + ready
+                left[trial] += len(further) - 1
+                if not left[trial]:
+                    yield trial
+            if not running:
                 time.sleep(POLL)
 
 
@@ -336,14 +385,16 @@ def main() -> int:
     known = kit.crates_below(room)
     wanted = [known[name] for name in words or reversed(crates()) if (ROOT / "crates" / name / "must-fail").is_dir()]
     whole = Tally()
-    try:
-        for tally in try_all(wanted, libraries):
-            print("\n".join(tally.lines), flush=True)
-            whole.add(tally)
-        whole.failed += compare(whole.weak, known_weak({it.name for it in wanted}))
-    except ValueError as wrong:
-        print(wrong)
-        whole.failed += 1
+    with tempfile.TemporaryDirectory(prefix="noticed-edits-", ignore_cleanup_errors=True) as place:
+        try:
+            for trial in try_all([Trial(it, Path(place)) for it in wanted], libraries):
+                tally = trial.tally()
+                print("\n".join(tally.lines), flush=True)
+                whole.add(tally)
+            whole.failed += compare(whole.weak, known_weak({it.name for it in wanted}))
+        except ValueError as wrong:
+            print(wrong)
+            whole.failed += 1
     print(f"{whole.refused} refused, {whole.failed} failed")
     return 1 if whole.failed else 0
 

@@ -1,5 +1,5 @@
 //! Letters from their parts to their end.
-ghost use Rattle.std.specs.Prelude.{◌≡◌, IfOk, IsSome};
+ghost use Rattle.std.specs.Prelude.{All, IfOk, IsSome, [], ◌≡◌, ◌≢◌};
 
 use super::outcomes::PARTS;
 use crate::same::same;
@@ -24,14 +24,12 @@ fn bounced(alloc: Global, recipient: &[u8]) -> Result<Box<Node>, Fail>
 fn draft(alloc: Global, seconds: u64) -> Result<Draft, Fail>
     ensures { IfOk result (λ draft. IsSome draft.return_path) }
 {
-    Ok(Draft::new(
-        alloc,
-        Stamp::new(seconds).ok_or("the moment")?,
-        Stamp::new(1_699_996_400).ok_or("the arrival")?,
-        Some(Address::new(alloc, b"ann@example.com")?),
-        Some(EnvelopeId::new(alloc, b"QQ 314159")?),
-        RawHeader::new(alloc, b"Subject: hi\n")?,
-    )?)
+    let moment = Stamp::new(seconds).ok_or("the moment")?;
+    let arrival = Stamp::new(1_699_996_400).ok_or("the arrival")?;
+    let header = RawHeader::new(alloc, b"Subject: hi\n")?;
+    let id = EnvelopeId::new(alloc, b"QQ 314159")?;
+    let return_path = Some(Address::new(alloc, b"ann@example.com")?);
+    Ok(Draft::new(alloc, moment, arrival, return_path, Some(id), header)?)
 }
 
 /// The key of a message's bounce log.
@@ -44,14 +42,23 @@ fn key(id: &[u8]) -> Result<Key, Fail>
     })
 }
 
-/// A letter of three outcomes.
-fn letter_of_three(alloc: Global) -> Result<Letter, Fail> {
+/// Three outcomes of a bounce's log.
+fn chain_of_three(alloc: Global) -> Result<Chain, Fail>
+    ensures reports { IfOk result (λ chain. chain ≢ []) }
+    ensures of_service { IfOk result (λ chain. All (λ outcome. outcome.service ≡ Service.Bounce) chain) }
+{
     let mut chain = Chain::new();
     chain.push(bounced(alloc, b"one@example.org")?);
     chain.push(bounced(alloc, b"two@example.org")?);
     chain.push(bounced(alloc, b"six@example.org")?);
-    let draft = draft(alloc, 1_700_000_000)?;
-    Ok(Letter::seal(key(b"A1B2C3")?, draft, chain, 7))
+    Ok(chain)
+}
+
+/// A letter of three outcomes.
+fn letter_of_three(alloc: Global) -> Result<Letter, Fail> {
+    let key = key(b"A1B2C3")?;
+    let chain = chain_of_three(alloc)?;
+    Ok(Letter::seal(key, draft(alloc, 1_700_000_000)?, chain, 7))
 }
 
 /// Asserts the texts of a letter, and its envelope id.
@@ -90,26 +97,32 @@ fn a_letter_has_all_that_it_was_sealed_with(rt: HostRuntime) -> Result<(), Fail>
     expect_recipients(&rt, &letter)
 }
 
-#[test]
-fn a_draft_and_a_chain_tell_what_they_have(rt: HostRuntime) -> Result<(), Fail> {
-    let draft = draft(rt.alloc(), 1_700_000_000)?;
-    assert!(rt; draft.has_return());
+/// A chain of so many outcomes.
+fn chain_of(rt: &impl Abort, alloc: Global, count: u32) -> Result<Chain, Fail> {
     let mut chain = Chain::new();
-    for _ in 0..3 {
-        let node = bounced(rt.alloc(), b"one@example.org")?;
+    for _ in 0..count {
+        let node = bounced(alloc, b"bob@example.org")?;
         assert!(rt; chain.len() < MOST_OUTCOMES);
         chain.push(node);
     }
-    same(&rt, chain.len(), 3);
+    Ok(chain)
+}
+
+#[test]
+fn a_draft_and_a_chain_tell_what_they_have(rt: HostRuntime) -> Result<(), Fail> {
+    assert!(rt; draft(rt.alloc(), 1_700_000_000)?.has_return());
+    same(&rt, chain_of(&rt, rt.alloc(), 3)?.len(), 3);
     Ok(())
 }
 
 /// A letter with one outcome, which its moment tells from others.
 fn letter(alloc: Global, seconds: u64) -> Result<Letter, Fail> {
+    let key = key(b"K1")?;
+    let node = bounced(alloc, b"bob@example.org")?;
     let draft = draft(alloc, seconds)?;
     let mut chain = Chain::new();
-    chain.push(bounced(alloc, b"bob@example.org")?);
-    Ok(Letter::seal(key(b"K1")?, draft, chain, 0))
+    chain.push(node);
+    Ok(Letter::seal(key, draft, chain, 0))
 }
 
 /// The moment of the first letter, which is taken.
@@ -159,24 +172,17 @@ fn letters_are_taken_in_order(rt: HostRuntime) -> Result<(), Fail> {
 #[test]
 fn many_letters_are_freed(rt: HostRuntime) -> Result<(), Fail> {
     let mut letters = Letters::new();
-    for seconds in 0..100_000 {
-        letters.push(letter(rt.alloc(), seconds)?);
-    }
+    push_letters(rt.alloc(), &mut letters, 0, 100_000)?;
     same(&rt, letters.len(), 100_000);
     same(&rt, popped(&mut letters), Some(0));
-    letters.push(letter(rt.alloc(), 100_000)?);
+    push_letters(rt.alloc(), &mut letters, 100_000, 100_001)?;
     drop(letters);
     Ok(())
 }
 
 #[test]
 fn a_full_log_is_freed(rt: HostRuntime) -> Result<(), Fail> {
-    let mut chain = Chain::new();
-    for _ in 0..1_000 {
-        let node = bounced(rt.alloc(), b"bob@example.org")?;
-        assert!(rt; chain.len() < MOST_OUTCOMES);
-        chain.push(node);
-    }
+    let chain = chain_of(&rt, rt.alloc(), 1_000)?;
     same(&rt, chain.len(), 1_000);
     drop(chain);
     Ok(())

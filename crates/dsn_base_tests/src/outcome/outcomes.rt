@@ -2,6 +2,7 @@
 use super::texts::text_of;
 use crate::same::same;
 use dsn_outcome::{Action, LAST_MOMENT, Outcome, OutcomeFault, Parts, Service, Stamp};
+use std::alloc::Global;
 use std::process::Abort;
 use std::test::Fail;
 
@@ -67,29 +68,30 @@ fn outcomes_keep_their_fields(rt: HostRuntime) -> Result<(), Fail> {
     Ok(())
 }
 
+/// Fields without a fault, with this address twice and this remark twice.
+fn with_texts<'a>(address: &'a [u8], name: &'a [u8], remark: &'a [u8]) -> Parts<'a> {
+    Parts {
+        recipient: address,
+        original: address,
+        action: 1,
+        status: b"5.1.1",
+        mta: name,
+        diagnostic: remark,
+        reason: remark,
+        last_attempt: None,
+        retry_until: None,
+    }
+}
+
 #[test]
 fn an_outcome_of_the_longest_texts_is_kept(rt: HostRuntime) -> Result<(), Fail> {
     let address = text_of(rt.alloc(), 256)?;
     let name = text_of(rt.alloc(), 255)?;
     let remark = text_of(rt.alloc(), 800)?;
-    let parts = Parts {
-        recipient: &address,
-        original: &address,
-        action: 1,
-        status: b"5.1.1",
-        mta: &name,
-        diagnostic: &remark,
-        reason: &remark,
-        last_attempt: None,
-        retry_until: None,
-    };
-    let node = Outcome::new(rt.alloc(), Service::Bounce, parts)?;
-    let outcome = node.outcome();
-    same(&rt, outcome.recipient(), address.as_slice());
-    same(&rt, text_or_empty(outcome.original()), address.as_slice());
-    same(&rt, text_or_empty(outcome.mta()), name.as_slice());
-    same(&rt, text_or_empty(outcome.diagnostic()), remark.as_slice());
-    same(&rt, text_or_empty(outcome.reason()), remark.as_slice());
+    let longest = with_texts(&address, &name, &remark);
+    let node = Outcome::new(rt.alloc(), Service::Bounce, longest)?;
+    let want = with_texts(&address, &name, &remark);
+    expect_texts(&rt, node.outcome(), &want);
     Ok(())
 }
 
@@ -116,6 +118,32 @@ fn the_two_moments_are_kept(rt: HostRuntime) -> Result<(), Fail> {
     Ok(())
 }
 
+/// A recipient of this action and status has a last attempt, and no moment up to which it is tried.
+fn expect_attempted(rt: &impl Abort, alloc: Global, action: u8, status: &[u8]) -> Result<(), Fail> {
+    let attempted = Parts {
+        action,
+        status,
+        last_attempt: Stamp::new(1_700_000_000),
+        ..PARTS
+    };
+    let node = Outcome::new(alloc, Service::Trace, attempted)?;
+    let outcome = node.outcome();
+    same(rt, outcome.last_attempt(), Stamp::new(1_700_000_000));
+    same(rt, outcome.retry_until(), None);
+    Ok(())
+}
+
+/// The fault of a recipient of this action and status that is tried up to a moment.
+fn fault_of_retried(alloc: Global, action: u8, status: &[u8]) -> Option<OutcomeFault> {
+    let retried = Parts {
+        action,
+        status,
+        retry_until: Stamp::new(1_700_432_000),
+        ..PARTS
+    };
+    Outcome::new(alloc, Service::Trace, retried).err()
+}
+
 #[test]
 fn only_a_delayed_recipient_is_tried_again(rt: HostRuntime) -> Result<(), Fail> {
     for (action, status, fits) in [
@@ -125,26 +153,8 @@ fn only_a_delayed_recipient_is_tried_again(rt: HostRuntime) -> Result<(), Fail> 
         (4, b"2.0.0", false),
         (5, b"2.0.0", false),
     ] {
-        let attempted = Parts {
-            action,
-            status,
-            last_attempt: Stamp::new(1_700_000_000),
-            ..PARTS
-        };
-        let node = Outcome::new(rt.alloc(), Service::Trace, attempted)?;
-        same(
-            &rt,
-            node.outcome().last_attempt(),
-            Stamp::new(1_700_000_000),
-        );
-        same(&rt, node.outcome().retry_until(), None);
-        let retried = Parts {
-            action,
-            status,
-            retry_until: Stamp::new(1_700_432_000),
-            ..PARTS
-        };
-        let fault = Outcome::new(rt.alloc(), Service::Trace, retried).err();
+        expect_attempted(&rt, rt.alloc(), action, status)?;
+        let fault = fault_of_retried(rt.alloc(), action, status);
         let want = (!fits).then_some(OutcomeFault::RetryUntil);
         same(&rt, (action, fault), (action, want));
     }

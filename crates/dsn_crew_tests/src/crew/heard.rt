@@ -37,6 +37,31 @@ impl Heard {
     }
 }
 
+/// Nothing so far of two connections, with room for so many answers and one more each.
+pub(super) fn two_heard(alloc: Global, first: usize, second: usize) -> Result<[Heard; 2], Fail> {
+    let first = Heard::new(alloc, first)?;
+    let second = Heard::new(alloc, second)?;
+    Ok([first, second])
+}
+
+/// A port with one connection, over which this is sent, and which keeps what is heard.
+fn port_heard<'a>(
+    alloc: Global,
+    frames: &'a Frames,
+    heard: &'a Heard,
+) -> Result<MemoryPort<'a>, Fail> {
+    let mut texts = Vec::new(alloc);
+    texts.push(Text {
+        bytes: frames.bytes.as_slice(),
+        good: true,
+        heard: heard.room.as_slice(),
+    })?;
+    Ok(MemoryPort {
+        texts: texts.into_iter(),
+        fails: false,
+    })
+}
+
 /// Ports with one connection each, over which this is sent, and which keep what is heard.
 pub(super) fn ports_heard<'a>(
     alloc: Global,
@@ -45,16 +70,7 @@ pub(super) fn ports_heard<'a>(
 ) -> Result<Vec<MemoryPort<'a>>, Fail> {
     let mut ports = Vec::new(alloc);
     for (frames, heard) in all.iter().zip(heard) {
-        let mut texts = Vec::new(alloc);
-        texts.push(Text {
-            bytes: frames.bytes.as_slice(),
-            good: true,
-            heard: heard.room.as_slice(),
-        })?;
-        ports.push(MemoryPort {
-            texts: texts.into_iter(),
-            fails: false,
-        })?;
+        ports.push(port_heard(alloc, frames, heard)?)?;
     }
     Ok(ports)
 }

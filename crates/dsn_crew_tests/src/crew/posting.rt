@@ -2,9 +2,10 @@
 use super::frames::Frames;
 use super::hold::{Hold, Until};
 use super::memory_port::MemoryPort;
+use super::outbox::Outbox;
 use super::outbox_text::ONE_NOTICE;
 use super::side_by_side::ports_of;
-use super::whole_crew::{line, open, outbox, port, run_all, run_over};
+use super::whole_crew::{Told, line, open, outbox, port, run_all, run_over};
 use crate::same::same;
 use dsn_book::OpenLine;
 use dsn_crew::{AgentLine, NoGate};
@@ -12,6 +13,7 @@ use dsn_device::Plain;
 use std::alloc::Global;
 use std::io;
 use std::io::Write;
+use std::process::Abort;
 use std::sync::Wait;
 use std::test::Fail;
 use std::thread::Threads;
@@ -31,41 +33,42 @@ const FLUSH: &[u8; 56] = b"\
 \0\0\0\0\x65\x53\xf1\0\0\0\0\0\x65\x53\xe2\xf0\
 \0\x0fann@example.com\0\0\0\0";
 
+/// The port of one agent, with these connections.
+fn one_port<'a>(alloc: Global, texts: &[(&'a [u8], bool)]) -> Result<Vec<MemoryPort<'a>>, Fail> {
+    let mut ports = Vec::new(alloc);
+    ports.push(port(alloc, texts, false)?)?;
+    Ok(ports)
+}
+
+/// Asserts that a run ended well, what comes of its one agent, and that the outbox holds the notice.
+fn assert_one_notice<R: Abort>(rt: &R, told: Told<Plain<Outbox>>, line: AgentLine) {
+    same(rt, (told.code, told.letters), (0, 1));
+    same(rt, told.agents.as_slice(), [line].as_slice());
+    let text = told.outbox.into_inner().text;
+    same(rt, text.as_slice(), ONE_NOTICE.as_slice());
+}
+
 #[test]
 fn one_append_one_flush(rt: HostRuntime) -> Result<(), Fail> {
-    let mut ports = Vec::new(rt.alloc());
-    ports.push(port(rt.alloc(), &[(ONE_MESSAGE.as_slice(), true)], false)?)?;
+    let ports = one_port(rt.alloc(), &[(ONE_MESSAGE.as_slice(), true)])?;
     let told = run_all(&rt, rt.alloc(), 8, ports)?;
-    same(&rt, (told.code, told.letters), (0, 1));
-    same(&rt, told.agents.as_slice(), [line(2, 1)].as_slice());
     assert!(rt; told.whole && told.open.is_empty());
-    same(
-        &rt,
-        told.outbox.into_inner().text.as_slice(),
-        ONE_NOTICE.as_slice(),
-    );
+    assert_one_notice(&rt, told, line(2, 1));
     Ok(())
 }
 
 #[test]
 fn client_leaves_mid_frame(rt: HostRuntime) -> Result<(), Fail> {
     let texts = [(&ONE_MESSAGE[..60], true), (FLUSH.as_slice(), true)];
-    let mut ports = Vec::new(rt.alloc());
-    ports.push(port(rt.alloc(), &texts, false)?)?;
-    let told = run_all(&rt, rt.alloc(), 8, ports)?;
-    same(&rt, (told.code, told.letters), (0, 1));
     let line = AgentLine {
         requests: 2,
         connections: 2,
         faults: 1,
         port_failed: false,
     };
-    same(&rt, told.agents.as_slice(), [line].as_slice());
-    same(
-        &rt,
-        told.outbox.into_inner().text.as_slice(),
-        ONE_NOTICE.as_slice(),
-    );
+    let ports = one_port(rt.alloc(), &texts)?;
+    let told = run_all(&rt, rt.alloc(), 8, ports)?;
+    assert_one_notice(&rt, told, line);
     Ok(())
 }
 
@@ -76,13 +79,18 @@ const GREETING: usize = 21;
 /// two bytes in place of six, five times, and whose recipient has three in place of fifteen, twice.
 const SHORTER_LETTER: usize = 1005 - GREETING - 6 - 5 * 4 - 2 * 12;
 
+/// Adds an append and a flush of a log, with this number and the next.
+fn one_letter(alloc: Global, frames: &mut Frames, number: u32, message: &[u8]) -> Result<(), Fail> {
+    frames.append(alloc, number, message, b"x@y")?;
+    frames.flush(alloc, number.wrapping_add(1), message)
+}
+
 /// An append and a flush of each of three logs.
 fn three_letters(alloc: Global) -> Result<Frames, Fail> {
     let mut frames = Frames::new(alloc);
     let mut number = 0u32;
     for message in [b"K1", b"K2", b"K3"] {
-        frames.append(alloc, number, message, b"x@y")?;
-        frames.flush(alloc, number.wrapping_add(1), message)?;
+        one_letter(alloc, &mut frames, number, message)?;
         number = number.wrapping_add(2);
     }
     Ok(frames)
@@ -153,11 +161,12 @@ fn notice_written_aside(rt: HostRuntime) -> Result<(), Fail> {
         to: 0,
         written: 1,
     };
+    let want = [open(b"K2", 1)?];
     let hold = Hold::new(&rt, until);
     let all = [flush_between(rt.alloc())?];
     let ports = ports_of(rt.alloc(), &all)?;
     let (code, letters, whole, lines) = told_aside(&rt, rt.alloc(), ports, &hold)?;
     same(&rt, (code, letters, whole, hold.ran_out()), (0, 1, true, 0));
-    same(&rt, lines.as_slice(), [open(b"K2", 1)?].as_slice());
+    same(&rt, lines.as_slice(), want.as_slice());
     Ok(())
 }

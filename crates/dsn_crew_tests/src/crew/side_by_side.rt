@@ -1,12 +1,13 @@
 //! Agents of a crew that work at the same time: each of these runs is held so that a crew which
 //! serves its connections one after another, or in turns, runs out.
 use super::frames::Frames;
-use super::heard::{ANSWER, Heard, after_logged, answer, ports_heard};
+use super::heard::{ANSWER, Heard, after_logged, answer, ports_heard, two_heard};
 use super::hold::{Hold, Until};
 use super::memory_port::MemoryPort;
 use super::outbox::Outbox;
 use super::whole_crew::{EMPTY, Told, line, open, outbox, port, run_over};
 use crate::same::same;
+use dsn_book::OpenLine;
 use dsn_device::Plain;
 use std::alloc::Global;
 use std::process::Abort;
@@ -46,6 +47,17 @@ fn held_over<R: Threads + Wait + Clock + Sync>(
     Ok((told, hold.ran_out()))
 }
 
+/// The same over ports that keep what is heard.
+fn held_heard<R: Threads + Wait + Clock + Sync>(
+    rt: &R,
+    alloc: Global,
+    all: &[Frames],
+    heard: &[Heard],
+    until: Until,
+) -> Result<(Told<Plain<Outbox>>, u64), Fail> {
+    held_over(rt, alloc, ports_heard(alloc, all, heard)?, until)
+}
+
 /// So many appends of `x@y` to this log.
 fn appends(alloc: Global, count: u32, message: &[u8]) -> Result<Frames, Fail> {
     let mut frames = Frames::new(alloc);
@@ -55,16 +67,41 @@ fn appends(alloc: Global, count: u32, message: &[u8]) -> Result<Frames, Fail> {
     Ok(frames)
 }
 
-/// Asserts that a run ended well, that no hold ran out, and that no letter was made.
-fn assert_empty<R: Abort>(rt: &R, told: (Told<Plain<Outbox>>, u64), requests: u32) {
+/// Two agents' appends, so many each: to Q1 and to Q2.
+fn two_appends(alloc: Global, count: u32) -> Result<[Frames; 2], Fail> {
+    let first = appends(alloc, count, b"Q1")?;
+    let second = appends(alloc, count, b"Q2")?;
+    Ok([first, second])
+}
+
+/// Asserts that a run of so many agents, of so many requests each, ended well, that no hold ran
+/// out, that no letter was made, and which logs are open.
+fn assert_empty<R: Abort>(
+    rt: &R,
+    told: (Told<Plain<Outbox>>, u64),
+    agents: usize,
+    requests: u32,
+    lines: &[OpenLine],
+) {
     let (told, ran_out) = told;
     same(rt, (told.code, ran_out, told.letters), (0, 0, 0));
-    for agent in told.agents {
-        same(rt, agent, line(requests, 1));
+    same(rt, told.agents.len(), agents);
+    for agent in &told.agents {
+        same(rt, *agent, line(requests, 1));
     }
     assert!(rt; told.whole);
+    same(rt, told.open.as_slice(), lines);
     let text = told.outbox.into_inner().text;
     same(rt, text.as_slice(), EMPTY.as_slice());
+}
+
+/// Asserts that each client heard one Logged, and no more.
+fn assert_one_logged<R: Abort>(rt: &R, alloc: Global, heard: &[Heard]) -> Result<(), Fail> {
+    for it in heard {
+        let bytes = it.bytes(alloc)?;
+        same(rt, after_logged(rt, &bytes, 1, 1), [0; ANSWER].as_slice());
+    }
+    Ok(())
 }
 
 #[test]
@@ -77,22 +114,12 @@ fn agents_side_by_side(rt: HostRuntime) -> Result<(), Fail> {
         to: 1,
         written: 0,
     };
-    let all = [
-        appends(rt.alloc(), 1, b"Q1")?,
-        appends(rt.alloc(), 1, b"Q2")?,
-    ];
-    let heard = [Heard::new(rt.alloc(), 1)?, Heard::new(rt.alloc(), 1)?];
-    let ports = ports_heard(rt.alloc(), &all, &heard)?;
-    let told = held_over(&rt, rt.alloc(), ports, until)?;
-    for it in &heard {
-        let bytes = it.bytes(rt.alloc())?;
-        same(&rt, after_logged(&rt, &bytes, 1, 1), [0; ANSWER].as_slice());
-    }
     let lines = [open(b"Q1", 1)?, open(b"Q2", 1)?];
-    same(&rt, told.0.open.as_slice(), lines.as_slice());
-    same(&rt, told.0.agents.len(), 2);
-    assert_empty(&rt, told, 1);
-    Ok(())
+    let all = two_appends(rt.alloc(), 1)?;
+    let heard = two_heard(rt.alloc(), 1, 1)?;
+    let told = held_heard(&rt, rt.alloc(), &all, &heard, until)?;
+    assert_empty(&rt, told, 2, 1, &lines);
+    assert_one_logged(&rt, rt.alloc(), &heard)
 }
 
 #[test]
@@ -105,16 +132,20 @@ fn agents_cross(rt: HostRuntime) -> Result<(), Fail> {
         to: 0,
         written: 0,
     };
-    let all = [
-        appends(rt.alloc(), 2, b"Q1")?,
-        appends(rt.alloc(), 2, b"Q2")?,
-    ];
-    let told = held(&rt, rt.alloc(), &all, until)?;
     let lines = [open(b"Q1", 2)?, open(b"Q2", 2)?];
-    same(&rt, told.0.open.as_slice(), lines.as_slice());
-    same(&rt, told.0.agents.len(), 2);
-    assert_empty(&rt, told, 2);
+    let all = two_appends(rt.alloc(), 2)?;
+    let told = held(&rt, rt.alloc(), &all, until)?;
+    assert_empty(&rt, told, 2, 2, &lines);
     Ok(())
+}
+
+/// Sixteen agents' appends to Q1, ten each.
+fn sixteen_appends(alloc: Global) -> Result<Vec<Frames>, Fail> {
+    let mut all = Vec::new(alloc);
+    for _ in 0..16u32 {
+        all.push(appends(alloc, 10, b"Q1")?)?;
+    }
+    Ok(all)
 }
 
 #[test]
@@ -127,14 +158,10 @@ fn sixteen_agents(rt: HostRuntime) -> Result<(), Fail> {
         to: 0,
         written: 0,
     };
-    let mut all = Vec::new(rt.alloc());
-    for _ in 0..16u32 {
-        all.push(appends(rt.alloc(), 10, b"Q1")?)?;
-    }
+    let lines = [open(b"Q1", 160)?];
+    let all = sixteen_appends(rt.alloc())?;
     let told = held(&rt, rt.alloc(), &all, until)?;
-    same(&rt, told.0.open.as_slice(), [open(b"Q1", 160)?].as_slice());
-    same(&rt, told.0.agents.len(), 16);
-    assert_empty(&rt, told, 10);
+    assert_empty(&rt, told, 16, 10, &lines);
     Ok(())
 }
 
@@ -195,6 +222,28 @@ fn assert_heard<R: Abort>(rt: &R, alloc: Global, heard: &[Heard; 2]) -> Result<(
     Ok(())
 }
 
+/// What two agents send: the first one fifty appends and a flush, the other one fifty appends.
+fn fifty_each(alloc: Global) -> Result<[Frames; 2], Fail> {
+    let mut first = fifty(alloc, b'a')?;
+    first.flush(alloc, 50, b"Q1")?;
+    let second = fifty(alloc, b'b')?;
+    Ok([first, second])
+}
+
+/// Asserts that a run of such agents ended well, that no hold ran out, and that one letter was made
+/// with each agent's recipients in their order.
+fn assert_one_letter<R: Abort>(rt: &R, told: (Told<Plain<Outbox>>, u64)) {
+    let (told, ran_out) = told;
+    same(rt, (told.code, ran_out, told.letters), (0, 0, 1));
+    let lines = [line(51, 1), line(50, 1)];
+    same(rt, told.agents.as_slice(), lines.as_slice());
+    assert!(rt; told.whole && told.open.is_empty());
+    let text = told.outbox.into_inner().text;
+    same(rt, groups(&text), 100);
+    same(rt, groups_in_order(&text, b'a'), 50);
+    same(rt, groups_in_order(&text, b'b'), 50);
+}
+
 #[test]
 fn two_agents_one_log(rt: HostRuntime) -> Result<(), Fail> {
     let until = Until {
@@ -205,23 +254,9 @@ fn two_agents_one_log(rt: HostRuntime) -> Result<(), Fail> {
         to: 1,
         written: 0,
     };
-    let mut first = fifty(rt.alloc(), b'a')?;
-    first.flush(rt.alloc(), 50, b"Q1")?;
-    let all = [first, fifty(rt.alloc(), b'b')?];
-    let heard = [Heard::new(rt.alloc(), 51)?, Heard::new(rt.alloc(), 50)?];
-    let ports = ports_heard(rt.alloc(), &all, &heard)?;
-    let (told, ran_out) = held_over(&rt, rt.alloc(), ports, until)?;
-    assert_heard(&rt, rt.alloc(), &heard)?;
-    same(&rt, (told.code, ran_out, told.letters), (0, 0, 1));
-    same(
-        &rt,
-        told.agents.as_slice(),
-        [line(51, 1), line(50, 1)].as_slice(),
-    );
-    assert!(rt; told.whole && told.open.is_empty());
-    let text = told.outbox.into_inner().text;
-    same(&rt, groups(&text), 100);
-    same(&rt, groups_in_order(&text, b'a'), 50);
-    same(&rt, groups_in_order(&text, b'b'), 50);
-    Ok(())
+    let all = fifty_each(rt.alloc())?;
+    let heard = two_heard(rt.alloc(), 51, 50)?;
+    let told = held_heard(&rt, rt.alloc(), &all, &heard, until)?;
+    assert_one_letter(&rt, told);
+    assert_heard(&rt, rt.alloc(), &heard)
 }

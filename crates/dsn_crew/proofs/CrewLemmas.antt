@@ -26,24 +26,24 @@ use Rattle.dsn_post.proofs.ParcelLemmas.{option_few}
 use Rattle.dsn_report.specs.Outgoing.{IsOutbox}
 use Rattle.dsn_crew.specs.agents.Agent.{Agent, Ends, after_reply}
 use Rattle.dsn_crew.specs.desk.Close.{IsHeard}
-use Rattle.dsn_crew.specs.Collected.{HasCollected}
+use Rattle.dsn_crew.specs.CollectorResult.{IsCollectorResult}
 use Rattle.dsn_crew.specs.Conclude.{Concludes, MayClose, account_of, fault_of, missing_cause}
-use Rattle.dsn_crew.specs.Crew.{Account, AreAgentAccounts, CrewFault, IsAccount, IsAgentAccount, IsBrokenOff, IsCrewFault}
+use Rattle.dsn_crew.specs.Crew.{CrewAccount, AreAgentAccounts, CrewFault, IsAccount, IsAgentAccount, IsBrokenOff, IsCrewFault}
 use Rattle.dsn_crew.specs.desk.Desk.{Desk, IsDesk, IsRun, goodbyes, history, letter_kept, missing as missing_more, places_of}
-use Rattle.dsn_crew.specs.Gathered.{AreEnded, IsGathered}
+use Rattle.dsn_crew.specs.AgentsResult.{AreEnded, IsAgentsResult}
 use Rattle.dsn_crew.specs.desk.Open.{IsOpened, opened_agent}
 use Rattle.dsn_crew.specs.agents.Place.{place_at, place_of}
 use Rattle.dsn_crew.specs.agents.Port.{AreOverPort, Conn, Given, HasGiven, IsPortServed, Session, answers_of, bodies_of}
 use Rattle.dsn_crew.specs.agents.Serve.{after_requests, answers_from, numbered_answer, numbered_from, numbered_request, requests_from}
 use Rattle.dsn_crew.specs.StartServing.{AreServed, AreStarted, IsJoined, missing_threads}
 use Rattle.dsn_crew.specs.declared.agents.agent_line.AgentLine.{AgentLine}
-use Rattle.dsn_crew.specs.declared.collected.Collected.{Collected}
-use Rattle.dsn_crew.specs.declared.collected.Collected.TheVariants.{Whole, Failed}
+use Rattle.dsn_crew.specs.declared.collector_result.CollectorResult.{CollectorResult}
+use Rattle.dsn_crew.specs.declared.collector_result.CollectorResult.TheVariants.{Whole, Failed}
 use Rattle.dsn_crew.specs.declared.crew_cause.CrewCause.{CrewCause}
 use Rattle.dsn_crew.specs.declared.crew_cause.CrewCause.TheVariants as causes
 use Rattle.dsn_crew.specs.declared.desk.desk_fault.DeskFault.{DeskFault}
-use Rattle.dsn_crew.specs.declared.gathered.Gathered.{Gathered}
-use Rattle.dsn_crew.specs.declared.gathered.Gathered.TheVariants as gathered
+use Rattle.dsn_crew.specs.declared.agents_result.AgentsResult.{AgentsResult}
+use Rattle.dsn_crew.specs.declared.agents_result.AgentsResult.TheVariants as gathered
 use Rattle.dsn_crew.specs.declared.agents.port.Port.{Ghosts as Port}
 use Rattle.dsn_crew.specs.agents.PortEnd.{PortEnd}
 use Rattle.dsn_crew.specs.declared.start_serving.Serves.{Serves}
@@ -204,7 +204,7 @@ missing≢count : (all : Bool) → missing_cause all ≢ causes.PortCount
 missing≢count true same = let never : causes.Refused ≡ causes.PortCount = same in cc
 missing≢count false same = let never : causes.Lost ≡ causes.PortCount = same in cc
 
-pub no_count : {W : Type 0} (collected : Collected) (all : Gathered) (posted : Posted W) (result : Result (Account W) (CrewFault W)) → Concludes collected all posted result → IfErr result (λ fault. fault.cause ≢ causes.PortCount)
+pub no_count : {W : Type 0} (collected : CollectorResult) (all : AgentsResult) (posted : Posted W) (result : Result (CrewAccount W) (CrewFault W)) → Concludes collected all posted result → IfErr result (λ fault. fault.cause ≢ causes.PortCount)
 no_count collected all posted (Ok account) ends_so = tt
 no_count (Whole new) (gathered.All lines crew) posted (Err fault) faulted = λ same. missing≢count false (sym (ap (λ it. it.cause) faulted.1) ∙ same)
 no_count (Whole new) gathered.Missing posted (Err fault) faulted = λ same. missing≢count posted.all (sym (ap (λ it. it.cause) faulted) ∙ same)
@@ -236,11 +236,11 @@ module _ {P S W : Type 0} (port : Port P S) (drain : Drain W) (host : List ℕ) 
     served = subst (λ (crew : List Agent). AreServed port crew ports ends) opened.crew_is (are-served port agents ports handles ends started joined)
 
     module _ (missed : ℕ) (begun : Desk) (begun_is : begun ≡ missing_more desk missed) (sink after : LetterSink) (fresh : sink.letters ≡ []) where
-      pub collected_lane : (collected : Collected) → HasCollected begun sink after collected → after.lane ≡ sink.lane
+      pub collected_lane : (collected : CollectorResult) → IsCollectorResult begun sink after collected → after.lane ≡ sink.lane
       collected_lane (Whole new) has = (run_letters begun new sink after (Ok tt) has.0 (ap (λ (d : Desk). d.requests.taken) begun_is ∙ opened.taken) fresh).1
       collected_lane (Failed stop held new) has = (run_letters begun new.value sink after (Err has.0) has.1 (ap (λ (d : Desk). d.requests.taken) begun_is ∙ opened.taken) fresh).1
 
-      pub may_close : (collected : Collected) (all : Gathered) → HasCollected begun sink after collected → IsGathered ends all → MayClose collected all
+      pub may_close : (collected : CollectorResult) (all : AgentsResult) → IsCollectorResult begun sink after collected → IsAgentsResult ends all → MayClose collected all
       may_close (Whole new) (gathered.All lines crew) has is = (
         same_places port limits desk.requests.lane desk.answers ports ends lines.items crew.items served is
             ∙ (sym (ap places_of begun_is) ∙ sym has.0.places),
@@ -276,11 +276,11 @@ module _ {P S W : Type 0} (port : Port P S) (drain : Drain W) (host : List ℕ) 
               outbox = subst (IsOutbox drain host start posted.outbox posted.whole posted.unsent) sealed post.outbox;
             }
 
-        pub account_is : (collected : Collected) (all : Gathered) (result : Result (Account W) (CrewFault W)) → HasCollected begun sink after collected → IsGathered ends all → Concludes collected all posted result → IfOk result (IsAccount port drain host limits ports start)
+        pub account_is : (collected : CollectorResult) (all : AgentsResult) (result : Result (CrewAccount W) (CrewFault W)) → IsCollectorResult begun sink after collected → IsAgentsResult ends all → Concludes collected all posted result → IfOk result (IsAccount port drain host limits ports start)
         account_is collected all (Err fault) has is ends_so = tt
         account_is (Whole new) (gathered.All lines crew) (Ok account) has is closed =
             subst (IsAccount port drain host limits ports start) (sym closed.account_is)
-            (account_at new lines.items crew.items has.0 has.2 is closed.all closed.heard (subst (λ (it : Account W). Represents it.book (history new)) closed.account_is closed.stands))
+            (account_at new lines.items crew.items has.0 has.2 is closed.all closed.heard (subst (λ (it : CrewAccount W). Represents it.book (history new)) closed.account_is closed.stands))
         account_is (Whole new) gathered.Missing (Ok account) has is closed = absurd closed
         account_is (Whole new) (gathered.Lost unheard) (Ok account) has is closed = absurd closed
         account_is (Failed stop held new) all (Ok account) has is closed = absurd closed
@@ -295,7 +295,7 @@ module _ {P S W : Type 0} (port : Port P S) (drain : Drain W) (host : List ℕ) 
           missing_at : fault ≡ fault_of (missing_cause posted.all) [] new posted → IsCrewFault drain host limits (length ports) start fault fault.cause
           missing_at = missing_fault drain host limits start after.letters posted post new (limits_are new run) kept (length ports) (lines_length new run) sealed_are fault
 
-        pub fault_is : (collected : Collected) (all : Gathered) (result : Result (Account W) (CrewFault W)) → HasCollected begun sink after collected → Concludes collected all posted result → IfErr result (λ fault. IsCrewFault drain host limits (length ports) start fault fault.cause)
+        pub fault_is : (collected : CollectorResult) (all : AgentsResult) (result : Result (CrewAccount W) (CrewFault W)) → IsCollectorResult begun sink after collected → Concludes collected all posted result → IfErr result (λ fault. IsCrewFault drain host limits (length ports) start fault fault.cause)
         fault_is collected all (Ok account) has ends_so = tt
         fault_is (Whole new) (gathered.All lines crew) (Err fault) has faulted = lost_at new fault has.0 has.2 faulted.1
         fault_is (Whole new) gathered.Missing (Err fault) has faulted = missing_at new fault has.0 has.2 faulted

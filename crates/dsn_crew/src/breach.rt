@@ -4,7 +4,7 @@ ghost use Rattle.dsn_crew.specs.Breach.{cause_of};
 
 use crate::agents::Unheard;
 use crate::crew_cause::CrewCause;
-use crate::desk::Stop;
+use crate::desk::StopCause;
 use dsn_lane::LaneGone;
 
 /// What shows that a lane of the crew was lost.
@@ -15,7 +15,7 @@ pub(crate) enum Loss {
     /// An agent's goodbye was not heard.
     Agent(Unheard),
     /// The collector has failed.
-    Collector(Stop),
+    Collector(StopCause),
 }
 
 /// Why a crew's run ended with a fault, with what shows that a lane was lost where it was.

@@ -41,9 +41,9 @@ impl UntilFailure {
 #[cfg(test)]
 mod tests {
     use super::*;
-    use crate::fakes::PieceWriter;
-    use crate::plain::Plain;
-    use crate::same::same;
+    use crate::assert_same::same;
+    use crate::fake_devices::PieceWriter;
+    use crate::std_device::Plain;
 
     #[test]
     fn nothing_follows_a_failure(rt: HostRuntime) {

@@ -15,10 +15,10 @@ use Rattle.dsn_lane.proofs.SumLemmas.{sum_below, sum_below-same, by_agents, all_
 use Rattle.dsn_lane.specs.Ends.{Identity, End, Out, IsAccepted, IsReceiving, capacity_of, fresh, lane_of, out_of, sending_of, taking}
 use Rattle.dsn_lane.specs.Lane.{back_from}
 use Rattle.dsn_lane.specs.Step.{Settles, after_join, known_after}
-use Rattle.dsn_lane.specs.declared.token.Sending.{Sending}
-use Rattle.dsn_lane.specs.declared.token.Taking.{Taking}
-use Rattle.dsn_lane.specs.declared.token.Token.{Token}
-use Rattle.dsn_lane.specs.declared.token.Token.TheVariants.{Sends, Takes}
+use Rattle.dsn_lane.specs.declared.lane_knowledge.Sending.{Sending}
+use Rattle.dsn_lane.specs.declared.lane_knowledge.Taking.{Taking}
+use Rattle.dsn_lane.specs.declared.lane_knowledge.LaneKnowledge.{LaneKnowledge}
+use Rattle.dsn_lane.specs.declared.lane_knowledge.LaneKnowledge.TheVariants.{Sends, Takes}
 
 -- ---- lists of ends
 
@@ -184,7 +184,7 @@ module _ {T : Type 0} where
 -- ---- taking the ends back, one after another
 
 -- what the receiving end knows once it has taken these ends back
-unfoldable pub after_joins : {T : Type 0} → Token T → List (End T) → Token T
+unfoldable pub after_joins : {T : Type 0} → LaneKnowledge T → List (End T) → LaneKnowledge T
 after_joins token [] = token
 after_joins token (end ∷ ends) = after_joins (after_join token (Sends end.lane.capacity (sending_of end))) ends
 
@@ -200,12 +200,12 @@ empty [] none = refl
 empty (item ∷ items) none = absurd (omega arith)
 
 -- what the receiving end knows, with the last end taken back too
-pub all_joined : {T : Type 0} (capacity most : ℕ) (old before own after : Token T) (ends left : List (End T)) (last : End T) (all : List (End T)) → old ≡ Takes capacity (taking old) → after_joins before left ≡ after_joins old ends → length left ≡ 0 → own ≡ Sends most (sending_of last) → after ≡ after_join before own → all ≡ ends ++ last ∷ [] → after ≡ Takes capacity (known_after (taking old) (map sending_of all))
+pub all_joined : {T : Type 0} (capacity most : ℕ) (old before own after : LaneKnowledge T) (ends left : List (End T)) (last : End T) (all : List (End T)) → old ≡ Takes capacity (taking old) → after_joins before left ≡ after_joins old ends → length left ≡ 0 → own ≡ Sends most (sending_of last) → after ≡ after_join before own → all ≡ ends ++ last ∷ [] → after ≡ Takes capacity (known_after (taking old) (map sending_of all))
 unfolding after_joins
 all_joined {T} capacity most old before own after ends left last all is joined none own_is after_is all_is =
     let done : before ≡ after_joins old ends = ap (after_joins before) (sym (empty left none)) ∙ joined in
     let known : Taking T = taking old in
-    let then : before ≡ Takes capacity (known_after known (map sending_of ends)) = done ∙ (ap (λ (it : Token T). after_joins it ends) is ∙ after_joins-takes capacity known ends) in
+    let then : before ≡ Takes capacity (known_after known (map sending_of ends)) = done ∙ (ap (λ (it : LaneKnowledge T). after_joins it ends) is ∙ after_joins-takes capacity known ends) in
     let back : (known.back ++ map sending_of ends) ++ sending_of last ∷ [] ≡ known.back ++ map sending_of all =
     append_assoc known.back (map sending_of ends) (sending_of last ∷ [])
     ∙ ap (λ (es : List (Sending T)). known.back ++ es) (sym (map-append sending_of ends (last ∷ [])) ∙ ap (map sending_of) (sym all_is))
@@ -239,21 +239,21 @@ shuts_at {T} agent number known lane ends taken sent waiting kept settled all to
       accepted = (waiting, omega arith, accepted_whole agent number lane.capacity known' waiting first ends whole);
     }
 
-pub shuts : {T : Type 0} (agent number : T → ℕ) (pass : Pass T (Token T)) (out : Out T) (ends : List (End T)) (taken sent : ℕ) → IsReceiving agent number (taking (view pass)) taken → (waiting : List T) × Settles agent number (capacity_of (view pass)) (known_after (taking (view pass)) (map sending_of ends)) waiting → out_of pass ≡ out → out.first + length ends ≡ out.past → sent ≡ sum_by (λ (end : End T). length end.sent) ends → sent < 2 ^ 64 → IsShut agent number ends out taken sent
+pub shuts : {T : Type 0} (agent number : T → ℕ) (pass : Pass T (LaneKnowledge T)) (out : Out T) (ends : List (End T)) (taken sent : ℕ) → IsReceiving agent number (taking (view pass)) taken → (waiting : List T) × Settles agent number (capacity_of (view pass)) (known_after (taking (view pass)) (map sending_of ends)) waiting → out_of pass ≡ out → out.first + length ends ≡ out.past → sent ≡ sum_by (λ (end : End T). length end.sent) ends → sent < 2 ^ 64 → IsShut agent number ends out taken sent
 shuts {T} agent number pass out ends taken sent kept settled is all total fits =
     let all' : (out_of pass).first + length ends ≡ (out_of pass).past = subst (λ (o : Out T). o.first + length ends ≡ o.past) (sym is) all in
     subst (λ (o : Out T). IsShut agent number ends o taken sent) is (shuts_at agent number (taking (view pass)) (lane_of pass) ends taken sent settled.0 kept settled.1 all' total fits)
 
 -- one more end is taken back
-pub joined_takes : {T : Type 0} (capacity most : ℕ) (old new : Token T) (end : Sending T) → old ≡ Takes capacity (taking old) → new ≡ after_join old (Sends most end) → new ≡ Takes capacity (taking new)
+pub joined_takes : {T : Type 0} (capacity most : ℕ) (old new : LaneKnowledge T) (end : Sending T) → old ≡ Takes capacity (taking old) → new ≡ after_join old (Sends most end) → new ≡ Takes capacity (taking new)
 joined_takes {T} capacity most old new end is step =
-    let now : new ≡ Takes capacity (known_after (taking old) (end ∷ [])) = step ∙ ap (λ (it : Token T). after_join it (Sends most end)) is in
-    subst (λ (it : Token T). it ≡ Takes capacity (taking it)) (sym now) refl
+    let now : new ≡ Takes capacity (known_after (taking old) (end ∷ [])) = step ∙ ap (λ (it : LaneKnowledge T). after_join it (Sends most end)) is in
+    subst (λ (it : LaneKnowledge T). it ≡ Takes capacity (taking it)) (sym now) refl
 
-pub joined_more : {T : Type 0} (old new start : Token T) (end : End T) (left rest all : List (End T)) → new ≡ after_join old (Sends end.lane.capacity (sending_of end)) → left ≡ end ∷ rest → after_joins old left ≡ after_joins start all → after_joins new rest ≡ after_joins start all
+pub joined_more : {T : Type 0} (old new start : LaneKnowledge T) (end : End T) (left rest all : List (End T)) → new ≡ after_join old (Sends end.lane.capacity (sending_of end)) → left ≡ end ∷ rest → after_joins old left ≡ after_joins start all → after_joins new rest ≡ after_joins start all
 unfolding after_joins
 joined_more {T} old new start end left rest all step left_is before =
-    ap (λ (it : Token T). after_joins it rest) step ∙ (sym (ap (after_joins old) left_is) ∙ before)
+    ap (λ (it : LaneKnowledge T). after_joins it rest) step ∙ (sym (ap (after_joins old) left_is) ∙ before)
 
 -- what all have sent, by what was counted and what is left
 pub total_more : {T : Type 0} (sent count start : ℕ) (end : End T) (left rest : List (End T)) → left ≡ end ∷ rest → count ≡ length end.sent → sent + sum_by (λ (it : End T). length it.sent) left ≡ start → (sent + count) + sum_by (λ (it : End T). length it.sent) rest ≡ start

@@ -7,10 +7,10 @@ use Rattle.dsn_lane.proofs.AgentLemmas.{more_mine, more_not_mine, numbered_more,
 use Rattle.dsn_lane.specs.Ends.{Identity, End, Out, IsSending, IsReceiving, sending, taking, fresh, fresh_ends, passed_over}
 use Rattle.dsn_lane.specs.Lane.{IsNumbered}
 use Rattle.dsn_lane.specs.Step.{after_room, after_send, after_take, after_join, after_split, split_off, IsNext}
-use Rattle.dsn_lane.specs.declared.token.Sending.{Sending}
-use Rattle.dsn_lane.specs.declared.token.Taking.{Taking}
-use Rattle.dsn_lane.specs.declared.token.Token.{Token}
-use Rattle.dsn_lane.specs.declared.token.Token.TheVariants.{Sends, Takes}
+use Rattle.dsn_lane.specs.declared.lane_knowledge.Sending.{Sending}
+use Rattle.dsn_lane.specs.declared.lane_knowledge.Taking.{Taking}
+use Rattle.dsn_lane.specs.declared.lane_knowledge.LaneKnowledge.{LaneKnowledge}
+use Rattle.dsn_lane.specs.declared.lane_knowledge.LaneKnowledge.TheVariants.{Sends, Takes}
 
 -- ---- agents that have sent nothing
 
@@ -56,11 +56,11 @@ keeps_sending_at {T} agent number end count item is next before = record {
 }
 
 -- the token of a sending end, after a send
-pub keeps_sending : {T : Type 0} (agent number : T → ℕ) (capacity : ℕ) (old new : Token T) (count : ℕ) (item : T) → old ≡ Sends capacity (sending old) → new ≡ after_send old item → agent item ≡ (sending old).agent → number item ≡ length (sending old).sent → IsSending agent number (sending old) count → (new ≡ Sends capacity (sending new)) × IsSending agent number (sending new) (count + 1)
+pub keeps_sending : {T : Type 0} (agent number : T → ℕ) (capacity : ℕ) (old new : LaneKnowledge T) (count : ℕ) (item : T) → old ≡ Sends capacity (sending old) → new ≡ after_send old item → agent item ≡ (sending old).agent → number item ≡ length (sending old).sent → IsSending agent number (sending old) count → (new ≡ Sends capacity (sending new)) × IsSending agent number (sending new) (count + 1)
 keeps_sending {T} agent number capacity old new count item is step own next before =
     let end : Sending T = sending old in
-    let now : new ≡ after_send (Sends capacity end) item = step ∙ ap (λ (it : Token T). after_send it item) is in
-    subst (λ (it : Token T). (it ≡ Sends capacity (sending it)) × IsSending agent number (sending it) (count + 1)) (sym now) (refl, keeps_sending_at agent number end count item own next before)
+    let now : new ≡ after_send (Sends capacity end) item = step ∙ ap (λ (it : LaneKnowledge T). after_send it item) is in
+    subst (λ (it : LaneKnowledge T). (it ≡ Sends capacity (sending it)) × IsSending agent number (sending it) (count + 1)) (sym now) (refl, keeps_sending_at agent number end count item own next before)
 
 -- ---- a take
 
@@ -82,18 +82,18 @@ keeps_receiving_at agent number capacity known count item before next = record {
 }
 
 -- the token of the receiving end, after a take
-pub keeps_receiving : {T : Type 0} (agent number : T → ℕ) (capacity : ℕ) (old new : Token T) (count : ℕ) (item : T) → old ≡ Takes capacity (taking old) → new ≡ after_take old item → IsNext agent number old item → IsReceiving agent number (taking old) count → (new ≡ Takes capacity (taking new)) × IsReceiving agent number (taking new) ((count + 1) % 2 ^ 64)
+pub keeps_receiving : {T : Type 0} (agent number : T → ℕ) (capacity : ℕ) (old new : LaneKnowledge T) (count : ℕ) (item : T) → old ≡ Takes capacity (taking old) → new ≡ after_take old item → IsNext agent number old item → IsReceiving agent number (taking old) count → (new ≡ Takes capacity (taking new)) × IsReceiving agent number (taking new) ((count + 1) % 2 ^ 64)
 keeps_receiving {T} agent number capacity old new count item is step next before =
     let known : Taking T = taking old in
-    let told : IsNext agent number (Takes capacity known) item = subst (λ (it : Token T). IsNext agent number it item) is next in
-    let now : new ≡ after_take (Takes capacity known) item = step ∙ ap (λ (it : Token T). after_take it item) is in
-    subst (λ (it : Token T). (it ≡ Takes capacity (taking it)) × IsReceiving agent number (taking it) ((count + 1) % 2 ^ 64)) (sym now) (refl, keeps_receiving_at agent number capacity known count item before told)
+    let told : IsNext agent number (Takes capacity known) item = subst (λ (it : LaneKnowledge T). IsNext agent number it item) is next in
+    let now : new ≡ after_take (Takes capacity known) item = step ∙ ap (λ (it : LaneKnowledge T). after_take it item) is in
+    subst (λ (it : LaneKnowledge T). (it ≡ Takes capacity (taking it)) × IsReceiving agent number (taking it) ((count + 1) % 2 ^ 64)) (sym now) (refl, keeps_receiving_at agent number capacity known count item before told)
 
 -- an item that is taken is of an agent with an end
-pub agent_within : {T : Type 0} (agent number : T → ℕ) (capacity : ℕ) (token : Token T) (count : ℕ) (item : T) → token ≡ Takes capacity (taking token) → IsNext agent number token item → IsReceiving agent number (taking token) count → (length (taking token).back ≤ agent item) × (agent item < (taking token).made)
+pub agent_within : {T : Type 0} (agent number : T → ℕ) (capacity : ℕ) (token : LaneKnowledge T) (count : ℕ) (item : T) → token ≡ Takes capacity (taking token) → IsNext agent number token item → IsReceiving agent number (taking token) count → (length (taking token).back ≤ agent item) × (agent item < (taking token).made)
 agent_within {T} agent number capacity token count item is next before =
     let known : Taking T = taking token in
-    let told : IsNext agent number (Takes capacity known) item = subst (λ (it : Token T). IsNext agent number it item) is next in
+    let told : IsNext agent number (Takes capacity known) item = subst (λ (it : LaneKnowledge T). IsNext agent number it item) is next in
     let a : ℕ = agent item in
     let first : ℕ = length known.back in (
       elim (dec_le first a) [
@@ -118,7 +118,7 @@ ends_more lane first more = let one : more + 1 ≡ suc more = omega arith in ap 
 -- ---- room that is counted
 
 -- there is room for one item more
-pub room_more : {T : Type 0} (n : ℕ) (old new : Token T) → old ≡ passed_over n 0 → new ≡ after_room old → new ≡ passed_over (n + 1) 0
+pub room_more : {T : Type 0} (n : ℕ) (old new : LaneKnowledge T) → old ≡ passed_over n 0 → new ≡ after_room old → new ≡ passed_over (n + 1) 0
 room_more {T} n old new is step =
     let one : suc n ≡ n + 1 = omega arith in step ∙ (ap after_room is ∙ ap (λ (capacity : ℕ). passed_over {T = T} capacity 0) one)
 
@@ -135,7 +135,7 @@ passed_suc {T} capacity n =
     λ i. Takes capacity (record { made = made i; taken = none; back = back i })
 
 -- one more agent is passed over: its pass is split off and joined
-pub passed_more : {T : Type 0} (capacity n : ℕ) (old left right : Token T) → old ≡ passed_over capacity n → left ≡ after_split old → right ≡ split_off old → after_join left right ≡ passed_over capacity (n + 1)
+pub passed_more : {T : Type 0} (capacity n : ℕ) (old left right : LaneKnowledge T) → old ≡ passed_over capacity n → left ≡ after_split old → right ≡ split_off old → after_join left right ≡ passed_over capacity (n + 1)
 passed_more {T} capacity n old left right is split off =
     let splits : left ≡ after_split (passed_over {T = T} capacity n) = split ∙ ap after_split is in
     let offs : right ≡ split_off (passed_over {T = T} capacity n) = off ∙ ap split_off is in
@@ -144,13 +144,13 @@ passed_more {T} capacity n old left right is split off =
 -- ---- opening a lane
 
 -- the receiving end of a lane with nothing in it, whose agents go from `first` on and are below `past`
-abbrev new_token : {T : Type 0} → ℕ → ℕ → ℕ → Token T
+abbrev new_token : {T : Type 0} → ℕ → ℕ → ℕ → LaneKnowledge T
 new_token capacity first past = Takes capacity (record { made = past; taken = []; back = fresh 0 first })
 
 -- the next agent's end stands behind the others
-pub ends_pushed : {T : Type 0} (lane : Identity T) (capacity first more : ℕ) (token : Token T) (end : End T) (old new : List (End T)) → token ≡ Takes capacity (record { made = first + more; taken = []; back = fresh 0 first }) → end ≡ record { lane = lane; agent = (taking token).made; sent = [] } → old ≡ fresh_ends lane first more → new ≡ old ++ end ∷ [] → new ≡ fresh_ends lane first (more + 1)
+pub ends_pushed : {T : Type 0} (lane : Identity T) (capacity first more : ℕ) (token : LaneKnowledge T) (end : End T) (old new : List (End T)) → token ≡ Takes capacity (record { made = first + more; taken = []; back = fresh 0 first }) → end ≡ record { lane = lane; agent = (taking token).made; sent = [] } → old ≡ fresh_ends lane first more → new ≡ old ++ end ∷ [] → new ≡ fresh_ends lane first (more + 1)
 ends_pushed {T} lane capacity first more token end old new is end_is before pushed =
-    let made : (taking token).made ≡ first + more = ap (λ (it : Token T). (taking it).made) is in
+    let made : (taking token).made ≡ first + more = ap (λ (it : LaneKnowledge T). (taking it).made) is in
     let none : List T = [] in
     let last : end ≡ record { lane = lane; agent = first + more; sent = none } = end_is ∙ ap (λ (n : ℕ). record { lane = lane; agent = n; sent = none }) made in
     pushed ∙ ((λ i. before i ++ last i ∷ []) ∙ sym (ends_more lane first more))
@@ -164,18 +164,18 @@ receiving_at {T} agent number capacity first past some few = record {
 }
 
 -- a receiving end that has taken nothing
-pub new_receiving : {T : Type 0} (agent number : T → ℕ) (capacity first past : ℕ) (token : Token T) → first < past → past ≤ 16 → token ≡ Takes capacity (record { made = past; taken = []; back = fresh 0 first }) → (token ≡ Takes capacity (taking token)) × IsReceiving agent number (taking token) 0
+pub new_receiving : {T : Type 0} (agent number : T → ℕ) (capacity first past : ℕ) (token : LaneKnowledge T) → first < past → past ≤ 16 → token ≡ Takes capacity (record { made = past; taken = []; back = fresh 0 first }) → (token ≡ Takes capacity (taking token)) × IsReceiving agent number (taking token) 0
 new_receiving {T} agent number capacity first past token some few is =
-    subst (λ (it : Token T). (it ≡ Takes capacity (taking it)) × IsReceiving agent number (taking it) 0) (sym is) (refl, receiving_at agent number capacity first past some few)
+    subst (λ (it : LaneKnowledge T). (it ≡ Takes capacity (taking it)) × IsReceiving agent number (taking it) 0) (sym is) (refl, receiving_at agent number capacity first past some few)
 
 abbrev out : {T : Type 0} → Identity T → ℕ → ℕ → List T → Out T
 out lane first past taken = record { lane = lane; first = first; past = past; taken = taken }
 
 -- what contracts see of it
-pub new_out : {T : Type 0} (lane : Identity T) (capacity first past : ℕ) (token : Token T) → token ≡ Takes capacity (record { made = past; taken = []; back = fresh 0 first }) → out lane (length (taking token).back) (taking token).made (taking token).taken ≡ out lane first past []
+pub new_out : {T : Type 0} (lane : Identity T) (capacity first past : ℕ) (token : LaneKnowledge T) → token ≡ Takes capacity (record { made = past; taken = []; back = fresh 0 first }) → out lane (length (taking token).back) (taking token).made (taking token).taken ≡ out lane first past []
 new_out {T} lane capacity first past token is =
     let none : List T = [] in
-    ap (λ (it : Token T). out lane (length (taking it).back) (taking it).made (taking it).taken) is ∙ ap (λ (n : ℕ). out lane n past none) (length-fresh T 0 first)
+    ap (λ (it : LaneKnowledge T). out lane (length (taking it).back) (taking it).made (taking it).taken) is ∙ ap (λ (n : ℕ). out lane n past none) (length-fresh T 0 first)
 
 -- ---- the last of some ends
 

@@ -12,10 +12,10 @@ use Rattle.dsn_outcome.specs.Agents.{from_agent}
 use Rattle.dsn_lane.proofs.AgentLemmas.{get_seam, mine, not_mine, more, more_mine, more_not_mine, seam_mine, numbered_more, numbered_none}
 use Rattle.dsn_lane.specs.Lane.{IsLane, IsNumbered, Knows, back_from}
 use Rattle.dsn_lane.specs.Step.{opened, after_room, after_split, split_off, after_send, after_take, after_join, known_after, IsNext, Settles, IsSettled}
-use Rattle.dsn_lane.specs.declared.token.Sending.{Sending}
-use Rattle.dsn_lane.specs.declared.token.Taking.{Taking}
-use Rattle.dsn_lane.specs.declared.token.Token.{Token}
-use Rattle.dsn_lane.specs.declared.token.Token.TheVariants.{Sends, Takes, Spent}
+use Rattle.dsn_lane.specs.declared.lane_knowledge.Sending.{Sending}
+use Rattle.dsn_lane.specs.declared.lane_knowledge.Taking.{Taking}
+use Rattle.dsn_lane.specs.declared.lane_knowledge.LaneKnowledge.{LaneKnowledge}
+use Rattle.dsn_lane.specs.declared.lane_knowledge.LaneKnowledge.TheVariants.{Sends, Takes, Spent}
 
 -- ---- passes
 
@@ -52,8 +52,8 @@ nil≢cons e = cc
 module _ {T : Type 0} (agent number : T → ℕ) where
   -- ---- making the lane
 
-  opened_passes : (pass : ℕ) (token : Token T) → get_elem? (opened {T = T} ∷ []) pass ≡ some token → Knows 0 (record { made = 0; taken = []; back = [] }) 0 (λ a. []) (λ a. 0) pass token
-  opened_passes zero token at = subst (λ (it : Token T). Knows 0 (record { made = 0; taken = []; back = [] }) 0 (λ a. []) (λ a. 0) 0 it) (some-injective (opened {T = T}) token at) (refl, refl, refl)
+  opened_passes : (pass : ℕ) (token : LaneKnowledge T) → get_elem? (opened {T = T} ∷ []) pass ≡ some token → Knows 0 (record { made = 0; taken = []; back = [] }) 0 (λ a. []) (λ a. 0) pass token
+  opened_passes zero token at = subst (λ (it : LaneKnowledge T). Knows 0 (record { made = 0; taken = []; back = [] }) 0 (λ a. []) (λ a. 0) 0 it) (some-injective (opened {T = T}) token at) (refl, refl, refl)
   opened_passes (suc pass) token at = absurd (some-ne-none token (sym at))
 
   pub opens : IsLane agent number [] (opened ∷ [])
@@ -80,7 +80,7 @@ module _ {T : Type 0} (agent number : T → ℕ) where
   sent_grows : (sent : ℕ → List T) (item : T) (a : ℕ) → agent item ≡ a → sent a ++ from_agent agent a (item ∷ []) ≡ sent a ++ item ∷ []
   sent_grows sent item a same = ap (λ (last : List T). sent a ++ last) (mine agent a item same)
 
-  send_knows : (capacity : ℕ) (receiver : Taking T) (reader : ℕ) (sent : ℕ → List T) (seat : ℕ → ℕ) (item : T) (pass p : ℕ) (token : Token T) → seat (agent item) ≡ pass → p ≢ pass → Knows capacity receiver reader sent seat p token → Knows capacity receiver reader (λ a. sent a ++ from_agent agent a (item ∷ [])) seat p token
+  send_knows : (capacity : ℕ) (receiver : Taking T) (reader : ℕ) (sent : ℕ → List T) (seat : ℕ → ℕ) (item : T) (pass p : ℕ) (token : LaneKnowledge T) → seat (agent item) ≡ pass → p ≢ pass → Knows capacity receiver reader sent seat p token → Knows capacity receiver reader (λ a. sent a ++ from_agent agent a (item ∷ [])) seat p token
   send_knows capacity receiver reader sent seat item pass p (Sends most end) at other knows =
       (knows.0, knows.1, sent_stays sent item end.agent (λ same. other (sym knows.1 ∙ (ap seat (sym same) ∙ at))) ∙ knows.2, knows.3, knows.4)
   send_knows capacity receiver reader sent seat item pass p (Takes most known) at other knows = knows
@@ -127,20 +127,20 @@ module _ {T : Type 0} (agent number : T → ℕ) where
         refl,
       )
 
-  pub sends : (n pass : ℕ) (token : Token T) (end : Sending T) (item : T) → token ≡ Sends n end → agent item ≡ end.agent → number item ≡ length end.sent → Pushes (IsLane agent number) n pass token item (λ w. w ≡ after_send token item)
+  pub sends : (n pass : ℕ) (token : LaneKnowledge T) (end : Sending T) (item : T) → token ≡ Sends n end → agent item ≡ end.agent → number item ≡ length end.sent → Pushes (IsLane agent number) n pass token item (λ w. w ≡ after_send token item)
   sends n pass token end item is own next =
-      subst (λ (it : Token T). Pushes (IsLane agent number) n pass it item (λ w. w ≡ after_send it item)) (sym is) (sends_at n pass end item own next)
+      subst (λ (it : LaneKnowledge T). Pushes (IsLane agent number) n pass it item (λ w. w ≡ after_send it item)) (sym is) (sends_at n pass end item own next)
 
   -- ---- a receive that takes
 
-  take_knows : (capacity : ℕ) (receiver after : Taking T) (reader : ℕ) (sent : ℕ → List T) (seat : ℕ → ℕ) (pass p : ℕ) (token : Token T) → after.made ≡ receiver.made → after.back ≡ receiver.back → reader ≡ pass → p ≢ pass → Knows capacity receiver reader sent seat p token → Knows capacity after reader sent seat p token
+  take_knows : (capacity : ℕ) (receiver after : Taking T) (reader : ℕ) (sent : ℕ → List T) (seat : ℕ → ℕ) (pass p : ℕ) (token : LaneKnowledge T) → after.made ≡ receiver.made → after.back ≡ receiver.back → reader ≡ pass → p ≢ pass → Knows capacity receiver reader sent seat p token → Knows capacity after reader sent seat p token
   take_knows capacity receiver after reader sent seat pass p (Sends most end) made back reads other knows =
       (knows.0, knows.1, knows.2, subst (λ (n : ℕ). end.agent < n) (sym made) knows.3, ap (λ (ends : List (Sending T)). from_agent (λ (e : Sending T). e.agent) end.agent ends) back ∙ knows.4)
   take_knows capacity receiver after reader sent seat pass p (Takes most known) made back reads other knows = absurd (other (sym knows.1 ∙ reads))
   take_knows capacity receiver after reader sent seat pass p Spent made back reads other knows = tt
 
   -- an item that waits at the front was sent by its agent, behind what was taken of that agent
-  front_sent : (waiting : List T) (tokens : List (Token T)) (item : T) (h : IsLane agent number (item ∷ waiting) tokens) → slice_get (h.sent (agent item)) (length (from_agent agent (agent item) h.receiver.taken)) ≡ Some item
+  front_sent : (waiting : List T) (tokens : List (LaneKnowledge T)) (item : T) (h : IsLane agent number (item ∷ waiting) tokens) → slice_get (h.sent (agent item)) (length (from_agent agent (agent item) h.receiver.taken)) ≡ Some item
   front_sent waiting tokens item h =
       let a : ℕ = agent item in
       let front : List T = from_agent agent a h.receiver.taken in
@@ -151,7 +151,7 @@ module _ {T : Type 0} (agent number : T → ℕ) where
   not_there items place item at none =
       let gone : slice_get {X = T} [] place ≡ Some item = subst (λ (xs : List T). slice_get xs place ≡ Some item) none at in absurd cc
 
-  is_next : (waiting : List T) (tokens : List (Token T)) (item : T) (h : IsLane agent number (item ∷ waiting) tokens) → IsNext agent number (Takes h.capacity h.receiver) item
+  is_next : (waiting : List T) (tokens : List (LaneKnowledge T)) (item : T) (h : IsLane agent number (item ∷ waiting) tokens) → IsNext agent number (Takes h.capacity h.receiver) item
   is_next waiting tokens item h =
       let a : ℕ = agent item in
       let at = front_sent waiting tokens item h in
@@ -189,14 +189,14 @@ module _ {T : Type 0} (agent number : T → ℕ) where
         (refl, subst (λ (it : Taking T). IsNext agent number (Takes capacity it) item) own.2 (is_next waiting tokens item h)),
       )
 
-  pub takes : (pass : ℕ) (token : Token T) (capacity : ℕ) (known : Taking T) → token ≡ Takes capacity known → Pops (IsLane agent number) pass token (λ item w. (w ≡ after_take token item) × IsNext agent number token item)
+  pub takes : (pass : ℕ) (token : LaneKnowledge T) (capacity : ℕ) (known : Taking T) → token ≡ Takes capacity known → Pops (IsLane agent number) pass token (λ item w. (w ≡ after_take token item) × IsNext agent number token item)
   takes pass token capacity known is =
-      subst (λ (it : Token T). Pops (IsLane agent number) pass it (λ item w. (w ≡ after_take it item) × IsNext agent number it item)) (sym is) (takes_at capacity pass known)
+      subst (λ (it : LaneKnowledge T). Pops (IsLane agent number) pass it (λ item w. (w ≡ after_take it item) × IsNext agent number it item)) (sym is) (takes_at capacity pass known)
 
   -- ---- counting room
 
   -- as long as no agent has an end, the receiving end's pass alone says how much room there is
-  room_knows : (capacity : ℕ) (receiver : Taking T) (reader : ℕ) (sent : ℕ → List T) (seat : ℕ → ℕ) (pass p : ℕ) (token : Token T) → receiver.made ≡ 0 → reader ≡ pass → p ≢ pass → Knows capacity receiver reader sent seat p token → Knows (suc capacity) receiver reader sent seat p token
+  room_knows : (capacity : ℕ) (receiver : Taking T) (reader : ℕ) (sent : ℕ → List T) (seat : ℕ → ℕ) (pass p : ℕ) (token : LaneKnowledge T) → receiver.made ≡ 0 → reader ≡ pass → p ≢ pass → Knows capacity receiver reader sent seat p token → Knows (suc capacity) receiver reader sent seat p token
   room_knows capacity receiver reader sent seat pass p (Sends most end) none reads other knows = let below : end.agent < receiver.made = knows.3 in absurd (omega arith)
   room_knows capacity receiver reader sent seat pass p (Takes most known) none reads other knows = absurd (other (sym knows.1 ∙ reads))
   room_knows capacity receiver reader sent seat pass p Spent none reads other knows = tt
@@ -223,8 +223,8 @@ module _ {T : Type 0} (agent number : T → ℕ) where
             tt;
       }
 
-  pub rooms : (pass : ℕ) (token : Token T) (capacity : ℕ) (known : Taking T) → token ≡ Takes capacity known → known.made ≡ 0 → Forks (IsLane agent number) pass token (after_room token) Spent
-  rooms pass token capacity known is none = subst (λ (it : Token T). Forks (IsLane agent number) pass it (after_room it) Spent) (sym is) (rooms_at capacity pass known none)
+  pub rooms : (pass : ℕ) (token : LaneKnowledge T) (capacity : ℕ) (known : Taking T) → token ≡ Takes capacity known → known.made ≡ 0 → Forks (IsLane agent number) pass token (after_room token) Spent
+  rooms pass token capacity known is none = subst (λ (it : LaneKnowledge T). Forks (IsLane agent number) pass it (after_room it) Spent) (sym is) (rooms_at capacity pass known none)
 
   -- ---- splitting off an agent's pass
 
@@ -239,7 +239,7 @@ module _ {T : Type 0} (agent number : T → ℕ) where
   unfolding seat_after
   seat_old made pass seat a other = rw (ne_eqb a made other) refl
 
-  split_knows : (capacity : ℕ) (receiver : Taking T) (reader : ℕ) (sent : ℕ → List T) (seat : ℕ → ℕ) (new pass p : ℕ) (token : Token T) → reader ≡ pass → p ≢ pass → Knows capacity receiver reader sent seat p token → Knows capacity (record { made = suc receiver.made; taken = receiver.taken; back = receiver.back }) reader sent (seat_after receiver.made new seat) p token
+  split_knows : (capacity : ℕ) (receiver : Taking T) (reader : ℕ) (sent : ℕ → List T) (seat : ℕ → ℕ) (new pass p : ℕ) (token : LaneKnowledge T) → reader ≡ pass → p ≢ pass → Knows capacity receiver reader sent seat p token → Knows capacity (record { made = suc receiver.made; taken = receiver.taken; back = receiver.back }) reader sent (seat_after receiver.made new seat) p token
   split_knows capacity receiver reader sent seat new pass p (Sends most end) reads other knows =
       let below : end.agent < receiver.made = knows.3 in
       (knows.0, seat_old receiver.made new seat end.agent (λ same. absurd (omega arith)) ∙ knows.1, knows.2, omega arith, knows.4)
@@ -249,7 +249,7 @@ module _ {T : Type 0} (agent number : T → ℕ) where
   splits_at : (capacity pass : ℕ) (known : Taking T) → Forks (IsLane agent number) pass (Takes capacity known) (after_split (Takes capacity known)) (split_off (Takes capacity known))
   splits_at capacity pass known waiting tokens h at =
       let own = h.passes pass (Takes capacity known) at in
-      let tokens' : List (Token T) = set tokens pass (after_split (Takes capacity known)) in
+      let tokens' : List (LaneKnowledge T) = set tokens pass (after_split (Takes capacity known)) in
       let new : ℕ = length tokens' in
       let receiver' : Taking T = record { made = suc h.receiver.made; taken = h.receiver.taken; back = h.receiver.back } in
       let seat' : ℕ → ℕ = seat_after h.receiver.made new h.seat in
@@ -277,8 +277,8 @@ module _ {T : Type 0} (agent number : T → ℕ) where
             (subst (λ (n : ℕ). Knows h.capacity receiver' h.reader h.sent seat' new (Sends capacity (record { agent = n; sent = [] }))) made knew);
       }
 
-  pub splits : (pass : ℕ) (token : Token T) (capacity : ℕ) (known : Taking T) → token ≡ Takes capacity known → Forks (IsLane agent number) pass token (after_split token) (split_off token)
-  splits pass token capacity known is = subst (λ (it : Token T). Forks (IsLane agent number) pass it (after_split it) (split_off it)) (sym is) (splits_at capacity pass known)
+  pub splits : (pass : ℕ) (token : LaneKnowledge T) (capacity : ℕ) (known : Taking T) → token ≡ Takes capacity known → Forks (IsLane agent number) pass token (after_split token) (split_off token)
+  splits pass token capacity known is = subst (λ (it : LaneKnowledge T). Forks (IsLane agent number) pass it (after_split it) (split_off it)) (sym is) (splits_at capacity pass known)
 
   -- ---- joining a pass at the close
 
@@ -291,7 +291,7 @@ module _ {T : Type 0} (agent number : T → ℕ) where
   back_grows : (receiver : Taking T) (end : Sending T) (a : ℕ) → end.agent ≡ a → back_from a receiver ≡ [] → back_from a (with_back receiver end) ≡ end ∷ []
   back_grows receiver end a same none = more_mine (λ (e : Sending T). e.agent) a receiver.back end same ∙ ap (λ (front : List (Sending T)). front ++ end ∷ []) none
 
-  join_knows : (capacity : ℕ) (receiver : Taking T) (end : Sending T) (reader : ℕ) (sent : ℕ → List T) (seat : ℕ → ℕ) (pass other p : ℕ) (token : Token T) → reader ≡ pass → seat end.agent ≡ other → p ≢ pass → p ≢ other → Knows capacity receiver reader sent seat p token → Knows capacity (with_back receiver end) reader sent seat p token
+  join_knows : (capacity : ℕ) (receiver : Taking T) (end : Sending T) (reader : ℕ) (sent : ℕ → List T) (seat : ℕ → ℕ) (pass other p : ℕ) (token : LaneKnowledge T) → reader ≡ pass → seat end.agent ≡ other → p ≢ pass → p ≢ other → Knows capacity receiver reader sent seat p token → Knows capacity (with_back receiver end) reader sent seat p token
   join_knows capacity receiver end reader sent seat pass other p (Sends most its) reads at away apart knows =
       (knows.0, knows.1, knows.2, knows.3, back_stays receiver end its.agent (λ same. apart (sym knows.1 ∙ (ap seat (sym same) ∙ at))) ∙ knows.4)
   join_knows capacity receiver end reader sent seat pass other p (Takes most known) reads at away apart knows = absurd (away (sym knows.1 ∙ reads))
@@ -303,7 +303,7 @@ module _ {T : Type 0} (agent number : T → ℕ) where
       let was : get_elem? tokens other ≡ some (Sends most end) = sym (set_else tokens pass other (after_join (Takes capacity known) (Sends most end)) two) ∙ there in
       let its = h.passes other (Sends most end) was in
       let receiver' : Taking T = with_back h.receiver end in
-      let tokens' : List (Token T) = set tokens pass (after_join (Takes capacity known) (Sends most end)) in record {
+      let tokens' : List (LaneKnowledge T) = set tokens pass (after_join (Takes capacity known) (Sends most end)) in record {
         capacity = h.capacity;
         receiver = receiver';
         reader = h.reader;
@@ -334,9 +334,9 @@ module _ {T : Type 0} (agent number : T → ℕ) where
             p token there' apart);
       }
 
-  pub joins : (pass : ℕ) (token : Token T) (other : ℕ) (its : Token T) (capacity : ℕ) (known : Taking T) (most : ℕ) (end : Sending T) → token ≡ Takes capacity known → its ≡ Sends most end → Merges (IsLane agent number) pass token other its (after_join token its) Spent
+  pub joins : (pass : ℕ) (token : LaneKnowledge T) (other : ℕ) (its : LaneKnowledge T) (capacity : ℕ) (known : Taking T) (most : ℕ) (end : Sending T) → token ≡ Takes capacity known → its ≡ Sends most end → Merges (IsLane agent number) pass token other its (after_join token its) Spent
   joins pass token other its capacity known most end is its_is =
-      subst (λ (it : Token T × Token T). Merges (IsLane agent number) pass it.0 other it.1 (after_join it.0 it.1) Spent) (λ i. (sym is i, sym its_is i)) (joins_at capacity pass known most other end)
+      subst (λ (it : LaneKnowledge T × LaneKnowledge T). Merges (IsLane agent number) pass it.0 other it.1 (after_join it.0 it.1) Spent) (λ i. (sym is i, sym its_is i)) (joins_at capacity pass known most other end)
 
   -- ---- reading the joined pass
 
@@ -353,5 +353,5 @@ module _ {T : Type 0} (agent number : T → ℕ) where
       } in
       subst (λ (it : Taking T). Settles agent number capacity it waiting) own.2 here
 
-  pub settles : (pass : ℕ) (token : Token T) (capacity : ℕ) (known : Taking T) → token ≡ Takes capacity known → Learns (IsLane agent number) pass token (IsSettled agent number token)
-  settles pass token capacity known is = subst (λ (it : Token T). Learns (IsLane agent number) pass it (IsSettled agent number it)) (sym is) (settles_at capacity pass known)
+  pub settles : (pass : ℕ) (token : LaneKnowledge T) (capacity : ℕ) (known : Taking T) → token ≡ Takes capacity known → Learns (IsLane agent number) pass token (IsSettled agent number token)
+  settles pass token capacity known is = subst (λ (it : LaneKnowledge T). Learns (IsLane agent number) pass it (IsSettled agent number it)) (sym is) (settles_at capacity pass known)

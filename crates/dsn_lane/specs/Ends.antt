@@ -9,10 +9,10 @@ use Rattle.crossbeam_channel.specs.declared.flavors.array.Key.{Key}
 use Rattle.crossbeam_channel.specs.declared.flavors.array.Rows.{Rows}
 use Rattle.dsn_outcome.specs.Agents.{from_agent}
 use Rattle.dsn_lane.specs.Lane.{IsNumbered, most_agents}
-use Rattle.dsn_lane.specs.declared.token.Sending.{Sending}
-use Rattle.dsn_lane.specs.declared.token.Taking.{Taking}
-use Rattle.dsn_lane.specs.declared.token.Token.{Token}
-use Rattle.dsn_lane.specs.declared.token.Token.TheVariants.{Sends, Takes, Spent}
+use Rattle.dsn_lane.specs.declared.lane_knowledge.Sending.{Sending}
+use Rattle.dsn_lane.specs.declared.lane_knowledge.Taking.{Taking}
+use Rattle.dsn_lane.specs.declared.lane_knowledge.LaneKnowledge.{LaneKnowledge}
+use Rattle.dsn_lane.specs.declared.lane_knowledge.LaneKnowledge.TheVariants.{Sends, Takes, Spent}
 
 -- which lane it is: no two lanes share it; and how many items it holds at most
 pub record Identity (T : Type 0) : Type 0 where
@@ -41,23 +41,23 @@ pub record Lists (T : Type 0) : Type 0 where
 
 module _ {T : Type 0} where
   -- what a pass stands for, and how many items its lane holds at most
-  abbrev pub capacity_of : Token T → ℕ
+  abbrev pub capacity_of : LaneKnowledge T → ℕ
   capacity_of (Sends capacity end) = capacity
   capacity_of (Takes capacity known) = capacity
   capacity_of Spent = 0
 
-  abbrev pub sending : Token T → Sending T
+  abbrev pub sending : LaneKnowledge T → Sending T
   sending (Sends capacity end) = end
   sending (Takes capacity known) = record { agent = 0; sent = [] }
   sending Spent = record { agent = 0; sent = [] }
 
-  abbrev pub taking : Token T → Taking T
+  abbrev pub taking : LaneKnowledge T → Taking T
   taking (Takes capacity known) = known
   taking (Sends capacity end) = record { made = 0; taken = []; back = [] }
   taking Spent = record { made = 0; taken = []; back = [] }
 
   -- what contracts see of an end, by its pass; a channel's own passes are of its lane
-  abbrev pub lane_of : Pass T (Token T) → Identity T
+  abbrev pub lane_of : Pass T (LaneKnowledge T) → Identity T
   lane_of
       pass = record {
         table = pass.table_id;
@@ -66,7 +66,7 @@ module _ {T : Type 0} where
       }
 
   abbrev pub lane_at : {M Q L A : Type 0}
-      → Rows (Badge (Key T)) (Doing T (Token T)) Q M (Key T) L A → Identity T
+      → Rows (Badge (Key T)) (Doing T (LaneKnowledge T)) Q M (Key T) L A → Identity T
   lane_at
       channel = record {
         table = channel.stamps.shared.table_id;
@@ -74,14 +74,14 @@ module _ {T : Type 0} where
         capacity = ruled_capacity channel;
       }
 
-  abbrev pub end_of : Pass T (Token T) → End T
+  abbrev pub end_of : Pass T (LaneKnowledge T) → End T
   end_of pass = record {
     lane = lane_of pass;
     agent = (sending (view pass)).agent;
     sent = (sending (view pass)).sent;
   }
 
-  abbrev pub out_of : Pass T (Token T) → Out T
+  abbrev pub out_of : Pass T (LaneKnowledge T) → Out T
   out_of pass =
       record {
         lane = lane_of pass;
@@ -100,7 +100,7 @@ module _ {T : Type 0} where
   fresh first (suc more) = record { agent = first; sent = [] } ∷ fresh (suc first) more
 
   -- what the receiving end of a lane of such a capacity knows that has passed over so many agents
-  abbrev pub passed_over : ℕ → ℕ → Token T
+  abbrev pub passed_over : ℕ → ℕ → LaneKnowledge T
   passed_over capacity n = Takes capacity (record { made = n; taken = []; back = fresh 0 n })
 
   -- the ends of so many agents from one on, in their order, which have sent nothing

@@ -4,10 +4,10 @@ use Rattle.std.specs.List.{slice_get}
 use mathlib.Core.Option.{some}
 use lib.ListN.{get_elem?}
 use Rattle.dsn_outcome.specs.Agents.{from_agent}
-use Rattle.dsn_lane.specs.declared.token.Sending.{Sending}
-use Rattle.dsn_lane.specs.declared.token.Taking.{Taking}
-use Rattle.dsn_lane.specs.declared.token.Token.{Token}
-use Rattle.dsn_lane.specs.declared.token.Token.TheVariants.{Sends, Takes, Spent}
+use Rattle.dsn_lane.specs.declared.lane_knowledge.Sending.{Sending}
+use Rattle.dsn_lane.specs.declared.lane_knowledge.Taking.{Taking}
+use Rattle.dsn_lane.specs.declared.lane_knowledge.LaneKnowledge.{LaneKnowledge}
+use Rattle.dsn_lane.specs.declared.lane_knowledge.LaneKnowledge.TheVariants.{Sends, Takes, Spent}
 
 -- how many agents a crew has at most
 abbrev pub most_agents : ℕ
@@ -34,7 +34,7 @@ module _ {T : Type 0} where
   -- what a pass stands for is so: `capacity` is how many items the lane holds at most, `receiver`
   -- what the receiving end knows, `reader` its pass, `sent` what each agent has sent, and `seat`
   -- the pass of its end
-  abbrev pub Knows : ℕ → Taking T → ℕ → (ℕ → List T) → (ℕ → ℕ) → ℕ → Token T → Type 0
+  abbrev pub Knows : ℕ → Taking T → ℕ → (ℕ → List T) → (ℕ → ℕ) → ℕ → LaneKnowledge T → Type 0
   Knows capacity receiver reader sent seat pass (Sends most end) =
       (most ≡ capacity) × (seat end.agent ≡ pass) × (sent end.agent ≡ end.sent)
       × (end.agent < receiver.made) × (back_from end.agent receiver ≡ [])
@@ -44,7 +44,7 @@ module _ {T : Type 0} where
 
   -- `waiting` is what the lane holds, oldest first, and `tokens` what its passes stand for
   pub record IsLane (agent number : T → ℕ) (waiting : List T)
-      (tokens : List (Token T)) : Type 0 where
+      (tokens : List (LaneKnowledge T)) : Type 0 where
     pub capacity : ℕ
     pub receiver : Taking T
     pub reader : ℕ
@@ -63,5 +63,5 @@ module _ {T : Type 0} where
         → (back_from a receiver ≡ [])
         ⊎ (back_from a receiver ≡ record { agent = a; sent = sent a } ∷ [])
     -- what each pass stands for is so
-    pub passes : (pass : ℕ) (token : Token T) → get_elem? tokens pass ≡ some token
+    pub passes : (pass : ℕ) (token : LaneKnowledge T) → get_elem? tokens pass ≡ some token
         → Knows capacity receiver reader sent seat pass token

@@ -5,24 +5,28 @@ ghost use mathlib.Core.List.{IsPrefix};
 ghost use Rattle.crossbeam_channel.specs.Claims.{view, IsSeatAt};
 ghost use Rattle.crossbeam_channel.specs.Ends.{sends_on};
 ghost use Rattle.dsn_outcome.specs.Agents.{from_agent};
-ghost use Rattle.dsn_lane.specs.declared.token.Token.TheVariants.{Sends, Takes};
+ghost use Rattle.dsn_lane.specs.declared.lane_knowledge.LaneKnowledge.TheVariants.{Sends, Takes};
 ghost use Rattle.dsn_lane.specs.Ends.{IsAccepted, capacity_of, lane_at, lane_of, sending_of, taking};
 ghost use Rattle.dsn_lane.specs.Lane.{most_agents};
 ghost use Rattle.dsn_lane.specs.Step.{Settles, after_join, known_after};
 
 use crate::lane_in::LaneIn;
+use crate::lane_knowledge::LaneKnowledge;
 use crate::lane_lists::LaneLists;
 use crate::lane_out::LaneOut;
+use crate::lane_rule::{LaneRule, ReadsOff, TakeBack};
 use crate::lane_shut::LaneShut;
-use crate::rule::{LaneRule, ReadsOff, TakeBack};
-use crate::token::Token;
 use crossbeam_channel::{Pass, RuledSender};
-use dsn_outcome::Carried;
+use dsn_outcome::LaneItem;
 use std::sync::Wait;
 
 /// Closes a lane, of which it takes the receiving end and all sending ends, in any order. What
 /// waits is dropped, and counted.
-pub fn close_lane<T: Carried>(_rt: &impl Wait, ends: Vec<LaneIn<T>>, out: LaneOut<T>) -> LaneShut<T>
+pub fn close_lane<T: LaneItem>(
+    _rt: &impl Wait,
+    ends: Vec<LaneIn<T>>,
+    out: LaneOut<T>,
+) -> LaneShut<T>
     requires lane { All (λ end. end.lane ≡ out.lane) ends.items }
     requires all { out.first + length ends.items ≡ out.past }
     ensures taken { result.taken ≡ length out.taken }
@@ -49,7 +53,7 @@ pub fn close_lane<T: Carried>(_rt: &impl Wait, ends: Vec<LaneIn<T>>, out: LaneOu
 }
 
 /// Takes all sending ends back, says how many items they had sent, and reads what waits.
-fn take_all_back<T: Carried>(pass: &mut Pass<T, Token<T>>, mut ends: Vec<LaneIn<T>>) -> u64
+fn take_all_back<T: LaneItem>(pass: &mut Pass<T, LaneKnowledge<T>>, mut ends: Vec<LaneIn<T>>) -> u64
     requires channel { pass.old.me.1 ≡ [] }
     requires receiver { view pass.old
         ≡ Takes (capacity_of (view pass.old)) (taking (view pass.old)) }
@@ -78,9 +82,9 @@ fn take_all_back<T: Carried>(pass: &mut Pass<T, Token<T>>, mut ends: Vec<LaneIn<
 }
 
 /// Takes a sending end back, and says how many items it had sent.
-fn take_back<T: Carried>(
-    sender: &RuledSender<T, Token<T>, LaneRule>,
-    pass: &mut Pass<T, Token<T>>,
+fn take_back<T: LaneItem>(
+    sender: &RuledSender<T, LaneKnowledge<T>, LaneRule>,
+    pass: &mut Pass<T, LaneKnowledge<T>>,
     end: LaneIn<T>,
 ) -> u32
     requires channel { IsSeatAt (sends_on sender.now) pass.old }

@@ -3,38 +3,38 @@ ghost use Rattle.std.specs.Prelude.{◌≡◌, ℕ, ◌<◌, ◌≤◌, List, �
 ghost use Rattle.crossbeam_channel.specs.Claims.{view, IsSeatAt};
 ghost use Rattle.crossbeam_channel.specs.Ends.{receives_on, ruled_capacity};
 ghost use Rattle.dsn_outcome.specs.Agents.{from_agent};
-ghost use Rattle.dsn_lane.specs.declared.token.Token.TheVariants.{Takes};
+ghost use Rattle.dsn_lane.specs.declared.lane_knowledge.LaneKnowledge.TheVariants.{Takes};
 ghost use Rattle.dsn_lane.specs.Ends.{IsReceiving, out_of, taking};
 ghost use Rattle.dsn_lane.specs.Lane.{IsNumbered};
 
 use crate::lane_end::LaneEnd;
 use crate::lane_gone::LaneGone;
+use crate::lane_knowledge::LaneKnowledge;
 use crate::lane_left::LaneLeft;
-use crate::rule::{LaneRule, Removes};
-use crate::token::Token;
+use crate::lane_rule::{LaneRule, Removes};
 use crossbeam_channel::{Pass, RuledReceiver};
-use dsn_outcome::Carried;
+use dsn_outcome::LaneItem;
 use std::marker::Model;
 use std::sync::Wait;
 
 /// The end of a lane that takes what the agents send. Contracts see its lane with its capacity, its
 /// agents, from `first` on and below `past`, and the items that it has taken, in order.
 #[derive(Drop)]
-pub struct LaneOut<T: Carried> {
+pub struct LaneOut<T: LaneItem> {
     /// The channel.
-    pub(crate) receiver: RuledReceiver<T, Token<T>, LaneRule>,
+    pub(crate) receiver: RuledReceiver<T, LaneKnowledge<T>, LaneRule>,
     /// What the end knows.
-    pub(crate) pass: Pass<T, Token<T>>,
+    pub(crate) pass: Pass<T, LaneKnowledge<T>>,
     /// How many items it has taken. The count wraps; at the close it is exact.
     pub(crate) count: u64,
 }
 
-impl<T: Carried> Model for LaneOut<T> {
+impl<T: LaneItem> Model for LaneOut<T> {
     ghost use Rattle.std.specs.Prelude.{◌≡◌};
     ghost use Rattle.crossbeam_channel.specs.Claims;
     ghost use Rattle.crossbeam_channel.specs.Claims.{IsSeatAt};
     ghost use Rattle.crossbeam_channel.specs.Ends.{receives_on, ruled_capacity};
-    ghost use Rattle.dsn_lane.specs.declared.token.Token.TheVariants.{Takes};
+    ghost use Rattle.dsn_lane.specs.declared.lane_knowledge.LaneKnowledge.TheVariants.{Takes};
     ghost use Rattle.dsn_lane.specs.Ends.{Out, IsReceiving, out_of, taking};
 
     ghost Value = { Out T };
@@ -47,11 +47,11 @@ impl<T: Carried> Model for LaneOut<T> {
         × IsReceiving T.agent T.number (taking (Claims.view o.pass)) o.count };
 }
 
-impl<T: Carried> LaneOut<T> {
+impl<T: LaneItem> LaneOut<T> {
     /// The receiving end of a pass that has taken nothing.
     pub(crate) fn new(
-        receiver: RuledReceiver<T, Token<T>, LaneRule>,
-        pass: Pass<T, Token<T>>,
+        receiver: RuledReceiver<T, LaneKnowledge<T>, LaneRule>,
+        pass: Pass<T, LaneKnowledge<T>>,
     ) -> LaneOut<T>
         requires channel { IsSeatAt (receives_on receiver) pass }
         requires token { view pass

@@ -7,11 +7,11 @@ ghost use Rattle.dsn_lane.specs.Lane.{most_agents, most_waiting};
 ghost use Rattle.dsn_lane.specs.Step.{opened};
 
 use crate::lane_in::LaneIn;
+use crate::lane_knowledge::LaneKnowledge;
 use crate::lane_out::LaneOut;
-use crate::rule::{CountRoom, LaneRule, SplitOff, TakeBack};
-use crate::token::Token;
+use crate::lane_rule::{CountRoom, LaneRule, SplitOff, TakeBack};
 use crossbeam_channel::{Pass, RuledSender, bounded_with};
-use dsn_outcome::{Carried, NoMemory};
+use dsn_outcome::{LaneItem, NoMemory};
 use std::alloc::Global;
 use std::sync::Wait;
 
@@ -19,7 +19,7 @@ use std::sync::Wait;
 /// `first` on, in their order, and the receiving end. `NoMemory` comes only where memory was
 /// refused.
 #[tactic(auto, using(crate::proofs::EndLemmas::ends_pushed, crate::proofs::RuleLemmas::opens))]
-pub fn open_lane<T: Carried>(
+pub fn open_lane<T: LaneItem>(
     _rt: &impl Wait,
     alloc: Global,
     first: u32,
@@ -38,7 +38,7 @@ pub fn open_lane<T: Carried>(
     let Ok(mut ends) = Vec::with_capacity(alloc, agents as usize) else {
         return Err(NoMemory);
     };
-    let Ok((sender, receiver, mut pass)) = bounded_with::<T, Token<T>, LaneRule, Global>(
+    let Ok((sender, receiver, mut pass)) = bounded_with::<T, LaneKnowledge<T>, LaneRule, Global>(
         alloc,
         capacity as usize,
     ) else {
@@ -54,9 +54,9 @@ pub fn open_lane<T: Carried>(
 
 /// Counts the lane's room: the rule begins with none, and has room for one item more in each turn.
 #[tactic(auto, using(crate::proofs::EndLemmas::room_more, crate::proofs::RuleLemmas::rooms))]
-fn count_room<T: Carried>(
-    sender: &RuledSender<T, Token<T>, LaneRule>,
-    pass: &mut Pass<T, Token<T>>,
+fn count_room<T: LaneItem>(
+    sender: &RuledSender<T, LaneKnowledge<T>, LaneRule>,
+    pass: &mut Pass<T, LaneKnowledge<T>>,
     capacity: u32,
 )
     requires channel { IsSeatAt (sends_on sender.now) pass.old }
@@ -71,9 +71,9 @@ fn count_room<T: Carried>(
 
 /// Passes over the agents below the first: a pass is split off for each, and joined again unused.
 #[tactic(auto, using(crate::proofs::EndLemmas::passed_more, crate::proofs::RuleLemmas::joins, crate::proofs::RuleLemmas::splits))]
-fn pass_over<T: Carried>(
-    sender: &RuledSender<T, Token<T>, LaneRule>,
-    pass: &mut Pass<T, Token<T>>,
+fn pass_over<T: LaneItem>(
+    sender: &RuledSender<T, LaneKnowledge<T>, LaneRule>,
+    pass: &mut Pass<T, LaneKnowledge<T>>,
     first: u32,
 )
     requires channel { IsSeatAt (sends_on sender.now) pass.old }

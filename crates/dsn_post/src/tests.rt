@@ -1,8 +1,8 @@
 //! Letters on their way from a collector's sink to the outbox.
 ghost use Rattle.std.specs.Prelude.{◌≡◌, IfOk, IsSome};
 
+use crate::assert_same::same;
 use crate::posting::post_all;
-use crate::same::same;
 use crate::{LetterSink, LettersEnd, Posted, Sink, end_posting, open_post, start_posting};
 use dsn_device::Plain;
 use dsn_outcome::{

@@ -4,7 +4,7 @@ ghost use Rattle.std.specs.List.{flat_map};
 ghost use Rattle.dsn_device.specs.QuietWriter.{Flushes};
 ghost use Rattle.dsn_report.specs.LineWriter.{IsBlock, Settled, Took, Wrote, sent_of_dotted};
 
-use crate::held::Held;
+use crate::pending_bytes::PendingBytes;
 use dsn_device::{Drain, QuietWriter};
 
 /// Writes lines to a drain, each ended by CRLF. It holds texts back until many of them make one
@@ -16,7 +16,7 @@ pub(crate) struct LineWriter<W> {
     /// Whether a line that begins with a dot gets one more in front (RFC 5321 section 4.5.2).
     pub(crate) dots: bool,
     /// What it holds back.
-    pub(crate) held: Held,
+    pub(crate) held: PendingBytes,
 }
 
 impl<W: Drain> LineWriter<W> {

@@ -5,11 +5,11 @@ ghost use Rattle.dsn_device.specs.Transfer.{AppendsFront};
 ghost use Rattle.dsn_device.specs.UntilFailure.{WrittenAndFlushed, counts_failure};
 ghost use Rattle.dsn_report.specs.Poster.{post_fault, post_text, finish_text};
 
-use crate::held::Held;
 use crate::line_writer::LineWriter;
+use crate::mail_transaction::{send_goodbye, send_letter};
+use crate::pending_bytes::PendingBytes;
 use crate::post_fault::PostFault;
 use crate::site::Site;
-use crate::transaction::{send_goodbye, send_letter};
 use dsn_device::{Drain, QuietWriter};
 use dsn_outcome::Letter;
 use std::marker::Model;
@@ -63,7 +63,7 @@ impl<W> Poster<W> {
             lines: LineWriter {
                 writer: QuietWriter::new(outbox),
                 dots: true,
-                held: Held::new(),
+                held: PendingBytes::new(),
             },
             greeted: false,
         }

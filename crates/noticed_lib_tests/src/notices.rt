@@ -5,7 +5,7 @@ use super::input::{
 };
 use super::outboxes::{AFTER_GROUPS, BEFORE_GROUPS, BEFORE_LINES, ONE_NOTICE};
 use super::runs::{PROGRAM, Want, expect_bytes, run_within};
-use crate::same::same;
+use crate::assert_same::same;
 use noticed_lib::MemoryRun;
 use std::alloc::Global;
 use std::process::Abort;

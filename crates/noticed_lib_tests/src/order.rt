@@ -3,7 +3,7 @@ ghost use Rattle.std.specs.Prelude.{Some};
 
 use super::input::ONE_MESSAGE;
 use super::runs::{PROGRAM, limits_of};
-use crate::same::same;
+use crate::assert_same::same;
 use dsn_outcome::Plain;
 use noticed_lib::{Site, batch};
 use std::io;

@@ -1,6 +1,6 @@
 //! Runs over bytes in memory, and what they are to come to.
 use super::input::{Ask, input_of};
-use crate::same::same;
+use crate::assert_same::same;
 use noticed_lib::{Limits, MemoryRun, Site, batch_bytes};
 use std::alloc::Global;
 use std::process::Abort;

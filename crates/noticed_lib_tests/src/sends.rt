@@ -1,8 +1,8 @@
 //! Sends over a connection in memory: what the daemon was sent, the lines, and the end.
-use super::fakes::{PieceReader, PieceWriter};
+use super::fake_devices::{PieceReader, PieceWriter};
 use super::input::ONE_MESSAGE;
 use super::peer::Peer;
-use crate::same::same;
+use crate::assert_same::same;
 use dsn_outcome::Plain;
 use noticed_lib::{SendEnd, send};
 use std::alloc::Global;

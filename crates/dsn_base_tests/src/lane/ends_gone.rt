@@ -1,15 +1,15 @@
 //! What comes when an end of a lane is gone.
 ghost use Rattle.std.specs.Prelude.{◌≡◌};
 
+use crate::assert_same::same;
 use crate::lane::item::Item;
-use crate::same::same;
-use dsn_lane::{LaneEnd, Lost, open_lane};
+use dsn_lane::{LaneEnd, LostItem, open_lane};
 use std::alloc::Global;
 use std::sync::Wait;
 use std::test::Fail;
 
 /// What a send answers once the receiving end has left.
-fn send_after_leave(rt: &impl Wait, alloc: Global, item: Item) -> Option<Result<(), Lost<Item>>>
+fn send_after_leave(rt: &impl Wait, alloc: Global, item: Item) -> Option<Result<(), LostItem<Item>>>
     requires { (item.agent ≡ 0) × (item.number ≡ 0) }
 {
     let (mut ends, out) = open_lane::<Item>(rt, alloc, 0, 1, 1).ok()?;

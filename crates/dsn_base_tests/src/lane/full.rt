@@ -1,9 +1,9 @@
 //! A lane that is full makes a send wait.
 ghost use Rattle.std.specs.Prelude.{◌≡◌, ◌≤◌};
 
+use crate::assert_same::same;
 use crate::lane::hands::{last_end, opened};
 use crate::lane::item::{Item, send_next};
-use crate::same::same;
 use dsn_lane::LaneIn;
 use std::alloc::Global;
 use std::sync::Wait;

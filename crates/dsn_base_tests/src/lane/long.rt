@@ -1,9 +1,9 @@
 //! A long run over one lane, and the largest lane.
 ghost use Rattle.std.specs.Prelude.{◌≡◌};
 
+use crate::assert_same::same;
 use crate::lane::hands::{last_end, opened, put_by, shut};
 use crate::lane::item::send_many;
-use crate::same::same;
 use std::alloc::Global;
 use std::sync::Wait;
 use std::test::Fail;

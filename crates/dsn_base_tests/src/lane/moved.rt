@@ -1,7 +1,7 @@
 //! Ends of lanes of requests and of answers, each moved into a thread of a scope.
 ghost use Rattle.std.specs.Prelude.{◌≡◌, IfSome, length};
 
-use crate::same::same;
+use crate::assert_same::same;
 use dsn_lane::{LaneIn, LaneOut, open_lane};
 use dsn_outcome::{Answer, Body, Key, QueueId, Request, Service};
 use std::alloc::Global;

@@ -1,9 +1,9 @@
 //! Lanes by one thread: the order of what is taken, and what a close counts.
 ghost use Rattle.std.specs.Prelude.{◌≡◌};
 
+use crate::assert_same::same;
 use crate::lane::hands::{last_end, opened, put_by, shut};
 use crate::lane::item::{Item, send_many, send_next, take_many};
-use crate::same::same;
 use dsn_lane::{LaneIn, LaneOut};
 use std::alloc::Global;
 use std::sync::Wait;

@@ -1,9 +1,9 @@
 //! Lanes by many threads: what is taken of each agent is what it sent, in order.
 ghost use Rattle.std.specs.Prelude.{◌≡◌, ◌+◌, ◌≤◌};
 
+use crate::assert_same::same;
 use crate::lane::hands::{last_end, opened};
 use crate::lane::item::{Item, counts, send_many, take_many};
-use crate::same::same;
 use dsn_lane::LaneIn;
 use std::alloc::Global;
 use std::sync::Wait;

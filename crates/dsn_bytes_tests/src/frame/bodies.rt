@@ -2,7 +2,7 @@
 //! to the built program by tests/refused_bodies.py.)
 mod moments;
 
-use crate::same::same;
+use crate::assert_same::same;
 use dsn_frame::decode_request;
 use dsn_outcome::{Body, Service};
 use std::alloc::AllocGlobal;

@@ -1,5 +1,5 @@
 //! Requests to frames and back, in all their shapes.
-use crate::same::same;
+use crate::assert_same::same;
 use dsn_frame::{decode_request, encode_request};
 use dsn_outcome::{
     Address, Body, Draft, EnvelopeId, Key, Outcome, Parts, QueueId, RawHeader, Service, Stamp,

@@ -17,7 +17,7 @@ use Rattle.dsn_crew.specs.agents.Port.{Conn, Given, connection, done, failed, Gi
 use Rattle.dsn_crew.specs.agents.Serve.{HasAsked, IsServed, is_lost, is_stream_failed, served_end}
 use Rattle.dsn_crew.specs.declared.agents.unheard.Unheard.{Unheard}
 use Rattle.dsn_crew.specs.declared.agents.agent_line.AgentLine.{AgentLine}
-use Rattle.dsn_crew.specs.declared.agents.next.Next.TheVariants as next
+use Rattle.dsn_crew.specs.declared.agents.next_connection.Next.TheVariants as next
 use Rattle.dsn_crew.specs.declared.agents.port.Port.{Ghosts as Port}
 use Rattle.dsn_crew.specs.declared.agents.serve_fault.ServeFault.{ServeFault}
 use Rattle.dsn_crew.specs.declared.agents.serve_fault.ServeFault.TheVariants.{Frame, WriteBack, Number, Frames, Lost}

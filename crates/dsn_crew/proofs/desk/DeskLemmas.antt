@@ -17,7 +17,7 @@ use Rattle.dsn_outcome.specs.Request.{Request, Body, Append, Flush, Discard, For
 use Rattle.dsn_outcome.specs.declared.answer.Answer.{Answer}
 use Rattle.dsn_outcome.proofs.HistoryLaws.{answers_length, answers_mine, answers_more, answers_other, history_more, letters_few}
 use Rattle.dsn_crew.specs.desk.Desk.{Desk, IsDesk, AreAnswered, AreTold, IsStopped, answered_more, goodbyes, history, is_goodbye, next_exchange, places_of, taken_request}
-use Rattle.dsn_crew.specs.declared.desk.stop.Stop.{Stop}
+use Rattle.dsn_crew.specs.declared.desk.stop_cause.StopCause.{StopCause}
 use Rattle.dsn_crew.specs.agents.Place.{Place, place_at}
 
 -- ---- the ends of the answer lanes
@@ -236,6 +236,6 @@ pub letters_fit : (book : Book) (requests : List Request) (taken : ℕ) → Repr
 letters_fit book requests taken stands counted few = omega (arith, letters_few book.limits requests, stands.sealed, counted, few)
 
 -- a collector that has not failed has no reason for it
-pub none_stopped : (stop : Option Stop) (taken : List Request) → is_some stop ≡ false → IfSome stop (IsStopped taken)
+pub none_stopped : (stop : Option StopCause) (taken : List Request) → is_some stop ≡ false → IfSome stop (IsStopped taken)
 none_stopped None taken going = tt
 none_stopped (Some stop) taken going = absurd (false≢true (sym going))

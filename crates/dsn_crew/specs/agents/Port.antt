@@ -12,8 +12,8 @@ use Rattle.dsn_frame.specs.Session.{Connection, IsSession}
 use Rattle.dsn_crew.specs.agents.Agent.{Agent, Ends, after_reply}
 use Rattle.dsn_crew.specs.agents.Serve.{HasAsked}
 use Rattle.dsn_crew.specs.declared.agents.agent_line.AgentLine.{AgentLine}
-use Rattle.dsn_crew.specs.declared.agents.next.Next.{Next}
-use Rattle.dsn_crew.specs.declared.agents.next.Next.TheVariants as next
+use Rattle.dsn_crew.specs.declared.agents.next_connection.Next.{Next}
+use Rattle.dsn_crew.specs.declared.agents.next_connection.Next.TheVariants as next
 use Rattle.dsn_crew.specs.agents.PortEnd.{PortEnd}
 
 -- how many connections an agent serves at most

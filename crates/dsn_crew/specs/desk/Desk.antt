@@ -15,8 +15,8 @@ use Rattle.dsn_post.specs.Sink.{Handed}
 use Rattle.dsn_crew.specs.agents.Place.{Place, place_at}
 use Rattle.dsn_crew.specs.declared.desk.desk_fault.DeskFault.{DeskFault}
 use Rattle.dsn_crew.specs.declared.desk.desk_fault.DeskFault.TheVariants.{Requests, Answers, Letters}
-use Rattle.dsn_crew.specs.declared.desk.stop.Stop.{Stop}
-use Rattle.dsn_crew.specs.declared.desk.stop.Stop.TheVariants.{Gone, Refused, Full}
+use Rattle.dsn_crew.specs.declared.desk.stop_cause.StopCause.{StopCause}
+use Rattle.dsn_crew.specs.declared.desk.stop_cause.StopCause.TheVariants.{Gone, Refused, Full}
 
 -- the collector: its book, the end by which it takes requests, the ends by which it answers, agent
 -- by agent, how many agents it was told of that never start, and whether it failed
@@ -97,7 +97,7 @@ most_taken = 4294967295
 
 -- why it has failed: a lane told that its other side is gone; its sink handed a letter back; or it
 -- took all that it may
-abbrev pub IsStopped : List Request → Stop → Type 0
+abbrev pub IsStopped : List Request → StopCause → Type 0
 IsStopped taken (Gone gone) = Unit {0}
 IsStopped taken (Refused refused) = Unit {0}
 IsStopped taken Full = length taken ≡ most_taken

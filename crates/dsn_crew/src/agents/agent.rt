@@ -5,8 +5,8 @@ ghost use Rattle.dsn_outcome.specs.Request.{Bye};
 ghost use Rattle.dsn_crew.specs.agents.Agent.{IsAgent, IsAsk, IsFinished, IsGoodbye, IsLeave, most_requests};
 
 use crate::agents::ask_fault::AskFault;
-use crate::agents::ends::Ends;
-use crate::agents::finished::Finished;
+use crate::agents::finished_agent::FinishedAgent;
+use crate::agents::lane_halves::Ends;
 use crate::agents::unanswered::Unanswered;
 use crate::agents::unheard::{Unheard, say_bye};
 use dsn_lane::{LaneGone, LaneIn, LaneOut};
@@ -101,7 +101,7 @@ impl Agent {
     /// Says goodbye, which is allowed at the limit too, and waits until the collector has heard it.
     /// `Lost` (41) comes where a lane was lost before or is lost now; the agent's ends are dropped.
     #[tactic(auto, using(crate::proofs::agents::AgentLemmas::goodbye_fault))]
-    pub fn bye(self, rt: &impl Wait) -> Result<Finished, AskFault>
+    pub fn bye(self, rt: &impl Wait) -> Result<FinishedAgent, AskFault>
         ensures bye { IsGoodbye self result }
         ensures finished { IfOk result IsFinished }
     {
@@ -112,7 +112,7 @@ impl Agent {
     }
 
     /// Says goodbye, as [`Agent::bye`] does, and tells why it was not heard where it wasn't.
-    pub(crate) fn leave(self, rt: &impl Wait) -> Result<Finished, Unheard>
+    pub(crate) fn leave(self, rt: &impl Wait) -> Result<FinishedAgent, Unheard>
         ensures leave { IsLeave self result }
         ensures finished { IfOk result IsFinished }
     {

@@ -6,8 +6,8 @@ ghost use Rattle.dsn_outcome.specs.Request.{Bye};
 ghost use Rattle.dsn_crew.specs.agents.Agent.{IsFaultOf, IsFinished, Stays, after_reply, was_unsent};
 
 use crate::agents::ask_fault::AskFault;
-use crate::agents::ends::Ends;
-use crate::agents::finished::Finished;
+use crate::agents::finished_agent::FinishedAgent;
+use crate::agents::lane_halves::Ends;
 use crate::agents::unanswered::Unanswered;
 use dsn_lane::LaneGone;
 use dsn_outcome::{Body, Reply};
@@ -54,7 +54,7 @@ impl Unheard {
 }
 
 /// Says the goodbye of an agent with these ends, and waits until the collector has heard it.
-pub(crate) fn say_bye(rt: &impl Wait, ends: Ends) -> Result<Finished, Unheard>
+pub(crate) fn say_bye(rt: &impl Wait, ends: Ends) -> Result<FinishedAgent, Unheard>
     requires answered { length ends.answers.taken ≡ length ends.requests.sent }
     requires room { length ends.requests.sent < most_sent }
     requires stays { Stays ends.requests.sent }
@@ -63,7 +63,7 @@ pub(crate) fn say_bye(rt: &impl Wait, ends: Ends) -> Result<Finished, Unheard>
 {
     let mut ends = ends;
     match ends.exchange(rt, Body::Bye) {
-        Ok(answer) if answer.reply == Reply::Gone => Ok(Finished::new(ends)),
+        Ok(answer) if answer.reply == Reply::Gone => Ok(FinishedAgent::new(ends)),
         Ok(_) => Err(Unheard {
             cause: Cause::Answered,
         }),

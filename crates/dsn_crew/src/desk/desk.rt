@@ -10,8 +10,8 @@ ghost use Rattle.dsn_crew.specs.desk.Desk.{AreTold, HasRoom, IsDesk, IsRun, IsRe
 
 use crate::desk::answer_lane::AnswerLane;
 use crate::desk::desk_fault::DeskFault;
-use crate::desk::refused::{Returned, offer};
-use crate::desk::stop::Stop;
+use crate::desk::returned_letter::{ReturnedLetter, offer};
+use crate::desk::stop_cause::StopCause;
 use dsn_book::{Book, Step};
 use dsn_lane::{LaneGone, LaneIn, LaneOut};
 use dsn_outcome::{Answer, Letter, Request};
@@ -32,7 +32,7 @@ pub struct Desk {
     gone: u32,
     missed: u32,
     /// Why it has failed, if it has.
-    stop: Option<Stop>,
+    stop: Option<StopCause>,
 }
 
 impl Model for Desk {
@@ -87,7 +87,7 @@ impl Desk {
     }
 
     /// Why it has failed. It asks that it has.
-    pub(crate) fn stopped(&self) -> Stop
+    pub(crate) fn stopped(&self) -> StopCause
         requires { self.now.failed ≡ true }
         ensures { IsStopped self.now.requests.taken result }
     {
@@ -126,13 +126,13 @@ impl Desk {
             return Err(DeskFault::Requests);
         }
         if self.taken == u32::MAX {
-            self.stop = Some(Stop::Full);
+            self.stop = Some(StopCause::Full);
             return Err(DeskFault::Requests);
         }
         let request = match self.requests.take(rt) {
             Ok(request) => request,
             Err(end) => {
-                self.stop = Some(Stop::Gone(end.gone));
+                self.stop = Some(StopCause::Gone(end.gone));
                 return Err(DeskFault::Requests);
             }
         };
@@ -143,7 +143,7 @@ impl Desk {
         match tell(rt, &mut self.lines, answer) {
             Ok(()) => Ok(letter),
             Err(gone) => {
-                self.stop = Some(Stop::Gone(gone));
+                self.stop = Some(StopCause::Gone(gone));
                 Err(DeskFault::Answers(agent, letter))
             }
         }
@@ -190,8 +190,8 @@ impl Desk {
         };
         match offer(rt, sink, letter) {
             Ok(()) => Ok(()),
-            Err(Returned { letter, refused }) => {
-                self.stop = Some(Stop::Refused(refused));
+            Err(ReturnedLetter { letter, refused }) => {
+                self.stop = Some(StopCause::Refused(refused));
                 Err(DeskFault::Letters(letter))
             }
         }

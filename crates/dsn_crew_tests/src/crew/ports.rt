@@ -1,7 +1,7 @@
 //! Crews whose agents serve ports to their ends: what each port and connection counts.
 use super::memory_port::MemoryPort;
 use super::whole_crew::{EMPTY, line, port, run_all};
-use crate::same::same;
+use crate::assert_same::same;
 use dsn_crew::AgentLine;
 use std::alloc::Global;
 use std::process::Abort;

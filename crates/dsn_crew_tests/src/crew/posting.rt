@@ -5,7 +5,7 @@ use super::memory_port::MemoryPort;
 use super::outbox_text::ONE_NOTICE;
 use super::side_by_side::ports_of;
 use super::whole_crew::{line, open, outbox, port, run_all, run_over};
-use crate::same::same;
+use crate::assert_same::same;
 use dsn_book::OpenLine;
 use dsn_crew::{AgentLine, NoGate};
 use dsn_device::Plain;

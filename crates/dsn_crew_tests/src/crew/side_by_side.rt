@@ -6,7 +6,7 @@ use super::hold::{Hold, Until};
 use super::memory_port::MemoryPort;
 use super::outbox::Outbox;
 use super::whole_crew::{EMPTY, Told, line, open, outbox, port, run_over};
-use crate::same::same;
+use crate::assert_same::same;
 use dsn_device::Plain;
 use std::alloc::Global;
 use std::process::Abort;

@@ -5,7 +5,7 @@ ghost use Rattle.dsn_crew.specs.desk.Open.{IsLine};
 
 use super::bodies::discard;
 use super::memory::Memory;
-use crate::same::same;
+use crate::assert_same::same;
 use dsn_crew::{Agent, AskFault, Gate, ServeFault, Served};
 use dsn_lane::{LaneIn, LaneOut, open_lane};
 use dsn_outcome::{Answer, Reply, Request};

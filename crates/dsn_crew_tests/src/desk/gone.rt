@@ -1,7 +1,7 @@
 //! What comes when one side of a crew is gone.
 use super::bodies::discard;
 use super::opened::opened;
-use crate::same::same;
+use crate::assert_same::same;
 use dsn_book::Limits;
 use dsn_crew::{Agent, AskFault, Desk, DeskFault, open_crew};
 use std::alloc::Global;

@@ -1,6 +1,6 @@
 //! Letters that a collector seals and hands on, by one thread: its agents have asked before it runs.
 use super::bodies::{append, flush};
-use crate::same::same;
+use crate::assert_same::same;
 use dsn_book::Limits;
 use dsn_crew::{Agent, Desk, DeskFault, open_crew};
 use dsn_lane::LaneOut;

@@ -8,9 +8,9 @@ ghost use Rattle.dsn_crew.specs.desk.Desk.{all_gone};
 
 use super::bodies::append;
 use super::collect::collect;
-use crate::same::same;
+use crate::assert_same::same;
 use dsn_book::{Book, Limits};
-use dsn_crew::{Agent, AskFault, Desk, Finished, close_crew, open_crew};
+use dsn_crew::{Agent, AskFault, Desk, FinishedAgent, close_crew, open_crew};
 use dsn_outcome::{Body, Reply};
 use std::alloc::Global;
 use std::sync::Wait;
@@ -23,8 +23,8 @@ use std::thread::Threads;
 struct Told {
     /// The reply to the first one's request. Its second one was handed back as one too many.
     reply: Reply,
-    first: Finished,
-    second: Finished,
+    first: FinishedAgent,
+    second: FinishedAgent,
 }
 
 /// The reply to an append.

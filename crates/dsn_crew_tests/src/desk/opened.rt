@@ -1,5 +1,5 @@
 //! Crews of so many agents, and how many a crew may have.
-use crate::same::same;
+use crate::assert_same::same;
 use dsn_book::Limits;
 use dsn_crew::{Agent, CrewOpenFault, Desk, open_crew};
 use std::alloc::Global;

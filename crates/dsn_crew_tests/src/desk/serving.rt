@@ -3,7 +3,7 @@ ghost use Rattle.std.specs.Thread.{IsSync};
 
 use super::opened::opened;
 use super::peer::Peer;
-use crate::same::same;
+use crate::assert_same::same;
 use dsn_crew::{Agent, Desk, Gate, NoGate};
 use dsn_device::Plain;
 use std::alloc::Global;

@@ -1,8 +1,8 @@
 //! Texts to a writer that fails once and then works again.
 use super::*;
-use crate::fakes::PieceWriter;
-use crate::plain::Plain;
-use crate::same::same;
+use crate::assert_same::same;
+use crate::fake_devices::PieceWriter;
+use crate::std_device::Plain;
 use std::test::Fail;
 
 /// Writes three texts and flushes after each. What the writer held is given, and whether it failed.

@@ -3,9 +3,9 @@ ghost use Rattle.std.specs.Prelude.{OnOk};
 ghost use Rattle.std.specs.Io.KnownBytes.{Appends};
 
 use super::*;
-use crate::fakes::{PieceConnection, PieceReader, PieceWriter};
-use crate::plain::Plain;
-use crate::same::same;
+use crate::assert_same::same;
+use crate::fake_devices::{PieceConnection, PieceReader, PieceWriter};
+use crate::std_device::Plain;
 use crate::stream::Stream;
 use std::os::unix::net::UnixStream;
 use std::test::Fail;

@@ -4,7 +4,7 @@ use Rattle.std.specs.Io.KnownBytes.{Appends}
 use Rattle.std.specs.Option.{option_map_or}
 use Rattle.dsn_device.specs.declared.drain.Drain.{Ghosts as Drain}
 use Rattle.dsn_device.specs.declared.source.Source.{Ghosts as Source}
-use Rattle.dsn_book.specs.declared.line.OpenLine.{OpenLine}
+use Rattle.dsn_book.specs.declared.open_line.OpenLine.{OpenLine}
 use Rattle.dsn_frame.specs.Session.{Input, IsSession}
 use Rattle.dsn_device.specs.Failures.{counted}
 use Rattle.dsn_text.specs.FaultCode.{notes_write_code, read_failed_code}

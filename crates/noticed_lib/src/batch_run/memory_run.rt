@@ -3,7 +3,7 @@ ghost use Rattle.noticed_lib.specs.batch_run.MemoryRun.{IsMemoryRun};
 
 use crate::batch_run::batch_end::BatchEnd;
 use crate::batch_run::memory_source::MemorySource;
-use crate::batch_run::whole_run::batch;
+use crate::batch_run::whole_batch::batch;
 use dsn_book::Limits;
 use dsn_device::MemoryDrain;
 use dsn_outcome::Letters;

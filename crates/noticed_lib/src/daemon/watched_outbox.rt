@@ -1,7 +1,7 @@
 //! The writer of an outbox, under a watch.
 ghost use Rattle.std.specs.Prelude.{◌≡◌};
 
-use crate::daemon::notice_line::{LINE_ROOM, notice_line};
+use crate::daemon::log_line::{LINE_ROOM, notice_line};
 use crate::daemon::watch::Watch;
 use arrayvec::ArrayString;
 use std::io;

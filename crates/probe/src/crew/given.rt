@@ -3,7 +3,7 @@ ghost use Rattle.std.specs.Prelude.{None, refl};
 
 use crate::crew::failing::{Call, Failing};
 use dsn_crew::{Next, Port};
-use dsn_device::{Opaque, Plain};
+use dsn_device::{OpaqueStream, Plain};
 use std::io;
 use std::io::{Read, Write};
 
@@ -40,7 +40,7 @@ impl<R: Print> Write for Given<'_, R> {
     }
 }
 
-impl<R: Print> Opaque for Given<'_, R> {
+impl<R: Print> OpaqueStream for Given<'_, R> {
     ghost untold_input = { λ _. refl };
 
     ghost untold_output = { λ _. refl };

@@ -7,8 +7,8 @@ use Rattle.dsn_lane.proofs.CloseLemmas.{all_joined, few_more, joined_more, joine
 use Rattle.dsn_lane.proofs.RuleLemmas.{joins, settles}
 use Rattle.dsn_lane.specs.Ends.{End, lane_at, sending_of}
 use Rattle.dsn_lane.specs.Step.{IsSettled}
-use Rattle.dsn_lane.specs.declared.token.Token.{Token}
-use Rattle.dsn_lane.specs.declared.token.Token.TheVariants.{Sends}
+use Rattle.dsn_lane.specs.declared.lane_knowledge.LaneKnowledge.{LaneKnowledge}
+use Rattle.dsn_lane.specs.declared.lane_knowledge.LaneKnowledge.TheVariants.{Sends}
 use Rattle.dsn_lane.proofs.close.take_all_back.Goals as goal
 
 pub loop-end-preserved : goal.loop-end-preserved
@@ -34,4 +34,4 @@ learn_as-requires-clause-rule g c =
 pub returns-clause-settled : goal.returns-clause-settled
 returns-clause-settled g c =
     let is = all_joined _ _ _ _ _ _ _ (into_iter_items c.loop-end.end-iterator) c.in-Some.last c.args.ends.items c.requires.receiver c.loop-end.invariant.joined (search rules) (c.last.invariant.1 ∙ ap (λ (end : End g.row.T.Denot). Sends (ruled_capacity (sends_on c.last.inside.sender)) (sending_of end)) c.last.view_is) c.absorb.ensures.rule (search rules) in
-    (c.learn_as.ensures.rule.0, subst (λ (it : Token g.row.T.Denot). IsSettled g.T.Carried.agent g.T.Carried.number it c.learn_as.ensures.rule.0) is c.learn_as.ensures.rule.1)
+    (c.learn_as.ensures.rule.0, subst (λ (it : LaneKnowledge g.row.T.Denot). IsSettled g.T.LaneItem.agent g.T.LaneItem.number it c.learn_as.ensures.rule.0) is c.learn_as.ensures.rule.1)

@@ -4,7 +4,7 @@ use Rattle.std.specs.List.{sum_by}
 use Rattle.std.specs.Vec.Iter.{into_iter_items, into_iter_len}
 use Rattle.crossbeam_channel.specs.Claims.{view, IsSeatAt}
 use Rattle.crossbeam_channel.specs.Ends.{sends_on}
-use Rattle.dsn_lane.specs.declared.token.Token.TheVariants.{Takes}
+use Rattle.dsn_lane.specs.declared.lane_knowledge.LaneKnowledge.TheVariants.{Takes}
 use Rattle.dsn_lane.specs.Ends.{End, capacity_of, lane_at, taking}
 use Rattle.dsn_lane.proofs.CloseLemmas.{after_joins}
 use Rattle.dsn_lane.proofs.close.take_all_back.Given as goal

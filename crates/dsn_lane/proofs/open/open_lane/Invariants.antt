@@ -2,7 +2,7 @@
 use Rattle.std.proofs.Common.{◌≡◌, ◌+◌, ◌≤◌, [], vec_capacity, vec_len}
 use Rattle.crossbeam_channel.specs.Claims.{view, IsSeatAt}
 use Rattle.crossbeam_channel.specs.Ends.{sends_on, ruled_capacity}
-use Rattle.dsn_lane.specs.declared.token.Token.TheVariants.{Takes}
+use Rattle.dsn_lane.specs.declared.lane_knowledge.LaneKnowledge.TheVariants.{Takes}
 use Rattle.dsn_lane.specs.Ends.{fresh, fresh_ends, lane_at}
 use Rattle.dsn_lane.proofs.open.open_lane.Given as goal
 

@@ -1,4 +1,4 @@
-//! What is told of a log that is still open.
+//! What the notes say of a log that is still open.
 use dsn_outcome::Key;
 
 /// A key whose log is open, with how many outcomes the log has.

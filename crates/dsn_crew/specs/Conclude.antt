@@ -6,7 +6,7 @@ use Rattle.dsn_book.specs.Book.{Represents}
 use Rattle.dsn_book.specs.Step.{letters_in}
 use Rattle.dsn_outcome.specs.Letter.{Letter}
 use Rattle.dsn_post.specs.declared.posted.Posted.{Posted}
-use Rattle.dsn_crew.specs.agents.Agent.{Ends, IsFinished}
+use Rattle.dsn_crew.specs.agents.Agent.{LaneHalves, IsFinished}
 use Rattle.dsn_crew.specs.desk.Close.{AreCrew, AreOf, IsHeard}
 use Rattle.dsn_crew.specs.Crew.{CrewAccount, CrewFault}
 use Rattle.dsn_crew.specs.desk.Desk.{Desk, IsStopped, all_gone, history}
@@ -27,7 +27,7 @@ MayClose (Whole desk) (Lost unheard) = Unit {0}
 MayClose (Failed stop held desk) gathered = IsStopped desk.value.requests.taken stop
 
 -- what a closed crew comes to, with its outbox
-abbrev pub account_of : {W : Type 0} → List AgentLine → List Ends → Desk → Posted W → CrewAccount W
+abbrev pub account_of : {W : Type 0} → List AgentLine → List LaneHalves → Desk → Posted W → CrewAccount W
 account_of lines agents desk posted = record {
   agents = lines;
   letters = posted.posted;
@@ -36,7 +36,7 @@ account_of lines agents desk posted = record {
   outbox = posted.outbox;
   book = desk.book;
   taken = desk.requests.taken;
-  ends = agents;
+  halves = agents;
 }
 
 -- what is left of one that isn't, with the letter that the collector held
@@ -50,7 +50,7 @@ fault_of cause held desk posted =
     }
 
 -- a crew that was closed
-pub record HasClosed {W : Type 0} (lines : List AgentLine) (agents : List Ends) (desk : Desk)
+pub record HasClosed {W : Type 0} (lines : List AgentLine) (agents : List LaneHalves) (desk : Desk)
     (posted : Posted W)
     (account : CrewAccount W) : Type 0 where
   pub all : posted.all ≡ true

@@ -13,7 +13,7 @@ pub record AreSlots {P S : Type 0} (agents : ℕ) (slots : AgentMemory P S) : Ty
   pub lines : (slots.lines.items ≡ []) × (agents ≤ vec_capacity slots.lines)
   pub finished : (slots.finished.items ≡ []) × (agents ≤ vec_capacity slots.finished)
 
--- a crew of so many agents, the two ends of a lane over which no letter was sent, and room for each
+-- a crew of so many agents, the two halves of a lane over which no letter was sent, and room for each
 -- agent
 pub record IsRoom {P S : Type 0} (limits : Limits) (agents : ℕ) (room : CrewMemory P S) : Type 0 where
   pub opened : IsOpened limits agents room.agents.items room.desk

@@ -10,7 +10,7 @@ use dsn_lane::LaneGone;
 /// What shows that a lane of the crew was lost.
 #[derive(Clone, Copy)]
 pub(crate) enum Loss {
-    /// A lane told the poster that the collector is gone.
+    /// A lane reported to the poster that the collector is gone.
     Poster(LaneGone),
     /// An agent's goodbye was not heard.
     Agent(Unheard),
@@ -30,7 +30,7 @@ pub(crate) enum Breach {
 }
 
 impl Breach {
-    /// The cause that is told of it.
+    /// The cause that is named for it.
     pub(crate) fn cause(&self) -> CrewCause
         ensures { result ≡ cause_of self.now }
     {

@@ -12,7 +12,7 @@ use std::sync::Wait;
 pub(crate) enum CollectorResult {
     /// All agents are gone.
     Whole(Desk),
-    /// The collector has failed, and its ends are given up, so that no agent waits for them: why it
+    /// The collector has failed, and its halves are given up, so that no agent waits for them: why it
     /// has, the letter that it still held, and the collector as it was, for contracts.
     Failed(StopCause, Option<Letter>, Snapshot<Desk>),
 }

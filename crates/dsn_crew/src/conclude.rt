@@ -20,7 +20,7 @@ pub(crate) fn conclude<W>(
     posted: Posted<W>,
 ) -> Result<CrewAccount<W>, CrewFault<W>>
     requires close { MayClose collected gathered }
-    requires told { (posted.all ≡ true) ↔ (posted.lost ≡ None) }
+    requires unlost { (posted.all ≡ true) ↔ (posted.lost ≡ None) }
     ensures { Concludes collected gathered posted result }
 {
     let Posted {

@@ -18,7 +18,7 @@ pub struct CrewAccount<W> {
     pub letters: u32,
     /// The letters that could not be written, in order.
     pub unsent: Letters,
-    /// Whether nothing failed in the outbox, so that it has the notice of each letter, and its end.
+    /// Whether nothing failed in the outbox, so that it has the notice of each letter, and QUIT.
     pub whole: bool,
     /// The outbox.
     pub outbox: W,
@@ -40,7 +40,7 @@ impl<W> Model for CrewAccount<W> {
       outbox = a.outbox;
       book = a.book;
       taken = a.shut.value.desk.requests.taken;
-      ends = a.shut.value.crew;
+      halves = a.shut.value.crew;
     } };
 }
 
@@ -62,7 +62,7 @@ impl<W> CrewAccount<W> {
           outbox = outbox;
           book = shut.book;
           taken = shut.desk.requests.taken;
-          ends = shut.crew;
+          halves = shut.crew;
         } }
     {
         let closed = Snapshot::of(&shut);

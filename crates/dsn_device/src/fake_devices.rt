@@ -1,4 +1,4 @@
-//! Readers and writers for tests, which take and give bytes in pieces and fail where they are told.
+//! Readers and writers for tests, which take and give bytes in pieces and fail where a test sets it.
 ghost use Rattle.std.specs.Prelude.{Some, refl};
 
 use crate::opaque_stream::OpaqueStream;

@@ -7,7 +7,7 @@ use crate::transfer::send;
 
 /// Whether a drain has failed so far. Texts that are written through it reach the drain up to the
 /// first failure, and nothing reaches it after that, so that a caller need not look at each text:
-/// `failed` tells it to the last of them.
+/// `failed` says it to the last of them.
 #[derive(Clone, Copy, Debug, PartialEq, Eq)]
 pub struct UntilFailure {
     /// Whether the drain has failed.

@@ -83,15 +83,15 @@ a_lane = record {
   passes = passes;
 }
 
--- no lane for one item holds two, whatever its ends know
-pub no_lane_overfull : (items : List Item) (ends : List (LaneKnowledge Item)) (lane : IsLane agent number (item 0 0 ∷ item 0 1 ∷ items) ends) → lane.capacity ≡ 1 → ⊥
-no_lane_overfull items ends lane one = let within : suc (suc (length items)) ≤ lane.capacity = lane.within in omega arith
+-- no lane for one item holds two, whatever its halves know
+pub no_lane_overfull : (items : List Item) (halves : List (LaneKnowledge Item)) (lane : IsLane agent number (item 0 0 ∷ item 0 1 ∷ items) halves) → lane.capacity ≡ 1 → ⊥
+no_lane_overfull items halves lane one = let within : suc (suc (length items)) ≤ lane.capacity = lane.within in omega arith
 
 one_is_not_zero : (one : ℕ) → one ≡ 1 → one ≡ 0 → ⊥
 one_is_not_zero one is not = omega arith
 
--- no lane that has taken nothing holds two items of one agent in exchanged order, whatever its ends know
-pub no_lane_exchanged : (ends : List (LaneKnowledge Item)) (lane : IsLane agent number (item 0 1 ∷ item 0 0 ∷ []) ends) → lane.receiver.taken ≡ [] → ⊥
-no_lane_exchanged ends lane none =
+-- no lane that has taken nothing holds two items of one agent in exchanged order, whatever its halves know
+pub no_lane_exchanged : (halves : List (LaneKnowledge Item)) (lane : IsLane agent number (item 0 1 ∷ item 0 0 ∷ []) halves) → lane.receiver.taken ≡ [] → ⊥
+no_lane_exchanged halves lane none =
     let all : from_agent agent 0 (item 0 1 ∷ item 0 0 ∷ []) ≡ lane.sent 0 = ap (λ (taken : List Item). from_agent agent 0 (taken ++ item 0 1 ∷ item 0 0 ∷ [])) (sym none) ∙ lane.accepted 0 in
     one_is_not_zero 1 refl (lane.numbered 0 0 (item 0 1) (ap (λ (items : List Item). slice_get items 0) (sym all)))

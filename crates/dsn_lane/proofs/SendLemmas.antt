@@ -1,4 +1,4 @@
--- The ends of lanes of requests and of answers may go to another thread. A search finds it for answers, not for requests, whose
+-- The halves of lanes of requests and of answers may go to another thread. A search finds it for answers, not for requests, whose
 -- bodies hold so much; so each is an explicit term. So is the closure that takes them there.
 use Rattle.std.proofs.Common.{List, [], ◌∷◌}
 use mir.Syntax.{Sym}

@@ -1,4 +1,4 @@
-//! What is left of a receiving end that was given up.
+//! What is left of a receiving half that was given up.
 ghost use Rattle.std.specs.Prelude.{◌≡◌};
 
 use crate::lane_out::LaneOut;
@@ -6,7 +6,7 @@ use dsn_outcome::LaneItem;
 use std::marker::Model;
 use std::snapshot::Snapshot;
 
-/// A receiving end that is gone. It has no bytes: contracts see the end as it was when it left,
+/// A receiving half that is gone. It has no bytes: contracts see the half as it was when it left,
 /// with all that it had taken.
 #[derive(Drop)]
 pub struct LaneLeft<T: LaneItem> {
@@ -14,7 +14,7 @@ pub struct LaneLeft<T: LaneItem> {
 }
 
 impl<T: LaneItem> Model for LaneLeft<T> {
-    ghost use Rattle.dsn_lane.specs.Ends.{Out};
+    ghost use Rattle.dsn_lane.specs.Halves.{Out};
 
     ghost Value = { Out T };
 
@@ -22,7 +22,7 @@ impl<T: LaneItem> Model for LaneLeft<T> {
 }
 
 impl<T: LaneItem> LaneLeft<T> {
-    /// What a receiving end leaves.
+    /// What a receiving half leaves.
     pub(crate) fn of(out: &LaneOut<T>) -> LaneLeft<T>
         ensures { result ≡ out.now }
     {

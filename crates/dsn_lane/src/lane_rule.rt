@@ -18,7 +18,7 @@ impl<T: LaneItem> Protocol<T, LaneKnowledge<T>> for LaneRule {
     ghost first = { opened };
 }
 
-/// The receiving end counts room for one item more; what is split off is a spent pass.
+/// The receiving half counts room for one item more; what is split off is a spent pass.
 pub struct CountRoom;
 
 impl<T> Split<LaneKnowledge<T>> for CountRoom {
@@ -30,7 +30,7 @@ impl<T> Split<LaneKnowledge<T>> for CountRoom {
     ghost right = { λ before. Spent };
 }
 
-/// An agent's pass is split off the receiving end's.
+/// An agent's pass is split off the receiving half's.
 pub struct SplitOff;
 
 impl<T> Split<LaneKnowledge<T>> for SplitOff {
@@ -41,7 +41,7 @@ impl<T> Split<LaneKnowledge<T>> for SplitOff {
     ghost right = { split_off };
 }
 
-/// The receiving end takes a sending end back.
+/// The receiving half takes a sending half back.
 pub struct TakeBack;
 
 impl<T> Join<LaneKnowledge<T>> for TakeBack {
@@ -86,7 +86,7 @@ impl<T> Lesson<T, LaneKnowledge<T>> for Removes {
     ghost fact = { λ token waiting. ⊤ };
 }
 
-/// A look at what waits, once the ends have come back.
+/// A look at what waits, once the halves have come back.
 pub struct ReadsOff;
 
 impl<T: LaneItem> Lesson<T, LaneKnowledge<T>> for ReadsOff {

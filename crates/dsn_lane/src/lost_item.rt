@@ -5,12 +5,12 @@ ghost use Rattle.dsn_text.specs.FaultCode.{lane_lost_code};
 use crate::lane_gone::LaneGone;
 use dsn_text::fault_code;
 
-/// The receiving end of the lane is gone: the item is handed back. A lane alone makes it.
+/// The receiving half of the lane is gone: the item is handed back. A lane alone makes it.
 #[derive(Drop)]
 pub struct LostItem<T> {
     /// The item that was not sent.
     pub item: T,
-    /// That the receiving end is gone.
+    /// That the receiving half is gone.
     pub gone: LaneGone,
 }
 

@@ -5,7 +5,7 @@ use Rattle.dsn_outcome.specs.Outcome.{Outcome}
 use Rattle.dsn_text.specs.Optional.{unless_empty}
 use Rattle.dsn_text.specs.declared.action.Action.{Action}
 use Rattle.dsn_text.specs.declared.service.Service.{Service}
-use Rattle.dsn_outcome.specs.declared.outcome_texts.Ends.{Ends}
+use Rattle.dsn_outcome.specs.declared.outcome_texts.Offsets.{Offsets}
 
 pub record OutcomeTexts : Type 0 where
   pub recipient : List ℕ
@@ -14,23 +14,22 @@ pub record OutcomeTexts : Type 0 where
   pub diagnostic : List ℕ
   pub reason : List ℕ
 
--- the texts in these bytes, of which each but the last has its end told; it begins where the one
--- before it ends
-abbrev pub texts_in : List ℕ → Ends → OutcomeTexts
-texts_in bytes ends = record {
-  recipient = take ends.recipient bytes;
-  original = slice_range bytes ends.recipient ends.original;
-  mta = slice_range bytes ends.original ends.mta;
-  diagnostic = slice_range bytes ends.mta ends.diagnostic;
-  reason = drop ends.diagnostic bytes;
+-- the texts in these bytes, by the offset behind each but the last: the next one begins there
+abbrev pub texts_in : List ℕ → Offsets → OutcomeTexts
+texts_in bytes offsets = record {
+  recipient = take offsets.recipient bytes;
+  original = slice_range bytes offsets.recipient offsets.original;
+  mta = slice_range bytes offsets.original offsets.mta;
+  diagnostic = slice_range bytes offsets.mta offsets.diagnostic;
+  reason = drop offsets.diagnostic bytes;
 }
 
 -- no text ends before it begins, and none goes on past the bytes
-pub record AreInOrder (bytes : List ℕ) (ends : Ends) : Type 0 where
-  pub original : ends.recipient ≤ ends.original
-  pub mta : ends.original ≤ ends.mta
-  pub diagnostic : ends.mta ≤ ends.diagnostic
-  pub reason : ends.diagnostic ≤ length bytes
+pub record AreInOrder (bytes : List ℕ) (offsets : Offsets) : Type 0 where
+  pub original : offsets.recipient ≤ offsets.original
+  pub mta : offsets.original ≤ offsets.mta
+  pub diagnostic : offsets.mta ≤ offsets.diagnostic
+  pub reason : offsets.diagnostic ≤ length bytes
 
 -- the outcome with these texts
 abbrev pub outcome_of : OutcomeTexts → Service → Action → List ℕ → Option ℕ → Option ℕ → Outcome

@@ -8,9 +8,9 @@ use dsn_text::replace_unprintable;
 use std::alloc::Global;
 use std::marker::Model;
 
-/// Where each text but the last ends; the next one begins there.
+/// The offset behind each text but the last, where the next one begins.
 #[derive(Clone, Copy)]
-struct Ends {
+struct Offsets {
     recipient: u16,
     original: u16,
     mta: u16,
@@ -21,7 +21,7 @@ struct Ends {
 #[derive(Drop)]
 pub(crate) struct OutcomeTexts {
     bytes: Vec<u8>,
-    ends: Ends,
+    offsets: Offsets,
 }
 
 impl Model for OutcomeTexts {
@@ -29,9 +29,9 @@ impl Model for OutcomeTexts {
 
     ghost Value = { OutcomeTexts };
 
-    ghost view = { λ t. texts_in t.bytes.items t.ends };
+    ghost view = { λ t. texts_in t.bytes.items t.offsets };
 
-    ghost invariant = { λ t. AreInOrder t.bytes.items t.ends };
+    ghost invariant = { λ t. AreInOrder t.bytes.items t.offsets };
 }
 
 impl OutcomeTexts {
@@ -56,17 +56,17 @@ impl OutcomeTexts {
         ensures reason { IfOk result (λ texts. texts.reason ≡ clean_text reason.now) }
         ensures memory { IfErr result (λ fault. fault ≡ OutcomeFault.NoMemory) }
     {
-        let recipient_end = recipient.len();
-        let original_end = recipient_end + original.len();
-        let mta_end = original_end + mta.len();
-        let diagnostic_end = mta_end + diagnostic.len();
-        let ends = Ends {
-            recipient: recipient_end as u16,
-            original: original_end as u16,
-            mta: mta_end as u16,
-            diagnostic: diagnostic_end as u16,
+        let after_recipient = recipient.len();
+        let after_original = after_recipient + original.len();
+        let after_mta = after_original + mta.len();
+        let after_diagnostic = after_mta + diagnostic.len();
+        let offsets = Offsets {
+            recipient: after_recipient as u16,
+            original: after_original as u16,
+            mta: after_mta as u16,
+            diagnostic: after_diagnostic as u16,
         };
-        let mut bytes = Vec::with_capacity(alloc, diagnostic_end + reason.len()).map_err(
+        let mut bytes = Vec::with_capacity(alloc, after_diagnostic + reason.len()).map_err(
             |_| OutcomeFault::NoMemory,
         )?;
         append(&mut bytes, recipient);
@@ -74,42 +74,42 @@ impl OutcomeTexts {
         append(&mut bytes, mta);
         append_cleaned(&mut bytes, diagnostic);
         append_cleaned(&mut bytes, reason);
-        Ok(OutcomeTexts { bytes, ends })
+        Ok(OutcomeTexts { bytes, offsets })
     }
 
     /// The final recipient.
     pub(crate) fn recipient(&self) -> &[u8]
         ensures { result.now ≡ self.now.recipient }
     {
-        &self.bytes[..self.ends.recipient as usize]
+        &self.bytes[..self.offsets.recipient as usize]
     }
 
     /// The recipient as the sender gave it.
     pub(crate) fn original(&self) -> &[u8]
         ensures { result.now ≡ self.now.original }
     {
-        &self.bytes[self.ends.recipient as usize..self.ends.original as usize]
+        &self.bytes[self.offsets.recipient as usize..self.offsets.original as usize]
     }
 
     /// The remote system.
     pub(crate) fn mta(&self) -> &[u8]
         ensures { result.now ≡ self.now.mta }
     {
-        &self.bytes[self.ends.original as usize..self.ends.mta as usize]
+        &self.bytes[self.offsets.original as usize..self.offsets.mta as usize]
     }
 
     /// What the remote system said.
     pub(crate) fn diagnostic(&self) -> &[u8]
         ensures { result.now ≡ self.now.diagnostic }
     {
-        &self.bytes[self.ends.mta as usize..self.ends.diagnostic as usize]
+        &self.bytes[self.offsets.mta as usize..self.offsets.diagnostic as usize]
     }
 
     /// The agent's own words.
     pub(crate) fn reason(&self) -> &[u8]
         ensures { result.now ≡ self.now.reason }
     {
-        &self.bytes[self.ends.diagnostic as usize..]
+        &self.bytes[self.offsets.diagnostic as usize..]
     }
 }
 
@@ -137,7 +137,7 @@ fn append_cleaned(bytes: &mut Vec<u8>, text: &[u8])
     if text.is_empty() {
         return;
     }
-    let end = bytes.len();
+    let start = bytes.len();
     append(bytes, text);
-    replace_unprintable(&mut bytes[end..]);
+    replace_unprintable(&mut bytes[start..]);
 }

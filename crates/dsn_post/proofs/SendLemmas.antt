@@ -38,7 +38,7 @@ source_send = search (parcels_out_send, sendable) depth 20
 end_send : IsSend (as_row LettersEnd.the_field)
 end_send = search sendable depth 20
 
--- what the closure holds: the runtime, the site, the outbox, and the end by which the letters come
+-- what the closure holds: the runtime, the site, the outbox, and the half by which the letters come
 abbrev pub captured : NamedLft → RattleType → RattleType → List RattleType
 captured r R W = ShrRef r.mir r.lft (param 1 R) ∷ Site.the_row ∷ param 2 W ∷ LetterSource.the_row ∷ []
 

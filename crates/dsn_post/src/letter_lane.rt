@@ -12,7 +12,7 @@ use std::sync::Wait;
 /// How many letters wait at most.
 const LETTERS_WAITING: u32 = 16;
 
-/// A lane of letters that holds at most 16 of them: the end that sends them, and the one that takes
+/// A lane of letters that holds at most 16 of them: the half that sends them, and the one that takes
 /// them. `NoMemory` comes only where memory was refused.
 pub fn open_post(rt: &impl Wait, alloc: Global) -> Result<(LetterSink, LetterSource), NoMemory>
     ensures sink { IfOk result (λ lane. lane.0 ≡ record { lane = lane.1.lane; letters = [] }) }
@@ -21,8 +21,8 @@ pub fn open_post(rt: &impl Wait, alloc: Global) -> Result<(LetterSink, LetterSou
     ensures capacity { IfOk result (λ lane. lane.1.lane.capacity ≡ letters_waiting) }
 {
     let (mut room, parcels) = open_lane(rt, alloc, 0, 1, LETTERS_WAITING)?;
-    let Some(end) = room.pop() else {
+    let Some(half) = room.pop() else {
         unreachable!()
     };
-    Ok((LetterSink::new(end, room), LetterSource::new(parcels)))
+    Ok((LetterSink::new(half, room), LetterSource::new(parcels)))
 }

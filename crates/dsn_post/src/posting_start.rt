@@ -39,7 +39,7 @@ impl<W: Drain> Promise<Posting<W>> for Posts<W> {
     ghost kept_by = { λ p r. IsPosting W.Drain p.site p.outbox p.lane r };
 }
 
-/// Starts the poster's thread, with the two ends of a lane over which nothing was sent. Where no
+/// Starts the poster's thread, with the two halves of a lane over which nothing was sent. Where no
 /// thread can be made the outbox comes back, and nothing is written.
 pub fn start_posting<'s, E: 's, R: Wait + Sync, W: Drain + Drop + Send + 's>(
     scope: &Scope<'s, E>,

@@ -18,11 +18,11 @@ pub(crate) fn send_letter<W: Drain>(
     greeted: bool,
 )
     requires dots { lines.old.dots ≡ true }
-    requires none_held { lines.old.held ≡ [] }
+    requires none_pending { lines.old.pending ≡ [] }
     ensures sent { Writes W.Drain lines.old.writer lines.new.writer
         ((if greeted then [] else greeting site.now) ++ mail_transaction site.now letter.now) }
     ensures dots { lines.new.dots ≡ true }
-    ensures none_held { lines.new.held ≡ [] }
+    ensures none_pending { lines.new.pending ≡ [] }
 {
     greet_once(lines, site, greeted);
     write_transaction(lines, site, letter);
@@ -31,7 +31,7 @@ pub(crate) fn send_letter<W: Drain>(
 
 /// Sends what ends the session, after what opens it unless that is sent.
 pub(crate) fn send_goodbye<W: Drain>(lines: &mut LineWriter<W>, site: &Site, greeted: bool)
-    requires { lines.old.held ≡ [] }
+    requires { lines.old.pending ≡ [] }
     ensures { Writes W.Drain lines.old.writer lines.new.writer
         ((if greeted then [] else greeting site.now) ++ goodbye) }
 {

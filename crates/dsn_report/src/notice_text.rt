@@ -18,14 +18,14 @@ pub fn notice(alloc: Global, site: &Site, letter: &Letter) -> Result<Vec<u8>, No
     let mut lines = LineWriter {
         writer: QuietWriter::new(Plain::new(Vec::new(alloc))),
         dots: false,
-        held: PendingBytes::new(),
+        pending: PendingBytes::new(),
     };
     write_notice(&mut lines, site, letter);
     lines.settle();
     let LineWriter {
         writer,
         dots: _,
-        held: _,
+        pending: _,
     } = lines;
     let (drain, failed) = writer.into_parts();
     let text = drain.into_inner();

@@ -15,7 +15,7 @@ pub(crate) fn subject(letter: &Letter) -> &[u8]
     }
 }
 
-/// What a letter's notice tells its reader first.
+/// What a letter's notice says to its reader first.
 pub(crate) fn opening(letter: &Letter) -> &[u8]
     ensures { result.now ≡ opening_of letter.now.key.service }
 {

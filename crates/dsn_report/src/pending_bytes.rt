@@ -42,9 +42,9 @@ impl PendingBytes {
         if text.len() > HELD_ROOM - self.len {
             return false;
         }
-        let end = self.len + text.len();
-        self.room[self.len..end].copy_from_slice(text);
-        self.len = end;
+        let past = self.len + text.len();
+        self.room[self.len..past].copy_from_slice(text);
+        self.len = past;
         true
     }
 

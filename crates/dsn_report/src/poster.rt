@@ -36,15 +36,15 @@ impl<W> Model for Poster<W> {
       failed = p.lines.writer.failed;
     } };
 
-    ghost invariant = { λ p. (p.lines.dots ≡ true) × (p.lines.held ≡ []) };
+    ghost invariant = { λ p. (p.lines.dots ≡ true) × (p.lines.pending ≡ []) };
 }
 
-/// What is left of a poster at the end.
+/// How a poster ended.
 #[derive(Drop)]
 pub struct Ended<W> {
     /// The outbox.
     pub outbox: W,
-    /// Whether nothing failed, so that the outbox has the notice of each letter and its end.
+    /// Whether nothing failed, so that the outbox has the notice of each letter and QUIT.
     pub whole: bool,
 }
 
@@ -63,7 +63,7 @@ impl<W> Poster<W> {
             lines: LineWriter {
                 writer: QuietWriter::new(outbox),
                 dots: true,
-                held: PendingBytes::new(),
+                pending: PendingBytes::new(),
             },
             greeted: false,
         }
@@ -148,7 +148,7 @@ impl<W: Drain> Poster<W> {
         let LineWriter {
             writer,
             dots: _,
-            held: _,
+            pending: _,
         } = lines;
         let (outbox, failed) = writer.into_parts();
         Ended {

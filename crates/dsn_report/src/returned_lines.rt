@@ -7,13 +7,13 @@ ghost use Rattle.dsn_report.specs.ReturnedLines.{lines_left};
 
 use bstr::ByteSlice;
 
-/// The longest line of a notice, in bytes without its end (RFC 5322 section 2.1.1).
+/// The longest line of a notice, in bytes without its CRLF (RFC 5322 section 2.1.1).
 pub(crate) const LONGEST_LINE: usize = 998;
 
-/// Room for a line of a notice with its end, and for a dot before it.
+/// Room for a line of a notice with its CRLF, and for a dot before it.
 pub(crate) const LINE_ROOM: usize = LONGEST_LINE + 3;
 
-/// The lines of a header up to its first empty one, as they came, without their ends.
+/// The lines of a header up to its first empty one, as they came, without their line feeds.
 #[derive(Drop)]
 pub(crate) struct ReturnedLines<'a> {
     pub(crate) rest: &'a [u8],
@@ -44,7 +44,7 @@ pub(crate) fn first_line(text: &[u8]) -> (&[u8], &[u8])
         ≡ (if length result.0.now == 0 then [] else result.0.now ∷ header_lines result.1.now) }
 {
     match text.find_byte(b'\n') {
-        Some(end) => (without_carriage_return(&text[..end]), &text[end + 1..]),
+        Some(feed) => (without_carriage_return(&text[..feed]), &text[feed + 1..]),
         None => (text, &text[text.len()..]),
     }
 }
@@ -73,7 +73,7 @@ pub(crate) fn show_line(line: &[u8], shown: &mut [u8; LINE_ROOM]) -> usize
     len
 }
 
-/// Puts a dot, and then a line as a notice shows it, with its end, at the front of `shown`, and
+/// Puts a dot, and then a line as a notice shows it, with its CRLF, at the front of `shown`, and
 /// gives them.
 pub(crate) fn show_dotted_line<'a>(line: &[u8], shown: &'a mut [u8; LINE_ROOM]) -> &'a [u8]
     ensures { result.now ≡ codes "." ++ shown_line line.now ++ codes "\r\n" }

@@ -6,7 +6,7 @@ ghost use Rattle.dsn_report.specs.Boundary.{boundary_numbers, four_digits, is_de
 use crate::returned_lines::{LINE_ROOM, ReturnedLines, show_line};
 
 /// More numbers than a header can rule out. What is proved is 2,979: a line that rules one out has
-/// at least ten bytes and an end. (The shortest has twelve, so 2,520 is the most.)
+/// at least ten bytes and a line feed. (The shortest has twelve, so 2,520 is the most.)
 pub(crate) const NUMBERS: usize = 2_980;
 
 /// Which numbers the returned lines of a header rule out, for boundaries that begin so.

@@ -1,4 +1,4 @@
-//! The client: it hands the frames of an input to a daemon, one after another, and tells in notes
+//! The client: it hands the frames of an input to a daemon, one after another, and writes in notes
 //! what each was answered.
 mod laws;
 mod send_end;

@@ -2,5 +2,5 @@
 mod last_lines;
 mod note_lines;
 
-pub use last_lines::tell_end;
+pub use last_lines::write_last_lines;
 pub use note_lines::{answer_line, fault_line, unsent_line};

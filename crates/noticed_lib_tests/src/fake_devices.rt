@@ -1,4 +1,4 @@
-//! Readers and writers for tests, which take and give bytes in pieces, fail where they are told, or
+//! Readers and writers for tests, which take and give bytes in pieces, fail where a test sets it, or
 //! never end.
 ghost use Rattle.std.specs.Prelude.{Some, None};
 

@@ -1,4 +1,4 @@
-//! The daemon's runs over ports in memory: what their notes tell, and their statuses.
+//! The daemon's runs over ports in memory: what their notes say, and their statuses.
 use super::fake_devices::PieceWriter;
 use super::input::ONE_MESSAGE;
 use super::outboxes::{EMPTY, ONE_NOTICE};

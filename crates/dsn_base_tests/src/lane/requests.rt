@@ -18,13 +18,13 @@ fn carried<T: LaneItem + Send, R: Threads + Wait + Sync>(
 ) -> Option<T>
     requires { (T.agent item ≡ 0) × (T.number item ≡ 0) }
 {
-    let (mut ends, mut out) = open_lane::<T>(rt, alloc, 0, 1, 1).ok()?;
-    let mut end = ends.pop()?;
+    let (mut halves, mut out) = open_lane::<T>(rt, alloc, 0, 1, 1).ok()?;
+    let mut half = halves.pop()?;
     let (sent, taken) = thread::join(
         rt,
         move || -> bool
-            requires { (T.agent item ≡ end.agent) × (T.number item ≡ length end.sent) × (length end.sent ≡ 0) }
-        { end.send(rt, item).is_ok() },
+            requires { (T.agent item ≡ half.agent) × (T.number item ≡ length half.sent) × (length half.sent ≡ 0) }
+        { half.send(rt, item).is_ok() },
         move || -> Option<T> { out.take(rt).ok() },
     );
     if sent { taken } else { None }

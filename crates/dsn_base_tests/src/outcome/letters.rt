@@ -104,7 +104,7 @@ fn a_draft_and_a_chain_tell_what_they_have(rt: HostRuntime) -> Result<(), Fail> 
     Ok(())
 }
 
-/// A letter with one outcome, which its moment tells from others.
+/// A letter with one outcome, which its moment sets apart from others.
 fn letter(alloc: Global, seconds: u64) -> Result<Letter, Fail> {
     let draft = draft(alloc, seconds)?;
     let mut chain = Chain::new();

@@ -16,8 +16,8 @@ fn one_discard(rt: HostRuntime) -> Result<(), Fail> {
     let Body::Discard(key) = body else {
         return Err("no discard")?;
     };
-    let told = (number, key.service, key.id.bytes());
-    same(&rt, told, (0, Service::Bounce, b"K1".as_slice()));
+    let seen = (number, key.service, key.id.bytes());
+    same(&rt, seen, (0, Service::Bounce, b"K1".as_slice()));
     Ok(())
 }
 

@@ -1,8 +1,8 @@
-//! The two ends by which an agent asks and is answered.
+//! The two halves by which an agent asks and is answered.
 ghost use Rattle.std.specs.Prelude.{◌≡◌, ◌<◌, ◌+◌, [], length};
 ghost use Rattle.dsn_lane.specs.Lane.{most_sent};
 ghost use Rattle.dsn_outcome.specs.Body.{body_of};
-ghost use Rattle.dsn_crew.specs.agents.Agent.{AreEnds, IsExchange};
+ghost use Rattle.dsn_crew.specs.agents.Agent.{AreHalves, IsExchange};
 
 use crate::agents::unanswered::Unanswered;
 use dsn_lane::{LaneIn, LaneOut};
@@ -10,36 +10,36 @@ use dsn_outcome::{Answer, Body, Request};
 use std::marker::Model;
 use std::sync::Wait;
 
-/// An agent's ends: the one by which it asks, and the one by which it is answered.
+/// An agent's halves: the one by which it asks, and the one by which it is answered.
 #[derive(Drop)]
-pub(crate) struct Ends {
+pub(crate) struct LaneHalves {
     /// The agent, from 0.
     agent: u32,
     pub(crate) requests: LaneIn<Request>,
     answers: LaneOut<Answer>,
 }
 
-impl Model for Ends {
+impl Model for LaneHalves {
     ghost use Rattle.std.specs.Prelude.{◌≡◌};
-    ghost use Rattle.dsn_crew.specs.agents.Agent.{Ends, AreEnds};
+    ghost use Rattle.dsn_crew.specs.agents.Agent.{LaneHalves, AreHalves};
 
-    ghost Value = { Ends };
+    ghost Value = { LaneHalves };
 
     ghost view = { λ e. record { requests = e.requests; answers = e.answers } };
 
     ghost invariant = { λ e. (e.agent ≡ e.requests.agent)
-        × AreEnds (record { requests = e.requests; answers = e.answers }) };
+        × AreHalves (record { requests = e.requests; answers = e.answers }) };
 }
 
-impl Ends {
-    /// The ends of an agent that has asked nothing.
-    pub(crate) fn new(agent: u32, requests: LaneIn<Request>, answers: LaneOut<Answer>) -> Ends
+impl LaneHalves {
+    /// The halves of an agent that has asked nothing.
+    pub(crate) fn new(agent: u32, requests: LaneIn<Request>, answers: LaneOut<Answer>) -> LaneHalves
         requires own { (requests.agent ≡ agent) × (answers.first ≡ agent)
             × (answers.past ≡ agent + 1) }
         requires unused { answers.taken ≡ [] }
         ensures { result ≡ record { requests = requests; answers = answers } }
     {
-        Ends {
+        LaneHalves {
             agent,
             requests,
             answers,
@@ -57,9 +57,9 @@ impl Ends {
     pub(crate) fn into_parts(self) -> (LaneIn<Request>, LaneOut<Answer>)
         ensures requests { result.0 ≡ self.requests }
         ensures answers { result.1 ≡ self.answers }
-        ensures own { AreEnds self }
+        ensures own { AreHalves self }
     {
-        let Ends {
+        let LaneHalves {
             requests,
             answers,
             ..

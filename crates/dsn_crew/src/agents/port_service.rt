@@ -96,9 +96,9 @@ fn is_lost(served: &Result<Served, ServeFault>) -> bool
 impl Agent {
     /// How many requests the agent has made.
     fn requests(&self) -> u32
-        ensures count { result ≡ length self.now.ends.requests.sent }
+        ensures count { result ≡ length self.now.halves.requests.sent }
         ensures kept { IsAgent self.now }
     {
-        self.ends.requests.count()
+        self.halves.requests.count()
     }
 }

@@ -81,7 +81,7 @@ impl Agent {
         ensures kept { IsAgent self.new }
     {
         // Opens the agent's model: the proof needs what it keeps.
-        let _ = &self.ends;
+        let _ = &self.halves;
         match next_request(alloc, place, bytes) {
             Ok(body) => self.ask_at(rt, gate, body),
             Err(refusal) => Some(Turn {
@@ -98,7 +98,7 @@ impl Agent {
             → IsTurn self.old self.new place bytes result }
         ensures kept { IsAgent self.new }
     {
-        gate.before_ask(self.ends.agent(), self.ends.requests.count());
+        gate.before_ask(self.halves.agent(), self.halves.requests.count());
         let asked = self.ask(rt, body);
         if let Ok(answer) = &asked {
             gate.after_answer(answer.agent, answer.number);

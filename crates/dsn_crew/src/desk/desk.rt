@@ -2,11 +2,11 @@
 ghost use Rattle.std.specs.Prelude.{◌≡◌, ◌+◌, ◌<◌, ◌≤◌, ℕ, false, true, [], is_ok, length, OnOk, vec_capacity};
 ghost use Rattle.std.specs.List.{slice_index_or};
 ghost use Rattle.dsn_book.specs.Book.{Represents};
-ghost use Rattle.dsn_lane.specs.Ends.{End};
+ghost use Rattle.dsn_lane.specs.Halves.{Half};
 ghost use Rattle.dsn_lane.specs.Lane.{most_agents, most_sent};
 ghost use Rattle.dsn_outcome.specs.declared.answer.Answer.{Answer};
 ghost use Rattle.dsn_crew.specs.desk.Open.{AreLines};
-ghost use Rattle.dsn_crew.specs.desk.Desk.{AreTold, HasRoom, IsDesk, IsRun, IsRequestTaken, IsStopped, all_gone, desk_of, goodbyes, missing, most_taken, places_of, with_failed};
+ghost use Rattle.dsn_crew.specs.desk.Desk.{IsAnswerSent, HasRoom, IsDesk, IsRun, IsRequestTaken, IsStopped, all_gone, desk_of, goodbyes, missing, most_taken, places_of, with_failed};
 
 use crate::desk::answer_lane::AnswerLane;
 use crate::desk::desk_fault::DeskFault;
@@ -140,7 +140,7 @@ impl Desk {
         let agent = request.agent;
         self.gone += u32::from(request.body.is_bye());
         let Step { answer, letter } = self.book.apply(request);
-        match tell(rt, &mut self.lines, answer) {
+        match send_answer(rt, &mut self.lines, answer) {
             Ok(()) => Ok(letter),
             Err(gone) => {
                 self.stop = Some(StopCause::Gone(gone));
@@ -198,15 +198,15 @@ impl Desk {
     }
 }
 
-/// Sends an answer over the lane of its agent, or says what the lane told where the agent is gone.
-fn tell(rt: &impl Wait, lines: &mut Vec<AnswerLane>, answer: Answer) -> Result<(), LaneGone>
+/// Sends an answer over the lane of its agent, or says what the lane reported where the agent is gone.
+fn send_answer(rt: &impl Wait, lines: &mut Vec<AnswerLane>, answer: Answer) -> Result<(), LaneGone>
     requires within { answer.agent < length lines.old.items }
-    requires agent { (d : End Answer)
+    requires agent { (d : Half Answer)
         → (slice_index_or lines.old.items answer.agent d).agent ≡ answer.agent }
-    requires number { (d : End Answer)
+    requires number { (d : Half Answer)
         → length (slice_index_or lines.old.items answer.agent d).sent ≡ answer.number }
     requires room { answer.number < most_sent }
-    ensures { AreTold (is_ok result) lines.old.items answer lines.new.items }
+    ensures { IsAnswerSent (is_ok result) lines.old.items answer lines.new.items }
 {
     lines[answer.agent as usize].send(rt, answer)
 }

@@ -8,7 +8,7 @@ use std::sync::Wait;
 /// A sink handed a letter back. Only [`offer`] makes it, so whoever shows one has asked a sink.
 #[derive(Clone, Copy, Debug, Drop, PartialEq, Eq)]
 pub(crate) struct Refused {
-    told: (),
+    handed_back: (),
 }
 
 /// A letter that a sink handed back.
@@ -31,7 +31,7 @@ pub(crate) fn offer<K: Sink>(
         Ok(()) => Ok(()),
         Err(letter) => Err(ReturnedLetter {
             letter,
-            refused: Refused { told: () },
+            refused: Refused { handed_back: () },
         }),
     }
 }

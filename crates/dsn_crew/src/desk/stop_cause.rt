@@ -5,7 +5,7 @@ use dsn_lane::LaneGone;
 /// Why a collector has failed.
 #[derive(Clone, Copy, Debug, PartialEq, Eq)]
 pub(crate) enum StopCause {
-    /// A lane told that the agents, or one of them, are gone.
+    /// A lane reported that the agents, or one of them, are gone.
     Gone(LaneGone),
     /// The sink handed a letter back.
     Refused(Refused),

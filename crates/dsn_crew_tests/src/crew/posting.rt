@@ -35,13 +35,13 @@ const FLUSH: &[u8; 56] = b"\
 fn one_append_one_flush(rt: HostRuntime) -> Result<(), Fail> {
     let mut ports = Vec::new(rt.alloc());
     ports.push(port(rt.alloc(), &[(ONE_MESSAGE.as_slice(), true)], false)?)?;
-    let told = run_all(&rt, rt.alloc(), 8, ports)?;
-    same(&rt, (told.code, told.letters), (0, 1));
-    same(&rt, told.agents.as_slice(), [line(2, 1)].as_slice());
-    assert!(rt; told.whole && told.open.is_empty());
+    let seen = run_all(&rt, rt.alloc(), 8, ports)?;
+    same(&rt, (seen.code, seen.letters), (0, 1));
+    same(&rt, seen.agents.as_slice(), [line(2, 1)].as_slice());
+    assert!(rt; seen.whole && seen.open.is_empty());
     same(
         &rt,
-        told.outbox.into_inner().text.as_slice(),
+        seen.outbox.into_inner().text.as_slice(),
         ONE_NOTICE.as_slice(),
     );
     Ok(())
@@ -52,18 +52,18 @@ fn client_leaves_mid_frame(rt: HostRuntime) -> Result<(), Fail> {
     let texts = [(&ONE_MESSAGE[..60], true), (FLUSH.as_slice(), true)];
     let mut ports = Vec::new(rt.alloc());
     ports.push(port(rt.alloc(), &texts, false)?)?;
-    let told = run_all(&rt, rt.alloc(), 8, ports)?;
-    same(&rt, (told.code, told.letters), (0, 1));
+    let seen = run_all(&rt, rt.alloc(), 8, ports)?;
+    same(&rt, (seen.code, seen.letters), (0, 1));
     let line = AgentLine {
         requests: 2,
         connections: 2,
         faults: 1,
         port_failed: false,
     };
-    same(&rt, told.agents.as_slice(), [line].as_slice());
+    same(&rt, seen.agents.as_slice(), [line].as_slice());
     same(
         &rt,
-        told.outbox.into_inner().text.as_slice(),
+        seen.outbox.into_inner().text.as_slice(),
         ONE_NOTICE.as_slice(),
     );
     Ok(())
@@ -94,11 +94,11 @@ fn outbox_fails_in_a_crew(rt: HostRuntime) -> Result<(), Fail> {
     let room = GREETING + SHORTER_LETTER + 20;
     let ports = ports_of(rt.alloc(), &all)?;
     let outbox = outbox(rt.alloc(), room);
-    let told = run_over(&rt, rt.alloc(), 8, ports, outbox, &NoGate)?;
-    same(&rt, (told.code, told.letters, told.whole), (0, 1, false));
-    same(&rt, told.unsent.as_slice(), b"K2K3".as_slice());
-    same(&rt, told.agents.as_slice(), [line(6, 1)].as_slice());
-    let text = told.outbox.into_inner().text;
+    let seen = run_over(&rt, rt.alloc(), 8, ports, outbox, &NoGate)?;
+    same(&rt, (seen.code, seen.letters, seen.whole), (0, 1, false));
+    same(&rt, seen.unsent.as_slice(), b"K2K3".as_slice());
+    same(&rt, seen.agents.as_slice(), [line(6, 1)].as_slice());
+    let text = seen.outbox.into_inner().text;
     same(&rt, text.len(), room);
     assert!(rt; text.ends_with(b"\r\n.\r\nMAIL FROM:<>\r\nRCPT T"));
     Ok(())
@@ -132,15 +132,15 @@ fn flush_between(alloc: Global) -> Result<Frames, Fail> {
 
 /// The codes and counts of a run whose third ask waits for the outbox's first write, which waits for
 /// the answer to that ask; and how many holds ran out.
-fn told_aside<R: Threads + Wait + Clock + Sync>(
+fn seen_aside<R: Threads + Wait + Clock + Sync>(
     rt: &R,
     alloc: Global,
     ports: Vec<MemoryPort<'_>>,
     hold: &Hold<'_, R>,
 ) -> Result<(u32, u32, bool, Vec<OpenLine>), Fail> {
     let outbox = Plain::new(Aside { hold });
-    let told = run_over(rt, alloc, 8, ports, outbox, hold)?;
-    Ok((told.code, told.letters, told.whole, told.open))
+    let seen = run_over(rt, alloc, 8, ports, outbox, hold)?;
+    Ok((seen.code, seen.letters, seen.whole, seen.open))
 }
 
 #[test]
@@ -156,7 +156,7 @@ fn notice_written_aside(rt: HostRuntime) -> Result<(), Fail> {
     let hold = Hold::new(&rt, until);
     let all = [flush_between(rt.alloc())?];
     let ports = ports_of(rt.alloc(), &all)?;
-    let (code, letters, whole, lines) = told_aside(&rt, rt.alloc(), ports, &hold)?;
+    let (code, letters, whole, lines) = seen_aside(&rt, rt.alloc(), ports, &hold)?;
     same(&rt, (code, letters, whole, hold.ran_out()), (0, 1, true, 0));
     same(&rt, lines.as_slice(), [open(b"K2", 1)?].as_slice());
     Ok(())

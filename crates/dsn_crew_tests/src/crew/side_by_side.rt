@@ -5,7 +5,7 @@ use super::heard::{ANSWER, Heard, after_logged, answer, ports_heard};
 use super::hold::{Hold, Until};
 use super::memory_port::MemoryPort;
 use super::outbox::Outbox;
-use super::whole_crew::{EMPTY, Told, line, open, outbox, port, run_over};
+use super::whole_crew::{EMPTY, Seen, line, open, outbox, port, run_over};
 use crate::assert_same::same;
 use dsn_device::Plain;
 use std::alloc::Global;
@@ -30,7 +30,7 @@ fn held<R: Threads + Wait + Clock + Sync>(
     alloc: Global,
     all: &[Frames],
     until: Until,
-) -> Result<(Told<Plain<Outbox>>, u64), Fail> {
+) -> Result<(Seen<Plain<Outbox>>, u64), Fail> {
     held_over(rt, alloc, ports_of(alloc, all)?, until)
 }
 
@@ -40,10 +40,10 @@ fn held_over<R: Threads + Wait + Clock + Sync>(
     alloc: Global,
     ports: Vec<MemoryPort<'_>>,
     until: Until,
-) -> Result<(Told<Plain<Outbox>>, u64), Fail> {
+) -> Result<(Seen<Plain<Outbox>>, u64), Fail> {
     let hold = Hold::new(rt, until);
-    let told = run_over(rt, alloc, 100, ports, outbox(alloc, usize::MAX), &hold)?;
-    Ok((told, hold.ran_out()))
+    let seen = run_over(rt, alloc, 100, ports, outbox(alloc, usize::MAX), &hold)?;
+    Ok((seen, hold.ran_out()))
 }
 
 /// So many appends of `x@y` to this log.
@@ -56,14 +56,14 @@ fn appends(alloc: Global, count: u32, message: &[u8]) -> Result<Frames, Fail> {
 }
 
 /// Asserts that a run ended well, that no hold ran out, and that no letter was made.
-fn assert_empty<R: Abort>(rt: &R, told: (Told<Plain<Outbox>>, u64), requests: u32) {
-    let (told, ran_out) = told;
-    same(rt, (told.code, ran_out, told.letters), (0, 0, 0));
-    for agent in told.agents {
+fn assert_empty<R: Abort>(rt: &R, seen: (Seen<Plain<Outbox>>, u64), requests: u32) {
+    let (seen, ran_out) = seen;
+    same(rt, (seen.code, ran_out, seen.letters), (0, 0, 0));
+    for agent in seen.agents {
         same(rt, agent, line(requests, 1));
     }
-    assert!(rt; told.whole);
-    let text = told.outbox.into_inner().text;
+    assert!(rt; seen.whole);
+    let text = seen.outbox.into_inner().text;
     same(rt, text.as_slice(), EMPTY.as_slice());
 }
 
@@ -83,15 +83,15 @@ fn agents_side_by_side(rt: HostRuntime) -> Result<(), Fail> {
     ];
     let heard = [Heard::new(rt.alloc(), 1)?, Heard::new(rt.alloc(), 1)?];
     let ports = ports_heard(rt.alloc(), &all, &heard)?;
-    let told = held_over(&rt, rt.alloc(), ports, until)?;
+    let seen = held_over(&rt, rt.alloc(), ports, until)?;
     for it in &heard {
         let bytes = it.bytes(rt.alloc())?;
         same(&rt, after_logged(&rt, &bytes, 1, 1), [0; ANSWER].as_slice());
     }
     let lines = [open(b"Q1", 1)?, open(b"Q2", 1)?];
-    same(&rt, told.0.open.as_slice(), lines.as_slice());
-    same(&rt, told.0.agents.len(), 2);
-    assert_empty(&rt, told, 1);
+    same(&rt, seen.0.open.as_slice(), lines.as_slice());
+    same(&rt, seen.0.agents.len(), 2);
+    assert_empty(&rt, seen, 1);
     Ok(())
 }
 
@@ -109,11 +109,11 @@ fn agents_cross(rt: HostRuntime) -> Result<(), Fail> {
         appends(rt.alloc(), 2, b"Q1")?,
         appends(rt.alloc(), 2, b"Q2")?,
     ];
-    let told = held(&rt, rt.alloc(), &all, until)?;
+    let seen = held(&rt, rt.alloc(), &all, until)?;
     let lines = [open(b"Q1", 2)?, open(b"Q2", 2)?];
-    same(&rt, told.0.open.as_slice(), lines.as_slice());
-    same(&rt, told.0.agents.len(), 2);
-    assert_empty(&rt, told, 2);
+    same(&rt, seen.0.open.as_slice(), lines.as_slice());
+    same(&rt, seen.0.agents.len(), 2);
+    assert_empty(&rt, seen, 2);
     Ok(())
 }
 
@@ -131,10 +131,10 @@ fn sixteen_agents(rt: HostRuntime) -> Result<(), Fail> {
     for _ in 0..16u32 {
         all.push(appends(rt.alloc(), 10, b"Q1")?)?;
     }
-    let told = held(&rt, rt.alloc(), &all, until)?;
-    same(&rt, told.0.open.as_slice(), [open(b"Q1", 160)?].as_slice());
-    same(&rt, told.0.agents.len(), 16);
-    assert_empty(&rt, told, 10);
+    let seen = held(&rt, rt.alloc(), &all, until)?;
+    same(&rt, seen.0.open.as_slice(), [open(b"Q1", 160)?].as_slice());
+    same(&rt, seen.0.agents.len(), 16);
+    assert_empty(&rt, seen, 10);
     Ok(())
 }
 
@@ -210,16 +210,16 @@ fn two_agents_one_log(rt: HostRuntime) -> Result<(), Fail> {
     let all = [first, fifty(rt.alloc(), b'b')?];
     let heard = [Heard::new(rt.alloc(), 51)?, Heard::new(rt.alloc(), 50)?];
     let ports = ports_heard(rt.alloc(), &all, &heard)?;
-    let (told, ran_out) = held_over(&rt, rt.alloc(), ports, until)?;
+    let (seen, ran_out) = held_over(&rt, rt.alloc(), ports, until)?;
     assert_heard(&rt, rt.alloc(), &heard)?;
-    same(&rt, (told.code, ran_out, told.letters), (0, 0, 1));
+    same(&rt, (seen.code, ran_out, seen.letters), (0, 0, 1));
     same(
         &rt,
-        told.agents.as_slice(),
+        seen.agents.as_slice(),
         [line(51, 1), line(50, 1)].as_slice(),
     );
-    assert!(rt; told.whole && told.open.is_empty());
-    let text = told.outbox.into_inner().text;
+    assert!(rt; seen.whole && seen.open.is_empty());
+    let text = seen.outbox.into_inner().text;
     same(&rt, groups(&text), 100);
     same(&rt, groups_in_order(&text, b'a'), 50);
     same(&rt, groups_in_order(&text, b'b'), 50);

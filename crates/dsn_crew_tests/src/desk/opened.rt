@@ -22,11 +22,11 @@ fn crew_has_1_to_16_agents(rt: HostRuntime) -> Result<(), Fail> {
     for agents in 0..18u32 {
         let code = if agents == 0 || agents == 17 { 43 } else { 0 };
         let opened = opened(&rt, rt.alloc(), 1, agents).expect(&rt, "limits");
-        let told = match opened {
+        let seen = match opened {
             Ok(crew) => u32::from(crew.0.len() != agents as usize),
             Err(fault) => fault.code(),
         };
-        same(&rt, told, code);
+        same(&rt, seen, code);
     }
     Ok(())
 }

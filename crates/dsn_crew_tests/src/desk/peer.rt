@@ -1,4 +1,5 @@
-//! A connection in memory for tests, which takes and gives bytes in pieces and fails where it is told.
+//! A connection in memory for tests, which takes and gives bytes in pieces and fails where a test
+//! sets it.
 ghost use Rattle.std.specs.Prelude.{refl};
 
 use dsn_device::OpaqueStream;

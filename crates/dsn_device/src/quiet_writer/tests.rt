@@ -25,8 +25,8 @@ fn nothing_after_the_first_failure(rt: HostRuntime) -> Result<(), Fail> {
     // the last flush fails where all ten bytes were taken and no more
     for room in 0..12usize {
         let (failed, held) = written(&rt, room)?;
-        let told = (failed, held.as_slice());
-        same(&rt, told, (room < 11, &b"EHLO\nQUIT\n"[..room.min(10)]));
+        let left = (failed, held.as_slice());
+        same(&rt, left, (room < 11, &b"EHLO\nQUIT\n"[..room.min(10)]));
     }
     Ok(())
 }

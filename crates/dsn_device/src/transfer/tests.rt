@@ -28,10 +28,10 @@ fn sends_a_front_up_to_the_failure(rt: HostRuntime) -> Result<(), Fail> {
     for most in 1..TEXT.len() + 1 {
         for room in 0..TEXT.len() + 1 {
             let (sent, held) = sent_into(&rt, room, most)?;
-            let told = (sent, held.as_slice());
+            let left = (sent, held.as_slice());
             same(
                 &rt,
-                (most, told),
+                (most, left),
                 (most, (room == TEXT.len(), &TEXT[..room])),
             );
         }

@@ -14,7 +14,7 @@ use Rattle.noticed_lib.specs.notes.OpenLogs.{AreOpenLines}
 use Rattle.noticed_lib.specs.notes.Notes.{answer_line, answer_lines_from, end_lines}
 use Rattle.dsn_report.specs.Outgoing.{StaysSteady, IsOutbox}
 use Rattle.noticed_lib.specs.batch_run.Requests.{AreReplies, requests_of}
-use Rattle.dsn_frame.specs.Telling.{LosesLast}
+use Rattle.dsn_frame.specs.SentAnswers.{LosesLast}
 use Rattle.noticed_lib.specs.declared.batch_run.batch_end.BatchEnd.{BatchEnd}
 use Rattle.dsn_frame.specs.declared.bodies.spoken.Spoken.{Spoken}
 

@@ -1,4 +1,4 @@
--- Lines: what the notes of the daemon's run tell (this project's profile).
+-- Agent lines: what the notes of the daemon's run say (this project's profile).
 use Rattle.std.specs.Prelude.{ℕ, suc, List, [], ◌∷◌, ◌++◌, codes, decimal, Option, Some, None, if◌then◌else◌}
 use Rattle.std.specs.List.{list_any}
 use Rattle.dsn_text.specs.FaultCode.{socket_code}

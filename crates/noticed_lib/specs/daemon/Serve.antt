@@ -21,22 +21,22 @@ account_status lost account logs =
     else 0
 
 module _ {W N : Type 0} (notes_device : Drain N) where
-  -- a run with this history and account was told in the notes: each line, up to one that could not
+  -- a run with this history and account was written to the notes: each line, up to one that could not
   -- be written
-  pub record TellsAccount (history : List Exchange) (account : CrewAccount W) (notes later : N)
+  pub record WritesAccount (history : List Exchange) (account : CrewAccount W) (notes later : N)
       (end : ServeEnd W) : Type 0 where
     pub logs : Option (List OpenLine)
     pub logs_are : AreOpenLines history logs
     pub lost : Bool
-    pub told : WritesUntilFailure notes_device false lost notes later (account_lines account logs)
+    pub noted : WritesUntilFailure notes_device false lost notes later (account_lines account logs)
     pub outbox_is : end.outbox ≡ account.outbox
     pub status_is : end.status ≡ account_status lost account logs
 
-  -- a crew's fault was told in the notes: each line, up to one that could not be written
-  pub record TellsFault (cause : CrewCause) (outbox : W) (unsent : List Letter) (notes later : N)
+  -- a crew's fault was written to the notes: each line, up to one that could not be written
+  pub record WritesFault (cause : CrewCause) (outbox : W) (unsent : List Letter) (notes later : N)
       (end : ServeEnd W) : Type 0 where
     pub lost : Bool
-    pub told : WritesUntilFailure notes_device false lost notes later
+    pub noted : WritesUntilFailure notes_device false lost notes later
         (crew_fault_lines cause unsent)
     pub outbox_is : end.outbox ≡ outbox
     pub status_is : end.status ≡ 1
@@ -50,7 +50,7 @@ module _ {P S W N : Type 0} (port : Port P S) (drain : Drain W) (notes_device : 
     pub account : CrewAccount W
     pub crew : IsAccount port drain host limits ports start account
     pub count : (1 ≤ length ports) × (length ports ≤ most_ports)
-    pub told : TellsAccount notes_device (history_of limits account.taken) account notes later end
+    pub noted : WritesAccount notes_device (history_of limits account.taken) account notes later end
 
   -- a run whose crew ended with a fault: what is left of it, and its notes. The cause is PortCount
   -- where there are not 1 to `most_ports` ports
@@ -58,7 +58,7 @@ module _ {P S W N : Type 0} (port : Port P S) (drain : Drain W) (notes_device : 
     pub fault : CrewFault W
     pub crew : IsCrewFault drain host limits (length ports) start fault fault.cause
     pub counted : (fault.cause ≡ PortCount) ↔ ((length ports ≡ 0) ⊎ (most_ports < length ports))
-    pub told : TellsFault notes_device fault.cause fault.outbox fault.unsent notes later end
+    pub noted : WritesFault notes_device fault.cause fault.outbox fault.unsent notes later end
 
   -- a run over these ports
   abbrev pub IsServe : Type 0
@@ -73,4 +73,4 @@ IsSocketServe drain notes_device may_end host limits agents uses start notes lat
     IsServe (socket_port may_end) drain notes_device host limits (replicate agents uses) start notes
     later end
     ⊎ (((1 ≤ agents) × (agents ≤ most_ports))
-    × TellsFault notes_device Refused start [] notes later end)
+    × WritesFault notes_device Refused start [] notes later end)

@@ -1,4 +1,4 @@
--- Open logs: the list of the logs that a run leaves open, as its notes tell them.
+-- Open logs: the list of the logs that a run leaves open, as its notes name them.
 use Rattle.std.specs.Prelude.{List, Option, MatchOption, IsPermutation}
 use Rattle.std.specs.List.Sorted.{IsSortedByKey}
 use Rattle.dsn_book.specs.OpenLine.{open_lines_after}

@@ -18,7 +18,7 @@ pub struct MemoryRun {
     pub outbox: Vec<u8>,
     /// The notes.
     pub notes: Vec<u8>,
-    /// Whether the outbox has the notice of each sealed log, and its end.
+    /// Whether the outbox has the notice of each sealed log, and QUIT.
     pub whole: bool,
     /// The number of the fault that ended the run, as in [`BatchEnd`].
     pub fault: Option<u32>,

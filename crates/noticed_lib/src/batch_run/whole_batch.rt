@@ -14,7 +14,7 @@ use crate::batch_run::batch_end::BatchEnd;
 use crate::batch_run::reading::read_all;
 use crate::batch_run::reading_end::ReadingEnd;
 use crate::batch_run::run::Run;
-use crate::notes::tell_end;
+use crate::notes::write_last_lines;
 use dsn_book::{Book, Limits, OpenLine};
 use dsn_device::{Drain, Source, UntilFailure};
 use dsn_outcome::NoMemory;
@@ -30,7 +30,7 @@ struct Harvest<W> {
 }
 
 /// Reads frames from `input` to its end, does what they ask as agent 0, posts a notice of each
-/// sealed log to `outbox`, and tells in `notes` what each frame was answered and how the run
+/// sealed log to `outbox`, and writes to `notes` what each frame was answered and how the run
 /// ended. Each line of the notes is written before the next frame is read, and a letter before
 /// its answer's line. Want of memory ends the run only where the book or a frame's memory was
 /// refused; a request that meets it is answered `refused 9`.
@@ -104,7 +104,7 @@ fn read_into<R: Source, W: Drain, N: Drain>(
     }
 }
 
-/// Ends the outbox, and tells how the run ended.
+/// Ends the outbox, and writes how the run ended.
 fn end<W: Drain, N: Drain>(harvest: Harvest<W>, notes: &mut N) -> BatchEnd<W>
     ensures { (host : List ℕ) (start : W) (letters : List Letter)
         → Delivered W.Drain host start harvest.outgoing letters
@@ -122,11 +122,11 @@ fn end<W: Drain, N: Drain>(harvest: Harvest<W>, notes: &mut N) -> BatchEnd<W>
         whole,
         unsent,
     } = outgoing.finish();
-    let mut telling = UntilFailure {
+    let mut writing = UntilFailure {
         failed: reading.is_notes_lost(),
     };
-    let unsent = tell_end(notes, &mut telling, reading.code(), whole, unsent, &logs);
-    let fault = fault_after(telling.failed, reading);
+    let unsent = write_last_lines(notes, &mut writing, reading.code(), whole, unsent, &logs);
+    let fault = fault_after(writing.failed, reading);
     let status = status_of(fault, whole, logs.is_ok());
     BatchEnd {
         outbox,

@@ -1,4 +1,4 @@
-//! The client's loop: a frame is sent, its answer is read, and its line is told, before the next
+//! The client's loop: a frame is sent, its answer is read, and its line is written, before the next
 //! frame is read.
 ghost use Rattle.std.specs.Prelude.{◌≡◌, ◌<◌, Ok, Err};
 ghost use Rattle.std.specs.Result.{result_err};
@@ -19,7 +19,7 @@ use std::sync::Wait;
 const MOST_FRAMES: u32 = 1_000_000;
 
 /// Sends the frames of `input` over `stream`, each as one text and the next one only after the
-/// last answer, and tells each answer in a line of `notes`. The first fault ends it, and nothing
+/// last answer, and writes each answer in a line of `notes`. The first fault ends it, and nothing
 /// is read or written after it; an answer out of turn has no line. It makes no flush. Memory is
 /// taken only to read a frame or an answer that is longer than any before it.
 pub fn send<R: Source, S: Stream, N: Drain>(
@@ -44,7 +44,7 @@ pub fn send<R: Source, S: Stream, N: Drain>(
     }
 }
 
-/// Sends each frame of the input and tells its answer.
+/// Sends each frame of the input and notes its answer.
 #[tactic(auto, using(crate::proofs::client::Rules::sends))]
 fn hand_over<R: Source, S: Stream, N: Drain>(
     alloc: Global,

@@ -5,11 +5,11 @@ ghost use Rattle.dsn_book.specs.Book.{Represents};
 ghost use Rattle.dsn_device.specs.UntilFailure.{WritesUntilFailure};
 ghost use Rattle.dsn_outcome.specs.History.{Exchange};
 ghost use Rattle.noticed_lib.specs.daemon.AgentLines.{agent_lines, port_fault};
-ghost use Rattle.noticed_lib.specs.daemon.Serve.{TellsAccount, TellsFault};
+ghost use Rattle.noticed_lib.specs.daemon.Serve.{WritesAccount, WritesFault};
 
 use crate::daemon::agent_lines::agent_line;
 use crate::daemon::serve_end::ServeEnd;
-use crate::notes::tell_end;
+use crate::notes::write_last_lines;
 use dsn_book::OpenLine;
 use dsn_crew::{AgentLine, CrewAccount, CrewCause};
 use dsn_device::{Drain, UntilFailure};
@@ -17,14 +17,14 @@ use dsn_outcome::Letters;
 use dsn_text::fault_code;
 use std::alloc::Global;
 
-/// Tells what each agent did, and how the run ended.
-pub(crate) fn tell_account<W: Drop, N: Drain>(
+/// Writes what each agent did, and how the run ended.
+pub(crate) fn write_account<W: Drop, N: Drain>(
     alloc: Global,
     account: CrewAccount<W>,
     notes: &mut N,
 ) -> ServeEnd<W>
     ensures { (history : List Exchange) → Represents account.book history
-        → TellsAccount N.Drain history account notes.old notes.new result }
+        → WritesAccount N.Drain history account notes.old notes.new result }
 {
     let CrewAccount {
         agents,
@@ -35,38 +35,38 @@ pub(crate) fn tell_account<W: Drop, N: Drain>(
         ..
     } = account;
     let logs = book.open_lines(alloc);
-    let mut telling = UntilFailure::new();
-    tell_agents(notes, &mut telling, agents.as_slice());
+    let mut writing = UntilFailure::new();
+    write_agents(notes, &mut writing, agents.as_slice());
     let fault = port_fault(agents.as_slice());
-    drop(tell_end(notes, &mut telling, fault, whole, unsent, &logs));
-    let status = status_of(telling.failed, fault, whole, logs.is_ok());
+    drop(write_last_lines(notes, &mut writing, fault, whole, unsent, &logs));
+    let status = status_of(writing.failed, fault, whole, logs.is_ok());
     ServeEnd { outbox, status }
 }
 
-/// Tells the number of a crew's fault, and the letters that were not written.
-pub(crate) fn tell_fault<W, N: Drain>(
+/// Writes the number of a crew's fault, and the letters that were not written.
+pub(crate) fn write_fault<W, N: Drain>(
     alloc: Global,
     cause: CrewCause,
     outbox: W,
     unsent: Letters,
     notes: &mut N,
 ) -> ServeEnd<W>
-    ensures { TellsFault N.Drain cause outbox unsent notes.old notes.new result }
+    ensures { WritesFault N.Drain cause outbox unsent notes.old notes.new result }
 {
-    let mut telling = UntilFailure::new();
-    // No more than these is told of it, so the outbox goes for whole, and no log for open.
+    let mut writing = UntilFailure::new();
+    // No more than these is written of it, so the outbox goes for whole, and no log for open.
     let no_logs = Ok(Vec::new(alloc));
     let fault = Some(cause.code());
-    drop(tell_end(notes, &mut telling, fault, true, unsent, &no_logs));
+    drop(write_last_lines(notes, &mut writing, fault, true, unsent, &no_logs));
     ServeEnd { outbox, status: 1 }
 }
 
-fn tell_agents<N: Drain>(notes: &mut N, telling: &mut UntilFailure, agents: &[AgentLine])
-    ensures { WritesUntilFailure N.Drain telling.old.failed telling.new.failed notes.old notes.new
+fn write_agents<N: Drain>(notes: &mut N, writing: &mut UntilFailure, agents: &[AgentLine])
+    ensures { WritesUntilFailure N.Drain writing.old.failed writing.new.failed notes.old notes.new
         (agent_lines agents.now) }
 {
     for (agent, line) in agents.iter().enumerate() {
-        telling.write(notes, agent_line(agent, line).as_bytes());
+        writing.write(notes, agent_line(agent, line).as_bytes());
     }
 }
 

@@ -2,7 +2,7 @@
 ghost use Rattle.std.specs.Prelude.{All};
 ghost use Rattle.noticed_lib.specs.daemon.Serve.{IsServe};
 
-use crate::daemon::run_notes::{tell_account, tell_fault};
+use crate::daemon::run_notes::{write_account, write_fault};
 use crate::daemon::serve_end::ServeEnd;
 use dsn_book::Limits;
 use dsn_crew::{CrewFault, Gate, Port, run_crew};
@@ -13,10 +13,10 @@ use std::sync::Wait;
 use std::thread::Threads;
 
 /// Serves these ports by a crew, as [`run_crew`] does, which posts a notice of each sealed log to
-/// `outbox`. Then it tells in `notes` what each agent did, and how the run ended: with a port that
+/// `outbox`. Then it writes to `notes` what each agent did, and how the run ended: with a port that
 /// failed (61), with an outbox that failed (31), which letters were not written, and which logs are
-/// open, or that their list found no memory (9). Of a crew's fault (41, 42, 43) it tells the number
-/// and the letters alone. Nothing is told once a line could not be written. As the crew does it
+/// open, or that their list found no memory (9). Of a crew's fault (41, 42, 43) it writes the number
+/// and the letters alone. Nothing is written once a line could not be written. As the crew does it
 /// asks that each port may be asked, which is so of every port that doesn't say when it can be.
 pub fn serve_ports<
     R: Threads + Wait + Sync,
@@ -39,7 +39,7 @@ pub fn serve_ports<
         result }
 {
     match run_crew(rt, alloc, site, limits, ports, outbox, gate) {
-        Ok(account) => tell_account(alloc, account, notes),
+        Ok(account) => write_account(alloc, account, notes),
         Err(fault) => {
             let CrewFault {
                 cause,
@@ -47,7 +47,7 @@ pub fn serve_ports<
                 unsent,
                 ..
             } = fault;
-            tell_fault(alloc, cause, outbox, unsent, notes)
+            write_fault(alloc, cause, outbox, unsent, notes)
         }
     }
 }

@@ -5,7 +5,7 @@ ghost use Rattle.dsn_crew.specs.Crew.{most_ports};
 ghost use Rattle.noticed_lib.specs.daemon.Serve.{IsSocketServe};
 
 use crate::daemon::no_watch::NoWatch;
-use crate::daemon::run_notes::tell_fault;
+use crate::daemon::run_notes::write_fault;
 use crate::daemon::serve_end::ServeEnd;
 use crate::daemon::serve_over_ports::serve_ports;
 use crate::daemon::socket_port::SocketPort;
@@ -25,8 +25,8 @@ const MOST_AGENTS: u32 = 16;
 
 /// Serves what connects to `listener` by a crew of `agents` agents, as [`serve_ports`] does. All of
 /// them accept on the one listener, and each is done once it has served `max_use` connections; its
-/// port fails where an accept fails. Where there are not 1 to 16 agents that is told (43) before
-/// any memory is taken; refused memory for the ports is told as the crew's is (42).
+/// port fails where an accept fails. Where there are not 1 to 16 agents that is noted (43) before
+/// any memory is taken; refused memory for the ports is noted as the crew's is (42).
 pub fn serve<R: Threads + Wait + Sync, W: Drain + Drop + Send, N: Drain>(
     rt: &R,
     alloc: Global,
@@ -86,11 +86,11 @@ fn serve_socket<R: Threads + Wait + Sync, H: Watch + Sync, W: Drain + Drop + Sen
         notes.old notes.new result }
 {
     if !is_crew(agents) {
-        return tell_fault(alloc, CrewCause::PortCount, outbox, Letters::new(), notes);
+        return write_fault(alloc, CrewCause::PortCount, outbox, Letters::new(), notes);
     }
     match socket_ports(alloc, listener, watch, agents, max_use) {
         Ok(ports) => serve_ports(rt, alloc, site, limits, ports, outbox, &NoGate, notes),
-        Err(NoMemory) => tell_fault(alloc, CrewCause::Refused, outbox, Letters::new(), notes),
+        Err(NoMemory) => write_fault(alloc, CrewCause::Refused, outbox, Letters::new(), notes),
     }
 }
 

@@ -8,7 +8,7 @@ use std::io;
 use std::io::{ErrorKind, Write};
 use std::marker::Model;
 
-/// A writer that tells its watch of each notice once it is flushed, and of the first failure. What
+/// A writer that reports to its watch each notice once it is flushed, and the first failure. What
 /// is written between two flushes is one notice, as a poster writes them, and its first write has
 /// its envelope and its header's beginning.
 #[derive(Drop)]
@@ -66,7 +66,7 @@ impl<'a, W, H: Watch> WatchedOutbox<'a, W, H> {
         }
     }
 
-    /// Tells of a failure, if it is the first.
+    /// Reports a failure, if it is the first.
     fn failed(&mut self, error: &io::Error)
         ensures { self.new ≡ self.old }
     {

@@ -1,6 +1,6 @@
 -- What the threads, the collector and the poster came to is put together.
 use Rattle.std.proofs.Common.{rules, ℕ, ap, sym, ◌∙◌, subst, arith}
-use Rattle.dsn_lane.specs.Ends.{Identity}
+use Rattle.dsn_lane.specs.Halves.{Identity}
 use Rattle.dsn_post.specs.LetterSink.{LetterSink}
 use Rattle.dsn_post.specs.Parcel.{Parcel}
 use Rattle.dsn_post.specs.Posting.{IsPosted, Posts}
@@ -54,7 +54,7 @@ pub conclude-requires : goal.conclude-requires
 conclude-requires g c =
     let room = c.in-Ok.ensures in
     let same = c.in-Ok-start_posting.ensures.sink in
-    record { told = c.end_posting-posted.ensures.told; close = may_close g.P.Port g.W.Drain c.args.site c.args.limits c.args.ports.items c.args.outbox _ _ _ room.opened (search rules) _ c.start_all-handles.ensures _ c.join_all.ensures _ _ c.miss.ensures.missed _ _ (ap (λ (sink : LetterSink). sink.letters) same ∙ room.sink) _ _ c.by-collected.ensures c.of-gathered.ensures }
+    record { unlost = c.end_posting-posted.ensures.unlost; close = may_close g.P.Port g.W.Drain c.args.site c.args.limits c.args.ports.items c.args.outbox _ _ _ room.opened (search rules) _ c.start_all-handles.ensures _ c.join_all.ensures _ _ c.miss.ensures.missed _ _ (ap (λ (sink : LetterSink). sink.letters) same ∙ room.sink) _ _ c.by-collected.ensures c.of-gathered.ensures }
 
 pub returns-clause-account : goal.returns-clause-account
 returns-clause-account g c =

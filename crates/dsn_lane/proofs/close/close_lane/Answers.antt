@@ -1,4 +1,4 @@
--- What was taken and what waits is what the ends have sent.
+-- What was taken and what waits is what the halves have sent.
 use Rattle.dsn_lane.proofs.CloseLemmas.{shuts}
 use Rattle.dsn_lane.proofs.close.close_lane.Goals as goal
 

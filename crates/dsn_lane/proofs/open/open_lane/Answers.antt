@@ -1,7 +1,7 @@
--- A lane with nothing in it meets the rule, and each agent's end is split off in its turn.
+-- A lane with nothing in it meets the rule, and each agent's half is split off in its turn.
 use Rattle.std.proofs.Common.{rules, ◌≡◌, ◌+◌, ℕ, [], ap, subst, sym, ◌∙◌}
-use Rattle.dsn_lane.proofs.EndLemmas.{new_out, new_receiving}
-use Rattle.dsn_lane.specs.Ends.{Out, lane_of}
+use Rattle.dsn_lane.proofs.HalfLemmas.{new_out, new_receiving}
+use Rattle.dsn_lane.specs.Halves.{Out, lane_of}
 use Rattle.dsn_lane.proofs.open.open_lane.Goals as goal
 
 pub new-requires-clause-kept : goal.new-requires-clause-kept

@@ -1,7 +1,7 @@
 -- The letters that came were handed on, and those that are unsent are the last of them.
 use Rattle.std.proofs.Common.{rules, ap, length, ◌<◌, ◌∙◌, subst, arith}
 use mathlib.Core.List.{IsPrefix}
-use Rattle.dsn_lane.specs.Ends.{Identity}
+use Rattle.dsn_lane.specs.Halves.{Identity}
 use Rattle.dsn_post.specs.Parcel.{Parcel}
 use Rattle.dsn_post.proofs.PostingLemmas.{none_lost, unsent_within, whole_exactly}
 use Rattle.dsn_post.proofs.posting_end.end_posting.Goals as goal
@@ -32,7 +32,7 @@ returns g c =
       few = (let few = c.close.ensures.few in let lane = ap (λ (it : Identity Parcel). it.capacity) c.mark-sink.ensures.0 in let long = ap length letters_are in omega arith);
       marked = c.join-outgoing.result.source.marked;
       whole = whole_exactly c.join-outgoing.result.end _ _ _ (c.join-outgoing.ensures.ended) (λ marked. c.close.ensures.marked marked ∙ letters_are) _ c.into_lost-lost.ensures _ (search rules);
-      told = none_lost _ _ (search rules);
+      unlost = none_lost _ _ (search rules);
       count = (let count = c.join-outgoing.ensures.count in let left = c.len.ensures in omega arith);
       outbox = outbox;
     }

@@ -1,5 +1,5 @@
--- A take keeps the rule, and the rule tells the item's agent and number.
-use Rattle.dsn_lane.proofs.EndLemmas.{keeps_receiving}
+-- A take keeps the rule, and the rule gives the item's agent and number.
+use Rattle.dsn_lane.proofs.HalfLemmas.{keeps_receiving}
 use Rattle.dsn_lane.proofs.RuleLemmas.{takes}
 use Rattle.dsn_lane.proofs.lane_out.LaneOut.take.Goals as goal
 

@@ -13,6 +13,6 @@ returns-clause-harvest g c = λ limits host start same kept represents delivered
       replies = heard.replies;
       delivered = heard.stands.letters;
       logs_are = AreOpenLines-listed _ c.open_lines-logs.result _ (IfOk-weaker c.open_lines-logs.result _ _ (λ lines listed. listed _ heard.stands.book) c.open_lines-logs.ensures.history) c.open_lines-logs.ensures.order;
-      told = heard.told;
+      noted = heard.noted;
       read_count = heard.read_count;
     }

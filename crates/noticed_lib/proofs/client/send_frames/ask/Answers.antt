@@ -1,5 +1,5 @@
 use Rattle.std.proofs.Common.{◌∙◌, sym, arith}
-use Rattle.dsn_frame.proofs.TellingLemmas.{OnOk-is_err}
+use Rattle.dsn_frame.proofs.SentAnswersLemmas.{OnOk-is_err}
 use Rattle.noticed_lib.proofs.client.AskLemmas.{ask-answered, ask-out-of-turn}
 use Rattle.noticed_lib.proofs.client.send_frames.ask.Goals as goal
 

@@ -205,7 +205,7 @@ static long read_body(unsigned char *body)
     return got < size ? -13 : (long)size;
 }
 
-static int tell_answers(void)
+static int print_answers(void)
 {
     static unsigned char body[LONGEST_BODY];
     long length;
@@ -230,7 +230,7 @@ int main(int argc, char **argv)
     int count = argc - 2;
     char **words = argv + 2;
     if (strcmp(what, "answers") == 0 && count == 0)
-        return tell_answers();
+        return print_answers();
     if (strcmp(what, "append") == 0 && 6 <= count && count <= 12)
         put_append(&body, count, words);
     else if (strcmp(what, "flush") == 0 && 6 <= count && count <= 7)

@@ -1,6 +1,6 @@
 //! Tests of lanes by one thread and by many, over what `dsn_lane` makes public.
-mod ends_gone;
 mod full;
+mod halves_gone;
 mod hands;
 mod item;
 mod long;

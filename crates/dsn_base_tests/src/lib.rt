@@ -3,6 +3,8 @@
 #![tactic(auto)]
 
 #[cfg(test)]
+mod assert_same;
+#[cfg(test)]
 mod book;
 #[cfg(test)]
 mod journal;
@@ -10,5 +12,3 @@ mod journal;
 mod lane;
 #[cfg(test)]
 mod outcome;
-#[cfg(test)]
-mod same;

@@ -10,7 +10,7 @@ use Rattle.dsn_text.specs.Key.{key_cmp}
 use Rattle.dsn_book.specs.OpenLine.{line_of, open_lines_in}
 use Rattle.dsn_book.specs.Held.{Entry, Open, Closed}
 use Rattle.dsn_book.specs.declared.index.Slot.{Slot}
-use Rattle.dsn_book.specs.declared.line.OpenLine.{OpenLine}
+use Rattle.dsn_book.specs.declared.open_line.OpenLine.{OpenLine}
 
 abbrev bounce_key : List ℕ → Key
 bounce_key id = record { service = Bounce; id = id }

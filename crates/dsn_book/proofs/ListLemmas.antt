@@ -68,7 +68,7 @@ pub AllPairs-filter_map : {X Y : Type 0} (R : X → X → Type 0) (S : Y → Y �
 AllPairs-filter_map R S f over [] pairs = λ i j d apart inside. absurd (omega arith)
 AllPairs-filter_map R S f over (x ∷ rest) pairs =
     AllPairs-filter_map_step S f x rest (f x) refl
-    (λ u is. All-filter_map (R x) (S u) f (λ b v related told. over x b u v related is told) rest (λ k d inside. pairs 0 (suc k) d (omega arith) (omega arith)))
+    (λ u is. All-filter_map (R x) (S u) f (λ b v related line_is. over x b u v related is line_is) rest (λ k d inside. pairs 0 (suc k) d (omega arith) (omega arith)))
     (AllPairs-filter_map R S f over rest (λ i j d apart inside. pairs (suc i) (suc j) d (omega arith) (omega arith)))
 
 slice_get_at : {X : Type 0} (front : List X) (x : X) (rest : List X) → slice_get (front ++ x ∷ rest) (length front) ≡ Some x

@@ -6,12 +6,12 @@ mod book;
 mod entry;
 mod index;
 mod limits;
-mod line;
+mod open_line;
 mod step;
 mod table;
 
 pub use book::Book;
 pub use entry::Entry;
 pub use limits::{Limits, MOST_ENTRIES, MOST_LOGS, MOST_REQUESTS};
-pub use line::OpenLine;
+pub use open_line::OpenLine;
 pub use step::Step;

@@ -4,10 +4,10 @@ ghost use Rattle.std.specs.Int.{IsInRange};
 
 use std::marker::Model;
 
-/// The most keys that a book can be told to hold.
+/// The most keys that a book can be made to hold.
 pub const MOST_LOGS: u32 = 65_536;
 
-/// The most outcomes that a log can be told to have.
+/// The most outcomes that a log can be made to have.
 pub const MOST_ENTRIES: u32 = 1_000;
 
 /// The most requests that an agent can be allowed.

@@ -3,8 +3,8 @@
 #![tactic(auto)]
 
 #[cfg(test)]
+mod assert_same;
+#[cfg(test)]
 mod frame;
 #[cfg(test)]
 mod report;
-#[cfg(test)]
-mod same;

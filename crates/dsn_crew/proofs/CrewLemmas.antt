@@ -11,7 +11,7 @@ use Rattle.dsn_book.specs.Book.{Represents}
 use Rattle.dsn_book.specs.Step.{letters_in}
 use Rattle.dsn_device.specs.declared.drain.Drain.{Ghosts as Drain}
 use Rattle.dsn_frame.specs.bodies.Spoken.{reply_of}
-use Rattle.dsn_lane.specs.Ends.{End, Identity}
+use Rattle.dsn_lane.specs.Halves.{Half, Identity}
 use Rattle.dsn_outcome.specs.Agents.{from_agent}
 use Rattle.dsn_outcome.specs.History.{Limits, answers_to, history_after, history_of, letters_after, sealed_letters}
 use Rattle.dsn_outcome.specs.Letter.{Letter}
@@ -24,26 +24,26 @@ use Rattle.dsn_post.specs.declared.posted.Posted.{Posted}
 use Rattle.dsn_post.proofs.LetterSinkLemmas.{handed_letters}
 use Rattle.dsn_post.proofs.ParcelLemmas.{option_few}
 use Rattle.dsn_report.specs.Outgoing.{IsOutbox}
-use Rattle.dsn_crew.specs.agents.Agent.{Agent, Ends, after_reply}
+use Rattle.dsn_crew.specs.agents.Agent.{Agent, LaneHalves, after_reply}
 use Rattle.dsn_crew.specs.desk.Close.{IsHeard}
-use Rattle.dsn_crew.specs.Collected.{HasCollected}
+use Rattle.dsn_crew.specs.CollectorResult.{IsCollectorResult}
 use Rattle.dsn_crew.specs.Conclude.{Concludes, MayClose, account_of, fault_of, missing_cause}
-use Rattle.dsn_crew.specs.Crew.{Account, AreAgentAccounts, CrewFault, IsAccount, IsAgentAccount, IsBrokenOff, IsCrewFault}
+use Rattle.dsn_crew.specs.Crew.{CrewAccount, AreAgentAccounts, CrewFault, IsAccount, IsAgentAccount, IsBrokenOff, IsCrewFault}
 use Rattle.dsn_crew.specs.desk.Desk.{Desk, IsDesk, IsRun, goodbyes, history, letter_kept, missing as missing_more, places_of}
-use Rattle.dsn_crew.specs.Gathered.{AreEnded, IsGathered}
+use Rattle.dsn_crew.specs.AgentsResult.{AreEnded, IsAgentsResult}
 use Rattle.dsn_crew.specs.desk.Open.{IsOpened, opened_agent}
 use Rattle.dsn_crew.specs.agents.Place.{place_at, place_of}
 use Rattle.dsn_crew.specs.agents.Port.{AreOverPort, Conn, Given, HasGiven, IsPortServed, Session, answers_of, bodies_of}
 use Rattle.dsn_crew.specs.agents.Serve.{after_requests, answers_from, numbered_answer, numbered_from, numbered_request, requests_from}
 use Rattle.dsn_crew.specs.StartServing.{AreServed, AreStarted, IsJoined, missing_threads}
 use Rattle.dsn_crew.specs.declared.agents.agent_line.AgentLine.{AgentLine}
-use Rattle.dsn_crew.specs.declared.collected.Collected.{Collected}
-use Rattle.dsn_crew.specs.declared.collected.Collected.TheVariants.{Whole, Failed}
+use Rattle.dsn_crew.specs.declared.collector_result.CollectorResult.{CollectorResult}
+use Rattle.dsn_crew.specs.declared.collector_result.CollectorResult.TheVariants.{Whole, Failed}
 use Rattle.dsn_crew.specs.declared.crew_cause.CrewCause.{CrewCause}
 use Rattle.dsn_crew.specs.declared.crew_cause.CrewCause.TheVariants as causes
 use Rattle.dsn_crew.specs.declared.desk.desk_fault.DeskFault.{DeskFault}
-use Rattle.dsn_crew.specs.declared.gathered.Gathered.{Gathered}
-use Rattle.dsn_crew.specs.declared.gathered.Gathered.TheVariants as gathered
+use Rattle.dsn_crew.specs.declared.agents_result.AgentsResult.{AgentsResult}
+use Rattle.dsn_crew.specs.declared.agents_result.AgentsResult.TheVariants as gathered
 use Rattle.dsn_crew.specs.declared.agents.port.Port.{Ghosts as Port}
 use Rattle.dsn_crew.specs.agents.PortEnd.{PortEnd}
 use Rattle.dsn_crew.specs.declared.start_serving.Serves.{Serves}
@@ -53,31 +53,31 @@ use Rattle.dsn_crew.proofs.StartServingLemmas.{are-served, starts-length}
 -- ---- one agent
 
 -- an agent at the end of its service, and after its goodbye
-abbrev pub last_ends : Agent → List Session → Bool → Ends
-last_ends agent sessions lost = after_reply (after_requests agent (bodies_of sessions) (flat_map reply_of (answers_of sessions)) lost).ends Bye Gone
+abbrev pub last_halves : Agent → List Session → Bool → LaneHalves
+last_halves agent sessions lost = after_reply (after_requests agent (bodies_of sessions) (flat_map reply_of (answers_of sessions)) lost).halves Bye Gone
 
-module _ (limits : Limits) (lane : Identity Request) (end : End Answer) (conns : Option (List Conn)) (may_give : List Given → Type 0) (line : AgentLine) (ends : Ends) (is : IsPortServed conns may_give (opened_agent limits.requests lane end) (record { line = line; finished = Some ends })) where
+module _ (limits : Limits) (lane : Identity Request) (half : Half Answer) (conns : Option (List Conn)) (may_give : List Given → Type 0) (line : AgentLine) (halves : LaneHalves) (is : IsPortServed conns may_give (opened_agent limits.requests lane half) (record { line = line; finished = Some halves })) where
   abbrev sessions : List Session
   sessions = is.served.sessions
 
-  ends_are : ends ≡ last_ends (opened_agent limits.requests lane end) sessions is.served.lost
-  ends_are = is.goodbye.1 ∙ ap (λ (agent : Agent). after_reply agent.ends Bye Gone) is.served.asked.agent_is
+  halves_are : halves ≡ last_halves (opened_agent limits.requests lane half) sessions is.served.lost
+  halves_are = is.goodbye.1 ∙ ap (λ (agent : Agent). after_reply agent.halves Bye Gone) is.served.asked.agent_is
 
   -- it has the place at which it was opened
-  pub same_place : place_of ends ≡ place_at lane end
-  same_place = ap place_of ends_are
+  pub same_place : place_of halves ≡ place_at lane half
+  same_place = ap place_of halves_are
 
   asked : line.requests ≡ length (bodies_of sessions)
   unfolding numbered_from
-  asked = is.served.requests ∙ (ap (λ (agent : Agent). length agent.ends.requests.sent) is.served.asked.agent_is ∙ numbered-length (numbered_request end.agent) 0 (bodies_of sessions))
+  asked = is.served.requests ∙ (ap (λ (agent : Agent). length agent.halves.requests.sent) is.served.asked.agent_is ∙ numbered-length (numbered_request half.agent) 0 (bodies_of sessions))
 
-  last_number : length (after_requests (opened_agent limits.requests lane end) (bodies_of sessions) (flat_map reply_of (answers_of sessions)) is.served.lost).ends.requests.sent ≡ line.requests
-  last_number = ap (λ (agent : Agent). length agent.ends.requests.sent) (sym is.served.asked.agent_is) ∙ sym is.served.requests
+  last_number : length (after_requests (opened_agent limits.requests lane half) (bodies_of sessions) (flat_map reply_of (answers_of sessions)) is.served.lost).halves.requests.sent ≡ line.requests
+  last_number = ap (λ (agent : Agent). length agent.halves.requests.sent) (sym is.served.asked.agent_is) ∙ sym is.served.requests
 
   -- where it was heard to its end, this is its account
-  pub agent_account : (desk : Desk) (agent : ℕ) → desk.book.limits ≡ limits → end.agent ≡ agent → IsHeard desk ends → IsAgentAccount conns may_give limits desk.requests.taken agent line ends
+  pub agent_account : (desk : Desk) (agent : ℕ) → desk.book.limits ≡ limits → half.agent ≡ agent → IsHeard desk halves → IsAgentAccount conns may_give limits desk.requests.taken agent line halves
   agent_account desk agent limits_are number heard =
-      let here : ends.requests.agent ≡ agent = ap (λ (e : Ends). e.requests.agent) ends_are ∙ number in record {
+      let here : halves.requests.agent ≡ agent = ap (λ (e : LaneHalves). e.requests.agent) halves_are ∙ number in record {
         number = here;
         taken_all = ap (λ (a : ℕ). from_agent (λ (request : Request). request.agent) a desk.requests.taken) (sym here) ∙ heard.taken;
         answered = heard.got ∙ (λ i. answers_to (here i) (history_of (limits_are i) desk.requests.taken));
@@ -86,8 +86,8 @@ module _ (limits : Limits) (lane : Identity Request) (end : End Answer) (conns :
         over = subst (λ (lost : Bool). AreOverPort conns sessions lost line.port_failed) is.goodbye.0 is.served.over;
         gave = subst (HasGiven may_give line) is.goodbye.0 is.served.gave;
         heard = is.served.heard is.goodbye.0;
-        sent = ap (λ (e : Ends). e.requests.sent) ends_are ∙ (λ i. requests_from (number i) 0 (bodies_of sessions) ++ numbered_request (number i) (last_number i) Bye ∷ []);
-        got = ap (λ (e : Ends). e.answers.taken) ends_are ∙ (λ i. answers_from (number i) 0 (flat_map reply_of (answers_of sessions)) ++ numbered_answer (number i) (last_number i) Gone ∷ []);
+        sent = ap (λ (e : LaneHalves). e.requests.sent) halves_are ∙ (λ i. requests_from (number i) 0 (bodies_of sessions) ++ numbered_request (number i) (last_number i) Bye ∷ []);
+        got = ap (λ (e : LaneHalves). e.answers.taken) halves_are ∙ (λ i. answers_from (number i) 0 (flat_map reply_of (answers_of sessions)) ++ numbered_answer (number i) (last_number i) Gone ∷ []);
         requests = asked;
         connections = is.served.connections;
         faults = is.served.faults;
@@ -97,23 +97,23 @@ module _ (limits : Limits) (lane : Identity Request) (end : End Answer) (conns :
 -- ---- all agents
 
 -- agents that are numbered from one on
-abbrev pub AreFrom : ℕ → List (End Answer) → Type 0
+abbrev pub AreFrom : ℕ → List (Half Answer) → Type 0
 AreFrom agent [] = Unit {0}
-AreFrom agent (end ∷ ends) = (end.agent ≡ agent) × AreFrom (suc agent) ends
+AreFrom agent (half ∷ halves) = (half.agent ≡ agent) × AreFrom (suc agent) halves
 
-are_from : (agent : ℕ) (ends : List (End Answer)) → ((a : ℕ) (d : End Answer) → a < length ends → (slice_index_or ends a d).agent ≡ agent + a) → AreFrom agent ends
+are_from : (agent : ℕ) (halves : List (Half Answer)) → ((a : ℕ) (d : Half Answer) → a < length halves → (slice_index_or halves a d).agent ≡ agent + a) → AreFrom agent halves
 are_from agent [] lines = tt
-are_from agent (end ∷ ends) lines = (
-  lines 0 end (omega arith) ∙ (let same : agent + 0 ≡ agent = omega arith in same),
-  are_from (suc agent) ends (λ a d inside. lines (suc a) d (omega (arith, inside)) ∙ (let same : agent + suc a ≡ suc agent + a = omega arith in same)),
+are_from agent (half ∷ halves) lines = (
+  lines 0 half (omega arith) ∙ (let same : agent + 0 ≡ agent = omega arith in same),
+  are_from (suc agent) halves (λ a d inside. lines (suc a) d (omega (arith, inside)) ∙ (let same : agent + suc a ≡ suc agent + a = omega arith in same)),
 )
 
 module _ {P S : Type 0} (port : Port P S) (limits : Limits) (lane : Identity Request) where
-  abbrev pub Serve : List (End Answer) → List P → List (Option PortEnd) → Type 0
+  abbrev pub Serve : List (Half Answer) → List P → List (Option PortEnd) → Type 0
   Serve answers ports ends = AreServed port (map (opened_agent limits.requests lane) answers) ports ends
 
   -- they have the places at which they were opened
-  pub same_places : (answers : List (End Answer)) (ports : List P) (ends : List (Option PortEnd)) (lines : List AgentLine) (crew : List Ends) → Serve answers ports ends → AreEnded ends lines crew → map place_of crew ≡ map (place_at lane) answers
+  pub same_places : (answers : List (Half Answer)) (ports : List P) (ends : List (Option PortEnd)) (lines : List AgentLine) (crew : List LaneHalves) → Serve answers ports ends → AreEnded ends lines crew → map place_of crew ≡ map (place_at lane) answers
   same_places [] [] [] [] [] served ended = refl
   same_places [] [] [] [] (agent ∷ crew) served ended = absurd ended
   same_places [] [] [] (line ∷ lines) crew served ended = absurd ended
@@ -128,7 +128,7 @@ module _ {P S : Type 0} (port : Port P S) (limits : Limits) (lane : Identity Req
       λ i. same_place limits lane answer (port.conns one) (port.may_give one) line agent here i ∷ same_places answers ports ends lines crew served.1 ended.1 i
 
   -- and where each was heard to its end, these are their accounts
-  pub agent_accounts : (desk : Desk) → desk.book.limits ≡ limits → (agent : ℕ) (answers : List (End Answer)) (ports : List P) (ends : List (Option PortEnd)) (lines : List AgentLine) (crew : List Ends) → AreFrom agent answers → Serve answers ports ends → AreEnded ends lines crew → All (IsHeard desk) crew → AreAgentAccounts port limits desk.requests.taken agent ports lines crew
+  pub agent_accounts : (desk : Desk) → desk.book.limits ≡ limits → (agent : ℕ) (answers : List (Half Answer)) (ports : List P) (ends : List (Option PortEnd)) (lines : List AgentLine) (crew : List LaneHalves) → AreFrom agent answers → Serve answers ports ends → AreEnded ends lines crew → All (IsHeard desk) crew → AreAgentAccounts port limits desk.requests.taken agent ports lines crew
   agent_accounts desk is agent [] [] [] [] [] from served ended heard = tt
   agent_accounts desk is agent [] [] [] [] (one ∷ crew) from served ended heard = absurd ended
   agent_accounts desk is agent [] [] [] (line ∷ lines) crew from served ended heard = absurd ended
@@ -199,12 +199,12 @@ module _ {W : Type 0} (drain : Drain W) (host : List ℕ) (limits : Limits) (sta
     missing_fault fault fault_is =
         subst (λ (it : CrewFault W). IsCrewFault drain host limits agents start it it.cause) (sym fault_is) (missing_is posted.all refl)
 
--- no crew that began is told that its ports are too few or too many
+-- no crew that began is refused since its ports are too few or too many
 missing≢count : (all : Bool) → missing_cause all ≢ causes.PortCount
 missing≢count true same = let never : causes.Refused ≡ causes.PortCount = same in cc
 missing≢count false same = let never : causes.Lost ≡ causes.PortCount = same in cc
 
-pub no_count : {W : Type 0} (collected : Collected) (all : Gathered) (posted : Posted W) (result : Result (Account W) (CrewFault W)) → Concludes collected all posted result → IfErr result (λ fault. fault.cause ≢ causes.PortCount)
+pub no_count : {W : Type 0} (collected : CollectorResult) (all : AgentsResult) (posted : Posted W) (result : Result (CrewAccount W) (CrewFault W)) → Concludes collected all posted result → IfErr result (λ fault. fault.cause ≢ causes.PortCount)
 no_count collected all posted (Ok account) ends_so = tt
 no_count (Whole new) (gathered.All lines crew) posted (Err fault) faulted = λ same. missing≢count false (sym (ap (λ it. it.cause) faulted.1) ∙ same)
 no_count (Whole new) gathered.Missing posted (Err fault) faulted = λ same. missing≢count posted.all (sym (ap (λ it. it.cause) faulted) ∙ same)
@@ -236,11 +236,11 @@ module _ {P S W : Type 0} (port : Port P S) (drain : Drain W) (host : List ℕ) 
     served = subst (λ (crew : List Agent). AreServed port crew ports ends) opened.crew_is (are-served port agents ports handles ends started joined)
 
     module _ (missed : ℕ) (begun : Desk) (begun_is : begun ≡ missing_more desk missed) (sink after : LetterSink) (fresh : sink.letters ≡ []) where
-      pub collected_lane : (collected : Collected) → HasCollected begun sink after collected → after.lane ≡ sink.lane
+      pub collected_lane : (collected : CollectorResult) → IsCollectorResult begun sink after collected → after.lane ≡ sink.lane
       collected_lane (Whole new) has = (run_letters begun new sink after (Ok tt) has.0 (ap (λ (d : Desk). d.requests.taken) begun_is ∙ opened.taken) fresh).1
       collected_lane (Failed stop held new) has = (run_letters begun new.value sink after (Err has.0) has.1 (ap (λ (d : Desk). d.requests.taken) begun_is ∙ opened.taken) fresh).1
 
-      pub may_close : (collected : Collected) (all : Gathered) → HasCollected begun sink after collected → IsGathered ends all → MayClose collected all
+      pub may_close : (collected : CollectorResult) (all : AgentsResult) → IsCollectorResult begun sink after collected → IsAgentsResult ends all → MayClose collected all
       may_close (Whole new) (gathered.All lines crew) has is = (
         same_places port limits desk.requests.lane desk.answers ports ends lines.items crew.items served is
             ∙ (sym (ap places_of begun_is) ∙ sym has.0.places),
@@ -264,7 +264,7 @@ module _ {P S W : Type 0} (port : Port P S) (drain : Drain W) (host : List ℕ) 
               ∙ (ap length (run.places ∙ ap places_of begun_is)
               ∙ (length-map desk.answers (place_at desk.requests.lane) ∙ (opened.count ∙ count_is)))
 
-        account_at : (new : Desk) (lines : List AgentLine) (crew : List Ends) → IsRun TakesLetter begun new sink after (Ok tt) → IsDesk new → AreEnded ends lines crew → posted.all ≡ true → All (IsHeard new) crew → Represents new.book (history new) → IsAccount port drain host limits ports start (account_of lines crew new posted)
+        account_at : (new : Desk) (lines : List AgentLine) (crew : List LaneHalves) → IsRun TakesLetter begun new sink after (Ok tt) → IsDesk new → AreEnded ends lines crew → posted.all ≡ true → All (IsHeard new) crew → Represents new.book (history new) → IsAccount port drain host limits ports start (account_of lines crew new posted)
         account_at new lines crew run kept ended all heard stands =
             let limited = limits_are new run in
             let sealed = (post.whole.0 all).1 ∙ (sym (append-nil after.letters) ∙ (sym (letters_are new run) ∙ ap (λ (l : Limits). sealed_letters (history_of l new.requests.taken)) limited)) in record {
@@ -276,11 +276,11 @@ module _ {P S W : Type 0} (port : Port P S) (drain : Drain W) (host : List ℕ) 
               outbox = subst (IsOutbox drain host start posted.outbox posted.whole posted.unsent) sealed post.outbox;
             }
 
-        pub account_is : (collected : Collected) (all : Gathered) (result : Result (Account W) (CrewFault W)) → HasCollected begun sink after collected → IsGathered ends all → Concludes collected all posted result → IfOk result (IsAccount port drain host limits ports start)
+        pub account_is : (collected : CollectorResult) (all : AgentsResult) (result : Result (CrewAccount W) (CrewFault W)) → IsCollectorResult begun sink after collected → IsAgentsResult ends all → Concludes collected all posted result → IfOk result (IsAccount port drain host limits ports start)
         account_is collected all (Err fault) has is ends_so = tt
         account_is (Whole new) (gathered.All lines crew) (Ok account) has is closed =
             subst (IsAccount port drain host limits ports start) (sym closed.account_is)
-            (account_at new lines.items crew.items has.0 has.2 is closed.all closed.heard (subst (λ (it : Account W). Represents it.book (history new)) closed.account_is closed.stands))
+            (account_at new lines.items crew.items has.0 has.2 is closed.all closed.heard (subst (λ (it : CrewAccount W). Represents it.book (history new)) closed.account_is closed.stands))
         account_is (Whole new) gathered.Missing (Ok account) has is closed = absurd closed
         account_is (Whole new) (gathered.Lost unheard) (Ok account) has is closed = absurd closed
         account_is (Failed stop held new) all (Ok account) has is closed = absurd closed
@@ -295,7 +295,7 @@ module _ {P S W : Type 0} (port : Port P S) (drain : Drain W) (host : List ℕ) 
           missing_at : fault ≡ fault_of (missing_cause posted.all) [] new posted → IsCrewFault drain host limits (length ports) start fault fault.cause
           missing_at = missing_fault drain host limits start after.letters posted post new (limits_are new run) kept (length ports) (lines_length new run) sealed_are fault
 
-        pub fault_is : (collected : Collected) (all : Gathered) (result : Result (Account W) (CrewFault W)) → HasCollected begun sink after collected → Concludes collected all posted result → IfErr result (λ fault. IsCrewFault drain host limits (length ports) start fault fault.cause)
+        pub fault_is : (collected : CollectorResult) (all : AgentsResult) (result : Result (CrewAccount W) (CrewFault W)) → IsCollectorResult begun sink after collected → Concludes collected all posted result → IfErr result (λ fault. IsCrewFault drain host limits (length ports) start fault fault.cause)
         fault_is collected all (Ok account) has ends_so = tt
         fault_is (Whole new) (gathered.All lines crew) (Err fault) has faulted = lost_at new fault has.0 has.2 faulted.1
         fault_is (Whole new) gathered.Missing (Err fault) has faulted = missing_at new fault has.0 has.2 faulted

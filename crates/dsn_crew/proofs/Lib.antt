@@ -1,5 +1,5 @@
+pub mod AgentsResultLemmas
 pub mod CrewLemmas
-pub mod GatheredLemmas
 pub mod OpenLemmas
 pub mod SendLemmas
 pub mod ServingSendLemmas

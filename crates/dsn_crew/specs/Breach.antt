@@ -1,4 +1,4 @@
--- Of private parts: the cause that is told of what ended a run, and what shows it.
+-- Of private parts: the cause that is named for what ended a run, and what shows it.
 use Rattle.std.specs.Prelude.{List}
 use Rattle.dsn_outcome.specs.Request.{Request}
 use Rattle.dsn_crew.specs.desk.Desk.{IsStopped}
@@ -8,13 +8,13 @@ use Rattle.dsn_crew.specs.declared.breach.Loss.TheVariants.{Poster, Agent, Colle
 use Rattle.dsn_crew.specs.declared.crew_cause.CrewCause.{CrewCause}
 use Rattle.dsn_crew.specs.declared.crew_cause.CrewCause.TheVariants as causes
 
--- 41 is told only with what shows that a lane was lost
+-- 41 is named only with what shows that a lane was lost
 abbrev pub cause_of : Breach → CrewCause
 cause_of (Lost loss) = causes.Lost
 cause_of Refused = causes.Refused
 cause_of PortCount = causes.PortCount
 
--- of a run whose collector took these requests: one that is told as full took all that it may
+-- of a run whose collector took these requests: one that is named as full took all that it may
 abbrev pub IsShown : List Request → Breach → Type 0
 IsShown taken (Lost (Poster gone)) = Unit {0}
 IsShown taken (Lost (Agent unheard)) = Unit {0}

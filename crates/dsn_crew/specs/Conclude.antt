@@ -6,28 +6,28 @@ use Rattle.dsn_book.specs.Book.{Represents}
 use Rattle.dsn_book.specs.Step.{letters_in}
 use Rattle.dsn_outcome.specs.Letter.{Letter}
 use Rattle.dsn_post.specs.declared.posted.Posted.{Posted}
-use Rattle.dsn_crew.specs.agents.Agent.{Ends, IsFinished}
+use Rattle.dsn_crew.specs.agents.Agent.{LaneHalves, IsFinished}
 use Rattle.dsn_crew.specs.desk.Close.{AreCrew, AreOf, IsHeard}
-use Rattle.dsn_crew.specs.Crew.{Account, CrewFault}
+use Rattle.dsn_crew.specs.Crew.{CrewAccount, CrewFault}
 use Rattle.dsn_crew.specs.desk.Desk.{Desk, IsStopped, all_gone, history}
 use Rattle.dsn_crew.specs.declared.agents.agent_line.AgentLine.{AgentLine}
-use Rattle.dsn_crew.specs.declared.collected.Collected.{Collected}
-use Rattle.dsn_crew.specs.declared.collected.Collected.TheVariants.{Whole, Failed}
+use Rattle.dsn_crew.specs.declared.collector_result.CollectorResult.{CollectorResult}
+use Rattle.dsn_crew.specs.declared.collector_result.CollectorResult.TheVariants.{Whole, Failed}
 use Rattle.dsn_crew.specs.declared.crew_cause.CrewCause.{CrewCause}
 use Rattle.dsn_crew.specs.declared.crew_cause.CrewCause.TheVariants as causes
-use Rattle.dsn_crew.specs.declared.gathered.Gathered.{Gathered}
-use Rattle.dsn_crew.specs.declared.gathered.Gathered.TheVariants.{All, Missing, Lost}
+use Rattle.dsn_crew.specs.declared.agents_result.AgentsResult.{AgentsResult}
+use Rattle.dsn_crew.specs.declared.agents_result.AgentsResult.TheVariants.{All, Missing, Lost}
 
 -- where all went well, the agents are those of the collector, and all of them are gone; a collector
 -- that has failed did so for this reason
-abbrev pub MayClose : Collected → Gathered → Type 0
+abbrev pub MayClose : CollectorResult → AgentsResult → Type 0
 MayClose (Whole desk) (All lines agents) = AreCrew agents.items desk × (all_gone desk ≡ true)
 MayClose (Whole desk) Missing = Unit {0}
 MayClose (Whole desk) (Lost unheard) = Unit {0}
 MayClose (Failed stop held desk) gathered = IsStopped desk.value.requests.taken stop
 
 -- what a closed crew comes to, with its outbox
-abbrev pub account_of : {W : Type 0} → List AgentLine → List Ends → Desk → Posted W → Account W
+abbrev pub account_of : {W : Type 0} → List AgentLine → List LaneHalves → Desk → Posted W → CrewAccount W
 account_of lines agents desk posted = record {
   agents = lines;
   letters = posted.posted;
@@ -36,7 +36,7 @@ account_of lines agents desk posted = record {
   outbox = posted.outbox;
   book = desk.book;
   taken = desk.requests.taken;
-  ends = agents;
+  halves = agents;
 }
 
 -- what is left of one that isn't, with the letter that the collector held
@@ -50,9 +50,9 @@ fault_of cause held desk posted =
     }
 
 -- a crew that was closed
-pub record HasClosed {W : Type 0} (lines : List AgentLine) (agents : List Ends) (desk : Desk)
+pub record HasClosed {W : Type 0} (lines : List AgentLine) (agents : List LaneHalves) (desk : Desk)
     (posted : Posted W)
-    (account : Account W) : Type 0 where
+    (account : CrewAccount W) : Type 0 where
   pub all : posted.all ≡ true
   pub account_is : account ≡ account_of lines agents desk posted
   pub heard : Prelude.All (IsHeard desk) agents
@@ -66,8 +66,8 @@ missing_cause true = causes.Refused
 missing_cause false = causes.Lost
 
 -- where all went well the crew is closed; else this is its fault
-abbrev pub Concludes : {W : Type 0} → Collected → Gathered → Posted W
-    → Result (Account W) (CrewFault W) → Type 0
+abbrev pub Concludes : {W : Type 0} → CollectorResult → AgentsResult → Posted W
+    → Result (CrewAccount W) (CrewFault W) → Type 0
 Concludes (Whole desk) (All lines agents) posted (Ok account) =
     HasClosed lines.items agents.items desk posted account
 Concludes (Whole desk) (All lines agents) posted (Err fault) =

@@ -1,4 +1,4 @@
--- Crews: what a run of a whole crew comes to, and what its fault tells.
+-- Crews: what a run of a whole crew comes to, and what its fault says.
 use Rattle.std.specs.Prelude.{◌≡◌, ◌≢◌, ℕ, suc, ◌+◌, ◌<◌, ◌≤◌, ◌⊎◌, Bool, false, List, [], ◌∷◌, ◌++◌, All, length, Option, Some}
 use Rattle.std.specs.List.{flat_map}
 use Rattle.dsn_book.specs.Book.{Book, Represents}
@@ -14,7 +14,7 @@ use Rattle.dsn_outcome.specs.declared.answer.Reply.TheVariants.{Gone}
 use Rattle.dsn_post.specs.LetterSink.{letters_waiting}
 use Rattle.dsn_post.specs.Posting.{IsUntouched}
 use Rattle.dsn_report.specs.Outgoing.{IsOutbox}
-use Rattle.dsn_crew.specs.agents.Agent.{Ends}
+use Rattle.dsn_crew.specs.agents.Agent.{LaneHalves}
 use Rattle.dsn_crew.specs.agents.Port.{AreOverPort, AreSessions, Conn, Given, HasGiven, Session, answers_of, bodies_of, faults_of, most_connections}
 use Rattle.dsn_crew.specs.agents.Serve.{answers_from, numbered_answer, numbered_request, requests_from}
 use Rattle.dsn_crew.specs.declared.agents.agent_line.AgentLine.{AgentLine}
@@ -33,8 +33,8 @@ crew_cause_code PortCount = agent_count_code
 
 -- a run that ended well: what each agent did; how many letters were posted, and those that were
 -- not, in order; the outbox, and whether nothing failed in it; the book at the end; the requests
--- that the collector took, in order; and each agent's two ends, with all that it sent and got
-pub record Account (W : Type 0) : Type 0 where
+-- that the collector took, in order; and each agent's two halves, with all that it sent and got
+pub record CrewAccount (W : Type 0) : Type 0 where
   pub agents : List AgentLine
   pub letters : ℕ
   pub unsent : List Letter
@@ -42,7 +42,7 @@ pub record Account (W : Type 0) : Type 0 where
   pub outbox : W
   pub book : Book
   pub taken : List Request
-  pub ends : List Ends
+  pub halves : List LaneHalves
 
 -- what is true of one agent whose port told these connections, and may give so much, where the
 -- collector took these requests. All that the agent sent was taken, in that order, and what it got
@@ -50,25 +50,25 @@ pub record Account (W : Type 0) : Type 0 where
 -- after another, and then its only goodbye; what it got are their replies, and then Gone. Its line
 -- counts its requests, its connections, and the sessions among them that ended with a fault, none
 -- of them for a lost lane. Its port gave as many connections, and then was done or failed, as the
--- line tells
+-- line says
 pub record IsAgentAccount (conns : Option (List Conn)) (may_give : List Given → Type 0)
     (limits : Limits) (taken : List Request)
     (agent : ℕ)
-    (line : AgentLine) (ends : Ends) : Type 0 where
-  pub number : ends.requests.agent ≡ agent
-  pub taken_all : from_agent (λ (request : Request). request.agent) agent taken ≡ ends.requests.sent
-  pub answered : ends.answers.taken ≡ answers_to agent (history_of limits taken)
+    (line : AgentLine) (halves : LaneHalves) : Type 0 where
+  pub number : halves.requests.agent ≡ agent
+  pub taken_all : from_agent (λ (request : Request). request.agent) agent taken ≡ halves.requests.sent
+  pub answered : halves.answers.taken ≡ answers_to agent (history_of limits taken)
   pub sessions : List Session
   pub follow : AreSessions limits.requests 0 sessions
   pub over : AreOverPort conns sessions false line.port_failed
   pub gave : HasGiven may_give line false
   pub heard : All (λ (session : Session). session.end ≢ Some lane_lost_code) sessions
   pub sent :
-      ends.requests.sent
+      halves.requests.sent
       ≡ requests_from agent 0 (bodies_of sessions)
       ++ numbered_request agent line.requests Bye ∷ []
   pub got :
-      ends.answers.taken
+      halves.answers.taken
       ≡ answers_from agent 0 (flat_map reply_of (answers_of sessions))
       ++ numbered_answer agent line.requests Gone ∷ []
   pub requests : line.requests ≡ length (bodies_of sessions)
@@ -78,11 +78,11 @@ pub record IsAgentAccount (conns : Option (List Conn)) (may_give : List Given �
 
 -- what is true of each agent, from one on, with the port in its place
 abbrev pub AreAgentAccounts :
-    {P S : Type 0} → Port P S → Limits → List Request → ℕ → List P → List AgentLine → List Ends
+    {P S : Type 0} → Port P S → Limits → List Request → ℕ → List P → List AgentLine → List LaneHalves
     → Type 0
 AreAgentAccounts port limits taken agent [] [] [] = Unit {0}
-AreAgentAccounts port limits taken agent (one ∷ ports) (line ∷ lines) (ends ∷ crew) =
-    IsAgentAccount (port.conns one) (port.may_give one) limits taken agent line ends
+AreAgentAccounts port limits taken agent (one ∷ ports) (line ∷ lines) (halves ∷ crew) =
+    IsAgentAccount (port.conns one) (port.may_give one) limits taken agent line halves
     × AreAgentAccounts port limits taken (suc agent) ports lines crew
 AreAgentAccounts port limits taken agent ports lines crew = ⊥
 
@@ -91,8 +91,8 @@ AreAgentAccounts port limits taken agent ports lines crew = ⊥
 -- sealed, in order, each of them posted or unsent
 pub record IsAccount {P S W : Type 0} (port : Port P S) (drain : Drain W) (host : List ℕ)
     (limits : Limits)
-    (ports : List P) (start : W) (account : Account W) : Type 0 where
-  pub agents : AreAgentAccounts port limits account.taken 0 ports account.agents account.ends
+    (ports : List P) (start : W) (account : CrewAccount W) : Type 0 where
+  pub agents : AreAgentAccounts port limits account.taken 0 ports account.agents account.halves
   pub only : All (λ (request : Request). request.agent < length ports) account.taken
   pub book_limits : account.book.limits ≡ limits
   pub book : Represents account.book (history_of limits account.taken)

@@ -1,9 +1,9 @@
+pub mod AgentsResult
 pub mod Breach
-pub mod Collected
+pub mod CollectorResult
 pub mod Conclude
 pub mod Crew
-pub mod Gathered
-pub mod Room
+pub mod CrewMemory
 pub mod StartServing
 pub mod TakenBy
 pub mod agents

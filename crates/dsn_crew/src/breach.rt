@@ -4,18 +4,18 @@ ghost use Rattle.dsn_crew.specs.Breach.{cause_of};
 
 use crate::agents::Unheard;
 use crate::crew_cause::CrewCause;
-use crate::desk::Stop;
+use crate::desk::StopCause;
 use dsn_lane::LaneGone;
 
 /// What shows that a lane of the crew was lost.
 #[derive(Clone, Copy)]
 pub(crate) enum Loss {
-    /// A lane told the poster that the collector is gone.
+    /// A lane reported to the poster that the collector is gone.
     Poster(LaneGone),
     /// An agent's goodbye was not heard.
     Agent(Unheard),
     /// The collector has failed.
-    Collector(Stop),
+    Collector(StopCause),
 }
 
 /// Why a crew's run ended with a fault, with what shows that a lane was lost where it was.
@@ -30,7 +30,7 @@ pub(crate) enum Breach {
 }
 
 impl Breach {
-    /// The cause that is told of it.
+    /// The cause that is named for it.
     pub(crate) fn cause(&self) -> CrewCause
         ensures { result ≡ cause_of self.now }
     {

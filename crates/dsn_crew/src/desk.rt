@@ -7,8 +7,8 @@ mod crew_shut;
 mod desk;
 mod desk_fault;
 mod open;
-mod refused;
-mod stop;
+mod returned_letter;
+mod stop_cause;
 
 pub use close::close_crew;
 pub use crew_open_fault::CrewOpenFault;
@@ -16,4 +16,4 @@ pub use crew_shut::CrewShut;
 pub use desk::Desk;
 pub use desk_fault::DeskFault;
 pub use open::open_crew;
-pub(crate) use stop::Stop;
+pub(crate) use stop_cause::StopCause;

@@ -2,27 +2,27 @@
 //! its own.
 #![tactic(auto)]
 
-mod account;
+mod agent_memory;
 mod agents;
+mod agents_result;
 mod breach;
-mod collected;
+mod collector_result;
 mod conclude;
+mod crew_account;
 mod crew_cause;
 mod crew_fault;
+mod crew_memory;
+mod crew_run;
 mod desk;
-mod gathered;
-mod room;
-mod run;
-mod slots;
 mod start_serving;
 
-pub use account::Account;
 pub use agents::{
-    Agent, AgentLine, AskFault, Finished, Gate, Next, NoGate, Port, PortEnd, ServeFault, Served,
-    serve_port,
+    Agent, AgentLine, AskFault, FinishedAgent, Gate, Next, NoGate, Port, PortEnd, ServeFault,
+    Served, serve_port,
 };
+pub use crew_account::CrewAccount;
 pub use crew_cause::CrewCause;
 pub use crew_fault::CrewFault;
+pub use crew_run::run_crew;
 pub use desk::{CrewOpenFault, CrewShut, Desk, DeskFault, close_crew, open_crew};
 pub use dsn_post::Sink;
-pub use run::run_crew;

@@ -3,8 +3,8 @@
 #![tactic(auto)]
 
 #[cfg(test)]
+mod assert_same;
+#[cfg(test)]
 mod crew;
 #[cfg(test)]
 mod desk;
-#[cfg(test)]
-mod same;

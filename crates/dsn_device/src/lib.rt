@@ -3,17 +3,17 @@
 //! first failure.
 #![tactic(auto)]
 
+#[cfg(test)]
+mod assert_same;
 mod broken;
 mod drain;
 #[cfg(test)]
-mod fakes;
+mod fake_devices;
 mod memory_drain;
-mod opaque;
-mod plain;
+mod opaque_stream;
 mod quiet_writer;
-#[cfg(test)]
-mod same;
 mod source;
+mod std_device;
 mod stream;
 mod transfer;
 mod until_failure;
@@ -21,10 +21,10 @@ mod until_failure;
 pub use broken::Broken;
 pub use drain::Drain;
 pub use memory_drain::MemoryDrain;
-pub use opaque::Opaque;
-pub use plain::Plain;
+pub use opaque_stream::OpaqueStream;
 pub use quiet_writer::QuietWriter;
 pub use source::Source;
+pub use std_device::Plain;
 pub use stream::Stream;
 pub use transfer::{fill, send};
 pub use until_failure::UntilFailure;

@@ -94,7 +94,7 @@ impl Drain for MemoryDrain {
 #[cfg(test)]
 mod tests {
     use super::*;
-    use crate::same::same;
+    use crate::assert_same::same;
 
     #[test]
     fn texts_are_written_one_behind_another(rt: HostRuntime) {

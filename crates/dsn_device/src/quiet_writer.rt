@@ -7,7 +7,7 @@ use crate::until_failure::UntilFailure;
 use std::marker::Model;
 
 /// Writes texts to a drain, and neither writes nor flushes after the drain's first failure. So its
-/// callers need not look at each text; `has_failed` tells it to the last of them.
+/// callers need not look at each text; `has_failed` says it to the last of them.
 #[derive(Drop)]
 pub struct QuietWriter<D> {
     drain: D,

@@ -28,7 +28,7 @@ pub trait Source {
     ghost steady: { Self → Type 0 };
 
     /// Reads into the front of the buffer and says how many bytes it read: none at the end of the
-    /// input alone, where the buffer has room. What stands behind them in the buffer is not told.
+    /// input alone, where the buffer has room. What stands behind them in the buffer is not known.
     fn read(&mut self, buffer: &mut [u8]) -> Result<usize, Broken>
         ensures bound { ReadsAtMost result buffer.new }
         ensures bytes { ReadConsumes (remaining self.old) (remaining self.new) result buffer.new }

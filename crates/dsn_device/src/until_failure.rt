@@ -7,7 +7,7 @@ use crate::transfer::send;
 
 /// Whether a drain has failed so far. Texts that are written through it reach the drain up to the
 /// first failure, and nothing reaches it after that, so that a caller need not look at each text:
-/// `failed` tells it to the last of them.
+/// `failed` says it to the last of them.
 #[derive(Clone, Copy, Debug, PartialEq, Eq)]
 pub struct UntilFailure {
     /// Whether the drain has failed.
@@ -41,9 +41,9 @@ impl UntilFailure {
 #[cfg(test)]
 mod tests {
     use super::*;
-    use crate::fakes::PieceWriter;
-    use crate::plain::Plain;
-    use crate::same::same;
+    use crate::assert_same::same;
+    use crate::fake_devices::PieceWriter;
+    use crate::std_device::Plain;
 
     #[test]
     fn nothing_follows_a_failure(rt: HostRuntime) {

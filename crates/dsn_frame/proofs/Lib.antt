@@ -6,8 +6,8 @@ pub mod FrameRoom
 pub mod InputLaws
 pub mod OneSession
 mod SessionExamples
+pub mod SentAnswersLemmas
 pub mod SessionFrames
 pub mod SessionLemmas
 pub mod SomeSession
-pub mod TellingLemmas
 pub mod WholeInputLemmas

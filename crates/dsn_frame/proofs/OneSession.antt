@@ -37,8 +37,8 @@ data Comes (limit accepted place : ℕ) (bytes : List ℕ) : List Body → List 
   is_used_up : (body : Body) → Encodes bytes place body → accepted ≡ limit → Comes limit accepted place bytes [] (spoken.Refused 44 ∷ []) None
   is_asked : (body : Body) (reply : Reply) → Encodes bytes place body → accepted < limit → Comes limit accepted place bytes (body ∷ []) (spoken.Reply reply ∷ []) None
 
-comes : (medium : Medium) (limit accepted place : ℕ) (bytes : List ℕ) (more : List Body) (told : List Spoken) (end : Option ℕ) → Takes medium limit accepted place bytes more told end
-    → AllByRecursion IsDecided told → is_outside_end end ≡ false → Comes limit accepted place bytes more told end
+comes : (medium : Medium) (limit accepted place : ℕ) (bytes : List ℕ) (more : List Body) (said : List Spoken) (end : Option ℕ) → Takes medium limit accepted place bytes more said end
+    → AllByRecursion IsDecided said → is_outside_end end ≡ false → Comes limit accepted place bytes more said end
 comes medium limit accepted place bytes _ _ _ (faulty fault is) decided ended = is_faulty fault is
 comes medium limit accepted place bytes _ _ _ (out_of_memory is) decided ended = absurd (opposite true refl decided.0)
 comes medium limit accepted place bytes _ _ _ (out_of_turn number body encoded apart) decided ended = is_out_of_turn number body encoded apart
@@ -48,9 +48,9 @@ comes medium limit accepted place bytes _ _ _ (given_up body encoded connected) 
 comes medium limit accepted place bytes _ _ _ (given_up_after body encoded room connected) decided ended = absurd (opposite true refl ended)
 
 -- two turns that are the same but for their replies
-record SameTurn (more other_more : List Body) (told other_told : List Spoken) (end other_end : Option ℕ) : Type 0 where
+record SameTurn (more other_more : List Body) (said other_said : List Spoken) (end other_end : Option ℕ) : Type 0 where
   bodies : more ≡ other_more
-  answers : AnswerAlike told other_told
+  answers : AnswerAlike said other_said
   ends : end ≡ other_end
 
 not_encoded : (bytes : List ℕ) (fault : BodyFault) (number : ℕ) (body : Body) → first_body_fault bytes ≡ Some fault → Encodes bytes number body → ⊥
@@ -60,8 +60,8 @@ not_encoded bytes fault number body is encoded =
 not_apart : (bytes : List ℕ) (number place : ℕ) (body other : Body) → Encodes bytes number body → number ≢ place → Encodes bytes place other → ⊥
 not_apart bytes number place body other encoded apart here = apart (encodes_one bytes number place body other encoded here).0
 
-same_turn : (limit accepted place : ℕ) (bytes : List ℕ) (more other_more : List Body) (told other_told : List Spoken) (end other_end : Option ℕ) → Comes limit accepted place bytes more told end
-    → Comes limit accepted place bytes other_more other_told other_end → SameTurn more other_more told other_told end other_end
+same_turn : (limit accepted place : ℕ) (bytes : List ℕ) (more other_more : List Body) (said other_said : List Spoken) (end other_end : Option ℕ) → Comes limit accepted place bytes more said end
+    → Comes limit accepted place bytes other_more other_said other_end → SameTurn more other_more said other_said end other_end
 same_turn limit accepted place bytes _ _ _ _ _ _ (is_faulty fault is) (is_faulty other so) =
     record { bodies = refl; answers = (ap body_fault_code (some_is fault other (sym is ∙ so)), tt); ends = refl }
 same_turn limit accepted place bytes _ _ _ _ _ _ (is_faulty fault is) (is_out_of_turn number body encoded apart) = absurd (not_encoded bytes fault number body is encoded)
@@ -82,8 +82,8 @@ same_turn limit accepted place bytes _ _ _ _ _ _ (is_asked body reply encoded ro
     record { bodies = ap (λ (b : Body). b ∷ []) (encodes_one bytes place place body other encoded so).1; answers = (tt, tt); ends = refl }
 
 -- an answer that could not be written comes from outside
-goes_on_so : (medium : Medium) (told : List Spoken) (end last : Option ℕ) → GoesOn medium told end last → is_outside_end last ≡ false → end ≡ last
-goes_on_so medium _ _ _ (written told end) ended = refl
+goes_on_so : (medium : Medium) (said : List Spoken) (end last : Option ℕ) → GoesOn medium said end last → is_outside_end last ≡ false → end ≡ last
+goes_on_so medium _ _ _ (written said end) ended = refl
 goes_on_so Input _ _ _ (unwritten answer end) ended = absurd (opposite true refl ended)
 goes_on_so Connection _ _ _ (unwritten answer end) ended = absurd (opposite true refl ended)
 
@@ -104,24 +104,24 @@ same_so_far : (medium : Medium) (limit before : ℕ) (frames others : List (List
     → frames ≡ others → AllByRecursion IsDecided answers → AllByRecursion IsDecided other_answers → is_outside_end made ≡ false → is_outside_end other_made ≡ false
     → SameTurn bodies other_bodies answers other_answers made other_made
 same_so_far medium limit before _ _ _ _ _ _ _ _ begun begun same decided other_decided ended other_ended = record { bodies = refl; answers = tt; ends = refl }
-same_so_far medium limit before _ _ _ _ _ _ _ _ begun (taken frames bodies more answers told bytes end last session few legal takes goes) same decided other_decided ended other_ended =
+same_so_far medium limit before _ _ _ _ _ _ _ _ begun (taken frames bodies more answers said bytes end last session few legal takes goes) same decided other_decided ended other_ended =
     absurd (not_empty frames bytes same)
-same_so_far medium limit before _ _ _ _ _ _ _ _ (taken frames bodies more answers told bytes end last session few legal takes goes) begun same decided other_decided ended other_ended =
+same_so_far medium limit before _ _ _ _ _ _ _ _ (taken frames bodies more answers said bytes end last session few legal takes goes) begun same decided other_decided ended other_ended =
     absurd (not_empty frames bytes (sym same))
-same_so_far medium limit before _ _ _ _ _ _ _ _ (taken frames bodies more answers told bytes end last session few legal takes goes) (taken others bodies' more' answers' told' bytes' end' last' session' few' legal' takes' goes') same decided other_decided ended other_ended =
+same_so_far medium limit before _ _ _ _ _ _ _ _ (taken frames bodies more answers said bytes end last session few legal takes goes) (taken others bodies' more' answers' said' bytes' end' last' session' few' legal' takes' goes') same decided other_decided ended other_ended =
     let fronts = same_from_push frames others bytes bytes' same in
-    let parts = all_parts IsDecided answers told decided in
-    let parts' = all_parts IsDecided answers' told' other_decided in
+    let parts = all_parts IsDecided answers said decided in
+    let parts' = all_parts IsDecided answers' said' other_decided in
     let inner = same_so_far medium limit before frames others bodies bodies' answers answers' None None session session' fronts.0 parts.0 parts'.0 refl refl in
-    let on = goes_on_so medium told end last goes ended in
-    let on' = goes_on_so medium told' end' last' goes' other_ended in
-    let one = comes medium limit (before + length bodies) (length frames) bytes more told end takes parts.1 (rw on ended) in
-    let other = comes medium limit (before + length bodies') (length others) bytes' more' told' end' takes' parts'.1 (rw on' other_ended) in
-    let there : Comes limit (before + length bodies) (length frames) bytes more' told' end' = rw (fronts.0, fronts.1, inner.bodies) other in
-    let turn = same_turn limit (before + length bodies) (length frames) bytes more more' told told' end end' one there in
+    let on = goes_on_so medium said end last goes ended in
+    let on' = goes_on_so medium said' end' last' goes' other_ended in
+    let one = comes medium limit (before + length bodies) (length frames) bytes more said end takes parts.1 (rw on ended) in
+    let other = comes medium limit (before + length bodies') (length others) bytes' more' said' end' takes' parts'.1 (rw on' other_ended) in
+    let there : Comes limit (before + length bodies) (length frames) bytes more' said' end' = rw (fronts.0, fronts.1, inner.bodies) other in
+    let turn = same_turn limit (before + length bodies) (length frames) bytes more more' said said' end end' one there in
     record {
       bodies = ap (λ (bs : List Body). bs ++ more) inner.bodies ∙ ap (λ (bs : List Body). bodies' ++ bs) turn.bodies;
-      answers = alike_both answers answers' told told' inner.answers turn.answers;
+      answers = alike_both answers answers' said said' inner.answers turn.answers;
       ends = sym on ∙ turn.ends ∙ on';
     }
 
@@ -151,17 +151,17 @@ last_of bytes (next ∷ more) =
 earlier : (medium : Medium) (limit before : ℕ) (frames : List (List ℕ)) (bodies : List Body) (answers : List Spoken) (made : Option ℕ) → SessionSoFar medium limit before frames bodies answers made
     → (some : List (List ℕ)) (bytes : List ℕ) (more : List (List ℕ)) → frames ≡ some ++ bytes ∷ more → Earlier medium limit before some answers
 earlier medium limit before _ _ _ _ begun some bytes more is = absurd (omega (arith, ap length is, length-append some (bytes ∷ more)))
-earlier medium limit before _ _ _ _ (taken frames bodies asks answers told one end last session few legal takes goes) some bytes [] is =
+earlier medium limit before _ _ _ _ (taken frames bodies asks answers said one end last session few legal takes goes) some bytes [] is =
     let fronts = same_from_push frames some one bytes is in
     record {
       bodies = bodies;
       answers = answers;
       session = subst (λ (fs : List (List ℕ)). SessionSoFar medium limit before fs bodies answers None) fronts.0 session;
       few = subst (λ (fs : List (List ℕ)). length fs < limit) fronts.0 few;
-      later = told;
+      later = said;
       parts = refl;
     }
-earlier medium limit before _ _ _ _ (taken frames bodies asks answers told one end last session few legal takes goes) some bytes (next ∷ more) is =
+earlier medium limit before _ _ _ _ (taken frames bodies asks answers said one end last session few legal takes goes) some bytes (next ∷ more) is =
     let final = last_of next more in
     let pushed : frames ++ one ∷ [] ≡ (some ++ bytes ∷ final.init) ++ final.last ∷ [] =
     is ∙ ap (λ (fs : List (List ℕ)). some ++ bytes ∷ fs) final.parts ∙ sym (append_assoc some (bytes ∷ final.init) (final.last ∷ [])) in
@@ -172,8 +172,8 @@ earlier medium limit before _ _ _ _ (taken frames bodies asks answers told one e
       answers = inner.answers;
       session = inner.session;
       few = inner.few;
-      later = inner.later ++ told;
-      parts = ap (λ (told_before : List Spoken). told_before ++ told) inner.parts ∙ append_assoc inner.answers inner.later told;
+      later = inner.later ++ said;
+      parts = ap (λ (said_before : List Spoken). said_before ++ said) inner.parts ∙ append_assoc inner.answers inner.later said;
     }
 
 -- ---- the ends
@@ -222,7 +222,7 @@ module _ (medium : Medium) (limit before : ℕ) (bytes : List ℕ) (frames other
   pub not_fewer : (one : List ℕ) (more : List (List ℕ)) → others ≡ frames ++ one ∷ more → reading.rest ≡ frame one ++ (flat_map frame more ++ other.rest) → ⊥
   not_fewer one more parts left =
       let went_on = earlier medium limit before others other_bodies other_answers other.made other.takes frames one more parts in
-      let decided = all_parts IsDecided went_on.answers went_on.later (subst (λ (told : List Spoken). AllByRecursion IsDecided told) went_on.parts other_alone.answered) in
+      let decided = all_parts IsDecided went_on.answers went_on.later (subst (λ (said : List Spoken). AllByRecursion IsDecided said) went_on.parts other_alone.answered) in
       let made = made_decided limit (length frames) reading.made reading.rest end reading.ends alone.ended in
       let same = same_so_far medium limit before frames frames bodies went_on.bodies answers went_on.answers reading.made None reading.takes went_on.session refl alone.answered decided.0 made refl in
       let all = session_legal medium limit before others other_bodies other_answers other.made other.takes in

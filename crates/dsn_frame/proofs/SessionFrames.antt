@@ -1,4 +1,4 @@
--- The frames of a session: they are the first frames of the bytes that it read, and its end tells what follows them.
+-- The frames of a session: they are the first frames of the bytes that it read, and its end says what follows them.
 use Rattle.std.proofs.Common.{◌≡◌, ℕ, ◌+◌, Bool, true, false, List, [], ◌∷◌, ◌++◌, length, refl, sym, ap, subst, ◌∙◌, append_assoc}
 use Rattle.std.specs.Prelude.{Option, Some, None, unwrap_or}
 use Rattle.std.specs.Io.KnownBytes.{Consumes}
@@ -64,7 +64,7 @@ known_left bytes (Some rest) text read = (rest, refl, read)
 -- a session takes the bodies of frames alone
 pub session_legal : (medium : Medium) (limit before : ℕ) (frames : List (List ℕ)) (bodies : List Body) (answers : List Spoken) (made : Option ℕ) → SessionSoFar medium limit before frames bodies answers made → AllByRecursion IsFrameBody frames
 session_legal medium limit before _ _ _ _ begun = tt
-session_legal medium limit before _ _ _ _ (taken frames bodies more answers told bytes end last session few legal takes goes) =
+session_legal medium limit before _ _ _ _ (taken frames bodies more answers said bytes end last session few legal takes goes) =
     all_both IsFrameBody frames (bytes ∷ []) (session_legal medium limit before frames bodies answers None session) (legal, tt)
 
 number_of : (a b : ℕ) → Some a ≡ Some b → a ≡ b
@@ -74,7 +74,7 @@ no_end_so : (number code : ℕ) → is_end_of_frames (Some number) ≡ false →
 no_end_so number code apart same = subst (λ (n : ℕ). is_end_of_frames (Some n) ≡ false) (number_of number code same) apart
 
 -- an end that a frame makes is none that bytes which are no frame make
-takes_no_end : (medium : Medium) (limit accepted place : ℕ) (bytes : List ℕ) (asks : List Body) (told : List Spoken) (end : Option ℕ) → Takes medium limit accepted place bytes asks told end → (code : ℕ) → end ≡ Some code → is_end_of_frames (Some code) ≡ false
+takes_no_end : (medium : Medium) (limit accepted place : ℕ) (bytes : List ℕ) (asks : List Body) (said : List Spoken) (end : Option ℕ) → Takes medium limit accepted place bytes asks said end → (code : ℕ) → end ≡ Some code → is_end_of_frames (Some code) ≡ false
 takes_no_end medium limit accepted place bytes _ _ _ (faulty fault is) code never = absurd cc
 takes_no_end medium limit accepted place bytes _ _ _ (out_of_memory is) code never = absurd cc
 takes_no_end medium limit accepted place bytes _ _ _ (out_of_turn number body encoded apart) code is = no_end_so 46 code refl is
@@ -83,15 +83,15 @@ takes_no_end medium limit accepted place bytes _ _ _ (asked body reply encoded r
 takes_no_end medium limit accepted place bytes _ _ _ (given_up body encoded connected) code is = no_end_so 41 code refl is
 takes_no_end medium limit accepted place bytes _ _ _ (given_up_after body encoded room connected) code is = no_end_so 41 code refl is
 
-goes_no_end : (medium : Medium) (told : List Spoken) (end last : Option ℕ) → ((code : ℕ) → end ≡ Some code → is_end_of_frames (Some code) ≡ false) → GoesOn medium told end last → (code : ℕ) → last ≡ Some code → is_end_of_frames (Some code) ≡ false
-goes_no_end medium _ _ _ none (written told end) code is = none code is
+goes_no_end : (medium : Medium) (said : List Spoken) (end last : Option ℕ) → ((code : ℕ) → end ≡ Some code → is_end_of_frames (Some code) ≡ false) → GoesOn medium said end last → (code : ℕ) → last ≡ Some code → is_end_of_frames (Some code) ≡ false
+goes_no_end medium _ _ _ none (written said end) code is = none code is
 goes_no_end Input _ _ _ none (unwritten answer end) code is = no_end_so 33 code refl is
 goes_no_end Connection _ _ _ none (unwritten answer end) code is = no_end_so 35 code refl is
 
 session_no_end : (medium : Medium) (limit before : ℕ) (frames : List (List ℕ)) (bodies : List Body) (answers : List Spoken) (made : Option ℕ) → SessionSoFar medium limit before frames bodies answers made → (code : ℕ) → made ≡ Some code → is_end_of_frames (Some code) ≡ false
 session_no_end medium limit before _ _ _ _ begun code never = absurd cc
-session_no_end medium limit before _ _ _ _ (taken frames bodies more answers told bytes end last session few legal takes goes) code is =
-    goes_no_end medium told end last (takes_no_end medium limit (before + length bodies) (length frames) bytes more told end takes) goes code is
+session_no_end medium limit before _ _ _ _ (taken frames bodies more answers said bytes end last session few legal takes goes) code is =
+    goes_no_end medium said end last (takes_no_end medium limit (before + length bodies) (length frames) bytes more said end takes) goes code is
 
 -- ---- the end of a session
 

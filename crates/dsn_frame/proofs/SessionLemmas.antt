@@ -56,11 +56,11 @@ module _ (medium : Medium) (limit before : ℕ) (start : Option (List ℕ)) wher
   read_more left next frames bytes first more = rw (frames_more frames bytes) (Consumes-trans start left next (flat_map frame frames) (frame bytes) first more)
 
   module _ (left next : Option (List ℕ)) (frames : List (List ℕ)) (bodies : List Body) (answers : List Spoken) (bytes : List ℕ) (session : IsOpenSession medium limit before start left frames bodies answers) (few : length frames < limit) (reads : ReadsNext left next (Some bytes)) where
-    -- one frame more was read, and what it came to was told: the session goes on
-    pub session_more : (more : List Body) (told : List Spoken) → Takes medium limit (before + length bodies) (length frames) bytes more told None
-        → IsOpenSession medium limit before start next (frames ++ bytes ∷ []) (bodies ++ more) (answers ++ told)
-    session_more more told takes = record {
-      takes = taken frames bodies more answers told bytes None None session.takes few reads.0 takes (written told None);
+    -- one frame more was read, and what it came to was answered: the session goes on
+    pub session_more : (more : List Body) (said : List Spoken) → Takes medium limit (before + length bodies) (length frames) bytes more said None
+        → IsOpenSession medium limit before start next (frames ++ bytes ∷ []) (bodies ++ more) (answers ++ said)
+    session_more more said takes = record {
+      takes = taken frames bodies more answers said bytes None None session.takes few reads.0 takes (written said None);
       read = read_more left next frames bytes session.read reads.1;
     }
 
@@ -84,11 +84,11 @@ module _ (medium : Medium) (limit before : ℕ) (start : Option (List ℕ)) wher
     -- ---- the end at a frame
 
     -- the session ended at the frame
-    pub session_stopped : (more : List Body) (told : List Spoken) (end : Option ℕ) (code : ℕ) → Takes medium limit (before + length bodies) (length frames) bytes more told end → GoesOn medium told end (Some code)
-        → IsSession medium limit before start next (frames ++ bytes ∷ []) (bodies ++ more) (answers ++ told) (Some code)
-    session_stopped more told end code takes goes = record {
+    pub session_stopped : (more : List Body) (said : List Spoken) (end : Option ℕ) (code : ℕ) → Takes medium limit (before + length bodies) (length frames) bytes more said end → GoesOn medium said end (Some code)
+        → IsSession medium limit before start next (frames ++ bytes ∷ []) (bodies ++ more) (answers ++ said) (Some code)
+    session_stopped more said end code takes goes = record {
       made = Some code;
-      takes = taken frames bodies more answers told bytes end (Some code) session.takes few reads.0 takes goes;
+      takes = taken frames bodies more answers said bytes end (Some code) session.takes few reads.0 takes goes;
       left = next;
       read = read_more left next frames bytes session.read reads.1;
       ends = stopped code refl refl;

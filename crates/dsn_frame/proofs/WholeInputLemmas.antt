@@ -61,40 +61,40 @@ turned number (first ∷ rest) bytes (body ∷ later) turn =
 -- ---- the session
 
 -- what a session makes of a frame that encodes a body with its place as number
-record TakesInTurn (medium : Medium) (body : Body) (more : List Body) (told : List Spoken) (end : Option ℕ) : Type 0 where
+record TakesInTurn (medium : Medium) (body : Body) (more : List Body) (said : List Spoken) (end : Option ℕ) : Type 0 where
   outside : IsOutside medium end
-  good : AllByRecursion IsReplyOrNoMemory told
-  asks : end ≢ Some 41 → AllByRecursion IsReply told → more ≡ body ∷ []
+  good : AllByRecursion IsReplyOrNoMemory said
+  asks : end ≢ Some 41 → AllByRecursion IsReply said → more ≡ body ∷ []
   few : length more ≤ 1
 
-takes_in_turn : (medium : Medium) (limit accepted position : ℕ) (bytes : List ℕ) (body : Body) → Encodes bytes position body → accepted < limit → (more : List Body) (told : List Spoken) (end : Option ℕ) → Takes medium limit accepted position bytes more told end → TakesInTurn medium body more told end
-takes_in_turn medium limit accepted position bytes body encodes few more told fault (faulty found is) = absurd (let never : Some found ≡ None = sym is ∙ encoded_is_accepted bytes position body encodes in cc)
-takes_in_turn medium limit accepted position bytes body encodes few more told fault (out_of_memory is) = record { outside = end.none; good = (refl, tt); asks = λ on never. absurd never.0; few = omega arith }
-takes_in_turn medium limit accepted position bytes body encodes few more told fault (out_of_turn number other encoded apart) = absurd (apart (encodes_one bytes number position other body encoded encodes).0)
-takes_in_turn medium limit accepted position bytes body encodes few more told fault (used_up other encoded full) = absurd (omega (arith, few, full))
-takes_in_turn medium limit accepted position bytes body encodes few more told fault (asked other reply encoded room) =
+takes_in_turn : (medium : Medium) (limit accepted position : ℕ) (bytes : List ℕ) (body : Body) → Encodes bytes position body → accepted < limit → (more : List Body) (said : List Spoken) (end : Option ℕ) → Takes medium limit accepted position bytes more said end → TakesInTurn medium body more said end
+takes_in_turn medium limit accepted position bytes body encodes few more said fault (faulty found is) = absurd (let never : Some found ≡ None = sym is ∙ encoded_is_accepted bytes position body encodes in cc)
+takes_in_turn medium limit accepted position bytes body encodes few more said fault (out_of_memory is) = record { outside = end.none; good = (refl, tt); asks = λ on never. absurd never.0; few = omega arith }
+takes_in_turn medium limit accepted position bytes body encodes few more said fault (out_of_turn number other encoded apart) = absurd (apart (encodes_one bytes number position other body encoded encodes).0)
+takes_in_turn medium limit accepted position bytes body encodes few more said fault (used_up other encoded full) = absurd (omega (arith, few, full))
+takes_in_turn medium limit accepted position bytes body encodes few more said fault (asked other reply encoded room) =
     let same : other ≡ body = (encodes_one bytes position position other body encoded encodes).1 in
     record { outside = end.none; good = (tt, tt); asks = λ on replies. ap (λ (b : Body). b ∷ []) same; few = omega arith }
-takes_in_turn medium limit accepted position bytes body encodes few more told fault (given_up other encoded connected) =
+takes_in_turn medium limit accepted position bytes body encodes few more said fault (given_up other encoded connected) =
     record { outside = end.given_up connected; good = tt; asks = λ on. absurd (on refl); few = omega arith }
-takes_in_turn medium limit accepted position bytes body encodes few more told fault (given_up_after other encoded room connected) =
+takes_in_turn medium limit accepted position bytes body encodes few more said fault (given_up_after other encoded room connected) =
     record { outside = end.given_up connected; good = tt; asks = λ on. absurd (on refl); few = omega arith }
 
 -- an answer that could not be written ends the session so, whatever the frame came to
-goes_outside : (medium : Medium) (told : List Spoken) (made last : Option ℕ) → IsOutside medium made → GoesOn medium told made last → IsOutside medium last
-goes_outside medium _ _ _ outside (written told made) = outside
+goes_outside : (medium : Medium) (said : List Spoken) (made last : Option ℕ) → IsOutside medium made → GoesOn medium said made last → IsOutside medium last
+goes_outside medium _ _ _ outside (written said made) = outside
 goes_outside medium _ _ _ outside (unwritten answer made) = end.unwritten
 
 -- a session that gave up stays so, unless an answer could not be written: then there is one, and it was asked
-goes_asks : (medium : Medium) (body : Body) (more : List Body) (told : List Spoken) (made last : Option ℕ) → (made ≢ Some 41 → AllByRecursion IsReply told → more ≡ body ∷ []) → GoesOn medium told made last → (made ≡ Some 41 → told ≡ [])
-    → last ≢ Some 41 → AllByRecursion IsReply told → more ≡ body ∷ []
-goes_asks medium body more _ _ _ asks (written told made) silent on replies = asks on replies
+goes_asks : (medium : Medium) (body : Body) (more : List Body) (said : List Spoken) (made last : Option ℕ) → (made ≢ Some 41 → AllByRecursion IsReply said → more ≡ body ∷ []) → GoesOn medium said made last → (made ≡ Some 41 → said ≡ [])
+    → last ≢ Some 41 → AllByRecursion IsReply said → more ≡ body ∷ []
+goes_asks medium body more _ _ _ asks (written said made) silent on replies = asks on replies
 goes_asks medium body more _ _ _ asks (unwritten answer made) silent on replies = asks (λ gone. absurd (let never : answer ∷ [] ≡ [] = silent gone in cc)) replies
 
 not_46 : ◌≡◌ {A = Option ℕ} (Some 46) (Some 41) → ⊥
 not_46 same = cc
 
-takes_silent : (medium : Medium) (limit accepted position : ℕ) (bytes : List ℕ) (more : List Body) (told : List Spoken) (made : Option ℕ) → Takes medium limit accepted position bytes more told made → made ≡ Some 41 → told ≡ []
+takes_silent : (medium : Medium) (limit accepted position : ℕ) (bytes : List ℕ) (more : List Body) (said : List Spoken) (made : Option ℕ) → Takes medium limit accepted position bytes more said made → made ≡ Some 41 → said ≡ []
 takes_silent medium limit accepted position bytes _ _ _ (faulty found is) never = absurd (let none : ◌≡◌ {A = Option ℕ} None (Some 41) = never in cc)
 takes_silent medium limit accepted position bytes _ _ _ (out_of_memory is) never = absurd (let none : ◌≡◌ {A = Option ℕ} None (Some 41) = never in cc)
 takes_silent medium limit accepted position bytes _ _ _ (out_of_turn number body encoded apart) never = absurd (not_46 never)
@@ -117,22 +117,22 @@ session_in_turn : (medium : Medium) (limit before : ℕ) (wanted : List Body) (f
     → before + length frames ≤ limit → EncodeInTurn 0 frames wanted → IsSessionInTurn medium wanted frames bodies answers made
 session_in_turn medium limit before [] _ _ _ _ begun room turn = record { outside = end.none; good = tt; asks = λ on replies. refl; few = omega arith }
 session_in_turn medium limit before (body ∷ later) _ _ _ _ begun room turn = absurd turn
-session_in_turn medium limit before wanted _ _ _ _ (taken frames bodies more answers told bytes made last session few legal takes goes) room turn =
+session_in_turn medium limit before wanted _ _ _ _ (taken frames bodies more answers said bytes made last session few legal takes goes) room turn =
     let parts = turned 0 frames bytes wanted turn in
     let fewer : before + length frames < limit = omega (arith, room, length-append frames (bytes ∷ [])) in
     let inner = session_in_turn medium limit before parts.before frames bodies answers None session (omega (arith, fewer)) parts.turn in
     let same : 0 + length frames ≡ length frames = omega arith in
     let here = subst (λ (n : ℕ). Encodes bytes n parts.last) same parts.here in
     let space : before + length bodies < limit = omega (arith, inner.few, fewer) in
-    let one = takes_in_turn medium limit (before + length bodies) (length frames) bytes parts.last here space more told made takes in
-    let silent = takes_silent medium limit (before + length bodies) (length frames) bytes more told made takes in
+    let one = takes_in_turn medium limit (before + length bodies) (length frames) bytes parts.last here space more said made takes in
+    let silent = takes_silent medium limit (before + length bodies) (length frames) bytes more said made takes in
     record {
-      outside = goes_outside medium told made last one.outside goes;
-      good = all_both IsReplyOrNoMemory answers told inner.good one.good;
+      outside = goes_outside medium said made last one.outside goes;
+      good = all_both IsReplyOrNoMemory answers said inner.good one.good;
       asks = λ on replies.
-          let both = all_parts IsReply answers told replies in
+          let both = all_parts IsReply answers said replies in
           ap (λ (bs : List Body). bs ++ more) (inner.asks none_given_up both.0)
-          ∙ ap (λ (bs : List Body). parts.before ++ bs) (goes_asks medium parts.last more told made last one.asks goes silent on both.1)
+          ∙ ap (λ (bs : List Body). parts.before ++ bs) (goes_asks medium parts.last more said made last one.asks goes silent on both.1)
           ∙ sym parts.parts;
       few = omega (arith, inner.few, one.few, length-append bodies more, length-append frames (bytes ∷ []));
     }

@@ -25,7 +25,7 @@ pub record IsHeld (bytes : List ℕ) : Type 0 where
 abbrev pub declared_length : List ℕ → ℕ
 declared_length bytes = from_be_bytes w32 (take length_prefix bytes)
 
--- less than a whole frame, as far as its bytes tell
+-- less than a whole frame, as far as its bytes show
 abbrev pub IsPartOfFrame : List ℕ → Type 0
 IsPartOfFrame part =
     length_prefix ≤ length part

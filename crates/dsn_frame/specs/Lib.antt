@@ -3,8 +3,8 @@ pub mod FrameBuffer
 pub mod FrameFault
 pub mod Laws
 pub mod Refusal
+pub mod SentAnswers
 pub mod Session
 pub mod SessionLaws
-pub mod Telling
 pub mod WholeInput
 pub mod bodies

@@ -71,14 +71,14 @@ pub data SessionSoFar (medium : Medium) (limit before : ℕ) : List (List ℕ) �
     → List Spoken → Option ℕ → Type 0 where
   begun : SessionSoFar medium limit before [] [] [] None
   taken :
-      (frames : List (List ℕ)) (bodies more : List Body) (answers told : List Spoken)
+      (frames : List (List ℕ)) (bodies more : List Body) (answers said : List Spoken)
       (bytes : List ℕ) (end last : Option ℕ)
       → SessionSoFar medium limit before frames bodies answers None
       → length frames < limit → IsFrameBody bytes
-      → Takes medium limit (before + length bodies) (length frames) bytes more told end
-      → GoesOn medium told end last
+      → Takes medium limit (before + length bodies) (length frames) bytes more said end
+      → GoesOn medium said end last
       → SessionSoFar medium limit before (frames ++ bytes ∷ []) (bodies ++ more)
-      (answers ++ told) last
+      (answers ++ said) last
 
 -- a session that hasn't ended: these frames were read from a source, from `start` to what it has
 -- left, and taken

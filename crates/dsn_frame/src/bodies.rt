@@ -3,10 +3,10 @@
 mod answer;
 mod answer_fault;
 mod body_fault;
+mod body_parts;
 mod decode;
 mod encode;
 mod laws;
-mod parts;
 mod read_fields;
 mod spoken;
 mod write_fields;

@@ -26,7 +26,7 @@ pub enum FrameFault {
 }
 
 impl FrameFault {
-    /// The number of the fault, 9 or 11 to 14, as notes tell it.
+    /// The number of the fault, 9 or 11 to 14, as notes name it.
     pub fn code(&self) -> u32
         ensures { result ≡ frame_fault_code self.now }
     {

@@ -21,7 +21,7 @@ pub fn sessions_take_the_frames_of_their_bytes()
 /// A session is a function of its source's bytes and of how many requests came before, but for want
 /// of memory (9), a read that failed (14), an answer that could not be written (33, 35), a daemon
 /// that gave up (41), and for which replies there are; what it leaves of the bytes, where that is
-/// told, is one too. There is a session over all bytes, whatever the replies are, where no more
+/// known, is one too. There is a session over all bytes, whatever the replies are, where no more
 /// requests came before it than there may be.
 pub fn sessions_are_functions_of_their_bytes()
     ensures some { (medium : Medium) (limit before : ℕ) (bytes : List ℕ) → IsBytes bytes

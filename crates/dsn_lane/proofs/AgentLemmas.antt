@@ -18,7 +18,7 @@ get_snoc [] last zero item at = inr (refl, cc)
 get_snoc [] last (suc place) item at = absurd cc
 get_snoc (first ∷ front) last zero item at = inl at
 get_snoc (first ∷ front) last (suc place) item at =
-    elim (get_snoc front last place item at) [ inl here ↦ inl here | inr end ↦ inr (ap suc end.0, end.1) ]
+    elim (get_snoc front last place item at) [ inl here ↦ inl here | inr half ↦ inr (ap suc half.0, half.1) ]
 
 module _ {T : Type 0} (agent : T → ℕ) where
   pub mine : (a : ℕ) (item : T) → agent item ≡ a → from_agent agent a (item ∷ []) ≡ item ∷ []
@@ -40,7 +40,7 @@ module _ {T : Type 0} (agent : T → ℕ) where
 -- one more item keeps the numbering where its number is the next
 pub numbered_more : {T : Type 0} (number : T → ℕ) (items : List T) (item : T) → IsNumbered number items → number item ≡ length items → IsNumbered number (items ++ item ∷ [])
 numbered_more number items item before next place it at =
-    elim (get_snoc items item place it at) [ inl here ↦ before place it here | inr end ↦ sym (ap number end.1) ∙ (next ∙ sym end.0) ]
+    elim (get_snoc items item place it at) [ inl here ↦ before place it here | inr half ↦ sym (ap number half.1) ∙ (next ∙ sym half.0) ]
 
 pub numbered_none : {T : Type 0} (number : T → ℕ) → IsNumbered number []
 numbered_none number place item at = absurd cc

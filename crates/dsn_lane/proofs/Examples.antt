@@ -5,9 +5,9 @@ use mathlib.Core.Option.{some, some-injective, some-ne-none}
 use lib.ListN.{get_elem?}
 use Rattle.dsn_outcome.specs.Agents.{from_agent}
 use Rattle.dsn_lane.specs.Lane.{IsLane, IsNumbered, Knows, back_from}
-use Rattle.dsn_lane.specs.declared.token.Taking.{Taking}
-use Rattle.dsn_lane.specs.declared.token.Token.{Token}
-use Rattle.dsn_lane.specs.declared.token.Token.TheVariants.{Sends, Takes}
+use Rattle.dsn_lane.specs.declared.lane_knowledge.Taking.{Taking}
+use Rattle.dsn_lane.specs.declared.lane_knowledge.LaneKnowledge.{LaneKnowledge}
+use Rattle.dsn_lane.specs.declared.lane_knowledge.LaneKnowledge.TheVariants.{Sends, Takes}
 
 abbrev Item : Type 0
 Item = ℕ × ℕ
@@ -31,7 +31,7 @@ sent (suc (suc a)) = []
 abbrev receiver : Taking Item
 receiver = record { made = 2; taken = item 0 0 ∷ []; back = [] }
 
-abbrev tokens : List (Token Item)
+abbrev tokens : List (LaneKnowledge Item)
 tokens = Takes 2 receiver ∷ Sends 2 (record { agent = 0; sent = sent 0 }) ∷ Sends 2 (record { agent = 1; sent = sent 1 }) ∷ []
 
 abbrev waiting : List Item
@@ -59,12 +59,12 @@ others zero past = absurd (omega arith)
 others (suc zero) past = absurd (omega arith)
 others (suc (suc a)) past = (refl, refl)
 
-passes : (pass : ℕ) (token : Token Item) → get_elem? tokens pass ≡ some token → Knows 2 receiver 0 sent suc pass token
-passes zero token at = subst (λ (it : Token Item). Knows 2 receiver 0 sent suc 0 it) (some-injective (Takes 2 receiver) token at) (refl, refl, refl)
+passes : (pass : ℕ) (token : LaneKnowledge Item) → get_elem? tokens pass ≡ some token → Knows 2 receiver 0 sent suc pass token
+passes zero token at = subst (λ (it : LaneKnowledge Item). Knows 2 receiver 0 sent suc 0 it) (some-injective (Takes 2 receiver) token at) (refl, refl, refl)
 passes (suc zero) token at =
-    subst (λ (it : Token Item). Knows 2 receiver 0 sent suc 1 it) (some-injective (Sends 2 (record { agent = 0; sent = sent 0 })) token at) (refl, refl, refl, omega arith, refl)
+    subst (λ (it : LaneKnowledge Item). Knows 2 receiver 0 sent suc 1 it) (some-injective (Sends 2 (record { agent = 0; sent = sent 0 })) token at) (refl, refl, refl, omega arith, refl)
 passes (suc (suc zero)) token at =
-    subst (λ (it : Token Item). Knows 2 receiver 0 sent suc 2 it) (some-injective (Sends 2 (record { agent = 1; sent = sent 1 })) token at) (refl, refl, refl, omega arith, refl)
+    subst (λ (it : LaneKnowledge Item). Knows 2 receiver 0 sent suc 2 it) (some-injective (Sends 2 (record { agent = 1; sent = sent 1 })) token at) (refl, refl, refl, omega arith, refl)
 passes (suc (suc (suc pass))) token at = absurd (some-ne-none token (sym at))
 
 -- such a lane meets the rule
@@ -83,15 +83,15 @@ a_lane = record {
   passes = passes;
 }
 
--- no lane for one item holds two, whatever its ends know
-pub no_lane_overfull : (items : List Item) (ends : List (Token Item)) (lane : IsLane agent number (item 0 0 ∷ item 0 1 ∷ items) ends) → lane.capacity ≡ 1 → ⊥
-no_lane_overfull items ends lane one = let within : suc (suc (length items)) ≤ lane.capacity = lane.within in omega arith
+-- no lane for one item holds two, whatever its halves know
+pub no_lane_overfull : (items : List Item) (halves : List (LaneKnowledge Item)) (lane : IsLane agent number (item 0 0 ∷ item 0 1 ∷ items) halves) → lane.capacity ≡ 1 → ⊥
+no_lane_overfull items halves lane one = let within : suc (suc (length items)) ≤ lane.capacity = lane.within in omega arith
 
 one_is_not_zero : (one : ℕ) → one ≡ 1 → one ≡ 0 → ⊥
 one_is_not_zero one is not = omega arith
 
--- no lane that has taken nothing holds two items of one agent in exchanged order, whatever its ends know
-pub no_lane_exchanged : (ends : List (Token Item)) (lane : IsLane agent number (item 0 1 ∷ item 0 0 ∷ []) ends) → lane.receiver.taken ≡ [] → ⊥
-no_lane_exchanged ends lane none =
+-- no lane that has taken nothing holds two items of one agent in exchanged order, whatever its halves know
+pub no_lane_exchanged : (halves : List (LaneKnowledge Item)) (lane : IsLane agent number (item 0 1 ∷ item 0 0 ∷ []) halves) → lane.receiver.taken ≡ [] → ⊥
+no_lane_exchanged halves lane none =
     let all : from_agent agent 0 (item 0 1 ∷ item 0 0 ∷ []) ≡ lane.sent 0 = ap (λ (taken : List Item). from_agent agent 0 (taken ++ item 0 1 ∷ item 0 0 ∷ [])) (sym none) ∙ lane.accepted 0 in
     one_is_not_zero 1 refl (lane.numbered 0 0 (item 0 1) (ap (λ (items : List Item). slice_get items 0) (sym all)))

@@ -1,6 +1,6 @@
 pub mod AgentLemmas
 pub mod CloseLemmas
-pub mod EndLemmas
+pub mod HalfLemmas
 mod Examples
 pub mod RuleLemmas
 pub mod SendLemmas

@@ -4,10 +4,10 @@ use Rattle.std.specs.List.{slice_get}
 use mathlib.Core.Option.{some}
 use lib.ListN.{get_elem?}
 use Rattle.dsn_outcome.specs.Agents.{from_agent}
-use Rattle.dsn_lane.specs.declared.token.Sending.{Sending}
-use Rattle.dsn_lane.specs.declared.token.Taking.{Taking}
-use Rattle.dsn_lane.specs.declared.token.Token.{Token}
-use Rattle.dsn_lane.specs.declared.token.Token.TheVariants.{Sends, Takes, Spent}
+use Rattle.dsn_lane.specs.declared.lane_knowledge.Sending.{Sending}
+use Rattle.dsn_lane.specs.declared.lane_knowledge.Taking.{Taking}
+use Rattle.dsn_lane.specs.declared.lane_knowledge.LaneKnowledge.{LaneKnowledge}
+use Rattle.dsn_lane.specs.declared.lane_knowledge.LaneKnowledge.TheVariants.{Sends, Takes, Spent}
 
 -- how many agents a crew has at most
 abbrev pub most_agents : ℕ
@@ -17,7 +17,7 @@ most_agents = 16
 abbrev pub most_waiting : ℕ
 most_waiting = 1024
 
--- how many items an end may send at most: so many, numbered from 0, are counted in four bytes
+-- how many items a half may send at most: so many, numbered from 0, are counted in four bytes
 abbrev pub most_sent : ℕ
 most_sent = 4294967295
 
@@ -27,24 +27,24 @@ IsNumbered {T} number items =
     (place : ℕ) (item : T) → slice_get items place ≡ Some item → number item ≡ place
 
 module _ {T : Type 0} where
-  -- what the ends of one agent knew that the receiving end has taken back
+  -- what the halves of one agent knew that the receiving half has taken back
   abbrev pub back_from : ℕ → Taking T → List (Sending T)
-  back_from agent receiver = from_agent (λ (end : Sending T). end.agent) agent receiver.back
+  back_from agent receiver = from_agent (λ (half : Sending T). half.agent) agent receiver.back
 
   -- what a pass stands for is so: `capacity` is how many items the lane holds at most, `receiver`
-  -- what the receiving end knows, `reader` its pass, `sent` what each agent has sent, and `seat`
-  -- the pass of its end
-  abbrev pub Knows : ℕ → Taking T → ℕ → (ℕ → List T) → (ℕ → ℕ) → ℕ → Token T → Type 0
-  Knows capacity receiver reader sent seat pass (Sends most end) =
-      (most ≡ capacity) × (seat end.agent ≡ pass) × (sent end.agent ≡ end.sent)
-      × (end.agent < receiver.made) × (back_from end.agent receiver ≡ [])
+  -- what the receiving half knows, `reader` its pass, `sent` what each agent has sent, and `seat`
+  -- the pass of its half
+  abbrev pub Knows : ℕ → Taking T → ℕ → (ℕ → List T) → (ℕ → ℕ) → ℕ → LaneKnowledge T → Type 0
+  Knows capacity receiver reader sent seat pass (Sends most half) =
+      (most ≡ capacity) × (seat half.agent ≡ pass) × (sent half.agent ≡ half.sent)
+      × (half.agent < receiver.made) × (back_from half.agent receiver ≡ [])
   Knows capacity receiver reader sent seat pass (Takes most known) = (most ≡ capacity)
       × (reader ≡ pass) × (receiver ≡ known)
   Knows capacity receiver reader sent seat pass Spent = Unit {0}
 
   -- `waiting` is what the lane holds, oldest first, and `tokens` what its passes stand for
   pub record IsLane (agent number : T → ℕ) (waiting : List T)
-      (tokens : List (Token T)) : Type 0 where
+      (tokens : List (LaneKnowledge T)) : Type 0 where
     pub capacity : ℕ
     pub receiver : Taking T
     pub reader : ℕ
@@ -56,12 +56,12 @@ module _ {T : Type 0} where
     pub accepted : (a : ℕ) → from_agent agent a (receiver.taken ++ waiting) ≡ sent a
     -- what an agent sent is numbered from 0
     pub numbered : (a : ℕ) → IsNumbered number (sent a)
-    -- an agent with no end has sent nothing, and none of its came back
+    -- an agent with no half has sent nothing, and none of its came back
     pub others : (a : ℕ) → receiver.made ≤ a → (sent a ≡ []) × (back_from a receiver ≡ [])
-    -- of each agent no end has come back, or one, that knew all that the agent sent
+    -- of each agent no half has come back, or one, that knew all that the agent sent
     pub back : (a : ℕ)
         → (back_from a receiver ≡ [])
         ⊎ (back_from a receiver ≡ record { agent = a; sent = sent a } ∷ [])
     -- what each pass stands for is so
-    pub passes : (pass : ℕ) (token : Token T) → get_elem? tokens pass ≡ some token
+    pub passes : (pass : ℕ) (token : LaneKnowledge T) → get_elem? tokens pass ≡ some token
         → Knows capacity receiver reader sent seat pass token

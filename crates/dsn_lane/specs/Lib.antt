@@ -1,3 +1,3 @@
-pub mod Ends
+pub mod Halves
 pub mod Lane
 pub mod Step

@@ -1,4 +1,4 @@
-//! The end of a lane.
+//! How a lane ends.
 ghost use Rattle.std.specs.Prelude.{◌≡◌};
 ghost use Rattle.dsn_text.specs.FaultCode.{lane_lost_code};
 
@@ -6,11 +6,11 @@ use crate::lane_gone::LaneGone;
 use dsn_text::fault_code;
 use thiserror::Error;
 
-/// The sending ends of the lane are gone, and nothing waits. A lane alone makes it.
+/// The sending halves of the lane are gone, and nothing waits. A lane alone makes it.
 #[derive(Clone, Copy, Debug, PartialEq, Eq, Error)]
 #[error("lane ended")]
 pub struct LaneEnd {
-    /// That the sending ends are gone.
+    /// That the sending halves are gone.
     pub gone: LaneGone,
 }
 

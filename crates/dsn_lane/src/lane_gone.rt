@@ -1,15 +1,15 @@
 //! That the other side of a lane is gone.
 
-/// The other side of a lane is gone: the lane itself told one of its ends so. No other crate makes
-/// a value of this type, so whoever shows one was told.
+/// The other side of a lane is gone: the lane itself reported it to one of its halves. No other
+/// crate makes a value of this type, so whoever shows one got the report.
 #[derive(Clone, Copy, Debug, Drop, PartialEq, Eq)]
 pub struct LaneGone {
-    told: (),
+    reported: (),
 }
 
 impl LaneGone {
-    /// What a lane tells an end whose other side is gone.
-    pub(crate) fn told() -> LaneGone {
-        LaneGone { told: () }
+    /// What a lane reports to a half whose other side is gone.
+    pub(crate) fn reported() -> LaneGone {
+        LaneGone { reported: () }
     }
 }

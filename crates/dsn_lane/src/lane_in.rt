@@ -1,45 +1,45 @@
-//! The sending end of a lane.
+//! The sending half of a lane.
 ghost use Rattle.std.specs.Prelude.{◌≡◌, ◌<◌, List, ◌∷◌, [], ◌++◌, length, OnOk, IfOk, IfErr};
 ghost use Rattle.crossbeam_channel.specs.Claims.{view, IsSeatAt};
 ghost use Rattle.crossbeam_channel.specs.Ends.{sends_on, ruled_capacity};
 ghost use Rattle.dsn_outcome.specs.Agents.{from_agent};
-ghost use Rattle.dsn_lane.specs.declared.token.Token.TheVariants.{Takes};
-ghost use Rattle.dsn_lane.specs.Ends.{lane_at, taking};
+ghost use Rattle.dsn_lane.specs.declared.lane_knowledge.LaneKnowledge.TheVariants.{Takes};
+ghost use Rattle.dsn_lane.specs.Halves.{lane_at, taking};
 ghost use Rattle.dsn_lane.specs.Lane.{IsNumbered, most_sent};
 ghost use Rattle.dsn_lane.specs.Step.{after_split};
 
 use crate::lane_gone::LaneGone;
-use crate::lost::Lost;
-use crate::rule::{Adds, LaneRule, SplitOff};
-use crate::token::Token;
+use crate::lane_knowledge::LaneKnowledge;
+use crate::lane_rule::{Adds, LaneRule, SplitOff};
+use crate::lost_item::LostItem;
 use crossbeam_channel::{Pass, RuledSender};
-use dsn_outcome::{Carried, NoMemory};
+use dsn_outcome::{LaneItem, NoMemory};
 use std::marker::Model;
 use std::sync::Wait;
 
-/// The end of a lane by which one agent sends. Contracts see its lane with its capacity, its agent
+/// The half of a lane by which one agent sends. Contracts see its lane with its capacity, its agent
 /// and the items that it has sent, in order.
 #[derive(Drop)]
-pub struct LaneIn<T: Carried> {
+pub struct LaneIn<T: LaneItem> {
     /// The channel.
-    pub(crate) sender: RuledSender<T, Token<T>, LaneRule>,
-    /// What the end knows.
-    pub(crate) pass: Pass<T, Token<T>>,
+    pub(crate) sender: RuledSender<T, LaneKnowledge<T>, LaneRule>,
+    /// What the half knows.
+    pub(crate) pass: Pass<T, LaneKnowledge<T>>,
     /// How many items it has sent.
     pub(crate) count: u32,
 }
 
-impl<T: Carried> Model for LaneIn<T> {
+impl<T: LaneItem> Model for LaneIn<T> {
     ghost use Rattle.std.specs.Prelude.{◌≡◌};
     ghost use Rattle.crossbeam_channel.specs.Claims;
     ghost use Rattle.crossbeam_channel.specs.Claims.{IsSeatAt};
     ghost use Rattle.crossbeam_channel.specs.Ends.{sends_on, ruled_capacity};
-    ghost use Rattle.dsn_lane.specs.declared.token.Token.TheVariants.{Sends};
-    ghost use Rattle.dsn_lane.specs.Ends.{End, IsSending, end_of, sending};
+    ghost use Rattle.dsn_lane.specs.declared.lane_knowledge.LaneKnowledge.TheVariants.{Sends};
+    ghost use Rattle.dsn_lane.specs.Halves.{Half, IsSending, half_of, sending};
 
-    ghost Value = { End T };
+    ghost Value = { Half T };
 
-    ghost view = { λ e. end_of e.pass };
+    ghost view = { λ e. half_of e.pass };
 
     ghost invariant = { λ e. IsSeatAt (sends_on e.sender) e.pass
         × (Claims.view e.pass
@@ -47,21 +47,21 @@ impl<T: Carried> Model for LaneIn<T> {
         × IsSending T.agent T.number (sending (Claims.view e.pass)) e.count };
 }
 
-impl<T: Carried> LaneIn<T> {
-    /// The end of the next agent, whose pass is split off the receiving end's. `NoMemory` comes
-    /// only where there is no room for one more end.
+impl<T: LaneItem> LaneIn<T> {
+    /// The half of the next agent, whose pass is split off the receiving half's. `NoMemory` comes
+    /// only where there is no room for one more half.
     #[tactic(auto, using(crate::proofs::RuleLemmas::splits))]
     pub(crate) fn split_off(
-        sender: &RuledSender<T, Token<T>, LaneRule>,
-        pass: &mut Pass<T, Token<T>>,
+        sender: &RuledSender<T, LaneKnowledge<T>, LaneRule>,
+        pass: &mut Pass<T, LaneKnowledge<T>>,
     ) -> Result<LaneIn<T>, NoMemory>
         requires channel { IsSeatAt (sends_on sender.now) pass.old }
         requires receiver { view pass.old
             ≡ Takes (ruled_capacity (sends_on sender.now)) (taking (view pass.old)) }
         ensures channel { IsSeatAt (sends_on sender.now) pass.new }
         ensures receiver { IfOk result (λ _. view pass.new ≡ after_split (view pass.old)) }
-        ensures end { IfOk result
-            (λ end. end
+        ensures half { IfOk result
+            (λ half. half
             ≡ record {
               lane = lane_at (sends_on sender.now);
               agent = (taking (view pass.old)).made;
@@ -86,9 +86,9 @@ impl<T: Carried> LaneIn<T> {
         self.count
     }
 
-    /// Sends an item, and waits while the lane is full. `Lost` comes once the receiving end is
+    /// Sends an item, and waits while the lane is full. `LostItem` comes once the receiving half is
     /// gone, and hands the item back; that it comes then, and not before, isn't proved.
-    pub fn send(&mut self, rt: &impl Wait, item: T) -> Result<(), Lost<T>>
+    pub fn send(&mut self, rt: &impl Wait, item: T) -> Result<(), LostItem<T>>
         requires agent { T.agent item ≡ self.old.agent }
         requires number { T.number item ≡ length self.old.sent }
         requires room { length self.old.sent < most_sent }
@@ -103,9 +103,9 @@ impl<T: Carried> LaneIn<T> {
                 self.count += 1;
                 Ok(())
             }
-            Err(refused) => Err(Lost {
+            Err(refused) => Err(LostItem {
                 item: refused.into_inner(),
-                gone: LaneGone::told(),
+                gone: LaneGone::reported(),
             }),
         }
     }

@@ -1,28 +1,28 @@
-//! What is left of a receiving end that was given up.
+//! What is left of a receiving half that was given up.
 ghost use Rattle.std.specs.Prelude.{◌≡◌};
 
 use crate::lane_out::LaneOut;
-use dsn_outcome::Carried;
+use dsn_outcome::LaneItem;
 use std::marker::Model;
 use std::snapshot::Snapshot;
 
-/// A receiving end that is gone. It has no bytes: contracts see the end as it was when it left,
+/// A receiving half that is gone. It has no bytes: contracts see the half as it was when it left,
 /// with all that it had taken.
 #[derive(Drop)]
-pub struct LaneLeft<T: Carried> {
+pub struct LaneLeft<T: LaneItem> {
     out: Snapshot<LaneOut<T>>,
 }
 
-impl<T: Carried> Model for LaneLeft<T> {
-    ghost use Rattle.dsn_lane.specs.Ends.{Out};
+impl<T: LaneItem> Model for LaneLeft<T> {
+    ghost use Rattle.dsn_lane.specs.Halves.{Out};
 
     ghost Value = { Out T };
 
     ghost view = { λ l. l.out.value };
 }
 
-impl<T: Carried> LaneLeft<T> {
-    /// What a receiving end leaves.
+impl<T: LaneItem> LaneLeft<T> {
+    /// What a receiving half leaves.
     pub(crate) fn of(out: &LaneOut<T>) -> LaneLeft<T>
         ensures { result ≡ out.now }
     {

@@ -3,33 +3,33 @@ ghost use Rattle.std.specs.Prelude.{◌≡◌};
 
 use crate::lane_in::LaneIn;
 use crate::lane_out::LaneOut;
-use dsn_outcome::Carried;
+use dsn_outcome::LaneItem;
 use std::marker::Model;
 use std::snapshot::Snapshot;
 
-/// The lists of a lane. It has no bytes: contracts see the ends as they were at the close, with
+/// The lists of a lane. It has no bytes: contracts see the halves as they were at the close, with
 /// all that they had sent and taken.
 #[derive(Drop)]
-pub struct LaneLists<T: Carried> {
-    ends: Snapshot<Vec<LaneIn<T>>>,
+pub struct LaneLists<T: LaneItem> {
+    halves: Snapshot<Vec<LaneIn<T>>>,
     out: Snapshot<LaneOut<T>>,
 }
 
-impl<T: Carried> Model for LaneLists<T> {
-    ghost use Rattle.dsn_lane.specs.Ends.{Lists};
+impl<T: LaneItem> Model for LaneLists<T> {
+    ghost use Rattle.dsn_lane.specs.Halves.{Lists};
 
     ghost Value = { Lists T };
 
-    ghost view = { λ l. record { ends = l.ends.value.items; out = l.out.value } };
+    ghost view = { λ l. record { halves = l.halves.value.items; out = l.out.value } };
 }
 
-impl<T: Carried> LaneLists<T> {
-    /// What these ends have sent and taken.
-    pub(crate) fn of(ends: &Vec<LaneIn<T>>, out: &LaneOut<T>) -> LaneLists<T>
-        ensures { result ≡ record { ends = ends.now.items; out = out.now } }
+impl<T: LaneItem> LaneLists<T> {
+    /// What these halves have sent and taken.
+    pub(crate) fn of(halves: &Vec<LaneIn<T>>, out: &LaneOut<T>) -> LaneLists<T>
+        ensures { result ≡ record { halves = halves.now.items; out = out.now } }
     {
         LaneLists {
-            ends: Snapshot::of(ends),
+            halves: Snapshot::of(halves),
             out: Snapshot::of(out),
         }
     }

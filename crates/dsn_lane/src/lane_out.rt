@@ -1,41 +1,41 @@
-//! The receiving end of a lane.
+//! The receiving half of a lane.
 ghost use Rattle.std.specs.Prelude.{◌≡◌, ℕ, ◌<◌, ◌≤◌, List, ◌∷◌, [], ◌++◌, length, IfOk, OnErr};
 ghost use Rattle.crossbeam_channel.specs.Claims.{view, IsSeatAt};
 ghost use Rattle.crossbeam_channel.specs.Ends.{receives_on, ruled_capacity};
 ghost use Rattle.dsn_outcome.specs.Agents.{from_agent};
-ghost use Rattle.dsn_lane.specs.declared.token.Token.TheVariants.{Takes};
-ghost use Rattle.dsn_lane.specs.Ends.{IsReceiving, out_of, taking};
+ghost use Rattle.dsn_lane.specs.declared.lane_knowledge.LaneKnowledge.TheVariants.{Takes};
+ghost use Rattle.dsn_lane.specs.Halves.{IsReceiving, out_of, taking};
 ghost use Rattle.dsn_lane.specs.Lane.{IsNumbered};
 
 use crate::lane_end::LaneEnd;
 use crate::lane_gone::LaneGone;
+use crate::lane_knowledge::LaneKnowledge;
 use crate::lane_left::LaneLeft;
-use crate::rule::{LaneRule, Removes};
-use crate::token::Token;
+use crate::lane_rule::{LaneRule, Removes};
 use crossbeam_channel::{Pass, RuledReceiver};
-use dsn_outcome::Carried;
+use dsn_outcome::LaneItem;
 use std::marker::Model;
 use std::sync::Wait;
 
-/// The end of a lane that takes what the agents send. Contracts see its lane with its capacity, its
+/// The half of a lane that takes what the agents send. Contracts see its lane with its capacity, its
 /// agents, from `first` on and below `past`, and the items that it has taken, in order.
 #[derive(Drop)]
-pub struct LaneOut<T: Carried> {
+pub struct LaneOut<T: LaneItem> {
     /// The channel.
-    pub(crate) receiver: RuledReceiver<T, Token<T>, LaneRule>,
-    /// What the end knows.
-    pub(crate) pass: Pass<T, Token<T>>,
+    pub(crate) receiver: RuledReceiver<T, LaneKnowledge<T>, LaneRule>,
+    /// What the half knows.
+    pub(crate) pass: Pass<T, LaneKnowledge<T>>,
     /// How many items it has taken. The count wraps; at the close it is exact.
     pub(crate) count: u64,
 }
 
-impl<T: Carried> Model for LaneOut<T> {
+impl<T: LaneItem> Model for LaneOut<T> {
     ghost use Rattle.std.specs.Prelude.{◌≡◌};
     ghost use Rattle.crossbeam_channel.specs.Claims;
     ghost use Rattle.crossbeam_channel.specs.Claims.{IsSeatAt};
     ghost use Rattle.crossbeam_channel.specs.Ends.{receives_on, ruled_capacity};
-    ghost use Rattle.dsn_lane.specs.declared.token.Token.TheVariants.{Takes};
-    ghost use Rattle.dsn_lane.specs.Ends.{Out, IsReceiving, out_of, taking};
+    ghost use Rattle.dsn_lane.specs.declared.lane_knowledge.LaneKnowledge.TheVariants.{Takes};
+    ghost use Rattle.dsn_lane.specs.Halves.{Out, IsReceiving, out_of, taking};
 
     ghost Value = { Out T };
 
@@ -47,11 +47,11 @@ impl<T: Carried> Model for LaneOut<T> {
         × IsReceiving T.agent T.number (taking (Claims.view o.pass)) o.count };
 }
 
-impl<T: Carried> LaneOut<T> {
-    /// The receiving end of a pass that has taken nothing.
+impl<T: LaneItem> LaneOut<T> {
+    /// The receiving half of a pass that has taken nothing.
     pub(crate) fn new(
-        receiver: RuledReceiver<T, Token<T>, LaneRule>,
-        pass: Pass<T, Token<T>>,
+        receiver: RuledReceiver<T, LaneKnowledge<T>, LaneRule>,
+        pass: Pass<T, LaneKnowledge<T>>,
     ) -> LaneOut<T>
         requires channel { IsSeatAt (receives_on receiver) pass }
         requires token { view pass
@@ -67,8 +67,8 @@ impl<T: Carried> LaneOut<T> {
     }
 
     /// Takes the item at the front, and waits while there is none. `LaneEnd` comes once all
-    /// sending ends are gone and nothing waits; that it comes then, and not before, isn't proved.
-    #[tactic(auto, using(crate::proofs::EndLemmas::agent_within, crate::proofs::EndLemmas::keeps_receiving))]
+    /// sending halves are gone and nothing waits; that it comes then, and not before, isn't proved.
+    #[tactic(auto, using(crate::proofs::HalfLemmas::agent_within, crate::proofs::HalfLemmas::keeps_receiving))]
     pub fn take(&mut self, rt: &impl Wait) -> Result<T, LaneEnd>
         ensures item { IfOk result (λ item. self.new.taken ≡ self.old.taken ++ item ∷ []) }
         ensures agent { IfOk result
@@ -86,12 +86,12 @@ impl<T: Carried> LaneOut<T> {
                 Ok(item)
             }
             Err(_) => Err(LaneEnd {
-                gone: LaneGone::told(),
+                gone: LaneGone::reported(),
             }),
         }
     }
 
-    /// Gives the receiving end up, so that no agent waits for it.
+    /// Gives the receiving half up, so that no agent waits for it.
     pub fn leave(self) -> LaneLeft<T>
         ensures { result ≡ self }
     {

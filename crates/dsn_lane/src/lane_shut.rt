@@ -1,10 +1,10 @@
 //! What is left of a lane that was closed.
 use crate::lane_lists::LaneLists;
-use dsn_outcome::Carried;
+use dsn_outcome::LaneItem;
 
 /// A closed lane: how many items were taken, and how many waited and were dropped.
 #[derive(Drop)]
-pub struct LaneShut<T: Carried> {
+pub struct LaneShut<T: LaneItem> {
     /// How many items were taken.
     pub taken: u64,
     /// How many items waited.

@@ -2,24 +2,24 @@
 ghost use Rattle.std.specs.Prelude.{◌≡◌, ◌+◌, ◌≤◌, [], IfOk, vec_capacity};
 ghost use Rattle.crossbeam_channel.specs.Claims.{view, IsSeatAt};
 ghost use Rattle.crossbeam_channel.specs.Ends.{sends_on};
-ghost use Rattle.dsn_lane.specs.Ends.{capacity_of, fresh_ends, passed_over};
+ghost use Rattle.dsn_lane.specs.Halves.{capacity_of, fresh_halves, passed_over};
 ghost use Rattle.dsn_lane.specs.Lane.{most_agents, most_waiting};
 ghost use Rattle.dsn_lane.specs.Step.{opened};
 
 use crate::lane_in::LaneIn;
+use crate::lane_knowledge::LaneKnowledge;
 use crate::lane_out::LaneOut;
-use crate::rule::{CountRoom, LaneRule, SplitOff, TakeBack};
-use crate::token::Token;
+use crate::lane_rule::{CountRoom, LaneRule, SplitOff, TakeBack};
 use crossbeam_channel::{Pass, RuledSender, bounded_with};
-use dsn_outcome::{Carried, NoMemory};
+use dsn_outcome::{LaneItem, NoMemory};
 use std::alloc::Global;
 use std::sync::Wait;
 
-/// A lane that holds at most `capacity` items, with an end for each of `agents` agents from
-/// `first` on, in their order, and the receiving end. `NoMemory` comes only where memory was
+/// A lane that holds at most `capacity` items, with a half for each of `agents` agents from
+/// `first` on, in their order, and the receiving half. `NoMemory` comes only where memory was
 /// refused.
-#[tactic(auto, using(crate::proofs::EndLemmas::ends_pushed, crate::proofs::RuleLemmas::opens))]
-pub fn open_lane<T: Carried>(
+#[tactic(auto, using(crate::proofs::HalfLemmas::halves_pushed, crate::proofs::RuleLemmas::opens))]
+pub fn open_lane<T: LaneItem>(
     _rt: &impl Wait,
     alloc: Global,
     first: u32,
@@ -29,16 +29,16 @@ pub fn open_lane<T: Carried>(
     requires agents { (1 ≤ agents) × (first + agents ≤ most_agents) }
     requires capacity { (1 ≤ capacity) × (capacity ≤ most_waiting) }
     ensures capacity { IfOk result (λ lane. lane.1.lane.capacity ≡ capacity) }
-    ensures ends { IfOk result (λ lane. lane.0.items ≡ fresh_ends lane.1.lane first agents) }
+    ensures halves { IfOk result (λ lane. lane.0.items ≡ fresh_halves lane.1.lane first agents) }
     ensures room { IfOk result (λ lane. agents ≤ vec_capacity lane.0) }
     ensures out { IfOk result
         (λ lane. lane.1
         ≡ record { lane = lane.1.lane; first = first; past = first + agents; taken = [] }) }
 {
-    let Ok(mut ends) = Vec::with_capacity(alloc, agents as usize) else {
+    let Ok(mut halves) = Vec::with_capacity(alloc, agents as usize) else {
         return Err(NoMemory);
     };
-    let Ok((sender, receiver, mut pass)) = bounded_with::<T, Token<T>, LaneRule, Global>(
+    let Ok((sender, receiver, mut pass)) = bounded_with::<T, LaneKnowledge<T>, LaneRule, Global>(
         alloc,
         capacity as usize,
     ) else {
@@ -47,16 +47,16 @@ pub fn open_lane<T: Carried>(
     count_room(&sender, &mut pass, capacity);
     pass_over(&sender, &mut pass, first);
     for _ in 0..agents {
-        ends.push_reserved(LaneIn::split_off(&sender, &mut pass)?);
+        halves.push_reserved(LaneIn::split_off(&sender, &mut pass)?);
     }
-    Ok((ends, LaneOut::new(receiver, pass)))
+    Ok((halves, LaneOut::new(receiver, pass)))
 }
 
 /// Counts the lane's room: the rule begins with none, and has room for one item more in each turn.
-#[tactic(auto, using(crate::proofs::EndLemmas::room_more, crate::proofs::RuleLemmas::rooms))]
-fn count_room<T: Carried>(
-    sender: &RuledSender<T, Token<T>, LaneRule>,
-    pass: &mut Pass<T, Token<T>>,
+#[tactic(auto, using(crate::proofs::HalfLemmas::room_more, crate::proofs::RuleLemmas::rooms))]
+fn count_room<T: LaneItem>(
+    sender: &RuledSender<T, LaneKnowledge<T>, LaneRule>,
+    pass: &mut Pass<T, LaneKnowledge<T>>,
     capacity: u32,
 )
     requires channel { IsSeatAt (sends_on sender.now) pass.old }
@@ -70,10 +70,10 @@ fn count_room<T: Carried>(
 }
 
 /// Passes over the agents below the first: a pass is split off for each, and joined again unused.
-#[tactic(auto, using(crate::proofs::EndLemmas::passed_more, crate::proofs::RuleLemmas::joins, crate::proofs::RuleLemmas::splits))]
-fn pass_over<T: Carried>(
-    sender: &RuledSender<T, Token<T>, LaneRule>,
-    pass: &mut Pass<T, Token<T>>,
+#[tactic(auto, using(crate::proofs::HalfLemmas::passed_more, crate::proofs::RuleLemmas::joins, crate::proofs::RuleLemmas::splits))]
+fn pass_over<T: LaneItem>(
+    sender: &RuledSender<T, LaneKnowledge<T>, LaneRule>,
+    pass: &mut Pass<T, LaneKnowledge<T>>,
     first: u32,
 )
     requires channel { IsSeatAt (sends_on sender.now) pass.old }

@@ -1,5 +1,5 @@
-pub mod CellLemmas
 pub mod CloseRule
+pub mod LetterCellLemmas
 mod Examples
 pub mod Forgetting
 pub mod HistoryLaws

@@ -3,16 +3,16 @@
 use denote.Param.Send.{IsSend, sendable}
 use Rattle.std.proofs.Crossing.{crosses}
 use Rattle.std.proofs.option.Option.TheSendSync as option
-use Rattle.dsn_outcome.proofs.cell.Cell.TheLaws.TheKnot as cells
-use Rattle.dsn_outcome.proofs.node.Node.TheLaws.TheKnot as nodes
-use Rattle.dsn_outcome.specs.contracts.cell.Cell as Cell
-use Rattle.dsn_outcome.specs.contracts.cell.Sealed as Sealed
-use Rattle.dsn_outcome.specs.contracts.cell.Terms as Terms
+use Rattle.dsn_outcome.proofs.letter_cell.LetterCell.TheLaws.TheKnot as cells
+use Rattle.dsn_outcome.proofs.outcome_node.OutcomeNode.TheLaws.TheKnot as nodes
+use Rattle.dsn_outcome.specs.contracts.letter_cell.LetterCell as LetterCell
+use Rattle.dsn_outcome.specs.contracts.letter_cell.Sealed as Sealed
+use Rattle.dsn_outcome.specs.contracts.letter_cell.Terms as Terms
 use Rattle.dsn_text.specs.contracts.key.Key as Key
 use Rattle.dsn_outcome.specs.contracts.letter.Letter as Letter
 use Rattle.dsn_outcome.specs.contracts.letters.Letters as Letters
-use Rattle.dsn_outcome.specs.contracts.links.Links as Links
-use Rattle.dsn_outcome.specs.contracts.node.Node as Node
+use Rattle.dsn_outcome.specs.contracts.outcome_links.OutcomeLinks as OutcomeLinks
+use Rattle.dsn_outcome.specs.contracts.outcome_node.OutcomeNode as OutcomeNode
 use Rattle.dsn_outcome.specs.contracts.outcome.Outcome as Outcome
 use Rattle.dsn_text.specs.contracts.queue_id.QueueId as QueueId
 use Rattle.dsn_outcome.specs.contracts.request.Request as Request
@@ -26,13 +26,13 @@ key_field = search sendable depth 20
 outcome : IsSend Outcome.the_row
 outcome = search (crosses, sendable) depth 20
 
-node_field : IsSend (Node.the_field).row
+node_field : IsSend (OutcomeNode.the_field).row
 node_field = search (crosses, option.the_send, option.the_field_send, outcome, nodes.crosses, sendable) depth 20
 
-node : IsSend Node.the_row
+node : IsSend OutcomeNode.the_row
 node = search (node_field, sendable) depth 20
 
-links : IsSend Links.the_row
+links : IsSend OutcomeLinks.the_row
 links = search (crosses, node, option.the_field_send, sendable) depth 20
 
 sealed : IsSend (Sealed.the_field).row
@@ -41,10 +41,10 @@ sealed = search (links, key_field, sendable) depth 20
 terms : IsSend Terms.the_row
 terms = search (crosses, option.the_field_send, sendable) depth 20
 
-cell_field : IsSend (Cell.the_field).row
+cell_field : IsSend (LetterCell.the_field).row
 cell_field = search (crosses, sealed, terms, option.the_send, option.the_field_send, cells.crosses, sendable) depth 20
 
-cell : IsSend Cell.the_row
+cell : IsSend LetterCell.the_row
 cell = search (cell_field, sendable) depth 20
 
 pub letter_send : IsSend Letter.the_row

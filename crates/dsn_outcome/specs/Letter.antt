@@ -12,7 +12,7 @@ pub record Letter : Type 0 where
   pub outcomes : List Outcome
   pub serial : ℕ
 
--- the most that a count of letters tells, which has 64 bits: it stands for so many letters or more
+-- the most that a count of letters says, which has 64 bits: it stands for so many letters or more
 abbrev pub most_counted : ℕ
 most_counted = 2 ^ 64 - 1
 

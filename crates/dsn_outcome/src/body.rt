@@ -1,15 +1,15 @@
 //! What a delivery agent asks.
-use crate::cell::Terms;
 use crate::draft::Draft;
-use crate::node::Node;
+use crate::letter_cell::Terms;
 use crate::outcome::Outcome;
+use crate::outcome_node::OutcomeNode;
 use dsn_text::{Key, QueueId};
 
 /// What a delivery agent asks.
 #[derive(Drop)]
 pub enum Body {
     /// Log this outcome of the message. The service is the outcome's.
-    Append(QueueId, Box<Node>),
+    Append(QueueId, Box<OutcomeNode>),
     /// Seal this log and make a notice of it.
     Flush(Key, Draft),
     /// Drop this log.

@@ -4,9 +4,9 @@ ghost use Rattle.dsn_outcome.specs.Draft.{first_draft_fault};
 ghost use Rattle.dsn_text.specs.Optional.{is_none_or, unless_empty};
 ghost use Rattle.dsn_text.specs.Text.{is_address, is_envelope_id};
 
-use crate::cell::{Cell, Terms};
 use crate::draft_fault::DraftFault;
-use crate::optional::{
+use crate::letter_cell::{LetterCell, Terms};
+use crate::optional_texts::{
     is_optional_address, is_optional_envelope_id, optional_address, optional_envelope_id,
 };
 use dsn_text::{Address, EnvelopeId, LONGEST_HEADER, NoMemory, RawHeader, Stamp};
@@ -16,12 +16,12 @@ use std::marker::Model;
 /// What a flush says of its notice: to whom it goes, and what it quotes of the message.
 #[derive(Drop)]
 pub struct Draft {
-    pub(crate) cell: Box<Cell>,
+    pub(crate) cell: Box<LetterCell>,
 }
 
 impl Model for Draft {
     ghost use Rattle.dsn_outcome.specs.Draft.{Draft};
-    ghost use Rattle.dsn_outcome.specs.Cell.{letter_in, IsUnlinked};
+    ghost use Rattle.dsn_outcome.specs.LetterCell.{letter_in, IsUnlinked};
 
     ghost Value = { Draft };
 
@@ -54,7 +54,7 @@ impl Draft {
             envelope_id,
             header,
         };
-        let cell = Cell {
+        let cell = LetterCell {
             terms,
             sealed: None,
             next: None,

@@ -2,10 +2,10 @@
 ghost use Rattle.std.specs.Prelude.{◌≡◌, ◌≢◌, ◌+◌, ◌^◌, ◌<◌, [], IsSome, All, Some};
 ghost use Rattle.std.specs.Option.{option_copied};
 
-use crate::cell::{Cell, Sealed, Terms};
 use crate::chain::Chain;
 use crate::draft::Draft;
-use crate::links::Outcomes;
+use crate::letter_cell::{LetterCell, Sealed, Terms};
+use crate::outcome_links::Outcomes;
 use dsn_text::{Address, EnvelopeId, Key, RawHeader, Stamp};
 use std::marker::Model;
 
@@ -13,12 +13,12 @@ use std::marker::Model;
 /// service, and somebody whom the notice goes to.
 #[derive(Drop)]
 pub struct Letter {
-    pub(crate) cell: Box<Cell>,
+    pub(crate) cell: Box<LetterCell>,
 }
 
 impl Model for Letter {
     ghost use Rattle.dsn_outcome.specs.Letter.{Letter, IsLetter};
-    ghost use Rattle.dsn_outcome.specs.Cell.{letter_in, IsUnlinked};
+    ghost use Rattle.dsn_outcome.specs.LetterCell.{letter_in, IsUnlinked};
 
     ghost Value = { Letter };
 

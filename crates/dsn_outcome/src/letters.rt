@@ -2,8 +2,8 @@
 ghost use Rattle.std.specs.Prelude.{◌≡◌, ◌==◌, [], ◌∷◌, ◌++◌, length, min, IfNone, IfSome};
 ghost use Rattle.dsn_outcome.specs.Letter.{most_counted};
 
-use crate::cells::Cells;
 use crate::letter::Letter;
+use crate::letter_cells::LetterCells;
 use std::marker::Model;
 
 /// Letters in a line: the first is taken first. Those pushed last are linked last first and turned
@@ -11,8 +11,8 @@ use std::marker::Model;
 /// average.
 #[derive(Drop)]
 pub struct Letters {
-    front: Cells,
-    back: Cells,
+    front: LetterCells,
+    back: LetterCells,
 }
 
 impl Model for Letters {
@@ -30,8 +30,8 @@ impl Letters {
         ensures { result ≡ [] }
     {
         Letters {
-            front: Cells::new(),
-            back: Cells::new(),
+            front: LetterCells::new(),
+            back: LetterCells::new(),
         }
     }
 

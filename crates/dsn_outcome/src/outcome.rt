@@ -2,11 +2,11 @@
 ghost use Rattle.std.specs.Prelude.{◌≡◌, [], IsTrue, IfOk, IfErr, unwrap_or};
 ghost use Rattle.dsn_text.specs.Action.{action_of_byte};
 
-use crate::node::Node;
-use crate::optional::{is_optional_address, is_optional_mta_name, unless_empty};
+use crate::optional_texts::{is_optional_address, is_optional_mta_name, unless_empty};
 use crate::outcome_fault::OutcomeFault;
-use crate::parts::Parts;
-use crate::texts::Texts;
+use crate::outcome_node::OutcomeNode;
+use crate::outcome_parts::Parts;
+use crate::outcome_texts::OutcomeTexts;
 use dsn_text::{Action, Address, Clean, KeptStamp, Service, Stamp, Status};
 use std::alloc::Global;
 use std::marker::Model;
@@ -15,7 +15,7 @@ use std::marker::Model;
 /// texts are within their bounds, and only a delayed recipient's delivery is tried again.
 #[derive(Drop)]
 pub struct Outcome {
-    texts: Texts,
+    texts: OutcomeTexts,
     last_attempt: KeptStamp,
     retry_until: KeptStamp,
     service: Service,
@@ -25,7 +25,7 @@ pub struct Outcome {
 
 impl Model for Outcome {
     ghost use Rattle.dsn_outcome.specs.Outcome.{Outcome, IsLegalOutcome};
-    ghost use Rattle.dsn_outcome.specs.Texts.{outcome_of};
+    ghost use Rattle.dsn_outcome.specs.OutcomeTexts.{outcome_of};
 
     ghost Value = { Outcome };
 
@@ -40,14 +40,18 @@ impl Outcome {
     ghost use Rattle.std.specs.Option.{option_copied};
     ghost use Rattle.dsn_outcome.specs.Outcome.{IsLegalOutcome, IsOutcomeOf, first_outcome_fault};
     ghost use Rattle.dsn_text.specs.Optional.{is_none_or};
-    ghost use Rattle.dsn_outcome.specs.Parts.{fields_of};
+    ghost use Rattle.dsn_outcome.specs.OutcomeParts.{fields_of};
     ghost use Rattle.dsn_text.specs.Text.{IsAddress, is_address, is_mta_name, is_remark};
 
     /// The outcome of a service's log that these fields describe, ready to be linked into its
     /// log. The fields are tested, in the order of `OutcomeFault`'s variants, before memory is
     /// taken.
     #[tactic(auto, using(crate::proofs::OutcomeLemmas::short_none))]
-    pub fn new(alloc: Global, service: Service, parts: Parts<'_>) -> Result<Box<Node>, OutcomeFault>
+    pub fn new(
+        alloc: Global,
+        service: Service,
+        parts: Parts<'_>,
+    ) -> Result<Box<OutcomeNode>, OutcomeFault>
         ensures kept { IfOk result
             (λ node. IsOutcomeOf service (fields_of parts.entry) node.value.outcome) }
         ensures accepted { IfOk result
@@ -86,7 +90,7 @@ impl Outcome {
             },
         )?;
         let outcome = Outcome {
-            texts: Texts::new(alloc, recipient, original, mta, diagnostic, reason)?,
+            texts: OutcomeTexts::new(alloc, recipient, original, mta, diagnostic, reason)?,
             last_attempt: KeptStamp::new(last_attempt),
             retry_until: KeptStamp::new(retry_until),
             service,
@@ -174,17 +178,17 @@ impl Outcome {
 }
 
 ghost use Rattle.dsn_outcome.specs.Outcome.{IsLegalOutcome, IsOutcomeOf, first_outcome_fault};
-ghost use Rattle.dsn_outcome.specs.Parts.{fields_of};
+ghost use Rattle.dsn_outcome.specs.OutcomeParts.{fields_of};
 
 /// An outcome in a node of its own, linked to nothing.
-fn linked(alloc: Global, outcome: Outcome) -> Result<Box<Node>, OutcomeFault>
+fn linked(alloc: Global, outcome: Outcome) -> Result<Box<OutcomeNode>, OutcomeFault>
     requires { IsLegalOutcome outcome }
     ensures kept { IfOk result (λ node. node.value.outcome ≡ outcome) }
     ensures legal { IfOk result (λ node. IsLegalOutcome node.value.outcome) }
     ensures unlinked { IfOk result (λ node. node.value.linked ≡ []) }
     ensures memory { IfErr result (λ fault. fault ≡ OutcomeFault.NoMemory) }
 {
-    let node = Node {
+    let node = OutcomeNode {
         outcome,
         next: None,
     };

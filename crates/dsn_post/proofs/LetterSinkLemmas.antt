@@ -8,7 +8,7 @@ use Rattle.std.proofs.lemmas.List.Elements.{All-head}
 use Rattle.std.proofs.lemmas.List.Sums.{sum_by-cons}
 use Rattle.std.specs.List.{sum_by}
 use mathlib.Core.List.{IsPrefix}
-use Rattle.dsn_lane.specs.Ends.{End, Identity}
+use Rattle.dsn_lane.specs.Halves.{Half, Identity}
 use Rattle.dsn_outcome.specs.Agents.{from_agent}
 use Rattle.dsn_outcome.specs.Letter.{Letter}
 use Rattle.dsn_post.specs.LetterSink.{LetterSink, TakesLetter}
@@ -71,17 +71,17 @@ module _ (sent new : List Parcel) (number : ℕ) (kept : IsSent sent false) (cou
   after_mark Q (Ok done) ok lost = sent_mark ok
   after_mark Q (Err e) ok lost = (ap letters_of lost.1, subst (λ (it : List Parcel). IsSent it false) (sym lost.1) kept)
 
--- what was taken is the first of what the one end of the lane sent
-pub first_sent : (ends : List (End Parcel)) (end : End Parcel) (taken : List Parcel) → ends ≡ end ∷ [] → end.agent ≡ 0 → All (λ (it : End Parcel). IsPrefix (from_agent (λ (p : Parcel). 0) it.agent taken) it.sent) ends → IsPrefix taken end.sent
-first_sent ends end taken one agent all =
-    let here = All-head (λ (it : End Parcel). IsPrefix (from_agent (λ (p : Parcel). 0) it.agent taken) it.sent) end [] (subst (All (λ (it : End Parcel). IsPrefix (from_agent (λ (p : Parcel). 0) it.agent taken) it.sent)) one all) in
-    subst (λ (items : List Parcel). IsPrefix items end.sent) (ap (λ (a : ℕ). from_agent (λ (p : Parcel). 0) a taken) agent ∙ all_of_one taken) here
+-- what was taken is the first of what the one sending half of the lane sent
+pub first_sent : (halves : List (Half Parcel)) (half : Half Parcel) (taken : List Parcel) → halves ≡ half ∷ [] → half.agent ≡ 0 → All (λ (it : Half Parcel). IsPrefix (from_agent (λ (p : Parcel). 0) it.agent taken) it.sent) halves → IsPrefix taken half.sent
+first_sent halves half taken one agent all =
+    let here = All-head (λ (it : Half Parcel). IsPrefix (from_agent (λ (p : Parcel). 0) it.agent taken) it.sent) half [] (subst (All (λ (it : Half Parcel). IsPrefix (from_agent (λ (p : Parcel). 0) it.agent taken) it.sent)) one all) in
+    subst (λ (items : List Parcel). IsPrefix items half.sent) (ap (λ (a : ℕ). from_agent (λ (p : Parcel). 0) a taken) agent ∙ all_of_one taken) here
 
 -- ---- the close
 
-module _ (ends : List (End Parcel)) (end : End Parcel) (taken : List Parcel) (came sent : List Letter) (came_marked sent_marked : Bool) (one : ends ≡ end ∷ []) (agent : end.agent ≡ 0) (taken_is : taken ≡ parcels_of came came_marked) (sent_is : end.sent ≡ parcels_of sent sent_marked) (all : All (λ (it : End Parcel). IsPrefix (from_agent (λ (p : Parcel). 0) it.agent taken) it.sent) ends) where
+module _ (halves : List (Half Parcel)) (half : Half Parcel) (taken : List Parcel) (came sent : List Letter) (came_marked sent_marked : Bool) (one : halves ≡ half ∷ []) (agent : half.agent ≡ 0) (taken_is : taken ≡ parcels_of came came_marked) (sent_is : half.sent ≡ parcels_of sent sent_marked) (all : All (λ (it : Half Parcel). IsPrefix (from_agent (λ (p : Parcel). 0) it.agent taken) it.sent) halves) where
   closed : IsPrefix (parcels_of came came_marked) (parcels_of sent sent_marked)
-  closed = subst (IsPrefix (parcels_of came came_marked)) sent_is (subst (λ (items : List Parcel). IsPrefix items end.sent) taken_is (first_sent ends end taken one agent all))
+  closed = subst (IsPrefix (parcels_of came came_marked)) sent_is (subst (λ (items : List Parcel). IsPrefix items half.sent) taken_is (first_sent halves half taken one agent all))
 
   -- the letters that came are the first of those that were sent
   pub closed_first : IsPrefix came sent
@@ -91,11 +91,11 @@ module _ (ends : List (End Parcel)) (end : End Parcel) (taken : List Parcel) (ca
   pub closed_marked : came_marked ≡ true → came ≡ sent
   closed_marked marked = marked_all came sent sent_marked (subst (λ (it : Bool). IsPrefix (parcels_of came it) (parcels_of sent sent_marked)) marked closed)
 
-  module _ (count waiting : ℕ) (counted : count ≡ length taken) (split : count + waiting ≡ sum_by (λ (it : End Parcel). length it.sent) ends) where
+  module _ (count waiting : ℕ) (counted : count ≡ length taken) (split : count + waiting ≡ sum_by (λ (it : Half Parcel). length it.sent) halves) where
     total : length (parcels_of came came_marked) + waiting ≡ length (parcels_of sent sent_marked)
     total =
         let took = counted ∙ ap length taken_is in
-        let last = split ∙ (ap (sum_by (λ (it : End Parcel). length it.sent)) one ∙ sum_by-cons (λ (it : End Parcel). length it.sent) end []) in
+        let last = split ∙ (ap (sum_by (λ (it : Half Parcel). length it.sent)) one ∙ sum_by-cons (λ (it : Half Parcel). length it.sent) half []) in
         let long = ap length sent_is in omega arith
 
     -- all of them came but as many as wait

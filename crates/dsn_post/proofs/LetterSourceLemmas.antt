@@ -1,7 +1,7 @@
 -- Letter sources: what they took are the parcels of their letters, one more at each.
 use Rattle.std.proofs.Common.{◌≡◌, ℕ, Bool, true, false, List, [], ◌∷◌, ◌++◌, length, ap, sym, ◌∙◌}
 use Rattle.std.specs.Prelude.{Some, None}
-use Rattle.dsn_lane.specs.Ends.{Identity, Out}
+use Rattle.dsn_lane.specs.Halves.{Identity, Out}
 use Rattle.dsn_outcome.specs.Agents.{from_agent}
 use Rattle.dsn_outcome.specs.Letter.{Letter}
 use Rattle.dsn_post.specs.LetterSource.{LetterSource, taken_parcels}
@@ -14,7 +14,7 @@ out lane first past taken = record { lane = lane; first = first; past = past; ta
 abbrev pub source : Identity Parcel → List Letter → Bool → LetterSource
 source lane letters marked = record { lane = lane; letters = letters; marked = marked }
 
--- a receiving end that took one parcel more
+-- a receiving half that took one parcel more
 module _ (old new : Out Parcel) (item : Parcel) (letters : List Letter) (kept : old ≡ taken_parcels (source old.lane letters false)) (lane : new.lane ≡ old.lane) (first : new.first ≡ old.first) (past : new.past ≡ old.past) (taken : new.taken ≡ old.taken ++ item ∷ []) (number : item.number ≡ length (from_agent (λ (it : Parcel). 0) 0 old.taken)) where
   old_taken : old.taken ≡ parcels_of letters false
   old_taken = ap (λ (o : Out Parcel). o.taken) kept

@@ -54,12 +54,12 @@ none_lost (Some gone) false is = (λ so. absurd (true≢false (sym so)), λ none
 
 -- and exactly where the end mark came, and so all letters
 whole_unlost : (end : LettersEnd) (marked : Bool) (letters sent : List Letter) → marked ≡ is_marked end → (marked ≡ true → letters ≡ sent) → (lost : Option LaneGone) → lost ≡ lane_lost end → (lost ≡ None) ↔ ((marked ≡ true) × (letters ≡ sent))
-whole_unlost Marked marked letters sent is came lost told = (λ none. (is, came is), λ whole. told)
-whole_unlost (Gone gone) marked letters sent is came lost told =
-    (λ none. absurd (none-some gone (sym none ∙ told)), λ whole. absurd (true≢false (sym whole.0 ∙ is)))
+whole_unlost Marked marked letters sent is came lost reports = (λ none. (is, came is), λ whole. reports)
+whole_unlost (Gone gone) marked letters sent is came lost reports =
+    (λ none. absurd (none-some gone (sym none ∙ reports)), λ whole. absurd (true≢false (sym whole.0 ∙ is)))
 
 pub whole_exactly : (end : LettersEnd) (marked : Bool) (letters sent : List Letter) → marked ≡ is_marked end → (marked ≡ true → letters ≡ sent) → (lost : Option LaneGone) → lost ≡ lane_lost end → (all : Bool) → is_some lost ≡ not all → (all ≡ true) ↔ ((marked ≡ true) × (letters ≡ sent))
-whole_exactly end marked letters sent is came lost told all so =
+whole_exactly end marked letters sent is came lost reports all so =
     let here = none_lost lost all so in
-    let there = whole_unlost end marked letters sent is came lost told in
+    let there = whole_unlost end marked letters sent is came lost reports in
     (λ all_is. there.0 (here.0 all_is), λ whole. here.1 (there.1 whole))

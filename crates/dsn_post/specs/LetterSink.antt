@@ -1,6 +1,6 @@
--- Letter sinks: what contracts see of the sending end of the lane of letters.
+-- Letter sinks: what contracts see of the sending half of the lane of letters.
 use Rattle.std.specs.Prelude.{◌≡◌, ℕ, Bool, List, [], ◌∷◌, ◌++◌}
-use Rattle.dsn_lane.specs.Ends.{Identity}
+use Rattle.dsn_lane.specs.Halves.{Identity}
 use Rattle.dsn_outcome.specs.Letter.{Letter}
 use Rattle.dsn_post.specs.Parcel.{Parcel}
 
@@ -17,7 +17,7 @@ pub record LetterSink : Type 0 where
 abbrev pub TakesLetter : LetterSink → Letter → LetterSink → Type 0
 TakesLetter old letter new = new ≡ record { lane = old.lane; letters = old.letters ++ letter ∷ [] }
 
--- the sending end at its end, after the end mark where that was sent
+-- the sending half at its end, after the end mark where that was sent
 pub record FinishedSink : Type 0 where
   pub lane : Identity Parcel
   pub letters : List Letter

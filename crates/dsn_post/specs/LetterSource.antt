@@ -1,6 +1,6 @@
--- Letter sources: what contracts see of the receiving end of the lane of letters.
+-- Letter sources: what contracts see of the receiving half of the lane of letters.
 use Rattle.std.specs.Prelude.{◌≡◌, Bool, true, false, List, [], ◌∷◌, ◌++◌, Option, Some, None, Result, Ok, Err}
-use Rattle.dsn_lane.specs.Ends.{Identity, Out}
+use Rattle.dsn_lane.specs.Halves.{Identity, Out}
 use Rattle.dsn_lane.specs.declared.lane_gone.LaneGone.{LaneGone}
 use Rattle.dsn_outcome.specs.Letter.{Letter}
 use Rattle.dsn_post.specs.Parcel.{Parcel, parcels_of}
@@ -13,7 +13,7 @@ pub record LetterSource : Type 0 where
   pub letters : List Letter
   pub marked : Bool
 
--- the receiving end of the lane that carries them
+-- the receiving half of the lane that carries them
 abbrev pub taken_parcels : LetterSource → Out Parcel
 taken_parcels source =
     record {
@@ -28,7 +28,7 @@ abbrev pub is_marked : LettersEnd → Bool
 is_marked Marked = true
 is_marked (Gone gone) = false
 
--- what the lane told, where it was lost
+-- what the lane reported, where it was lost
 abbrev pub lane_lost : LettersEnd → Option LaneGone
 lane_lost Marked = None
 lane_lost (Gone gone) = Some gone

@@ -3,7 +3,7 @@ use Rattle.std.specs.Prelude.{◌≡◌, ◌↔◌, ℕ, ◌+◌, ◌≤◌, Boo
 use Rattle.std.specs.Io.KnownBytes.{Appends}
 use mathlib.Core.List.{IsPrefix}
 use Rattle.dsn_device.specs.declared.drain.Drain.{Ghosts as Drain}
-use Rattle.dsn_lane.specs.Ends.{Identity}
+use Rattle.dsn_lane.specs.Halves.{Identity}
 use Rattle.dsn_outcome.specs.Letter.{Letter}
 use Rattle.dsn_report.specs.Outgoing.{Delivered, IsOutbox}
 use Rattle.dsn_post.specs.LetterSource.{is_marked}
@@ -44,6 +44,6 @@ pub record IsPosted {W : Type 0} (drain : Drain W) (host : List ℕ) (start : W)
   pub few : length sent ≤ length letters + waiting
   pub marked : Bool
   pub whole : (end.all ≡ true) ↔ ((marked ≡ true) × (letters ≡ sent))
-  pub told : (end.all ≡ true) ↔ (end.lost ≡ None)
+  pub unlost : (end.all ≡ true) ↔ (end.lost ≡ None)
   pub count : end.posted + length end.unsent ≡ length letters
   pub outbox : IsOutbox drain host start end.outbox end.whole end.unsent letters

@@ -9,11 +9,11 @@ use dsn_lane::{LaneIn, close_lane};
 use std::marker::Model;
 use std::sync::Wait;
 
-/// The sending end of a lane of letters that has sent the end mark, or could not. Contracts see its
+/// The sending half of a lane of letters that has sent the end mark, or could not. Contracts see its
 /// lane, the letters that it has sent, and whether the mark was sent.
 #[derive(Drop)]
 pub(crate) struct FinishedSink {
-    end: LaneIn<Parcel>,
+    half: LaneIn<Parcel>,
     room: Vec<LaneIn<Parcel>>,
     marked: bool,
 }
@@ -26,29 +26,29 @@ impl Model for FinishedSink {
     ghost Value = { FinishedSink };
 
     ghost view = { λ s. record {
-      lane = s.end.lane;
-      letters = letters_of s.end.sent;
+      lane = s.half.lane;
+      letters = letters_of s.half.sent;
       marked = s.marked;
     } };
 
-    ghost invariant = { λ s. (s.end.agent ≡ 0)
-        × (s.end.sent ≡ parcels_of (letters_of s.end.sent) s.marked) × (s.room.items ≡ [])
+    ghost invariant = { λ s. (s.half.agent ≡ 0)
+        × (s.half.sent ≡ parcels_of (letters_of s.half.sent) s.marked) × (s.room.items ≡ [])
         × (1 ≤ vec_capacity s.room) };
 }
 
 impl FinishedSink {
-    /// What is left of the sink whose end this is.
-    pub(crate) fn new(end: LaneIn<Parcel>, room: Vec<LaneIn<Parcel>>, marked: bool) -> FinishedSink
-        requires agent { end.agent ≡ 0 }
-        requires sent { end.sent ≡ parcels_of (letters_of end.sent) marked }
+    /// What is left of the sink whose half this is.
+    pub(crate) fn new(half: LaneIn<Parcel>, room: Vec<LaneIn<Parcel>>, marked: bool) -> FinishedSink
+        requires agent { half.agent ≡ 0 }
+        requires sent { half.sent ≡ parcels_of (letters_of half.sent) marked }
         requires room { (room.items ≡ []) × (1 ≤ vec_capacity room) }
         ensures { result ≡ record {
-          lane = end.lane;
-          letters = letters_of end.sent;
+          lane = half.lane;
+          letters = letters_of half.sent;
           marked = marked;
         } }
     {
-        FinishedSink { end, room, marked }
+        FinishedSink { half, room, marked }
     }
 
     /// Closes the lane, and says whether all that was sent was taken, the end mark included. What
@@ -61,8 +61,8 @@ impl FinishedSink {
         ensures all { (result ≡ true)
             ↔ ((source.letters ≡ self.letters) × (source.marked ≡ self.marked)) }
     {
-        let FinishedSink { end, mut room, .. } = self;
-        room.push_reserved(end);
+        let FinishedSink { half, mut room, .. } = self;
+        room.push_reserved(half);
         close_lane(rt, room, source.parcels).waiting == 0
     }
 }

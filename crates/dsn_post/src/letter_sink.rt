@@ -12,11 +12,11 @@ use std::sync::Wait;
 /// How many letters are sent at most: the end mark needs a number of its own.
 const MOST_LETTERS: u32 = 4_294_967_294;
 
-/// The end by which a collector sends its letters to the poster, with room for it at the close.
+/// The half by which a collector sends its letters to the poster, with room for it at the close.
 /// Contracts see its lane and the letters that it has sent, in order.
 #[derive(Drop)]
 pub struct LetterSink {
-    end: LaneIn<Parcel>,
+    half: LaneIn<Parcel>,
     room: Vec<LaneIn<Parcel>>,
 }
 
@@ -28,11 +28,11 @@ impl Model for LetterSink {
 
     ghost Value = { LetterSink };
 
-    ghost view = { λ s. record { lane = s.end.lane; letters = letters_of s.end.sent } };
+    ghost view = { λ s. record { lane = s.half.lane; letters = letters_of s.half.sent } };
 
-    ghost invariant = { λ s. (s.end.agent ≡ 0)
-        × (s.end.sent ≡ parcels_of (letters_of s.end.sent) false)
-        × (length s.end.sent < most_sent) × (s.room.items ≡ []) × (1 ≤ vec_capacity s.room) };
+    ghost invariant = { λ s. (s.half.agent ≡ 0)
+        × (s.half.sent ≡ parcels_of (letters_of s.half.sent) false)
+        × (length s.half.sent < most_sent) × (s.room.items ≡ []) × (1 ≤ vec_capacity s.room) };
 }
 
 impl Sink for LetterSink {
@@ -41,9 +41,9 @@ impl Sink for LetterSink {
     ghost takes = { TakesLetter };
 
     /// Sends a letter to the poster, and waits while 16 letters wait. It takes no memory. The
-    /// letter comes back where the receiving end is gone, and where 4,294,967,294 were sent.
+    /// letter comes back where the receiving half is gone, and where 4,294,967,294 were sent.
     fn hand(&mut self, rt: &impl Wait, letter: Letter) -> Result<(), Letter> {
-        let number = self.end.count();
+        let number = self.half.count();
         if number >= MOST_LETTERS {
             return Err(letter);
         }
@@ -51,7 +51,7 @@ impl Sink for LetterSink {
             number,
             letter: Some(letter),
         };
-        match self.end.send(rt, parcel) {
+        match self.half.send(rt, parcel) {
             Ok(()) => Ok(()),
             Err(lost) => match lost.item.letter {
                 Some(letter) => Err(letter),
@@ -62,25 +62,25 @@ impl Sink for LetterSink {
 }
 
 impl LetterSink {
-    /// A sink with the one end of a lane over which nothing was sent, and room for that end.
-    pub(crate) fn new(end: LaneIn<Parcel>, room: Vec<LaneIn<Parcel>>) -> LetterSink
-        requires unused { (end.agent ≡ 0) × (end.sent ≡ []) }
+    /// A sink with the one sending half of a lane over which nothing was sent, and room for it.
+    pub(crate) fn new(half: LaneIn<Parcel>, room: Vec<LaneIn<Parcel>>) -> LetterSink
+        requires unused { (half.agent ≡ 0) × (half.sent ≡ []) }
         requires room { (room.items ≡ []) × (1 ≤ vec_capacity room) }
-        ensures { result ≡ record { lane = end.lane; letters = [] } }
+        ensures { result ≡ record { lane = half.lane; letters = [] } }
     {
-        LetterSink { end, room }
+        LetterSink { half, room }
     }
 
     /// Sends the end mark, so that the poster doesn't take the lane for lost, and ends the sink.
     pub(crate) fn mark(self, rt: &impl Wait) -> FinishedSink
         ensures { (result.lane ≡ self.lane) × (result.letters ≡ self.letters) }
     {
-        let LetterSink { mut end, room } = self;
+        let LetterSink { mut half, room } = self;
         let mark = Parcel {
-            number: end.count(),
+            number: half.count(),
             letter: None,
         };
-        let marked = end.send(rt, mark).is_ok();
-        FinishedSink::new(end, room, marked)
+        let marked = half.send(rt, mark).is_ok();
+        FinishedSink::new(half, room, marked)
     }
 }

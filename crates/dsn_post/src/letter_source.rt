@@ -10,8 +10,8 @@ use dsn_outcome::Letter;
 use std::marker::Model;
 use std::sync::Wait;
 
-/// The end by which a poster takes the letters of a lane. Contracts see its lane, the letters that
-/// it has taken, in order, and whether the end mark came after them.
+/// The half of a lane by which a poster takes the letters of a lane. Contracts see its lane, the
+/// letters that it has taken, in order, and whether the end mark came after them.
 #[derive(Drop)]
 pub struct LetterSource {
     pub(crate) parcels: LaneOut<Parcel>,
@@ -41,7 +41,7 @@ impl Model for LetterSource {
 }
 
 impl LetterSource {
-    /// The receiving end of a lane from which nothing was taken.
+    /// The receiving half of a lane from which nothing was taken.
     pub(crate) fn new(parcels: LaneOut<Parcel>) -> LetterSource
         requires unused { (parcels.first ≡ 0) × (parcels.past ≡ 1) × (parcels.taken ≡ []) }
         ensures { result ≡ record { lane = parcels.lane; letters = []; marked = false } }
@@ -53,7 +53,7 @@ impl LetterSource {
     }
 
     /// Takes the next letter, and waits while there is none. `Marked` comes at the end mark and
-    /// after it, `Gone` where the sending end is gone before its mark.
+    /// after it, `Gone` where the sending half is gone before its mark.
     #[tactic(auto, using(crate::proofs::LetterSourceLemmas::parcels))]
     pub(crate) fn take(&mut self, rt: &impl Wait) -> Result<Letter, LettersEnd>
         ensures taken { HasTaken self.old self.new result }

@@ -9,12 +9,12 @@ use dsn_lane::LaneGone;
 pub enum LettersEnd {
     /// The end mark came.
     Marked,
-    /// The collector's end is gone, and no end mark came: the lane told so.
+    /// The collector's half is gone, and no end mark came: the lane reported it.
     Gone(LaneGone),
 }
 
 impl LettersEnd {
-    /// What the lane told where it was lost; none at the end mark.
+    /// What the lane reported where it was lost; none at the end mark.
     pub(crate) fn into_lost(self) -> Option<LaneGone>
         ensures { result ≡ lane_lost self }
     {

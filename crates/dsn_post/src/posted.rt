@@ -16,6 +16,6 @@ pub struct Posted<W> {
     pub posted: u32,
     /// Whether all letters came to the poster, and the end mark after them; else the lane was lost.
     pub all: bool,
-    /// Where the lane was lost: what the lane told.
+    /// Where the lane was lost: what the lane reported.
     pub lost: Option<LaneGone>,
 }

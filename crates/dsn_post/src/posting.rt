@@ -15,7 +15,7 @@ pub struct Posting<W> {
     pub outgoing: Outgoing<W>,
     /// How many letters came.
     pub handed: u32,
-    /// The end by which they came, for the close.
+    /// The half by which they came, for the close.
     pub source: LetterSource,
     /// Why no more came.
     pub end: LettersEnd,

@@ -1,8 +1,8 @@
 //! Letters on their way from a collector's sink to the outbox.
 ghost use Rattle.std.specs.Prelude.{◌≡◌, IfOk, IsSome};
 
+use crate::assert_same::same;
 use crate::posting::post_all;
-use crate::same::same;
 use crate::{LetterSink, LettersEnd, Posted, Sink, end_posting, open_post, start_posting};
 use dsn_device::Plain;
 use dsn_outcome::{
@@ -137,18 +137,18 @@ fn ids_of(alloc: Global, mut letters: Letters) -> Result<Vec<u8>, Fail> {
 /// What became of letters: whether all came, whether the outbox is whole, and how many were posted;
 /// the queue ids of those that were not; and what the outbox holds.
 #[derive(Drop)]
-struct Told {
+struct Left {
     end: (bool, bool, u32),
     unsent: Vec<u8>,
     held: Vec<u8>,
 }
 
-impl Told {
-    fn of(alloc: Global, posted: Posted<Plain<Full>>) -> Result<Told, Fail> {
+impl Left {
+    fn of(alloc: Global, posted: Posted<Plain<Full>>) -> Result<Left, Fail> {
         let end = (posted.all, posted.whole, posted.posted);
         let Posted { outbox, unsent, .. } = posted;
         let held = outbox.into_inner().held;
-        Ok(Told {
+        Ok(Left {
             end,
             unsent: ids_of(alloc, unsent)?,
             held,
@@ -163,7 +163,7 @@ fn posted<R: Threads + Wait + Sync>(
     alloc: Global,
     ids: &[&[u8]],
     room: usize,
-) -> Result<Told, Fail> {
+) -> Result<Left, Fail> {
     let site = site(alloc)?;
     let outbox = outbox(alloc, room);
     let posted = thread::scope(
@@ -179,25 +179,25 @@ fn posted<R: Threads + Wait + Sync>(
             Ok(end_posting(rt, sink, handle))
         },
     )?;
-    Told::of(alloc, posted)
+    Left::of(alloc, posted)
 }
 
 #[test]
 fn letters_in_order(rt: HostRuntime) -> Result<(), Fail> {
     let ids = [b"K1".as_slice(), b"K2".as_slice(), b"K3".as_slice()];
-    let told = posted(&rt, rt.alloc(), &ids, usize::MAX)?;
-    same(&rt, (told.end, told.unsent.len()), ((true, true, 3), 0));
+    let left = posted(&rt, rt.alloc(), &ids, usize::MAX)?;
+    same(&rt, (left.end, left.unsent.len()), ((true, true, 3), 0));
     let held = outbox_of(rt.alloc(), &ids)?;
-    same(&rt, told.held.as_slice(), held.as_slice());
+    same(&rt, left.held.as_slice(), held.as_slice());
     Ok(())
 }
 
 #[test]
 fn no_letters_make_an_empty_outbox(rt: HostRuntime) -> Result<(), Fail> {
-    let told = posted(&rt, rt.alloc(), &[], usize::MAX)?;
-    same(&rt, told.end, (true, true, 0));
+    let left = posted(&rt, rt.alloc(), &[], usize::MAX)?;
+    same(&rt, left.end, (true, true, 0));
     let empty = b"EHLO mx.example.net\r\nQUIT\r\n";
-    same(&rt, told.held.as_slice(), empty.as_slice());
+    same(&rt, left.held.as_slice(), empty.as_slice());
     Ok(())
 }
 
@@ -206,11 +206,11 @@ fn outbox_fails_in_second_letter(rt: HostRuntime) -> Result<(), Fail> {
     let ids = [b"K1".as_slice(), b"K2".as_slice(), b"K3".as_slice()];
     let room = outbox_of(rt.alloc(), &ids[..1])?.len();
     let both = outbox_of(rt.alloc(), &ids[..2])?;
-    let told = posted(&rt, rt.alloc(), &ids, room)?;
-    same(&rt, told.end, (true, false, 1));
-    same(&rt, told.unsent.as_slice(), b"K2K3".as_slice());
+    let left = posted(&rt, rt.alloc(), &ids, room)?;
+    same(&rt, left.end, (true, false, 1));
+    same(&rt, left.unsent.as_slice(), b"K2K3".as_slice());
     let front = both.get(..room).ok_or("two letters are longer than one")?;
-    same(&rt, told.held.as_slice(), front);
+    same(&rt, left.held.as_slice(), front);
     Ok(())
 }
 

@@ -1,4 +1,4 @@
--- Pieces of the text of several lines, of which each may reach over the ends of lines: a block is put together from its
+-- Pieces of the text of several lines, of which each may reach over several lines: a block is put together from its
 -- lines, and each of them from its parts.
 use Rattle.std.proofs.Common.{◌≡◌, ℕ, Bool, true, false, not, List, [], ◌∷◌, ◌++◌, refl, sym, ap, ◌∙◌, ◌-◌, take, length, arith, length-append, append_assoc}
 use Rattle.std.proofs.Math.Seq.{take-append_seam}

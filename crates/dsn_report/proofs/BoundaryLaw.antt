@@ -41,7 +41,7 @@ delimiter-long letter line k is =
     let whole = ap (λ l. length l) (delimiter-begins (boundary_text letter k) line is) in
     omega (arith, whole, length-append (codes "--" ++ boundary_text letter k) (drop (length (codes "--" ++ boundary_text letter k)) line), boundary_text-length letter k, boundary_front-length letter)
 
--- the numbers that a line rules out cost it eleven bytes each, its end included
+-- the numbers that a line rules out cost it eleven bytes each, its line feed included
 count-line : (letter : Letter) (line : List ℕ) (n : ℕ) → n ≤ 10000 → 11 * count_below (λ k. is_delimiter (boundary_text letter k) line) n ≤ length line + 1
 count-line letter line n few = elim (leb_tells 10 (length line)) [
   | inl long ↦

@@ -1,4 +1,4 @@
--- What one line of a header tells of the boundary's number, and how the table of the numbers that are ruled out grows.
+-- What one line of a header says of the boundary's number, and how the table of the numbers that are ruled out grows.
 use Rattle.std.proofs.Common.{◌≡◌, ℕ, suc, cond, ◌+◌, ◌/◌, ◌%◌, ◌<◌, inl, inr, Bool, true, false, ◌||◌, List, [], ◌∷◌, ◌++◌, length, length-append, append_assoc, take, drop, map, get_or, codes, refl, sym, ap, subst, ◌∙◌, arith, if◌then◌else◌, slice_set}
 use Rattle.std.specs.Prelude.{not, position, ◌==◌, nat_eq, IfSome, IfNone, IsTrue, IsFalse, Option, Some, None}
 use Rattle.std.specs.List.{list_any, position_or_len, starts_with}
@@ -67,15 +67,15 @@ delimiter-after : (front line inner rest : List ℕ) (k : ℕ) → line ≡ code
 delimiter-after front line inner rest k outer e =
     rw (outer, e) (starts_with-append (codes "--") (front ++ rest) (front ++ four_digits k) ∙ starts_with-append front rest (four_digits k))
 
-pub rules-out-some : (front line inner rest : List ℕ) (told : Option ℕ) → line ≡ codes "--" ++ inner → inner ≡ front ++ rest
-    → IfSome told (λ k. (k < 10000) × IsTrue (starts_with nat_eq rest (four_digits k)))
-    → IfSome told (λ k. (k < 10000) × IsTrue (is_delimiter (front ++ four_digits k) line))
+pub rules-out-some : (front line inner rest : List ℕ) (read_off : Option ℕ) → line ≡ codes "--" ++ inner → inner ≡ front ++ rest
+    → IfSome read_off (λ k. (k < 10000) × IsTrue (starts_with nat_eq rest (four_digits k)))
+    → IfSome read_off (λ k. (k < 10000) × IsTrue (is_delimiter (front ++ four_digits k) line))
 rules-out-some front line inner rest None outer e some = tt
 rules-out-some front line inner rest (Some k) outer e some = (some.0, delimiter-after front line inner rest k outer e ∙ some.1)
 
-pub rules-out-none : (front line inner rest : List ℕ) (told : Option ℕ) → line ≡ codes "--" ++ inner → inner ≡ front ++ rest
-    → IfNone told ((k : ℕ) → k < 10000 → IsFalse (starts_with nat_eq rest (four_digits k)))
-    → IfNone told ((k : ℕ) → k < 10000 → IsFalse (is_delimiter (front ++ four_digits k) line))
+pub rules-out-none : (front line inner rest : List ℕ) (read_off : Option ℕ) → line ≡ codes "--" ++ inner → inner ≡ front ++ rest
+    → IfNone read_off ((k : ℕ) → k < 10000 → IsFalse (starts_with nat_eq rest (four_digits k)))
+    → IfNone read_off ((k : ℕ) → k < 10000 → IsFalse (is_delimiter (front ++ four_digits k) line))
 rules-out-none front line inner rest None outer e none = λ k below. delimiter-after front line inner rest k outer e ∙ none k below
 rules-out-none front line inner rest (Some k) outer e none = tt
 
@@ -115,22 +115,22 @@ none-dashed boundary (line ∷ lines) none =
     let parts = or_parts (is_dashed line) (list_any is_dashed lines) none in
     rw (not-dashed boundary line parts.0, none-dashed boundary lines parts.1) refl
 
--- what the table and the lines that are left tell of a number, once a line is read
+-- what the table and the lines that are left say of a number, once a line is read
 marked-other : (all marked here rest : Bool) → all ≡ (marked || (here || rest)) → here ≡ false → all ≡ (marked || rest)
-marked-other all marked here rest told none = told ∙ rw none refl
+marked-other all marked here rest read_off none = read_off ∙ rw none refl
 
 marked-here : (all marked here rest : Bool) → all ≡ (marked || (here || rest)) → here ≡ true → all ≡ true
-marked-here all marked here rest told some = told ∙ rw some (or-true marked)
+marked-here all marked here rest read_off some = read_off ∙ rw some (or-true marked)
 
 -- the table with one more number
 marked-more : (all here rest : Bool) (table : List Bool) (found number : ℕ) → found < length table → (here ≡ true → found ≡ number) → (found ≡ number → here ≡ true)
     → all ≡ (get_or table number false || (here || rest)) → all ≡ (get_or (slice_set table found true) number false || rest)
-marked-more all here rest table found number room once back told = elim (eqb_tells number found) [
+marked-more all here rest table found number room once back read_off = elim (eqb_tells number found) [
   | inl same ↦
-      marked-here all (get_or table number false) here rest told (back (sym same.1))
+      marked-here all (get_or table number false) here rest read_off (back (sym same.1))
       ∙ ap (λ marked. marked || rest) (sym (ap (λ n. get_or (slice_set table found true) n false) same.1 ∙ get_or-set_same table found true false room))
   | inr other ↦
-      marked-other all (get_or table number false) here rest told (false_from_ne_true here (λ is. other.1 (sym (once is))))
+      marked-other all (get_or table number false) here rest read_off (false_from_ne_true here (λ is. other.1 (sym (once is))))
       ∙ ap (λ marked. marked || rest) (sym (get_or-set_other table found number true false other.1))
 ]
 
@@ -169,7 +169,7 @@ position-None p xs d none k below = elim (leb_tells (suc (position_or_len p xs))
     some≢none : (n : ℕ) → Some n ≡ None → ⊥
     some≢none n e = cc
 
--- the whole table tells of each number whether it is ruled out
+-- the whole table says of each number whether it is ruled out
 ruled_out-rules_out : (letter : Letter) (front header : List ℕ) (number : ℕ) → front ≡ boundary_front letter → header ≡ letter.draft.header
     → rules_out front header number ≡ is_ruled_out letter number
 unfolding is_ruled_out boundary_text
@@ -181,22 +181,22 @@ IsTable front header table = (number : ℕ) → number < 2980 → get_or table n
 -- the first free number of the table is the boundary's
 pub IsBoundaryNumber-first : (letter : Letter) (front header : List ℕ) (table : List Bool) (number : ℕ) → front ≡ boundary_front letter → header ≡ letter.draft.header
     → length table ≡ 2980 → IsTable front header table → position not table ≡ Some number → IsBoundaryNumber letter number
-IsBoundaryNumber-first letter front header table number f h size told first =
+IsBoundaryNumber-first letter front header table number f h size read_off first =
     let found = position-Some not table number false first in
     record {
       free =
-          sym (ruled_out-rules_out letter front header number f h) ∙ sym (told number (omega (arith, found.0, size)))
+          sym (ruled_out-rules_out letter front header number f h) ∙ sym (read_off number (omega (arith, found.0, size)))
           ∙ not-true (get_or table number false) found.1;
       least = λ smaller below.
-          sym (ruled_out-rules_out letter front header smaller f h) ∙ sym (told smaller (omega (arith, found.0, size, below)))
+          sym (ruled_out-rules_out letter front header smaller f h) ∙ sym (read_off smaller (omega (arith, found.0, size, below)))
           ∙ not-false (get_or table smaller false) (found.2 smaller below);
     }
 
 -- a table with no free number rules out all of them
 pub all-ruled_out : (letter : Letter) (front header : List ℕ) (table : List Bool) → front ≡ boundary_front letter → header ≡ letter.draft.header
     → length table ≡ 2980 → IsTable front header table → position not table ≡ None → (number : ℕ) → number < 2980 → is_ruled_out letter number ≡ true
-all-ruled_out letter front header table f h size told none number below =
-    sym (ruled_out-rules_out letter front header number f h) ∙ sym (told number below)
+all-ruled_out letter front header table f h size read_off none number below =
+    sym (ruled_out-rules_out letter front header number f h) ∙ sym (read_off number below)
     ∙ not-false (get_or table number false) (position-None not table false none number (omega (arith, size, below)))
 
 -- a header with no line that begins with two dashes rules out no number

@@ -17,7 +17,7 @@ use Rattle.dsn_report.specs.Outbox.{greeting, goodbye, transaction_lines, mail_t
 abbrev host : List ℕ
 host = codes "mx.example.net"
 
--- line feed, and the end of a line
+-- line feed, and the CRLF of a line
 abbrev lf : List ℕ
 lf = 10 ∷ []
 

@@ -21,7 +21,7 @@ use Rattle.dsn_report.proofs.PieceLemmas.{has_line_bytes-legal, pieces-lines}
 use Rattle.dsn_report.proofs.PlainLemmas.{address-plain, mta-plain, remark-plain, envelope_id-plain, status-plain, host-plain}
 use Rattle.dsn_text.specs.Stamp.{date_text, is_moment, last_moment}
 use Rattle.dsn_report.specs.DeliveryStatus.{line_if_any, per_message_fields, per_recipient_fields, recipient_group, delivery_status}
-use Rattle.dsn_report.specs.Grammar.{Field, field_line, same_text, value_of, is_choice_of, IsMessageGroup, IsRecipientGroup, TellsOutcome, TellsMessage, EmptyLogLaw, ReportsOutcomes, delivery_status_in, per_message_names, per_recipient_names, has_plain_values, is_action_word}
+use Rattle.dsn_report.specs.Grammar.{Field, field_line, same_text, value_of, is_choice_of, IsMessageGroup, IsRecipientGroup, GivesOutcome, GivesMessage, EmptyLogLaw, ReportsOutcomes, delivery_status_in, per_message_names, per_recipient_names, has_plain_values, is_action_word}
 use Rattle.dsn_report.specs.Boundary.{boundary_of}
 use Rattle.dsn_report.specs.Multipart.{message_body, multipart_of, notice_parts, part_lines}
 use Rattle.dsn_report.specs.Notice.{notice_of}
@@ -188,8 +188,8 @@ status-laid-out host letter =
 
 -- ---- the values
 
-pub group-tells : (outcome : Outcome) → TellsOutcome outcome (recipient_fields outcome)
-group-tells outcome = record {
+pub group-gives : (outcome : Outcome) → GivesOutcome outcome (recipient_fields outcome)
+group-gives outcome = record {
   original = value-finds (codes "Original-Recipient") (codes "rfc822; ") outcome.original (final_fields outcome) refl (none (codes "Original-Recipient") refl refl refl refl);
   recipient = from-original outcome (codes "Final-Recipient") refl;
   action = from-original outcome (codes "Action") refl;
@@ -286,18 +286,18 @@ recipient-plain outcome legal =
 
 legal-group : (outcome : Outcome) → IsLegalOutcome outcome → IsRecipientGroup (recipient_fields outcome)
 legal-group outcome legal =
-    let tells = group-tells outcome in
+    let gives = group-gives outcome in
     record {
       in_order = recipient-in-order outcome;
       plain = recipient-plain outcome legal;
-      recipient = ap is_some tells.recipient;
-      action = subst (λ value. IsSomeAnd value (λ word. IsTrue (is_action_word word))) (sym tells.action) (word-known outcome.action);
-      status = subst (λ value. IsSomeAnd value (λ code. IsTrue (is_status_code code))) (sym tells.status) legal.status_legal;
-      retry_until = λ some. tells.action ∙ retry-delayed outcome.action outcome.retry_until legal.retry_fits (subst IsSome tells.retry_until some);
+      recipient = ap is_some gives.recipient;
+      action = subst (λ value. IsSomeAnd value (λ word. IsTrue (is_action_word word))) (sym gives.action) (word-known outcome.action);
+      status = subst (λ value. IsSomeAnd value (λ code. IsTrue (is_status_code code))) (sym gives.status) legal.status_legal;
+      retry_until = λ some. gives.action ∙ retry-delayed outcome.action outcome.retry_until legal.retry_fits (subst IsSome gives.retry_until some);
     }
 
-tells-message : (host : List ℕ) (letter : Letter) → TellsMessage host letter (message_fields host letter)
-tells-message host letter = record {
+gives-message : (host : List ℕ) (letter : Letter) → GivesMessage host letter (message_fields host letter)
+gives-message host letter = record {
   envelope_id = of_id letter.draft.envelope_id;
   reporter = of_host letter.draft.envelope_id;
   arrival = of_arrival letter.draft.envelope_id;
@@ -326,16 +326,16 @@ message-group host letter formed = record {
       (plain-if-any (codes "Original-Envelope-Id") [] letter.draft.envelope_id refl
       (optional-printable is_envelope_id (λ text e. (envelope_id-plain text e).printable) letter.draft.envelope_id formed.envelope_id_legal))
       (rw ((host-plain host formed.host_legal).printable, shown-date letter.draft.arrival formed.arrival_dated) refl);
-  reporter = ap is_some (tells-message host letter).reporter;
+  reporter = ap is_some (gives-message host letter).reporter;
 }
 
 some-group : (outcomes : List Outcome) → outcomes ≢ [] → map recipient_fields outcomes ≢ []
 some-group [] some = λ none. some refl
 some-group (outcome ∷ outcomes) some = λ none. absurd (cc)
 
-each-tells : (outcomes : List Outcome) → AllZip TellsOutcome outcomes (map recipient_fields outcomes)
-each-tells [] = tt
-each-tells (outcome ∷ outcomes) = (group-tells outcome, each-tells outcomes)
+each-gives : (outcomes : List Outcome) → AllZip GivesOutcome outcomes (map recipient_fields outcomes)
+each-gives [] = tt
+each-gives (outcome ∷ outcomes) = (group-gives outcome, each-gives outcomes)
 
 -- a mail program finds the delivery status in the notice's bytes
 status-found : (host : List ℕ) (letter : Letter) → IsWellFormed host letter
@@ -358,8 +358,8 @@ grammar_law host letter formed = record {
     some_recipient = some-group letter.outcomes formed.sealed.reports;
     recipient_groups = All-map IsRecipientGroup recipient_fields letter.outcomes (λ k d below. legal-group _ (formed.outcomes_legal k d below));
   };
-  tells_message = tells-message host letter;
-  tells_outcomes = each-tells letter.outcomes;
+  gives_message = gives-message host letter;
+  gives_outcomes = each-gives letter.outcomes;
 }
 
 -- ---- an empty log

@@ -42,33 +42,33 @@ module _ {W : Type 0} {device : Drain W} where
   Took-as {s} {t} e p = subst (Took device s t) e p
 
   -- a text that is held back
-  pub Took-held : {s t : LineWriter W} {text : List ℕ} → t.writer ≡ s.writer → t.held ≡ s.held ++ text → t.dots ≡ s.dots → Took device s t text
-  Took-held {s} {t} {text} writer held dots = record {
+  pub Took-pending : {s t : LineWriter W} {text : List ℕ} → t.writer ≡ s.writer → t.pending ≡ s.pending ++ text → t.dots ≡ s.dots → Took device s t text
+  Took-pending {s} {t} {text} writer pending dots = record {
     text_taken = λ start before taken. record {
       front = taken.front;
-      split = ap (λ front. front ++ text) taken.split ∙ append_assoc taken.front s.held text ∙ ap (λ more. taken.front ++ more) (sym held);
+      split = ap (λ front. front ++ text) taken.split ∙ append_assoc taken.front s.pending text ∙ ap (λ more. taken.front ++ more) (sym pending);
       written = subst (λ now. Writes device start now taken.front) (sym writer) taken.written;
     };
     dots_kept = dots;
   }
 
   -- a text that is written after what was held back
-  pub Took-written : {s t u : LineWriter W} {text : List ℕ} → Settled device s t → Writes device t.writer u.writer text → u.held ≡ t.held → u.dots ≡ t.dots → Took device s u text
-  Took-written {s} {t} {u} {text} settled wrote held dots = record {
+  pub Took-written : {s t u : LineWriter W} {text : List ℕ} → Settled device s t → Writes device t.writer u.writer text → u.pending ≡ t.pending → u.dots ≡ t.dots → Took device s u text
+  Took-written {s} {t} {u} {text} settled wrote pending dots = record {
     text_taken = λ start before taken. record {
-      front = (taken.front ++ s.held) ++ text;
-      split = ap (λ front. front ++ text) taken.split ∙ sym (append-nil _) ∙ ap (λ more. ((taken.front ++ s.held) ++ text) ++ more) (sym (held ∙ settled.none_held));
-      written = writes-then (writes-then taken.written settled.held_written) wrote;
+      front = (taken.front ++ s.pending) ++ text;
+      split = ap (λ front. front ++ text) taken.split ∙ sym (append-nil _) ∙ ap (λ more. ((taken.front ++ s.pending) ++ text) ++ more) (sym (pending ∙ settled.none_pending));
+      written = writes-then (writes-then taken.written settled.pending_written) wrote;
     };
     dots_kept = dots ∙ settled.dots_kept;
   }
 
   -- a writer that held nothing back took a text, and was settled: all of the text is written
-  pub settled-text : {s t u : LineWriter W} {text : List ℕ} → s.held ≡ [] → Took device s t text → Settled device t u → Writes device s.writer u.writer text
+  pub settled-text : {s t u : LineWriter W} {text : List ℕ} → s.pending ≡ [] → Took device s t text → Settled device t u → Writes device s.writer u.writer text
   settled-text {s} {t} {u} {text} none took settled =
       let start : HasTakenText device s.writer s [] = record { front = []; split = sym none; written = writes-none s.writer.failed s.writer.drain } in
       let taken = took.text_taken s.writer [] start in
-      subst (Writes device s.writer u.writer) (sym taken.split) (writes-then taken.written settled.held_written)
+      subst (Writes device s.writer u.writer) (sym taken.split) (writes-then taken.written settled.pending_written)
 
   pub Wrote-none : (s : LineWriter W) → Wrote device s s []
   unfolding text_of_lines
@@ -113,7 +113,7 @@ block_text false lines text block = block.text_is
 pub after_dot : (dotted : List ℕ) → take (length dotted - 1) (drop 1 dotted) ≡ drop 1 dotted
 after_dot dotted = take_rest dotted 1
 
--- of a line with its end behind a dot, what is sent is the text of the one line
+-- of a line with its CRLF behind a dot, what is sent is the text of the one line
 dotted_text : (dots : Bool) (line dotted : List ℕ) → dotted ≡ codes "." ++ line ++ codes "\r\n"
     → sent_of_dotted dots dotted ≡ text_of_lines (lines_sent dots (line ∷ []))
 unfolding text_of_lines dot_stuffed

@@ -1,4 +1,4 @@
--- Letters on their way: one letter more, and the end.
+-- Letters on their way: one letter more, and QUIT.
 use Rattle.std.proofs.Common.{◌≡◌, ℕ, Bool, true, false, List, [], ◌∷◌, ◌++◌, refl, ap, sym, ◌∙◌, append_assoc}
 use Rattle.std.specs.Prelude.{length, Option, if◌then◌else◌, not}
 use Rattle.std.specs.Io.KnownBytes.{Appends}
@@ -40,7 +40,7 @@ unfolding post_text
 post_text-after poster letters letter first =
     due poster.host poster.greeted letters (mail_transaction poster.host letter) first ∙ sym (written_of-more poster.host letters letter)
 
--- what a poster has written, and then writes at the end
+-- what a poster has written, and then writes with QUIT
 pub finish_text-after : {W : Type 0} (poster : Poster W) (letters : List Letter) → (poster.greeted ≡ false → letters ≡ []) → written_of poster.host poster.greeted letters ++ finish_text poster ≡ outbox_of poster.host letters
 unfolding finish_text outbox_of
 finish_text-after poster letters first = due poster.host poster.greeted letters goodbye first

@@ -7,7 +7,7 @@ use Rattle.dsn_report.specs.LegalLines.{is_legal_line}
 use Rattle.dsn_report.specs.Lines.{pieces_more, pieces_of_text, text_of_lines, text_of_pieces}
 use Rattle.dsn_report.specs.Multipart.{message_body, divide, divide_more, multipart_of}
 
--- the end of a line
+-- the CRLF of a line
 abbrev crlf : List ℕ
 crlf = 13 ∷ 10 ∷ []
 

@@ -1,4 +1,4 @@
--- How many bytes some lines take with an end of one byte each: the returned lines of a header take at most one more
+-- How many bytes some lines take with a line feed each: the returned lines of a header take at most one more
 -- than the header.
 use Rattle.std.proofs.Common.{◌≡◌, ℕ, zero, suc, ◌+◌, ◌-◌, ◌≤◌, Bool, true, false, List, [], ◌∷◌, length, get_or, take, map, cond, not, arith, if◌then◌else◌}
 use Rattle.std.specs.Prelude.{◌==◌}

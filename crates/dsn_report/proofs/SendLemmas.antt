@@ -9,7 +9,7 @@ use Rattle.dsn_device.proofs.quiet_writer.QuietWriter.TheSendSync as quiet_write
 use Rattle.dsn_device.specs.contracts.quiet_writer.QuietWriter as QuietWriter
 use Rattle.dsn_outcome.proofs.SendLemmas.{letters_send}
 use Rattle.dsn_outcome.specs.contracts.letters.Letters as Letters
-use Rattle.dsn_report.specs.contracts.held.Held as Held
+use Rattle.dsn_report.specs.contracts.pending_bytes.PendingBytes as PendingBytes
 use Rattle.dsn_report.specs.contracts.line_writer.LineWriter as LineWriter
 use Rattle.dsn_report.specs.contracts.outgoing.Outgoing as Outgoing
 use Rattle.dsn_report.specs.contracts.outgoing.Outgoing.TheInside as OutgoingInside
@@ -23,12 +23,12 @@ site_send = search (crosses, sendable) depth 20
 bool_send : IsSend (as_row bool-field)
 bool_send = search sendable depth 20
 
-held_send : IsSend Held.the_row
-held_send = search (crosses, sendable) depth 20
+pending_send : IsSend PendingBytes.the_row
+pending_send = search (crosses, sendable) depth 20
 
 module _ (W : RattleType) (send : IsSend W) where
   line_writer_send : IsSend (LineWriter.the_row W)
-  line_writer_send = declared_send (LineWriter.the_type W) (as_row_send (row_field (QuietWriter.the_row W)) (quiet_writer.the_send W send), (bool_send, (as_row_send (row_field Held.the_row) held_send, tt)))
+  line_writer_send = declared_send (LineWriter.the_type W) (as_row_send (row_field (QuietWriter.the_row W)) (quiet_writer.the_send W send), (bool_send, (as_row_send (row_field PendingBytes.the_row) pending_send, tt)))
 
   poster_send : IsSend (Poster.the_row W)
   poster_send =

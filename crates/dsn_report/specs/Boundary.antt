@@ -12,7 +12,7 @@ use Rattle.dsn_text.specs.Text.{is_printable, longest_queue_id, most_digits}
 abbrev pub shown_byte : ℕ → ℕ
 shown_byte byte = if is_printable byte || (byte == 9) then byte else 63
 
--- the longest line of a mail, in bytes without its end (RFC 5322 section 2.1.1)
+-- the longest line of a mail, in bytes without its CRLF (RFC 5322 section 2.1.1)
 abbrev pub longest_line : ℕ
 longest_line = 998
 
@@ -37,7 +37,7 @@ boundary_numbers = 10000
 abbrev pub four_digits : ℕ → List ℕ
 four_digits n = (48 + n / 1000) ∷ (48 + n / 100 % 10) ∷ (48 + n / 10 % 10) ∷ (48 + n % 10) ∷ []
 
--- `S.QUEUEID.MOMENT`: what tells a letter from others
+-- `S.QUEUEID.MOMENT`: what sets a letter apart from others
 abbrev pub letter_name : Letter → List ℕ
 letter_name letter =
     (service_letter letter.key.service ∷ []) ++ codes "." ++ letter.key.id ++ codes "."

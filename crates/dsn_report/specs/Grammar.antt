@@ -90,9 +90,9 @@ pub record IsDeliveryStatus (lines : List (List ℕ)) (message : List Field)
   pub some_recipient : recipients ≢ []
   pub recipient_groups : All IsRecipientGroup recipients
 
--- the group tells what became of the recipient: each field's value is the outcome's, and missing
+-- the group says what became of the recipient: each field's value is the outcome's, and missing
 -- where that is
-pub record TellsOutcome (outcome : Outcome) (fields : List Field) : Type 0 where
+pub record GivesOutcome (outcome : Outcome) (fields : List Field) : Type 0 where
   pub original : value_of (codes "Original-Recipient") fields
       ≡ option_map (λ text. codes "rfc822; " ++ text) outcome.original
   pub recipient : value_of (codes "Final-Recipient") fields
@@ -108,8 +108,8 @@ pub record TellsOutcome (outcome : Outcome) (fields : List Field) : Type 0 where
   pub retry_until : value_of (codes "Will-Retry-Until") fields
       ≡ option_map date_text outcome.retry_until
 
--- the group tells whose message it is, who reports, and when the message came
-pub record TellsMessage (host : List ℕ) (letter : Letter) (fields : List Field) : Type 0 where
+-- the group says whose message it is, who reports, and when the message came
+pub record GivesMessage (host : List ℕ) (letter : Letter) (fields : List Field) : Type 0 where
   pub envelope_id : value_of (codes "Original-Envelope-Id") fields ≡ letter.draft.envelope_id
   pub reporter : value_of (codes "Reporting-MTA") fields ≡ Some (codes "dns; " ++ host)
   pub arrival : value_of (codes "Arrival-Date") fields ≡ Some (date_text letter.draft.arrival)
@@ -121,7 +121,7 @@ second_of (first ∷ []) = None
 second_of (first ∷ second ∷ rest) = Some second
 
 -- the delivery status that a mail program finds in a report: the pieces of its second part's body
--- (RFC 6522 section 3), of which the last is what stands after the last line's end
+-- (RFC 6522 section 3), of which the last is what stands after the last line's CRLF
 abbrev pub delivery_status_in : Multipart → Option (List (List ℕ))
 delivery_status_in report =
     option_map (λ part. message_body (pieces_of_text part)) (second_of report.parts)
@@ -134,8 +134,8 @@ pub record ReportsOutcomes (host : List ℕ) (letter : Letter) : Type 0 where
   pub message : List Field
   pub recipients : List (List Field)
   pub grammar : IsDeliveryStatus (delivery_status host letter) message recipients
-  pub tells_message : TellsMessage host letter message
-  pub tells_outcomes : AllZip TellsOutcome letter.outcomes recipients
+  pub gives_message : GivesMessage host letter message
+  pub gives_outcomes : AllZip GivesOutcome letter.outcomes recipients
 
 -- a report of no outcome is no delivery status, however its lines are read
 abbrev pub EmptyLogLaw : Type 0

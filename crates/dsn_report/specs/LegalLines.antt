@@ -9,7 +9,7 @@ use Rattle.dsn_report.specs.Lines.{text_of_lines}
 abbrev pub is_line_byte : ℕ → Bool
 is_line_byte byte = is_printable byte || (byte == 9)
 
--- at most so many such bytes, without the line's end
+-- at most so many such bytes, without the line's CRLF
 abbrev pub is_legal_line : List ℕ → Bool
 is_legal_line line = nat_le (length line) longest_line && list_all is_line_byte line
 

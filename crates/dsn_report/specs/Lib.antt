@@ -2,7 +2,6 @@ pub mod Boundary
 pub mod Data
 pub mod DeliveryStatus
 pub mod Grammar
-pub mod HeaderLines
 pub mod LegalLines
 pub mod LineWriter
 pub mod Lines
@@ -11,5 +10,6 @@ pub mod Notice
 pub mod Outbox
 pub mod Outgoing
 pub mod Poster
+pub mod ReturnedLines
 pub mod Site
 pub mod WellFormed

@@ -12,7 +12,7 @@ use Rattle.dsn_report.specs.declared.line_writer.LineWriter.{LineWriter}
 pub record HasTakenText {W : Type 0} (device : Drain.Ghosts W) (start : QuietWriter W) (lines : LineWriter W)
     (text : List ℕ) : Type 0 where
   pub front : List ℕ
-  pub split : text ≡ front ++ lines.held
+  pub split : text ≡ front ++ lines.pending
   pub written : Writes device start lines.writer front
 
 -- the writer took the text, after all that it took before
@@ -24,8 +24,8 @@ pub record Took {W : Type 0} (device : Drain.Ghosts W) (old new : LineWriter W)
 
 -- the writer wrote what it held back
 pub record Settled {W : Type 0} (device : Drain.Ghosts W) (old new : LineWriter W) : Type 0 where
-  pub held_written : Writes device old.writer new.writer old.held
-  pub none_held : new.held ≡ []
+  pub pending_written : Writes device old.writer new.writer old.pending
+  pub none_pending : new.pending ≡ []
   pub dots_kept : new.dots ≡ old.dots
 
 -- lines as they are sent, with dots or without
@@ -38,7 +38,7 @@ pub record Wrote {W : Type 0} (device : Drain.Ghosts W) (old new : LineWriter W)
     (lines : List (List ℕ)) : Type 0 where
   pub took : Took device old new (text_of_lines (lines_sent old.dots lines))
 
--- what is sent of a line that stands with its end behind a dot: the dot too where the line begins
+-- what is sent of a line that stands with its CRLF behind a dot: the dot too where the line begins
 -- with one and dots are added (RFC 5321 section 4.5.2)
 abbrev pub sent_of_dotted : Bool → List ℕ → List ℕ
 sent_of_dotted dots dotted =

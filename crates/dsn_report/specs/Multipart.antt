@@ -85,7 +85,7 @@ notice_parts host letter =
     (delivery_status host letter)
     ∷ returned_parts (returned_lines letter.draft.header)
 
--- who divides a notice's bytes at its boundary gets its parts, each with the end of its last line,
+-- who divides a notice's bytes at its boundary gets its parts, each with the CRLF of its last line,
 -- and nothing before and nothing after them
 abbrev pub DividesIntoParts : List ℕ → Letter → Type 0
 DividesIntoParts host letter =

@@ -18,7 +18,7 @@ subject_of Bounce = codes "Undelivered Mail Returned to Sender"
 subject_of Defer = codes "Delayed Mail (still being retried)"
 subject_of Trace = codes "Mail Delivery Status Report"
 
--- what a notice tells its reader first (this project's profile)
+-- what a notice says to its reader first (this project's profile)
 abbrev pub opening_of : Service → List ℕ
 opening_of Bounce = codes "Your message could not be delivered to the recipients below."
 opening_of Defer = codes "Your message has not yet been delivered to the recipients below."
@@ -54,7 +54,7 @@ part_header boundary description content_type =
     ∷ []
 
 -- one part; the empty line after its body belongs to the next delimiter, so that the body ends with
--- the end of its last line (RFC 2046 section 5.1.1)
+-- the CRLF of its last line (RFC 2046 section 5.1.1)
 unfoldable pub part_of : List ℕ → List ℕ → List ℕ → List (List ℕ) → List (List ℕ)
 part_of boundary description content_type body =
     part_header boundary description content_type ++ body ++ [] ∷ []

@@ -44,7 +44,7 @@ abbrev pub are_some : List Letter → Bool
 are_some [] = false
 are_some (first ∷ rest) = true
 
--- the furthest that an outbox gets: its end, or within the first letter that was not written
+-- the furthest that an outbox gets: QUIT, or within the first letter that was not written
 abbrev pub text_until : List ℕ → List Letter → List Letter → List ℕ
 text_until host posted [] = outbox_of host posted
 text_until host posted (first ∷ rest) = written_of host true (posted ++ first ∷ [])
@@ -92,7 +92,7 @@ pub record Delivered {W : Type 0} (drain : Drain.Ghosts W) (host : List ℕ) (st
 
 -- how an outbox ended: with the whole text of all letters; or after a failure with the mails of all
 -- letters before those that are unsent, and a front of what follows; the device failed once where
--- it isn't whole, and else not; a whole one was flushed once for each letter and once at its end,
+-- it isn't whole, and else not; a whole one was flushed once for each letter and once at QUIT,
 -- after all of its text, and another one once for each letter before those that are unsent, and
 -- once more where it failed at a flush; where the device flushes surely, some of the text of all
 -- letters is missing from one that isn't whole

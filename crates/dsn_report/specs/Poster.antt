@@ -22,7 +22,7 @@ greeting_due poster = if poster.greeted then [] else greeting poster.host
 unfoldable pub post_text : {W : Type 0} → Poster W → Letter → List ℕ
 post_text poster letter = greeting_due poster ++ mail_transaction poster.host letter
 
--- what it writes at the end
+-- what it writes with QUIT
 unfoldable pub finish_text : {W : Type 0} → Poster W → List ℕ
 finish_text poster = greeting_due poster ++ goodbye
 

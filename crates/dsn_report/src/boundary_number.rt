@@ -3,9 +3,9 @@ ghost use Rattle.std.specs.Prelude.{◌≡◌, ◌<◌};
 ghost use Rattle.std.specs.List.{list_any};
 ghost use Rattle.dsn_report.specs.Boundary.{IsBoundaryNumber, boundary_number, boundary_numbers, header_lines, is_dashed};
 
-use crate::header_lines::HeaderLines;
 use crate::letter_boundary::boundary_front;
-use crate::ruled_out::{first_free, numbers_ruled_out};
+use crate::returned_lines::ReturnedLines;
+use crate::ruled_out_boundaries::{first_free, numbers_ruled_out};
 use dsn_outcome::Letter;
 
 /// The number of the boundary of a letter's notice: the least that no returned line rules out. It
@@ -40,7 +40,7 @@ fn has_dashed_line(header: &[u8]) -> bool
     if !header.contains(&b'-') {
         return false;
     }
-    for line in (HeaderLines { rest: header }) {
+    for line in (ReturnedLines { rest: header }) {
         if line.starts_with(b"--") {
             return true;
         }

@@ -3,21 +3,21 @@
 #![tactic(auto)]
 
 mod boundary_number;
-mod header_lines;
-mod held;
 mod laws;
 mod letter_boundary;
 mod line_writer;
+mod mail_transaction;
 mod notice_lines;
 mod notice_text;
+mod notice_wording;
 mod outbox_end;
 mod outgoing;
+mod pending_bytes;
 mod post_fault;
 mod poster;
-mod ruled_out;
+mod returned_lines;
+mod ruled_out_boundaries;
 mod site;
-mod transaction;
-mod wording;
 
 pub use boundary_number::boundary;
 pub use laws::{

@@ -4,7 +4,7 @@ ghost use Rattle.std.specs.List.{flat_map};
 ghost use Rattle.dsn_device.specs.QuietWriter.{Flushes};
 ghost use Rattle.dsn_report.specs.LineWriter.{IsBlock, Settled, Took, Wrote, sent_of_dotted};
 
-use crate::held::Held;
+use crate::pending_bytes::PendingBytes;
 use dsn_device::{Drain, QuietWriter};
 
 /// Writes lines to a drain, each ended by CRLF. It holds texts back until many of them make one
@@ -16,7 +16,7 @@ pub(crate) struct LineWriter<W> {
     /// Whether a line that begins with a dot gets one more in front (RFC 5321 section 4.5.2).
     pub(crate) dots: bool,
     /// What it holds back.
-    pub(crate) held: Held,
+    pub(crate) pending: PendingBytes,
 }
 
 impl<W: Drain> LineWriter<W> {
@@ -24,7 +24,7 @@ impl<W: Drain> LineWriter<W> {
     pub(crate) fn piece(&mut self, text: &[u8])
         ensures { Took W.Drain self.old self.new text.now }
     {
-        if self.held.push(text) {
+        if self.pending.push(text) {
             return;
         }
         self.settle();
@@ -36,21 +36,21 @@ impl<W: Drain> LineWriter<W> {
     pub(crate) fn settle(&mut self)
         ensures { Settled W.Drain self.old self.new }
     {
-        self.writer.write(self.held.bytes());
-        self.held.clear();
+        self.writer.write(self.pending.bytes());
+        self.pending.clear();
     }
 
     /// Has the drain pass on what it holds.
     pub(crate) fn flush(&mut self)
         ensures flushes { Flushes W.Drain self.old.writer self.new.writer }
         ensures dots { self.new.dots ≡ self.old.dots }
-        ensures held { self.new.held ≡ self.old.held }
+        ensures pending { self.new.pending ≡ self.old.pending }
     {
         self.writer.flush();
     }
 
-    /// Writes lines with their ends, from pieces of their text, of which each may reach over the
-    /// ends of lines. It adds no dots: none of the lines may begin with one.
+    /// Writes lines with their CRLFs, from pieces of their text, of which each may reach over
+    /// several lines. It adds no dots: none of the lines may begin with one.
     pub(crate) fn block(&mut self, pieces: &[&[u8]])
         ensures { (lines : List (List ℕ))
             → IsBlock lines (flat_map (λ piece. piece.now) pieces.now)
@@ -61,7 +61,7 @@ impl<W: Drain> LineWriter<W> {
         }
     }
 
-    /// Writes a line that stands with its end behind a dot. The dot is written where the line
+    /// Writes a line that stands with its CRLF behind a dot. The dot is written where the line
     /// begins with one and dots are added.
     pub(crate) fn dotted_line(&mut self, dotted: &[u8])
         requires { 0 < length dotted.now }
@@ -72,7 +72,7 @@ impl<W: Drain> LineWriter<W> {
     }
 }
 
-/// What is sent of a line that stands with its end behind a dot.
+/// What is sent of a line that stands with its CRLF behind a dot.
 #[tactic(auto, using(crate::proofs::LineWriterLemmas::after_dot))]
 fn sent(dots: bool, dotted: &[u8]) -> &[u8]
     requires { 0 < length dotted.now }

@@ -10,11 +10,11 @@ ghost use Rattle.dsn_report.specs.LineWriter.{Wrote, begins_plainly};
 ghost use Rattle.dsn_report.specs.Notice.{notice_header, notice_lines, notification, outcome_lines, part_header, returned_part};
 
 use crate::boundary_number::boundary;
-use crate::header_lines::{HeaderLines, LINE_ROOM, first_line, show_dotted_line};
 use crate::letter_boundary::{NUMBER_LEN, boundary_text, serial_text};
 use crate::line_writer::LineWriter;
+use crate::notice_wording::{opening, subject};
+use crate::returned_lines::{LINE_ROOM, ReturnedLines, first_line, show_dotted_line};
 use crate::site::Site;
-use crate::wording::{opening, subject};
 use dsn_device::Drain;
 use dsn_outcome::{EnvelopeId, Letter, Outcome, Stamp};
 
@@ -233,7 +233,7 @@ fn write_returned_lines<W: Drain>(lines: &mut LineWriter<W>, header: &[u8])
     ensures { Wrote W.Drain lines.old lines.new (returned_lines header.now) }
 {
     let mut shown = [0; LINE_ROOM];
-    for line in (HeaderLines { rest: header }) {
+    for line in (ReturnedLines { rest: header }) {
         lines.dotted_line(show_dotted_line(line, &mut shown));
     }
 }

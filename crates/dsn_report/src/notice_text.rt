@@ -2,9 +2,9 @@
 ghost use Rattle.std.specs.Prelude.{◌≡◌, IfOk};
 ghost use Rattle.dsn_report.specs.Notice.{notice_of};
 
-use crate::held::Held;
 use crate::line_writer::LineWriter;
 use crate::notice_lines::write_notice;
+use crate::pending_bytes::PendingBytes;
 use crate::site::Site;
 use dsn_device::{Plain, QuietWriter};
 use dsn_outcome::{Letter, NoMemory};
@@ -18,14 +18,14 @@ pub fn notice(alloc: Global, site: &Site, letter: &Letter) -> Result<Vec<u8>, No
     let mut lines = LineWriter {
         writer: QuietWriter::new(Plain::new(Vec::new(alloc))),
         dots: false,
-        held: Held::new(),
+        pending: PendingBytes::new(),
     };
     write_notice(&mut lines, site, letter);
     lines.settle();
     let LineWriter {
         writer,
         dots: _,
-        held: _,
+        pending: _,
     } = lines;
     let (drain, failed) = writer.into_parts();
     let text = drain.into_inner();

@@ -6,7 +6,7 @@ use dsn_outcome::Letters;
 pub struct OutboxEnd<W> {
     /// The outbox.
     pub outbox: W,
-    /// Whether nothing failed, so that the outbox has the notice of each letter and its end.
+    /// Whether nothing failed, so that the outbox has the notice of each letter and QUIT.
     pub whole: bool,
     /// The letters that could not be written, in order.
     pub unsent: Letters,

@@ -5,11 +5,11 @@ ghost use Rattle.dsn_device.specs.Transfer.{AppendsFront};
 ghost use Rattle.dsn_device.specs.UntilFailure.{WrittenAndFlushed, counts_failure};
 ghost use Rattle.dsn_report.specs.Poster.{post_fault, post_text, finish_text};
 
-use crate::held::Held;
 use crate::line_writer::LineWriter;
+use crate::mail_transaction::{send_goodbye, send_letter};
+use crate::pending_bytes::PendingBytes;
 use crate::post_fault::PostFault;
 use crate::site::Site;
-use crate::transaction::{send_goodbye, send_letter};
 use dsn_device::{Drain, QuietWriter};
 use dsn_outcome::Letter;
 use std::marker::Model;
@@ -36,15 +36,15 @@ impl<W> Model for Poster<W> {
       failed = p.lines.writer.failed;
     } };
 
-    ghost invariant = { λ p. (p.lines.dots ≡ true) × (p.lines.held ≡ []) };
+    ghost invariant = { λ p. (p.lines.dots ≡ true) × (p.lines.pending ≡ []) };
 }
 
-/// What is left of a poster at the end.
+/// How a poster ended.
 #[derive(Drop)]
 pub struct Ended<W> {
     /// The outbox.
     pub outbox: W,
-    /// Whether nothing failed, so that the outbox has the notice of each letter and its end.
+    /// Whether nothing failed, so that the outbox has the notice of each letter and QUIT.
     pub whole: bool,
 }
 
@@ -63,7 +63,7 @@ impl<W> Poster<W> {
             lines: LineWriter {
                 writer: QuietWriter::new(outbox),
                 dots: true,
-                held: Held::new(),
+                pending: PendingBytes::new(),
             },
             greeted: false,
         }
@@ -148,7 +148,7 @@ impl<W: Drain> Poster<W> {
         let LineWriter {
             writer,
             dots: _,
-            held: _,
+            pending: _,
         } = lines;
         let (outbox, failed) = writer.into_parts();
         Ended {

@@ -1,4 +1,4 @@
--- `same_key` tells whether two keys are equal.
+-- `same_key` decides whether two keys are equal.
 use Rattle.std.specs.Prelude.{◌≡◌, ℕ, List, true, refl}
 use Rattle.std.specs.Bool.{Decides}
 use Rattle.std.proofs.Common.{sym, ap, ◌∙◌, arith}

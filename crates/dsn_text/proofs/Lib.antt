@@ -3,6 +3,6 @@ pub mod KeyLemmas
 pub mod KeyOrderLemmas
 pub mod StampLemmas
 mod StatusExamples
+pub mod BlockOrderLemmas
 pub mod StatusLemmas
 pub mod TextLemmas
-pub mod WordLemmas

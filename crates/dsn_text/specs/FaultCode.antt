@@ -118,7 +118,7 @@ answer_value_code = 34
 abbrev pub connection_write_code : ℕ
 connection_write_code = 35
 
--- a lane's other end is gone: the daemon gave up
+-- a lane's other half is gone: the daemon gave up
 abbrev pub lane_lost_code : ℕ
 lane_lost_code = 41
 

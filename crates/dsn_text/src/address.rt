@@ -50,7 +50,7 @@ impl Address {
         Ok(Address::kept(alloc, text)?)
     }
 
-    /// Keeps a text that can be an address, as [`Address::is_valid`] told: it isn't tested again.
+    /// Keeps a text that can be an address, as [`Address::is_valid`] found: it isn't tested again.
     /// `NoMemory` comes only where memory for it was refused.
     pub fn kept(alloc: Global, text: &[u8]) -> Result<Address, NoMemory>
         requires { IsAddress text.now }

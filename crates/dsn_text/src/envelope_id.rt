@@ -49,7 +49,7 @@ impl EnvelopeId {
         Ok(EnvelopeId::kept(alloc, text)?)
     }
 
-    /// Keeps a text that can be an envelope id, as [`EnvelopeId::is_valid`] told: it isn't
+    /// Keeps a text that can be an envelope id, as [`EnvelopeId::is_valid`] found: it isn't
     /// tested again. `NoMemory` comes only where memory for it was refused.
     pub fn kept(alloc: Global, text: &[u8]) -> Result<EnvelopeId, NoMemory>
         requires { IsEnvelopeId text.now }

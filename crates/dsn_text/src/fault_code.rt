@@ -67,7 +67,7 @@ pub const ANSWER_VALUE: u32 = 34;
 /// An answer or a frame could not be written to a connection.
 pub const CONNECTION_WRITE: u32 = 35;
 
-/// A lane's other end is gone: the daemon gave up.
+/// A lane's other half is gone: the daemon gave up.
 pub const LANE_LOST: u32 = 41;
 /// Memory or a thread of a crew was refused.
 pub const CREW_REFUSED: u32 = 42;

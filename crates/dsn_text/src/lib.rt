@@ -3,6 +3,7 @@
 
 mod action;
 mod address;
+mod block_order;
 mod clean;
 mod envelope_id;
 pub mod fault_code;
@@ -18,7 +19,6 @@ mod short_text;
 mod stamp;
 mod status;
 mod text;
-mod words;
 
 pub use action::Action;
 pub use address::{Address, LONGEST_ADDRESS};

@@ -7,8 +7,8 @@ ghost use Rattle.std.specs.Cmp.Lexicographic.{pointwise, slice_cmp};
 ghost use Rattle.std.specs.Ordering.{nat_cmp, as_partial_cmp};
 ghost use Rattle.dsn_text.specs.Text.{IsQueueId};
 
+use crate::block_order;
 use crate::text::{Alphabet, has_form};
-use crate::words;
 use std::cmp::Ordering;
 use std::marker::Model;
 
@@ -80,7 +80,7 @@ impl PartialEq for QueueId {
 
     ghost laws = { Prim.search (comparing, rules) };
 
-    #[tactic(auto, using(crate::proofs::WordLemmas::tied_where_equal))]
+    #[tactic(auto, using(crate::proofs::BlockOrderLemmas::tied_where_equal))]
     fn eq(&self, other: &QueueId) -> bool {
         self.cmp(other).is_eq()
     }
@@ -111,6 +111,6 @@ impl Ord for QueueId {
     ghost matches_eq = { Prim.search (comparing, rules) };
 
     fn cmp(&self, other: &QueueId) -> Ordering {
-        words::compare(&self.buffer, &other.buffer)
+        block_order::compare(&self.buffer, &other.buffer)
     }
 }

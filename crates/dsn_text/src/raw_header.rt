@@ -47,7 +47,7 @@ impl RawHeader {
         Ok(RawHeader::kept(alloc, text)?)
     }
 
-    /// Keeps a text that is short enough, as [`RawHeader::is_valid`] told: it isn't
+    /// Keeps a text that is short enough, as [`RawHeader::is_valid`] found: it isn't
     /// tested again. `NoMemory` comes only where memory for it was refused.
     pub fn kept(alloc: Global, text: &[u8]) -> Result<RawHeader, NoMemory>
         requires { length text.now ≤ LONGEST_HEADER }

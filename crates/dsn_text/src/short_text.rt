@@ -42,9 +42,9 @@ impl ShortText {
         requires { length self.old + length text.now ≤ SHORT_ROOM }
         ensures { self.new ≡ self.old ++ text.now }
     {
-        let end = self.len + text.len();
-        self.buffer[self.len..end].copy_from_slice(text);
-        self.len = end;
+        let past = self.len + text.len();
+        self.buffer[self.len..past].copy_from_slice(text);
+        self.len = past;
     }
 
     /// Adds a number in decimal at the end; it takes at most 20 bytes.

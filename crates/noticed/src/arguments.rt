@@ -58,7 +58,7 @@ pub(crate) struct Serving {
     pub(crate) agents: u32,
     /// How many connections each agent serves, 1 to 1,000,000.
     pub(crate) max_use: u32,
-    /// What its watch is told to do.
+    /// What its watch is asked to do.
     pub(crate) options: WatchOptions,
 }
 

@@ -6,7 +6,7 @@ use dsn_report::Site;
 use noticed_lib::{BatchEnd, Limits, batch};
 use std::io::{BufReader, BufWriter};
 
-/// Runs `batch` over the standard streams, and tells its status.
+/// Runs `batch` over the standard streams, and returns its status.
 pub(crate) fn run_batch(rt: &HostRuntime, site: Site) -> Result<u8, Refusal> {
     let reader = BufReader::with_capacity(rt.alloc(), ROOM, rt.stdin()).map_err(
         |_| Refusal::NoMemory,

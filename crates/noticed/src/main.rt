@@ -35,7 +35,7 @@ fn main(rt: HostRuntime) -> ExitCode {
     };
     ExitCode::from(match done {
         Ok(status) => status,
-        Err(refusal) => tell_refusal(&rt, &refusal),
+        Err(refusal) => print_refusal(&rt, &refusal),
     })
 }
 
@@ -45,8 +45,8 @@ fn begin(rt: &HostRuntime) -> Result<Command, Refusal> {
     command_of(rt)
 }
 
-/// Tells why a run doesn't begin, on standard error. It tells the status.
-fn tell_refusal(rt: &HostRuntime, refusal: &Refusal) -> u8 {
+/// Prints why a run doesn't begin, on standard error. Returns the status.
+fn print_refusal(rt: &HostRuntime, refusal: &Refusal) -> u8 {
     match refusal {
         Refusal::Usage => {
             let _ = eprintln!(rt; "{USAGE}");

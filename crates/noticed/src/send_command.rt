@@ -2,15 +2,15 @@
 //! standard output.
 use crate::buffer::ROOM;
 use crate::refusal::Refusal;
-use crate::socket_fault::tell_socket_fault;
+use crate::socket_fault::print_socket_fault;
 use dsn_outcome::Plain;
 use noticed_lib::send;
 use std::io::BufReader;
 use std::os::unix::net::UnixStream;
 use std::sync::Wait;
 
-/// Sends what standard input has to the daemon at this socket, tells each answer in a line of
-/// standard output as it comes, and its fault on standard error. It tells the status. The runtime
+/// Sends what standard input has to the daemon at this socket, prints each answer in a line of
+/// standard output as it comes, and its fault on standard error. Returns the status. The runtime
 /// may wait in `main` alone, so it comes a second time as what may.
 pub(crate) fn run_send(rt: &HostRuntime, waiting: &impl Wait, socket: &str) -> Result<u8, Refusal> {
     let reader = BufReader::with_capacity(rt.alloc(), ROOM, rt.stdin()).map_err(
@@ -18,7 +18,7 @@ pub(crate) fn run_send(rt: &HostRuntime, waiting: &impl Wait, socket: &str) -> R
     )?;
     let connection = match UnixStream::connect(rt, socket) {
         Ok(connection) => connection,
-        Err(error) => return Ok(tell_socket_fault(rt, socket, &error)),
+        Err(error) => return Ok(print_socket_fault(rt, socket, &error)),
     };
     let mut input = Plain::new(reader);
     let mut stream = Plain::new(connection);

@@ -2,7 +2,7 @@
 use crate::arguments::Serving;
 use crate::buffer::{ROOM, let_go};
 use crate::refusal::Refusal;
-use crate::socket_fault::{tell_socket_error, tell_socket_fault};
+use crate::socket_fault::{print_socket_error, print_socket_fault};
 use dsn_outcome::Plain;
 use noticed_lib::{ServeEnd, SocketWatch, Watch, WatchOptions, WatchedOutbox, serve_watched};
 use std::io;
@@ -11,7 +11,7 @@ use std::os::unix::net::UnixListener;
 use std::sync::Wait;
 use std::thread::Threads;
 
-/// Runs `serve` over a socket that it makes, and tells its status. The runtime may start threads and
+/// Runs `serve` over a socket that it makes, and returns its status. The runtime may start threads and
 /// wait in `main` alone, so it comes a second time as what may.
 pub(crate) fn run_serve<R: Threads + Wait + Sync>(
     rt: &HostRuntime,
@@ -31,9 +31,9 @@ pub(crate) fn run_serve<R: Threads + Wait + Sync>(
     )?;
     let (listener, watch) = match listen(rt, &socket, options) {
         Ok(listening) => listening,
-        Err(error) => return Ok(tell_socket_fault(rt, &socket, &error)),
+        Err(error) => return Ok(print_socket_fault(rt, &socket, &error)),
     };
-    tell_start(rt, &watch, &socket, &host, agents, max_use);
+    print_start(rt, &watch, &socket, &host, agents, max_use);
     let end = serve_watched(
         waiting,
         rt.alloc(),
@@ -48,7 +48,7 @@ pub(crate) fn run_serve<R: Threads + Wait + Sync>(
     let ServeEnd { outbox, status } = end;
     let_go(outbox.into_inner().into_inner());
     if let Some(error) = watch.accept_error() {
-        tell_socket_error(rt, &socket, &error);
+        print_socket_error(rt, &socket, &error);
     }
     Ok(status)
 }
@@ -64,8 +64,8 @@ fn listen<'a>(
     Ok((listener, watch))
 }
 
-/// Tells the log that the daemon listens, and where its host's name is one that stands in examples.
-fn tell_start(
+/// Prints to the log that the daemon listens, and where its host's name is one that stands in examples.
+fn print_start(
     rt: &HostRuntime,
     watch: &impl Watch,
     socket: &str,

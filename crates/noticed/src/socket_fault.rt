@@ -6,14 +6,14 @@ use std::io::Eprint;
 /// The exit status of a run that could not have its socket.
 const FAULT: u8 = 1;
 
-/// Tells that a socket could not be had, and what the system said of it. It tells the status.
-pub(crate) fn tell_socket_fault(rt: &impl Eprint, path: &str, error: &io::Error) -> u8 {
+/// Prints that a socket could not be had, and what the system said of it. Returns the status.
+pub(crate) fn print_socket_fault(rt: &impl Eprint, path: &str, error: &io::Error) -> u8 {
     let _ = eprintln!(rt; "fault {}", fault_code::SOCKET);
-    tell_socket_error(rt, path, error);
+    print_socket_error(rt, path, error);
     FAULT
 }
 
-/// Tells what the system said of a socket.
-pub(crate) fn tell_socket_error(rt: &impl Eprint, path: &str, error: &io::Error) {
+/// Prints what the system said of a socket.
+pub(crate) fn print_socket_error(rt: &impl Eprint, path: &str, error: &io::Error) {
     let _ = eprintln!(rt; "{path}: {error}");
 }

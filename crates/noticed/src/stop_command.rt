@@ -1,6 +1,6 @@
 //! The command `stop`: it ends the daemon at a socket, and waits until it has ended.
 use crate::refusal::Refusal;
-use crate::socket_fault::tell_socket_fault;
+use crate::socket_fault::print_socket_fault;
 use std::alloc::Global;
 use std::fs::{Files, Metadata};
 use std::io::{Eprint, ErrorKind, Read};
@@ -13,7 +13,7 @@ use std::{fs, io};
 /// accepted, and the end of the daemon alone closes it.
 const CONNECTIONS: usize = 17;
 
-/// Ends the daemon at this socket, and waits until it has ended. It tells the status.
+/// Ends the daemon at this socket, and waits until it has ended. Returns the status.
 pub(crate) fn run_stop<R: Files + Net + Eprint>(
     rt: &R,
     alloc: Global,
@@ -22,7 +22,7 @@ pub(crate) fn run_stop<R: Files + Net + Eprint>(
     match stop(rt, alloc, socket) {
         Ok(()) => Ok(0),
         Err(error) if error.kind() == ErrorKind::OutOfMemory => Err(Refusal::NoMemory),
-        Err(error) => Ok(tell_socket_fault(rt, socket, &error)),
+        Err(error) => Ok(print_socket_fault(rt, socket, &error)),
     }
 }
 

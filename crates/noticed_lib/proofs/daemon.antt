@@ -1,3 +1,3 @@
-pub mod LinesLemmas
+pub mod AgentLinesLemmas
 pub mod ServeLemmas
 mod SocketUsesExamples

@@ -1,3 +1,3 @@
 pub mod NotesLemmas
 pub mod OpenLogsLemmas
-pub mod TellingLemmas
+pub mod SteadyLemmas

@@ -1,4 +1,4 @@
-pub mod Lines
+pub mod AgentLines
 pub mod Serve
 pub mod SocketUses
 pub mod WatchedOutbox

@@ -1,3 +1,3 @@
+pub mod NotedAnswers
 pub mod Notes
 pub mod OpenLogs
-pub mod Telling

@@ -6,11 +6,11 @@ mod reading;
 mod reading_end;
 mod run;
 mod turn;
-mod whole_run;
+mod whole_batch;
 
 pub use batch_end::BatchEnd;
 pub use dsn_book::Limits;
 pub use dsn_frame::Spoken;
 pub use dsn_report::Site;
 pub use memory_run::{MemoryRun, batch_bytes};
-pub use whole_run::batch;
+pub use whole_batch::batch;

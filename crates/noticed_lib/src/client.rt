@@ -1,11 +1,11 @@
-//! The client: it hands the frames of an input to a daemon, one after another, and tells in notes
+//! The client: it hands the frames of an input to a daemon, one after another, and writes in notes
 //! what each was answered.
-mod client;
 mod laws;
 mod send_end;
 mod send_fault;
+mod send_frames;
 
-pub use client::send;
 pub use laws::sends_are_sessions_of_a_client;
 pub use send_end::SendEnd;
 pub use send_fault::SendFault;
+pub use send_frames::send;

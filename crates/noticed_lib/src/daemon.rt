@@ -1,22 +1,22 @@
 //! The run of the daemon: a crew of agents that serve connections, and the notes of what came of
 //! it.
-mod connection;
-mod lines;
+mod agent_lines;
+mod log_line;
 mod no_watch;
-mod notice_line;
-mod over_ports;
-mod over_sockets;
+mod run_notes;
 mod serve_end;
+mod serve_over_ports;
+mod serve_over_sockets;
 mod socket_port;
 mod socket_watch;
-mod telling;
 mod watch;
+mod watched_connection;
 mod watched_outbox;
 
 pub use no_watch::NoWatch;
-pub use over_ports::serve_ports;
-pub use over_sockets::{serve, serve_watched};
 pub use serve_end::ServeEnd;
+pub use serve_over_ports::serve_ports;
+pub use serve_over_sockets::{serve, serve_watched};
 pub use socket_watch::{SocketWatch, WatchOptions};
 pub use watch::Watch;
 pub use watched_outbox::WatchedOutbox;

@@ -1,6 +1,6 @@
 //! The notes of a run: what is said of it, line by line, and the lines of its end.
-mod ending;
-mod notes;
+mod last_lines;
+mod note_lines;
 
-pub use ending::tell_end;
-pub use notes::{answer_line, fault_line, unsent_line};
+pub use last_lines::write_last_lines;
+pub use note_lines::{answer_line, fault_line, unsent_line};

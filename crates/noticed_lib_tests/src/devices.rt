@@ -1,9 +1,9 @@
 //! Inputs that are cut, and devices that fail.
-use super::fakes::{EndlessFrames, PieceReader, PieceWriter};
+use super::fake_devices::{EndlessFrames, PieceReader, PieceWriter};
 use super::input::{Ask, BOB, BOUNCE, ONE_MESSAGE, TO_ANN, input_of};
 use super::outboxes::{EMPTY, ONE_NOTICE};
 use super::runs::{PROGRAM, Want, expect, limits_of, run_within};
-use crate::same::same;
+use crate::assert_same::same;
 use dsn_outcome::Plain;
 use noticed_lib::{MemoryRun, Site, batch};
 use std::test::Fail;

@@ -1,6 +1,6 @@
 //! The whole example of docs/EMBEDDING.md, word for word (tests/examples.py), as a test.
+use crate::assert_same::same;
 use crate::outboxes::ONE_NOTICE;
-use crate::same::same;
 use dsn_frame::encode_request;
 use dsn_outcome::{Body, Draft, Key, Outcome, Parts, Plain, QueueId, Service, Stamp};
 use noticed_lib::{BatchEnd, Limits, Site, batch};

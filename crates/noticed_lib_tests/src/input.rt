@@ -64,7 +64,7 @@ pub(super) const TO_ANN: FlushTexts<'static> = FlushTexts {
     header: b"",
 };
 
-/// A request of an input: the byte of its service, its queue id, and what it tells.
+/// A request of an input: the byte of its service, its queue id, and what it says.
 #[derive(Clone, Copy)]
 pub(super) enum Ask<'a> {
     /// Logs an outcome.

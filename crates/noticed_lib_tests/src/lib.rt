@@ -3,11 +3,13 @@
 #![tactic(auto)]
 
 #[cfg(test)]
+mod assert_same;
+#[cfg(test)]
 mod devices;
 #[cfg(test)]
 mod embedding;
 #[cfg(test)]
-mod fakes;
+mod fake_devices;
 #[cfg(test)]
 mod input;
 #[cfg(test)]
@@ -20,8 +22,6 @@ mod outboxes;
 mod peer;
 #[cfg(test)]
 mod runs;
-#[cfg(test)]
-mod same;
 #[cfg(test)]
 mod sends;
 #[cfg(test)]

@@ -5,7 +5,7 @@ use super::input::{
 };
 use super::outboxes::{AFTER_GROUPS, BEFORE_GROUPS, BEFORE_LINES, ONE_NOTICE};
 use super::runs::{PROGRAM, Want, expect_bytes, run_within};
-use crate::same::same;
+use crate::assert_same::same;
 use noticed_lib::MemoryRun;
 use std::alloc::Global;
 use std::process::Abort;
@@ -83,7 +83,7 @@ fn numbered_texts(alloc: Global, number: u16) -> Result<Texts, Fail> {
 }
 
 /// What a notice says of an outcome with these texts in its first part.
-fn told_to_people(alloc: Global, texts: &Texts) -> Result<Vec<u8>, Fail> {
+fn written_to_people(alloc: Global, texts: &Texts) -> Result<Vec<u8>, Fail> {
     let pieces: [&[u8]; 5] = [
         b"<",
         &texts.recipient,
@@ -95,7 +95,7 @@ fn told_to_people(alloc: Global, texts: &Texts) -> Result<Vec<u8>, Fail> {
 }
 
 /// What a notice says of an outcome with these texts in its second part.
-fn told_to_programs(alloc: Global, texts: &Texts) -> Result<Vec<u8>, Fail> {
+fn written_to_programs(alloc: Global, texts: &Texts) -> Result<Vec<u8>, Fail> {
     let pieces: [&[u8]; 9] = [
         b"\r\nOriginal-Recipient: rfc822; ",
         &texts.original,
@@ -110,11 +110,11 @@ fn told_to_programs(alloc: Global, texts: &Texts) -> Result<Vec<u8>, Fail> {
     joined(alloc, &pieces)
 }
 
-/// A log that is sealed, and what its notice tells of each outcome.
+/// A log that is sealed, and what its notice says of each outcome.
 #[derive(Drop)]
 struct Log {
     input: Input,
-    /// What the first part tells, and then the second.
+    /// What the first part says, and then the second.
     lines: Vec<u8>,
     groups: Vec<u8>,
 }
@@ -134,13 +134,13 @@ fn append_numbered(alloc: Global, log: &mut Log, number: u16) -> Result<(), Fail
     log.input
         .push(alloc, &Ask::Append(BOUNCE, b"A1B2C3", parts))?;
     log.lines
-        .extend_from_slice(&told_to_people(alloc, &texts)?)?;
+        .extend_from_slice(&written_to_people(alloc, &texts)?)?;
     log.groups
-        .extend_from_slice(&told_to_programs(alloc, &texts)?)?;
+        .extend_from_slice(&written_to_programs(alloc, &texts)?)?;
     Ok(())
 }
 
-/// A whole log, each outcome with all texts: the notice tells all of them, oldest first.
+/// A whole log, each outcome with all texts: the notice names all of them, oldest first.
 #[test]
 fn thousand_outcomes(rt: HostRuntime) -> Result<(), Fail> {
     let mut log = Log {

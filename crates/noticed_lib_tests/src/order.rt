@@ -3,7 +3,7 @@ ghost use Rattle.std.specs.Prelude.{Some};
 
 use super::input::ONE_MESSAGE;
 use super::runs::{PROGRAM, limits_of};
-use crate::same::same;
+use crate::assert_same::same;
 use dsn_outcome::Plain;
 use noticed_lib::{Site, batch};
 use std::io;
@@ -111,7 +111,7 @@ fn in_order(
     Ok(rows)
 }
 
-/// Runs over [`ONE_MESSAGE`], and tells what happened in order, and how many reads there were.
+/// Runs over [`ONE_MESSAGE`], and gives what happened in order, and how many reads there were.
 fn run_noted(rt: &HostRuntime, good: usize) -> Result<(Vec<u8>, usize), Fail> {
     let clock = AtomicU64::new(0);
     let site = Site::new(rt.alloc(), b"mx.example.net")?;

@@ -48,7 +48,7 @@ Status: 5.1.1\r\n\
 QUIT\r\n\
 ";
 
-/// A bounce's outbox up to what it tells a person of each recipient.
+/// A bounce's outbox up to what it says to a person of each recipient.
 pub(super) const BEFORE_LINES: &[u8; 662] = b"\
 EHLO mx.example.net\r\n\
 MAIL FROM:<>\r\n\

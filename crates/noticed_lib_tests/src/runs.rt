@@ -1,6 +1,6 @@
 //! Runs over bytes in memory, and what they are to come to.
 use super::input::{Ask, input_of};
-use crate::same::same;
+use crate::assert_same::same;
 use noticed_lib::{Limits, MemoryRun, Site, batch_bytes};
 use std::alloc::Global;
 use std::process::Abort;
@@ -38,7 +38,7 @@ fn run_limited(alloc: Global, limits: Limits, input: &[u8]) -> Result<MemoryRun,
     Ok(batch_bytes(alloc, &limits, site, input))
 }
 
-/// Asserts what a run came to; the case is told where it came to something else.
+/// Asserts what a run came to; the case is named where it came to something else.
 pub(super) fn expect(rt: &impl Abort, ran: &MemoryRun, want: &Want<'_>, case: usize) {
     same(rt, (case, ran.notes.as_slice()), (case, want.notes));
     same(rt, (case, ran.outbox.as_slice()), (case, want.outbox));

@@ -1,8 +1,8 @@
 //! Sends over a connection in memory: what the daemon was sent, the lines, and the end.
-use super::fakes::{PieceReader, PieceWriter};
+use super::fake_devices::{PieceReader, PieceWriter};
 use super::input::ONE_MESSAGE;
 use super::peer::Peer;
-use crate::same::same;
+use crate::assert_same::same;
 use dsn_outcome::Plain;
 use noticed_lib::{SendEnd, send};
 use std::alloc::Global;
@@ -45,7 +45,7 @@ const WHOLE: Case<'static> = Case {
     fault: 0,
 };
 
-/// The first frame is sent, and nothing is told.
+/// The first frame is sent, and nothing is noted.
 const FIRST_SENT: Case<'static> = Case {
     sent: 52,
     writes: 1,
@@ -53,7 +53,7 @@ const FIRST_SENT: Case<'static> = Case {
     ..WHOLE
 };
 
-/// The first frame is answered, and that is told.
+/// The first frame is answered, and that is noted.
 const FIRST_TOLD: Case<'static> = Case {
     lines: b"0 logged 0\n",
     ..FIRST_SENT
@@ -86,7 +86,7 @@ fn sent(rt: &impl Wait, alloc: Global, case: &Case<'_>) -> Sent {
     (end, peer.held, notes.into_inner().held)
 }
 
-/// Asserts what a send comes to; the case is told where it came to something else.
+/// Asserts what a send comes to; the case is named where it came to something else.
 fn expect_send(rt: &(impl Wait + Abort), alloc: Global, want: &Case<'_>, case: usize) {
     let (end, held, lines) = sent(rt, alloc, want);
     let status = u8::from(want.fault != 0);
@@ -115,7 +115,7 @@ fn expect_sends(rt: &(impl Wait + Abort), alloc: Global, wanted: &[Case<'_>]) {
 }
 
 #[test]
-fn answers_are_told(rt: HostRuntime) {
+fn answers_are_noted(rt: HostRuntime) {
     let wanted = [
         WHOLE,
         // Nothing is sent of an empty input.

@@ -1,9 +1,9 @@
-//! The daemon's runs over ports in memory: what their notes tell, and their statuses.
-use super::fakes::PieceWriter;
+//! The daemon's runs over ports in memory: what their notes say, and their statuses.
+use super::fake_devices::PieceWriter;
 use super::input::ONE_MESSAGE;
 use super::outboxes::{EMPTY, ONE_NOTICE};
 use super::text_port::TextPort;
-use crate::same::same;
+use crate::assert_same::same;
 use dsn_crew::NoGate;
 use dsn_device::Plain;
 use noticed_lib::{Limits, ServeEnd, Site, serve_ports};

@@ -4,7 +4,7 @@ use super::input::{
 };
 use super::outboxes::EMPTY;
 use super::runs::{Want, expect_bytes, expect_run, expect_within, run_within};
-use crate::same::same;
+use crate::assert_same::same;
 use noticed_lib::Site;
 use std::alloc::Global;
 use std::process::Abort;

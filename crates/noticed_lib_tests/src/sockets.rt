@@ -1,8 +1,8 @@
 //! The daemon's runs over a socket, whose clients have sent all they have to say before it starts.
-use super::fakes::PieceWriter;
+use super::fake_devices::PieceWriter;
 use super::input::ONE_MESSAGE;
 use super::outboxes::ONE_NOTICE;
-use crate::same::same;
+use crate::assert_same::same;
 use dsn_device::Plain;
 use noticed_lib::{Limits, ServeEnd, Site, serve};
 use std::alloc::Global;

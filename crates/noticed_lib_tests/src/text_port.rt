@@ -2,7 +2,7 @@
 ghost use Rattle.std.specs.Prelude.{◌≡◌, None, refl};
 
 use dsn_crew::{Next, Port};
-use dsn_device::{Opaque, Plain};
+use dsn_device::{OpaqueStream, Plain};
 use std::io::{Read, Write};
 use std::{io, vec};
 
@@ -28,7 +28,7 @@ impl Write for Text<'_> {
     }
 }
 
-impl Opaque for Text<'_> {
+impl OpaqueStream for Text<'_> {
     ghost untold_input = { λ _. refl };
 
     ghost untold_output = { λ _. refl };

@@ -39,7 +39,7 @@ fn ask_all(
     Some(count)
 }
 
-/// Answers each message with itself, until the other end is gone.
+/// Answers each message with itself, until the other half is gone.
 fn answer_all(rt: &impl Wait, asked: Receiver<u32>, answers: Sender<u32>) -> Option<()> {
     for _ in rt.forever() {
         let Ok(number) = asked.recv(rt) else {

@@ -1,5 +1,5 @@
 //! Limits: which are legal, and that they are kept.
-use crate::same::same;
+use crate::assert_same::same;
 use dsn_book::Limits;
 
 #[test]

@@ -4,9 +4,9 @@ ghost use Rattle.std.specs.Prelude.{◌≤◌};
 ghost use Rattle.dsn_journal.specs.MemoryDisk.{memory_moment};
 
 use super::ledgers::{book_replies, make_group, plain_replies};
+use crate::assert_same::same;
 use crate::book::books::histories::generated;
 use crate::book::books::plain::{Ask, PlainBook};
-use crate::same::same;
 use dsn_book::Limits;
 use dsn_journal::{Journal, Ledger, MemoryDisk, Opened, open};
 use dsn_outcome::{Key, Letter, Request};

@@ -3,7 +3,7 @@
 ghost use Rattle.std.specs.Prelude.{◌<◌, ◌≤◌, IfOk};
 ghost use Rattle.dsn_journal.specs.MemoryDisk.{memory_moment};
 
-use crate::same::same;
+use crate::assert_same::same;
 use dsn_journal::{Disk, Journal, JournalError, MemoryDisk, recover};
 use std::alloc::Global;
 use std::process::Abort;

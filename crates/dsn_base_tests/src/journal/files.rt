@@ -1,5 +1,5 @@
 //! A file of the system as a disk: made, opened, written and opened anew.
-use crate::same::same;
+use crate::assert_same::same;
 use dsn_journal::{Disk, FileDisk, create_file};
 use std::fs;
 use std::io::ErrorKind;

@@ -1,5 +1,5 @@
 //! A ledger without room for a group: nothing is asked of its disk, and a smaller group is kept.
-use crate::same::same;
+use crate::assert_same::same;
 use dsn_book::Limits;
 use dsn_journal::{Journal, JournalError, Ledger, MemoryDisk, Opened, open};
 use dsn_outcome::{Body, Request};

@@ -5,9 +5,9 @@ ghost use Rattle.std.specs.Prelude.{◌≤◌};
 ghost use Rattle.dsn_journal.specs.MemoryDisk.{memory_moment};
 
 use super::crashes::{Answered, bounds};
+use crate::assert_same::same;
 use crate::book::books::histories::{body_of, generated};
 use crate::book::books::plain::{Ask, PlainBook};
-use crate::same::same;
 use dsn_book::{Book, Limits};
 use dsn_journal::{
     Disk, Journal, JournalError, Ledger, LedgerError, MemoryDisk, Opened, open, recover,

@@ -3,8 +3,8 @@ ghost use Rattle.std.specs.Prelude.{List, map};
 ghost use Rattle.dsn_outcome.specs.Letter.{Letter};
 
 use super::ledgers::make_group;
+use crate::assert_same::same;
 use crate::book::books::histories::generated;
-use crate::same::same;
 use dsn_book::Limits;
 use dsn_device::Broken;
 use dsn_journal::{

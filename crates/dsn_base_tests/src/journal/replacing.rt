@@ -1,6 +1,6 @@
 //! Records put in place of others: wherever the machine stops, all of the old ones are recovered, or
 //! all of the new ones.
-use crate::same::same;
+use crate::assert_same::same;
 use dsn_journal::{Disk, Journal, JournalError, MemoryDisk, recover};
 use std::alloc::Global;
 use std::test::Fail;

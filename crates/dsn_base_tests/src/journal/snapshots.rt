@@ -1,9 +1,9 @@
 //! Snapshots: their records, and the book that is opened over them, which goes on as the old one
 //! does.
 use super::ledgers::{carry_out, make_group};
+use crate::assert_same::same;
 use crate::book::books::histories::{generated, scripted};
 use crate::book::books::plain::Ask;
-use crate::same::same;
 use dsn_book::{Book, Limits, OpenLine};
 use dsn_journal::{Journal, MemoryDisk, open, recover, write_snapshot};
 use dsn_outcome::{Letter, Reply};

@@ -1,9 +1,9 @@
 //! A lane that is full makes a send wait.
 ghost use Rattle.std.specs.Prelude.{◌≡◌, ◌≤◌};
 
-use crate::lane::hands::{last_end, opened};
+use crate::assert_same::same;
+use crate::lane::hands::{last_half, opened};
 use crate::lane::item::{Item, send_next};
-use crate::same::same;
 use dsn_lane::LaneIn;
 use std::alloc::Global;
 use std::sync::Wait;
@@ -14,11 +14,11 @@ use std::thread::Threads;
 use std::time::{Clock, Duration};
 
 /// Sends so many items of agent 0, and counts those that are through.
-fn send_counted(rt: &impl Wait, end: &mut LaneIn<Item>, through: &AtomicU64, more: u32) -> bool
-    requires { end.old.agent ≡ 0 }
+fn send_counted(rt: &impl Wait, half: &mut LaneIn<Item>, through: &AtomicU64, more: u32) -> bool
+    requires { half.old.agent ≡ 0 }
 {
     for _ in 0..more {
-        if !send_next(rt, end, 0) {
+        if !send_next(rt, half, 0) {
             return false;
         }
         through.fetch_add(1, Ordering::SeqCst);
@@ -26,7 +26,7 @@ fn send_counted(rt: &impl Wait, end: &mut LaneIn<Item>, through: &AtomicU64, mor
     true
 }
 
-/// Waits until so many are through, at most ten seconds, and tells how many are.
+/// Waits until so many are through, at most ten seconds, and says how many are.
 fn wait_for(rt: &impl Clock, through: &AtomicU64, count: u64) -> u64 {
     for _ in 0..10_000u32 {
         if through.load(Ordering::SeqCst) >= count {
@@ -43,15 +43,15 @@ fn run<R: Threads + Wait + Clock + Sync>(rt: &R, alloc: Global, capacity: u32) -
     requires { (1 ≤ capacity) × (capacity ≤ 1024) }
 {
     let full = u64::from(capacity);
-    let (mut ends, mut out) = opened(rt, alloc, 1, capacity)?;
-    let mut end = last_end(&mut ends, &out, 1)?;
+    let (mut halves, mut out) = opened(rt, alloc, 1, capacity)?;
+    let mut half = last_half(&mut halves, &out, 1)?;
     let through = AtomicU64::new(0);
     let through = &through;
     let (sent, seen) = thread::join(
         rt,
         move || -> bool
-            requires { end.agent ≡ 0 }
-        { send_counted(rt, &mut end, through, capacity.wrapping_add(1)) },
+            requires { half.agent ≡ 0 }
+        { send_counted(rt, &mut half, through, capacity.wrapping_add(1)) },
         move || -> Option<(u64, u64)> {
             wait_for(rt, through, full);
             thread::sleep(rt, Duration::from_millis(50));

@@ -1,6 +1,6 @@
-//! The ends of a lane, taken out of their list from the last agent's on, and put by for the close.
+//! The halves of a lane, taken out of their list from the last agent's on, and put by for the close.
 ghost use Rattle.std.specs.Prelude.{◌≡◌, ◌-◌, ◌<◌, ◌≤◌, All, IfSome};
-ghost use Rattle.dsn_lane.specs.Ends.{fresh_ends};
+ghost use Rattle.dsn_lane.specs.Halves.{fresh_halves};
 
 use crate::lane::item::Item;
 use dsn_lane::{LaneIn, LaneOut, close_lane, open_lane};
@@ -16,43 +16,43 @@ pub(crate) fn opened(
 ) -> Option<(Vec<LaneIn<Item>>, LaneOut<Item>)>
     requires agents { (1 ≤ agents) × (agents ≤ 16) }
     requires capacity { (1 ≤ capacity) × (capacity ≤ 1024) }
-    ensures ends { IfSome result (λ lane. lane.0.items ≡ fresh_ends lane.1.lane 0 agents) }
+    ensures halves { IfSome result (λ lane. lane.0.items ≡ fresh_halves lane.1.lane 0 agents) }
     ensures out { IfSome result (λ lane. (lane.1.first ≡ 0) × (lane.1.past ≡ agents)) }
 {
     open_lane(rt, alloc, 0, agents, capacity).ok()
 }
 
-/// Takes the last of the ends that are left, of so many agents, none of which has sent anything.
-pub(crate) fn last_end(
-    ends: &mut Vec<LaneIn<Item>>,
+/// Takes the last of the halves that are left, of so many agents, none of which has sent anything.
+pub(crate) fn last_half(
+    halves: &mut Vec<LaneIn<Item>>,
     out: &LaneOut<Item>,
     left: u32,
 ) -> Option<LaneIn<Item>>
     requires some { 0 < left }
-    requires left { ends.old.items ≡ fresh_ends out.now.lane 0 left }
-    ensures rest { IfSome result (λ _. ends.new.items ≡ fresh_ends out.now.lane 0 (left - 1)) }
-    ensures last { IfSome result (λ end. (end.lane ≡ out.now.lane) × (end.agent ≡ left - 1)) }
+    requires left { halves.old.items ≡ fresh_halves out.now.lane 0 left }
+    ensures rest { IfSome result (λ _. halves.new.items ≡ fresh_halves out.now.lane 0 (left - 1)) }
+    ensures last { IfSome result (λ half. (half.lane ≡ out.now.lane) × (half.agent ≡ left - 1)) }
 {
     let _ = out;
-    let end = ends.pop()?;
-    Some(end)
+    let half = halves.pop()?;
+    Some(half)
 }
 
-/// Puts an end by.
+/// Puts a half by.
 pub(crate) fn put_by(
     used: &mut Vec<LaneIn<Item>>,
     out: &LaneOut<Item>,
-    end: LaneIn<Item>,
+    half: LaneIn<Item>,
 ) -> Option<()>
-    requires lane { end.lane ≡ out.now.lane }
+    requires lane { half.lane ≡ out.now.lane }
     requires lanes { All (λ it. it.lane ≡ out.now.lane) used.old.items }
     ensures { IfSome result (λ _. All (λ it. it.lane ≡ out.now.lane) used.new.items) }
 {
     let _ = out;
-    used.push(end).ok()
+    used.push(half).ok()
 }
 
-/// Closes a lane of so many agents, and tells what its close counts; `None` where an end is
+/// Closes a lane of so many agents, and says what its close counts; `None` where a half is
 /// missing.
 pub(crate) fn shut(
     rt: &impl Wait,

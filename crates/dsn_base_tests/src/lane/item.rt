@@ -2,7 +2,7 @@
 ghost use Rattle.std.specs.Prelude.{◌≡◌};
 
 use dsn_lane::{LaneIn, LaneOut};
-use dsn_outcome::Carried;
+use dsn_outcome::LaneItem;
 use std::alloc::AllocError;
 use std::sync::Wait;
 
@@ -13,7 +13,7 @@ pub struct Item {
     pub number: u32,
 }
 
-impl Carried for Item {
+impl LaneItem for Item {
     ghost agent = { λ item. item.agent };
 
     ghost number = { λ item. item.number };
@@ -27,22 +27,22 @@ impl Carried for Item {
     }
 }
 
-/// Sends the next item of an agent; false where the receiving end is gone.
-pub(crate) fn send_next(rt: &impl Wait, end: &mut LaneIn<Item>, agent: u32) -> bool
-    requires { agent ≡ end.old.agent }
-    ensures { (end.new.lane ≡ end.old.lane) × (end.new.agent ≡ end.old.agent) }
+/// Sends the next item of an agent; false where the receiving half is gone.
+pub(crate) fn send_next(rt: &impl Wait, half: &mut LaneIn<Item>, agent: u32) -> bool
+    requires { agent ≡ half.old.agent }
+    ensures { (half.new.lane ≡ half.old.lane) × (half.new.agent ≡ half.old.agent) }
 {
-    let number = end.count();
-    number < u32::MAX && end.send(rt, Item { agent, number }).is_ok()
+    let number = half.count();
+    number < u32::MAX && half.send(rt, Item { agent, number }).is_ok()
 }
 
 /// Sends so many items of an agent, one after another.
-pub(crate) fn send_many(rt: &impl Wait, end: &mut LaneIn<Item>, agent: u32, more: u32) -> bool
-    requires { agent ≡ end.old.agent }
-    ensures { (end.new.lane ≡ end.old.lane) × (end.new.agent ≡ end.old.agent) }
+pub(crate) fn send_many(rt: &impl Wait, half: &mut LaneIn<Item>, agent: u32, more: u32) -> bool
+    requires { agent ≡ half.old.agent }
+    ensures { (half.new.lane ≡ half.old.lane) × (half.new.agent ≡ half.old.agent) }
 {
     for _ in 0..more {
-        if !send_next(rt, end, agent) {
+        if !send_next(rt, half, agent) {
             return false;
         }
     }

@@ -1,7 +1,7 @@
-//! Ends of lanes of requests and of answers, each moved into a thread of a scope.
+//! Halves of lanes of requests and of answers, each moved into a thread of a scope.
 ghost use Rattle.std.specs.Prelude.{◌≡◌, IfSome, length};
 
-use crate::same::same;
+use crate::assert_same::same;
 use dsn_lane::{LaneIn, LaneOut, open_lane};
 use dsn_outcome::{Answer, Body, Key, QueueId, Request, Service};
 use std::alloc::Global;
@@ -10,24 +10,24 @@ use std::test::Fail;
 use std::thread;
 use std::thread::Threads;
 
-/// An agent's ends.
+/// An agent's halves.
 #[derive(Drop)]
-struct AgentEnds {
+struct AgentHalves {
     requests: LaneIn<Request>,
     answers: LaneOut<Answer>,
 }
 
-/// How many requests an end has sent, as another thread tells it.
-fn count_elsewhere<R: Threads + Wait>(rt: &R, end: LaneIn<Request>) -> Option<u32> {
+/// How many requests a half has sent, as another thread says.
+fn count_elsewhere<R: Threads + Wait>(rt: &R, half: LaneIn<Request>) -> Option<u32> {
     thread::scope(thread::scope_env(), rt, move |scope| {
-        match scope.spawn(move || end.count()) {
+        match scope.spawn(move || half.count()) {
             Ok(handle) => Some(handle.join(rt)),
             Err(_) => None,
         }
     })
 }
 
-/// Gives a receiving end up in another thread.
+/// Gives a receiving half up in another thread.
 fn leave_elsewhere<R: Threads + Wait>(rt: &R, out: LaneOut<Answer>) -> Option<bool> {
     thread::scope(thread::scope_env(), rt, move |scope| {
         match scope.spawn(move || {
@@ -40,17 +40,17 @@ fn leave_elsewhere<R: Threads + Wait>(rt: &R, out: LaneOut<Answer>) -> Option<bo
     })
 }
 
-/// How many requests an agent has sent; its ends are given up.
-fn count(ends: AgentEnds) -> u32
-    ensures { result ≡ length ends.requests.sent }
+/// How many requests an agent has sent; its halves are given up.
+fn count(halves: AgentHalves) -> u32
+    ensures { result ≡ length halves.requests.sent }
 {
-    ends.requests.count()
+    halves.requests.count()
 }
 
-/// How many requests an agent has sent, as another thread tells it.
-fn agent_elsewhere<R: Threads + Wait>(rt: &R, ends: AgentEnds) -> Option<u32> {
+/// How many requests an agent has sent, as another thread says.
+fn agent_elsewhere<R: Threads + Wait>(rt: &R, halves: AgentHalves) -> Option<u32> {
     thread::scope(thread::scope_env(), rt, move |scope| {
-        match scope.spawn(move || count(ends)) {
+        match scope.spawn(move || count(halves)) {
             Ok(handle) => Some(handle.join(rt)),
             Err(_) => None,
         }
@@ -73,36 +73,36 @@ fn first_request() -> Option<Request>
     })
 }
 
-/// The ends of a lane of requests of agent 0, the first of which it has sent.
+/// The halves of a lane of requests of agent 0, the first of which it has sent.
 fn lane_of_requests(rt: &impl Wait, alloc: Global) -> Option<(LaneIn<Request>, LaneOut<Request>)> {
     let request = first_request()?;
-    let (mut ends, out) = open_lane::<Request>(rt, alloc, 0, 1, 1).ok()?;
-    let mut end = ends.pop()?;
-    end.send(rt, request).ok()?;
-    Some((end, out))
+    let (mut halves, out) = open_lane::<Request>(rt, alloc, 0, 1, 1).ok()?;
+    let mut half = halves.pop()?;
+    half.send(rt, request).ok()?;
+    Some((half, out))
 }
 
 #[test]
-fn request_end_to_another_thread(rt: HostRuntime) -> Result<(), Fail> {
-    let (end, _out) = lane_of_requests(&rt, rt.alloc()).expect(&rt, "a lane");
-    same(&rt, count_elsewhere(&rt, end), Some(1));
+fn request_half_to_another_thread(rt: HostRuntime) -> Result<(), Fail> {
+    let (half, _out) = lane_of_requests(&rt, rt.alloc()).expect(&rt, "a lane");
+    same(&rt, count_elsewhere(&rt, half), Some(1));
     Ok(())
 }
 
 #[test]
-fn answer_end_to_another_thread(rt: HostRuntime) -> Result<(), Fail> {
+fn answer_half_to_another_thread(rt: HostRuntime) -> Result<(), Fail> {
     let (_ends, out) = open_lane::<Answer>(&rt, rt.alloc(), 0, 1, 1).expect(&rt, "a lane");
     same(&rt, leave_elsewhere(&rt, out), Some(true));
     Ok(())
 }
 
 #[test]
-fn both_ends_to_another_thread(rt: HostRuntime) -> Result<(), Fail> {
+fn both_halves_to_another_thread(rt: HostRuntime) -> Result<(), Fail> {
     let (requests, _out) = lane_of_requests(&rt, rt.alloc()).expect(&rt, "a lane");
     let (_ends, answers) = open_lane::<Answer>(&rt, rt.alloc(), 0, 1, 1).expect(&rt, "a lane");
     same(
         &rt,
-        agent_elsewhere(&rt, AgentEnds { requests, answers }),
+        agent_elsewhere(&rt, AgentHalves { requests, answers }),
         Some(1),
     );
     Ok(())

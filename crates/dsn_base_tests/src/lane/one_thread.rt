@@ -1,9 +1,9 @@
 //! Lanes by one thread: the order of what is taken, and what a close counts.
 ghost use Rattle.std.specs.Prelude.{◌≡◌};
 
-use crate::lane::hands::{last_end, opened, put_by, shut};
+use crate::assert_same::same;
+use crate::lane::hands::{last_half, opened, put_by, shut};
 use crate::lane::item::{Item, send_many, send_next, take_many};
-use crate::same::same;
 use dsn_lane::{LaneIn, LaneOut};
 use std::alloc::Global;
 use std::sync::Wait;
@@ -21,18 +21,18 @@ fn item(agent: u32, number: u32) -> Item {
     Item { agent, number }
 }
 
-/// Closes the lane of one agent, and tells what its close counts.
+/// Closes the lane of one agent, and says what its close counts.
 fn shut_one(
     rt: &impl Wait,
     alloc: Global,
-    end: LaneIn<Item>,
+    half: LaneIn<Item>,
     out: LaneOut<Item>,
 ) -> Option<(u64, u64)>
-    requires lane { end.lane ≡ out.lane }
+    requires lane { half.lane ≡ out.lane }
     requires agents { (out.first ≡ 0) × (out.past ≡ 1) }
 {
     let mut used = Vec::new(alloc);
-    put_by(&mut used, &out, end)?;
+    put_by(&mut used, &out, half)?;
     shut(rt, used, out, 1)
 }
 
@@ -40,13 +40,13 @@ fn shut_one(
 fn shut_two(
     rt: &impl Wait,
     alloc: Global,
-    ends: (LaneIn<Item>, LaneIn<Item>),
+    halves: (LaneIn<Item>, LaneIn<Item>),
     out: LaneOut<Item>,
 ) -> Option<(u64, u64)>
-    requires lanes { (ends.0.lane ≡ out.lane) × (ends.1.lane ≡ out.lane) }
+    requires lanes { (halves.0.lane ≡ out.lane) × (halves.1.lane ≡ out.lane) }
     requires agents { (out.first ≡ 0) × (out.past ≡ 2) }
 {
-    let (second, first) = ends;
+    let (second, first) = halves;
     let mut used = Vec::new(alloc);
     put_by(&mut used, &out, second)?;
     put_by(&mut used, &out, first)?;
@@ -69,9 +69,9 @@ fn send_three(rt: &impl Wait, first: &mut LaneIn<Item>, second: &mut LaneIn<Item
 /// Two agents of a lane for four items send three, and so many are taken.
 fn run_two(rt: &impl Wait, alloc: Global, takes: u32) -> Option<Ran> {
     let mut items = Vec::new(alloc);
-    let (mut ends, mut out) = opened(rt, alloc, 2, 4)?;
-    let mut second = last_end(&mut ends, &out, 2)?;
-    let mut first = last_end(&mut ends, &out, 1)?;
+    let (mut halves, mut out) = opened(rt, alloc, 2, 4)?;
+    let mut second = last_half(&mut halves, &out, 2)?;
+    let mut first = last_half(&mut halves, &out, 1)?;
     let sent = send_three(rt, &mut first, &mut second);
     take_many(rt, &mut out, &mut items, takes).ok()?;
     let counts = shut_two(rt, alloc, (second, first), out)?;
@@ -81,27 +81,27 @@ fn run_two(rt: &impl Wait, alloc: Global, takes: u32) -> Option<Ran> {
 /// One agent of a lane for two items sends two, and one is taken.
 fn run_one(rt: &impl Wait, alloc: Global) -> Option<Ran> {
     let mut items = Vec::new(alloc);
-    let (mut ends, mut out) = opened(rt, alloc, 1, 2)?;
-    let mut end = last_end(&mut ends, &out, 1)?;
-    let sent = send_many(rt, &mut end, 0, 2);
+    let (mut halves, mut out) = opened(rt, alloc, 1, 2)?;
+    let mut half = last_half(&mut halves, &out, 1)?;
+    let sent = send_many(rt, &mut half, 0, 2);
     take_many(rt, &mut out, &mut items, 1).ok()?;
-    let counts = shut_one(rt, alloc, end, out)?;
+    let counts = shut_one(rt, alloc, half, out)?;
     sent.then_some(Ran { items, counts })
 }
 
 /// Sixteen agents of a lane for one item, the last one first, send one item each, and each is
 /// taken before the next is sent.
 fn run_sixteen(rt: &impl Wait, alloc: Global) -> Option<Ran> {
-    let (mut ends, mut out) = opened(rt, alloc, 16, 1)?;
+    let (mut halves, mut out) = opened(rt, alloc, 16, 1)?;
     let mut used = Vec::new(alloc);
     let mut items = Vec::new(alloc);
     for turn in 0..16u32 {
-        let mut end = last_end(&mut ends, &out, 16 - turn)?;
-        if !send_next(rt, &mut end, 15 - turn) {
+        let mut half = last_half(&mut halves, &out, 16 - turn)?;
+        if !send_next(rt, &mut half, 15 - turn) {
             return None;
         }
         take_many(rt, &mut out, &mut items, 1).ok()?;
-        put_by(&mut used, &out, end)?;
+        put_by(&mut used, &out, half)?;
     }
     let counts = shut(rt, used, out, 16)?;
     Some(Ran { items, counts })

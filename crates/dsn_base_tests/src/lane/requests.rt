@@ -1,9 +1,9 @@
 //! Requests and answers, with what they hold in boxes, over lanes to another thread.
 ghost use Rattle.std.specs.Prelude.{◌≡◌, length};
 
-use crate::same::same;
+use crate::assert_same::same;
 use dsn_lane::open_lane;
-use dsn_outcome::{Answer, Body, Carried, Outcome, Parts, QueueId, Reply, Request, Service};
+use dsn_outcome::{Answer, Body, LaneItem, Outcome, Parts, QueueId, Reply, Request, Service};
 use std::alloc::Global;
 use std::sync::Wait;
 use std::test::Fail;
@@ -11,16 +11,20 @@ use std::thread;
 use std::thread::Threads;
 
 /// Sends the first item of agent 0 to another thread, and gives what arrives there.
-fn carried<T: Carried + Send, R: Threads + Wait + Sync>(rt: &R, alloc: Global, item: T) -> Option<T>
+fn carried<T: LaneItem + Send, R: Threads + Wait + Sync>(
+    rt: &R,
+    alloc: Global,
+    item: T,
+) -> Option<T>
     requires { (T.agent item ≡ 0) × (T.number item ≡ 0) }
 {
-    let (mut ends, mut out) = open_lane::<T>(rt, alloc, 0, 1, 1).ok()?;
-    let mut end = ends.pop()?;
+    let (mut halves, mut out) = open_lane::<T>(rt, alloc, 0, 1, 1).ok()?;
+    let mut half = halves.pop()?;
     let (sent, taken) = thread::join(
         rt,
         move || -> bool
-            requires { (T.agent item ≡ end.agent) × (T.number item ≡ length end.sent) × (length end.sent ≡ 0) }
-        { end.send(rt, item).is_ok() },
+            requires { (T.agent item ≡ half.agent) × (T.number item ≡ length half.sent) × (length half.sent ≡ 0) }
+        { half.send(rt, item).is_ok() },
         move || -> Option<T> { out.take(rt).ok() },
     );
     if sent { taken } else { None }

@@ -1,9 +1,9 @@
 //! Lanes by many threads: what is taken of each agent is what it sent, in order.
 ghost use Rattle.std.specs.Prelude.{◌≡◌, ◌+◌, ◌≤◌};
 
-use crate::lane::hands::{last_end, opened};
+use crate::assert_same::same;
+use crate::lane::hands::{last_half, opened};
 use crate::lane::item::{Item, counts, send_many, take_many};
-use crate::same::same;
 use dsn_lane::LaneIn;
 use std::alloc::Global;
 use std::sync::Wait;
@@ -11,12 +11,12 @@ use std::test::Fail;
 use std::thread;
 use std::thread::Threads;
 
-/// An agent with its end.
+/// An agent with its half.
 #[derive(Drop)]
 struct Agent {
     number: u32,
-    end: LaneIn<Item>,
-    ghost own: { number ≡ end.agent },
+    half: LaneIn<Item>,
+    ghost own: { number ≡ half.agent },
 }
 
 /// So many agents, each in a thread of its own, send so many items each over a lane for four
@@ -24,12 +24,12 @@ struct Agent {
 fn run<R: Threads + Wait + Sync>(rt: &R, alloc: Global, agents: u32, each: u32) -> Option<Vec<Item>>
     requires { (1 ≤ agents) × (agents ≤ 16) }
 {
-    let (mut ends, mut out) = opened(rt, alloc, agents, 4)?;
+    let (mut halves, mut out) = opened(rt, alloc, agents, 4)?;
     let mut jobs = Vec::new(alloc);
     for turn in 0..agents {
         let agent = Agent {
             number: agents - 1 - turn,
-            end: last_end(&mut ends, &out, agents - turn)?,
+            half: last_half(&mut halves, &out, agents - turn)?,
         };
         jobs.push(agent).ok()?;
     }
@@ -40,8 +40,8 @@ fn run<R: Threads + Wait + Sync>(rt: &R, alloc: Global, agents: u32, each: u32) 
                 rt,
                 jobs,
                 &|agent: Agent| {
-                    let Agent { number, mut end } = agent;
-                    send_many(rt, &mut end, number, each)
+                    let Agent { number, mut half } = agent;
+                    send_many(rt, &mut half, number, each)
                 },
             )
         },

@@ -2,17 +2,17 @@
 ghost use Rattle.std.specs.Prelude.{All, IfOk, IsSome, [], ◌≡◌, ◌≢◌};
 
 use super::outcomes::PARTS;
-use crate::same::same;
+use crate::assert_same::same;
 use dsn_outcome::{
-    Address, Chain, Draft, EnvelopeId, Key, Letter, Letters, MOST_OUTCOMES, Node, Outcome, QueueId,
-    RawHeader, Service, Stamp,
+    Address, Chain, Draft, EnvelopeId, Key, Letter, Letters, MOST_OUTCOMES, Outcome, OutcomeNode,
+    QueueId, RawHeader, Service, Stamp,
 };
 use std::alloc::Global;
 use std::process::Abort;
 use std::test::Fail;
 
 /// An outcome of a bounce's log.
-fn bounced(alloc: Global, recipient: &[u8]) -> Result<Box<Node>, Fail>
+fn bounced(alloc: Global, recipient: &[u8]) -> Result<Box<OutcomeNode>, Fail>
     ensures { IfOk result (λ node. node.value.outcome.service ≡ Service.Bounce) }
 {
     let mut parts = PARTS;
@@ -115,7 +115,7 @@ fn a_draft_and_a_chain_tell_what_they_have(rt: HostRuntime) -> Result<(), Fail> 
     Ok(())
 }
 
-/// A letter with one outcome, which its moment tells from others.
+/// A letter with one outcome, which its moment sets apart from others.
 fn letter(alloc: Global, seconds: u64) -> Result<Letter, Fail> {
     let key = key(b"K1")?;
     let node = bounced(alloc, b"bob@example.org")?;

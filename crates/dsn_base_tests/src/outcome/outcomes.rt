@@ -1,6 +1,6 @@
 //! Outcomes from their fields, and refusals in their order.
 use super::texts::text_of;
-use crate::same::same;
+use crate::assert_same::same;
 use dsn_outcome::{Action, LAST_MOMENT, Outcome, OutcomeFault, Parts, Service, Stamp};
 use std::alloc::Global;
 use std::process::Abort;

@@ -1,5 +1,5 @@
 //! Queue ids beside their bytes: they are in the same order, and equal where those are.
-use crate::same::same;
+use crate::assert_same::same;
 use dsn_outcome::QueueId;
 use std::cmp::Ordering;
 use std::process::Abort;

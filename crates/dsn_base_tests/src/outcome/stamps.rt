@@ -1,5 +1,5 @@
 //! Moments, their dates and their order.
-use crate::same::same;
+use crate::assert_same::same;
 use dsn_outcome::{LAST_MOMENT, Stamp};
 
 #[test]

@@ -1,5 +1,5 @@
 //! Texts at their bounds: up to them they are kept, past them they are bad.
-use crate::same::same;
+use crate::assert_same::same;
 use dsn_outcome::{Address, Clean, EnvelopeId, MtaName, RawHeader, TextFault};
 use std::alloc::Global;
 use std::test::Fail;

@@ -1,5 +1,5 @@
 //! Answers with their bytes, and bytes that are no answer.
-use crate::same::same;
+use crate::assert_same::same;
 use dsn_frame::{Spoken, decode_answer, encode_answer};
 use dsn_outcome::Reply;
 use std::process::Abort;

@@ -2,7 +2,7 @@
 //! to the built program by tests/refused_bodies.py.)
 mod moments;
 
-use crate::same::same;
+use crate::assert_same::same;
 use dsn_frame::decode_request;
 use dsn_outcome::{Body, Service};
 use std::alloc::AllocGlobal;
@@ -16,8 +16,8 @@ fn one_discard(rt: HostRuntime) -> Result<(), Fail> {
     let Body::Discard(key) = body else {
         return Err("no discard")?;
     };
-    let told = (number, key.service, key.id.bytes());
-    same(&rt, told, (0, Service::Bounce, b"K1".as_slice()));
+    let seen = (number, key.service, key.id.bytes());
+    same(&rt, seen, (0, Service::Bounce, b"K1".as_slice()));
     Ok(())
 }
 

@@ -5,7 +5,7 @@ use dsn_outcome::Plain;
 use std::alloc::{AllocError, AllocGlobal};
 use std::test::Fail;
 
-/// What is told of the end of the input; a frame is told as 0, and a fault as its number.
+/// What stands for the end of the input; 0 stands for a frame, and its number for a fault.
 const END: u32 = 1;
 
 /// Appends a frame whose body is so many bytes, each of them this one.
@@ -15,7 +15,7 @@ fn push_frame(input: &mut Vec<u8>, size: u32, byte: u8) -> Result<(), AllocError
     input.resize(end, byte)
 }
 
-/// The frame of its own memory, or no bytes, and what is told of it.
+/// The frame of its own memory, or no bytes, and the number that stands for it.
 fn of_own(read: &Result<Option<Frame>, FrameFault>) -> (&[u8], u32) {
     match read {
         Ok(Some(frame)) => (frame.bytes(), 0),
@@ -24,7 +24,7 @@ fn of_own(read: &Result<Option<Frame>, FrameFault>) -> (&[u8], u32) {
     }
 }
 
-/// The frame that a buffer holds, or no bytes, and what is told of the call that read it.
+/// The frame that a buffer holds, or no bytes, and the number that stands for the call that read it.
 fn of_held(read: Result<(), FrameFault>, buffer: &FrameBuffer) -> (&[u8], u32) {
     let bytes = match buffer.frame() {
         Some(frame) => frame.bytes(),
@@ -37,7 +37,7 @@ fn of_held(read: Result<(), FrameFault>, buffer: &FrameBuffer) -> (&[u8], u32) {
     }
 }
 
-/// Whether the next frame has so many bytes, or what is told of its want, in a buffer and by
+/// Whether the next frame has so many bytes, or what stands for its want, in a buffer and by
 /// `read_frame` alike.
 fn is_next(
     rt: &impl AllocGlobal,
@@ -47,13 +47,13 @@ fn is_next(
     want: (usize, u32),
 ) -> bool {
     let own = read_frame(rt.alloc(), fresh);
-    let (frame, told) = of_own(&own);
+    let (frame, seen) = of_own(&own);
     let read = buffer.read_next(kept);
     let (lent, said) = of_held(read, buffer);
-    lent == frame && said == told && (lent.len(), said) == want
+    lent == frame && said == seen && (lent.len(), said) == want
 }
 
-/// Whether both ways to read give frames of these lengths, and then tell this, by so many bytes a
+/// Whether both ways to read give frames of these lengths, and then this number, by so many bytes a
 /// call.
 fn reads(rt: &impl AllocGlobal, input: &[u8], most: usize, sizes: &[usize], end: u32) -> bool {
     let mut buffer = FrameBuffer::new(rt.alloc());
@@ -83,10 +83,10 @@ fn frames_then(rt: &impl AllocGlobal, last: usize) -> Result<Vec<u8>, AllocError
 
 #[test]
 fn short_frames_after_long_ones(rt: HostRuntime) -> Result<(), Fail> {
-    for (last, told) in [(0, END), (2, 13), (100, 13), (203, 13)] {
+    for (last, seen) in [(0, END), (2, 13), (100, 13), (203, 13)] {
         let input = frames_then(&rt, last)?;
         for most in 1..4 {
-            let same = reads(&rt, &input, most, &[300, 3, 500, 1], told);
+            let same = reads(&rt, &input, most, &[300, 3, 500, 1], seen);
             assert!(rt; same, "{last} bytes of the last, by {most}");
         }
     }
@@ -95,12 +95,12 @@ fn short_frames_after_long_ones(rt: HostRuntime) -> Result<(), Fail> {
 
 #[test]
 fn lengths_after_a_frame(rt: HostRuntime) {
-    for (input, told) in [
+    for (input, seen) in [
         (b"\0\0\0\x02ab\0\0\0\0".as_slice(), 12),
         (b"\0\0\0\x02ab\0\x01\0\x01".as_slice(), 11),
         (b"\0\0\0\x02ab\0\x01\0\0c".as_slice(), 13),
     ] {
-        assert!(rt; reads(&rt, input, 3, &[2], told), "{told}");
+        assert!(rt; reads(&rt, input, 3, &[2], seen), "{seen}");
     }
 }
 

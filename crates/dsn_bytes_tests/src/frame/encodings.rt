@@ -1,5 +1,5 @@
 //! Requests to frames and back, in all their shapes.
-use crate::same::same;
+use crate::assert_same::same;
 use dsn_frame::{decode_request, encode_request};
 use dsn_outcome::{
     Address, Body, Draft, EnvelopeId, Key, Outcome, Parts, QueueId, RawHeader, Service, Stamp,
@@ -140,7 +140,7 @@ fn frame_of(rt: &HostRuntime, number: u32, body: &Body) -> Result<Vec<u8>, Fail>
     Ok(encode_request(rt.alloc(), number, body)?)
 }
 
-/// Encodes a request, decodes the frame's body, compares, and tells the body's length.
+/// Encodes a request, decodes the frame's body, compares, and gives the body's length.
 fn goes_and_comes_back(rt: &HostRuntime, number: u32, body: &Body) -> Result<usize, Fail> {
     let frame = frame_of(rt, number, body)?;
     let Some((&[a, b, c, d], bytes)) = frame.split_first_chunk::<4>() else {

@@ -1,7 +1,7 @@
 //! Frames from readers that give them in pieces, end anywhere and fail anywhere.
 ghost use Rattle.std.specs.Prelude.{Some};
 
-use crate::same::same;
+use crate::assert_same::same;
 use dsn_frame::{Frame, LONGEST_BODY, read_frame};
 use dsn_outcome::Plain;
 use std::alloc::AllocGlobal;

@@ -1,5 +1,5 @@
 //! What one frame comes to: a body to be asked, or a refusal.
-use crate::same::same;
+use crate::assert_same::same;
 use dsn_frame::next_request;
 use std::test::Fail;
 

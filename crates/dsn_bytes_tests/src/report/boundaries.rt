@@ -1,6 +1,6 @@
 //! The boundary's number, beside a search that tries the numbers in turn.
+use crate::assert_same::same;
 use crate::report::letters::{A1B2C3, BOB, Flush, letter};
-use crate::same::same;
 use bstr::ByteSlice;
 use dsn_report::boundary;
 use std::alloc::Global;

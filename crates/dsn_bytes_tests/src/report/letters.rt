@@ -1,7 +1,7 @@
 //! The letters and the site of all tests, and which hosts are a site.
 ghost use Rattle.std.specs.Prelude.{◌≡◌, ◌≢◌, [], All};
 
-use crate::same::same;
+use crate::assert_same::same;
 use dsn_outcome::{
     Address, Chain, Draft, EnvelopeId, Key, Letter, Outcome, Parts, QueueId, RawHeader, Service,
     Stamp,

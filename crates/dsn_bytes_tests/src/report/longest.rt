@@ -1,8 +1,8 @@
 //! Hosts, headers and outcomes at their longest and in between, with ample memory.
 ghost use Rattle.std.specs.Prelude.{◌≡◌, ◌≤◌, All, IfOk, length};
 
+use crate::assert_same::same;
 use crate::report::letters::{A1B2C3, BOB, Flush, Texts, failed, letter, sealed, site};
-use crate::same::same;
 use dsn_outcome::{
     Chain, LONGEST_ADDRESS, LONGEST_CLEAN, LONGEST_HEADER, LONGEST_MTA_NAME, Outcome, Service,
 };

@@ -1,6 +1,6 @@
 //! The text of notices.
+use crate::assert_same::same;
 use crate::report::letters::{A1B2C3, BOB, Flush, Texts, letter, site};
-use crate::same::same;
 use dsn_report::{boundary, notice};
 use std::test::Fail;
 

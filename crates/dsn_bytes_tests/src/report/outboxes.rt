@@ -1,6 +1,6 @@
 //! What a poster writes, and what it gives back where the outbox fails.
+use crate::assert_same::same;
 use crate::report::letters::{A1B2C3, BOB, Flush, letter, site};
-use crate::same::same;
 use dsn_outcome::{Letter, Plain};
 use dsn_report::{Ended, PostFault, Poster};
 use std::alloc::Global;

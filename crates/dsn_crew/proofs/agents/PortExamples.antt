@@ -3,7 +3,7 @@
 use Rattle.std.proofs.Common.{◌≡◌, ℕ, List, [], ◌∷◌, inl, true, false, refl, ap, lit<, lit≤, arith}
 use Rattle.std.specs.Prelude.{◌≢◌, Some, None, unwrap_or as option_or}
 use Rattle.std.proofs.lemmas.List.Elements.{All-cons, All-nil}
-use Rattle.dsn_lane.specs.Ends.{Identity}
+use Rattle.dsn_lane.specs.Halves.{Identity}
 use Rattle.dsn_outcome.specs.Request.{Request, Body, Bye}
 use Rattle.dsn_outcome.specs.declared.answer.Answer.{Answer}
 use Rattle.dsn_outcome.specs.declared.answer.Reply.TheVariants.{Closed, Discarded, Gone}
@@ -35,7 +35,7 @@ without_body = record { start = Some (0 ∷ 0 ∷ 0 ∷ 0 ∷ []); left = Some [
 module _ (asks : Identity Request) (hears : Identity Answer) where
   agent_with : List Request → List Answer → Agent
   agent_with sent got = record {
-    ends = record { requests = record { lane = asks; agent = 5; sent = sent }; answers = record { lane = hears; first = 5; past = 6; taken = got } };
+    halves = record { requests = record { lane = asks; agent = 5; sent = sent }; answers = record { lane = hears; first = 5; past = 6; taken = got } };
     limit = 2;
     lost = false;
   }
@@ -50,7 +50,7 @@ module _ (asks : Identity Request) (hears : Identity Answer) where
   three_connections :
       IsPortServed (Some conns) (λ given. given ≡ connection ∷ connection ∷ connection ∷ done ∷ []) (agent_with [] []) (record {
         line = record { requests = 2; connections = 3; faults = 1; port_failed = false };
-        finished = Some (agent_with (request 0 discard ∷ request 1 discard ∷ request 2 Bye ∷ []) (answer 0 (Discarded 0) ∷ answer 1 Closed ∷ answer 2 Gone ∷ [])).ends;
+        finished = Some (agent_with (request 0 discard ∷ request 1 discard ∷ request 2 Bye ∷ []) (answer 0 (Discarded 0) ∷ answer 1 Closed ∷ answer 2 Gone ∷ [])).halves;
       })
   unfolding agent_with request answer numbered_from conns with_discard without_body discard_body
   three_connections = record {

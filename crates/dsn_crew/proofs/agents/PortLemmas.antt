@@ -12,12 +12,12 @@ use Rattle.dsn_device.specs.Failures.{counted, most_failures}
 use Rattle.dsn_device.specs.declared.drain.Drain.{Ghosts as Drain}
 use Rattle.dsn_device.specs.declared.source.Source.{Ghosts as Source}
 use Rattle.dsn_frame.specs.declared.frame_fault.FrameFault.TheVariants as frames
-use Rattle.dsn_crew.specs.agents.Agent.{Agent, Ends, IsLeave}
+use Rattle.dsn_crew.specs.agents.Agent.{Agent, LaneHalves, IsLeave}
 use Rattle.dsn_crew.specs.agents.Port.{Conn, Given, connection, done, failed, Gives, GivesFirst, HasServed, HasServedOnly, IsLastGiven, IsPortServed, AreOverConns, AreOverPort, AreSessions, IsOver, IsSessionAt, Session, all_given, answers_of, bodies_of, faults_of}
 use Rattle.dsn_crew.specs.agents.Serve.{HasAsked, IsServed, is_lost, is_stream_failed, served_end}
 use Rattle.dsn_crew.specs.declared.agents.unheard.Unheard.{Unheard}
 use Rattle.dsn_crew.specs.declared.agents.agent_line.AgentLine.{AgentLine}
-use Rattle.dsn_crew.specs.declared.agents.next.Next.TheVariants as next
+use Rattle.dsn_crew.specs.declared.agents.next_connection.Next.TheVariants as next
 use Rattle.dsn_crew.specs.declared.agents.port.Port.{Ghosts as Port}
 use Rattle.dsn_crew.specs.declared.agents.serve_fault.ServeFault.{ServeFault}
 use Rattle.dsn_crew.specs.declared.agents.serve_fault.ServeFault.TheVariants.{Frame, WriteBack, Number, Frames, Lost}
@@ -200,7 +200,7 @@ module _ {P T : Type 0} (port : Port P T) (start : P) (old : Agent) where
   -- so many connections were served, and nothing ended the service; this is the port then
   pub record ServesSoFar (now : P) (agent : Agent) (line : AgentLine) (count : ℕ) : Type 0 where
     pub sessions : List Session
-    pub follow : AreSessions old.limit (length old.ends.requests.sent) sessions
+    pub follow : AreSessions old.limit (length old.halves.requests.sent) sessions
     pub over : ServedPort (port.conns start) sessions (port.conns now)
     pub gave : GivenSoFar (port.may_give start) (port.may_give now) count
     pub given : 0 < count → port.may_give start (all_given count None)
@@ -208,7 +208,7 @@ module _ {P T : Type 0} (port : Port P T) (start : P) (old : Agent) where
     pub asked : HasAsked old agent (bodies_of sessions) (answers_of sessions) false
     pub heard : All (λ (session : Session). session.end ≢ Some 41) sessions
     pub counted : length sessions ≡ count
-    pub requests : line.requests ≡ length agent.ends.requests.sent
+    pub requests : line.requests ≡ length agent.halves.requests.sent
     pub connections : line.connections ≡ count
     pub faults : line.faults ≡ faults_of sessions
     pub fewer : line.faults ≤ count
@@ -218,7 +218,7 @@ module _ {P T : Type 0} (port : Port P T) (start : P) (old : Agent) where
   Serves now new line = HasServedOnly (port.conns start) (port.may_give start) (port.may_give now) old new line
 
 -- no connection was served so far
-pub serves_nothing : {P T : Type 0} (port : Port P T) (start : P) (agent : Agent) (requests : ℕ) → requests ≡ length agent.ends.requests.sent
+pub serves_nothing : {P T : Type 0} (port : Port P T) (start : P) (agent : Agent) (requests : ℕ) → requests ≡ length agent.halves.requests.sent
     → port.may_be_asked start → ServesSoFar port start agent start agent (record { requests = requests; connections = 0; faults = 0; port_failed = false }) 0
 serves_nothing port start agent requests is goes_on = record {
   sessions = [];
@@ -310,7 +310,7 @@ byte_is false = refl
 
 module _ {P T S : Type 0} (source : Source S) (drain : Drain S) (port : Port P T) (start : P) (old : Agent) (now new : P) (agent then : Agent) (line : AgentLine) (count requests connections faults : ℕ) (given stream after : S) (result : Result Served ServeFault)
     (so_far : ServesSoFar port start old now agent line count) (gives : Gives source (port.conns now) (port.conns new) (next.Conn given)) (stream_is : stream ≡ given) (first : GivesFirst (port.may_give now) (port.may_give new) connection) (goes_on : port.may_be_asked new) (served : IsServed source drain agent then stream after result)
-    (few : count < 1000000) (requests_are : requests ≡ length then.ends.requests.sent) (connections_are : connections ≡ line.connections + 1) (faults_are : faults ≡ line.faults + bool_byte (is_err result)) where
+    (few : count < 1000000) (requests_are : requests ≡ length then.halves.requests.sent) (connections_are : connections ≡ line.connections + 1) (faults_are : faults ≡ line.faults + bool_byte (is_err result)) where
   session : Session
   session = record {
     start = source.remaining stream;
@@ -324,13 +324,13 @@ module _ {P T S : Type 0} (source : Source S) (drain : Drain S) (port : Port P T
   all : List Session
   all = so_far.sessions ++ session ∷ []
 
-  all-follow : AreSessions old.limit (length old.ends.requests.sent) all
+  all-follow : AreSessions old.limit (length old.halves.requests.sent) all
   unfolding all session
   all-follow =
       let limit_is : agent.limit ≡ old.limit = ap (λ (a : Agent). a.limit) so_far.asked.agent_is in
       let count_is = asked-count old agent then (bodies_of so_far.sessions) served.bodies (answers_of so_far.sessions) served.answers (is_lost result) so_far.asked served.asked in
-      sessions-more old.limit (length old.ends.requests.sent) so_far.sessions session so_far.follow
-      (subst (λ l. IsSessionAt l (length old.ends.requests.sent + length (bodies_of so_far.sessions)) session) limit_is
+      sessions-more old.limit (length old.halves.requests.sent) so_far.sessions session so_far.follow
+      (subst (λ l. IsSessionAt l (length old.halves.requests.sent + length (bodies_of so_far.sessions)) session) limit_is
       (subst (λ n. IsSessionAt agent.limit n session) count_is served.session))
 
   all-asked : HasAsked old then (bodies_of all) (answers_of all) (is_lost result)
@@ -406,7 +406,7 @@ module _ {P T S : Type 0} (source : Source S) (drain : Drain S) (port : Port P T
   }
 
 -- the agent says goodbye, or a lane is lost
-pub service-ends : (conns : Option (List Conn)) (may_give : List Given → Type 0) (agent last : Agent) (line : AgentLine) → HasServed conns may_give agent last line → (result : Result Ends Unheard) → IsLeave last result
+pub service-ends : (conns : Option (List Conn)) (may_give : List Given → Type 0) (agent last : Agent) (line : AgentLine) → HasServed conns may_give agent last line → (result : Result LaneHalves Unheard) → IsLeave last result
     → IsPortServed conns may_give agent (record { line = line; finished = result_ok result })
 service-ends conns may_give agent last line served (Ok finished) bye = record {
   last = last;

@@ -4,7 +4,7 @@ use Rattle.std.specs.Prelude.{Some, None, Ok, Err, codes}
 use Rattle.std.proofs.lemmas.List.Elements.{All-nil}
 use Rattle.dsn_device.specs.declared.drain.Drain.{Ghosts as Drain}
 use Rattle.dsn_device.specs.declared.source.Source.{Ghosts as Source}
-use Rattle.dsn_lane.specs.Ends.{Identity}
+use Rattle.dsn_lane.specs.Halves.{Identity}
 use Rattle.dsn_outcome.specs.Request.{Request, Body, Discard}
 use Rattle.dsn_outcome.specs.declared.answer.Answer.{Answer}
 use Rattle.dsn_outcome.specs.declared.answer.Reply.{Reply as ReplyOf}
@@ -58,7 +58,7 @@ none_discarded = 0 ∷ 0 ∷ 0 ∷ 10 ∷ 1 ∷ 8 ∷ 0 ∷ 0 ∷ 0 ∷ 0 ∷ 0 
 module _ (asks : Identity Request) (hears : Identity Answer) (body : Body) (reply : ReplyOf) where
   agent_with : List Request → List Answer → Bool → Agent
   agent_with sent got lost = record {
-    ends = record { requests = record { lane = asks; agent = 5; sent = sent }; answers = record { lane = hears; first = 5; past = 6; taken = got } };
+    halves = record { requests = record { lane = asks; agent = 5; sent = sent }; answers = record { lane = hears; first = 5; past = 6; taken = got } };
     limit = 2;
     lost = lost;
   }
@@ -92,7 +92,7 @@ module _ (asks : Identity Request) (hears : Identity Answer) (body : Body) (repl
   }
 
   -- where the collector is found gone before it, nothing is sent and nothing written, and the agent is lost
-  discard_lost : IsServed reads writes before (agent_with before.ends.requests.sent before.ends.answers.taken true) (frame discard_body, []) ([], []) (Err Lost)
+  discard_lost : IsServed reads writes before (agent_with before.halves.requests.sent before.halves.answers.taken true) (frame discard_body, []) ([], []) (Err Lost)
   unfolding reads writes before agent_with numbered_from answer_frames_from discard_body
   discard_lost = record {
     frames = discard_body ∷ [];

@@ -109,9 +109,9 @@ never b off on = absurd (let bad : false ≡ true = sym off ∙ on in cc)
 -- an agent with these lists, which is lost or not
 abbrev with_lists : Agent → List Request → List Answer → Bool → Agent
 with_lists agent sent taken lost = record {
-  ends = record {
-    requests = record { lane = agent.ends.requests.lane; agent = agent.ends.requests.agent; sent = sent };
-    answers = record { lane = agent.ends.answers.lane; first = agent.ends.answers.first; past = agent.ends.answers.past; taken = taken };
+  halves = record {
+    requests = record { lane = agent.halves.requests.lane; agent = agent.halves.requests.agent; sent = sent };
+    answers = record { lane = agent.halves.answers.lane; first = agent.halves.answers.first; past = agent.halves.answers.past; taken = taken };
   };
   limit = agent.limit;
   lost = lost;
@@ -121,8 +121,8 @@ with_lists agent sent taken lost = record {
 nothing-more : (agent : Agent) → agent ≡ after_requests agent [] [] false
 nothing-more agent =
     λ i. with_lists agent
-    (sym (numbered-none (numbered_request agent.ends.requests.agent) agent.ends.requests.sent (length agent.ends.requests.sent)) i)
-    (sym (numbered-none (numbered_answer agent.ends.requests.agent) agent.ends.answers.taken (length agent.ends.requests.sent)) i)
+    (sym (numbered-none (numbered_request agent.halves.requests.agent) agent.halves.requests.sent (length agent.halves.requests.sent)) i)
+    (sym (numbered-none (numbered_answer agent.halves.requests.agent) agent.halves.answers.taken (length agent.halves.requests.sent)) i)
     (sym (or-false agent.lost) i)
 
 -- nothing was asked so far
@@ -138,37 +138,37 @@ replied-then false b c r s first then = omega (arith, first, then)
 replied-then true b c r s first (inl then) = inl (omega (arith, first, then))
 replied-then true b c r s first (inr then) = inr (omega (arith, first, then))
 
-module _ (old mid new : Agent) (bodies more : List Body) (answers told : List Spoken) (lost : Bool) (first : HasAsked old mid bodies answers false) (then : HasAsked mid new more told lost) where
+module _ (old mid new : Agent) (bodies more : List Body) (answers said : List Spoken) (lost : Bool) (first : HasAsked old mid bodies answers false) (then : HasAsked mid new more said lost) where
   -- how many requests the agent has sent by then
-  pub asked-count : length mid.ends.requests.sent ≡ length old.ends.requests.sent + length bodies
+  pub asked-count : length mid.halves.requests.sent ≡ length old.halves.requests.sent + length bodies
   asked-count =
-      let sent = ap (λ (a : Agent). length a.ends.requests.sent) first.agent_is in
-      omega (arith, sent, length-append old.ends.requests.sent (requests_from old.ends.requests.agent (length old.ends.requests.sent) bodies), numbered-length (numbered_request old.ends.requests.agent) (length old.ends.requests.sent) bodies)
+      let sent = ap (λ (a : Agent). length a.halves.requests.sent) first.agent_is in
+      omega (arith, sent, length-append old.halves.requests.sent (requests_from old.halves.requests.agent (length old.halves.requests.sent) bodies), numbered-length (numbered_request old.halves.requests.agent) (length old.halves.requests.sent) bodies)
 
-  agent-then : new ≡ after_requests old (bodies ++ more) (flat_map reply_of (answers ++ told)) lost
+  agent-then : new ≡ after_requests old (bodies ++ more) (flat_map reply_of (answers ++ said)) lost
   agent-then =
       let count = asked-count in
-      let replies = flat_map-append reply_of answers told in
-      let same : length old.ends.requests.sent + length bodies ≡ length old.ends.requests.sent + length (flat_map reply_of answers) = omega (arith, first.replied) in
-      let sent = numbered-then (numbered_request old.ends.requests.agent) old.ends.requests.sent (length old.ends.requests.sent) (length mid.ends.requests.sent) bodies more count in
-      let taken = numbered-then (numbered_answer old.ends.requests.agent) old.ends.answers.taken (length old.ends.requests.sent) (length mid.ends.requests.sent) (flat_map reply_of answers) (flat_map reply_of told) (count ∙ same) in
-      let mid_sent = ap (λ (a : Agent). a.ends.requests.sent) first.agent_is in
-      let mid_taken = ap (λ (a : Agent). a.ends.answers.taken) first.agent_is in
+      let replies = flat_map-append reply_of answers said in
+      let same : length old.halves.requests.sent + length bodies ≡ length old.halves.requests.sent + length (flat_map reply_of answers) = omega (arith, first.replied) in
+      let sent = numbered-then (numbered_request old.halves.requests.agent) old.halves.requests.sent (length old.halves.requests.sent) (length mid.halves.requests.sent) bodies more count in
+      let taken = numbered-then (numbered_answer old.halves.requests.agent) old.halves.answers.taken (length old.halves.requests.sent) (length mid.halves.requests.sent) (flat_map reply_of answers) (flat_map reply_of said) (count ∙ same) in
+      let mid_sent = ap (λ (a : Agent). a.halves.requests.sent) first.agent_is in
+      let mid_taken = ap (λ (a : Agent). a.halves.answers.taken) first.agent_is in
       let mid_lost = ap (λ (a : Agent). a.lost) first.agent_is ∙ or-false old.lost in
-      let mid_agent = ap (λ (a : Agent). a.ends.requests.agent) first.agent_is in
+      let mid_agent = ap (λ (a : Agent). a.halves.requests.agent) first.agent_is in
       then.agent_is
-      ∙ ap (λ (a : Agent). with_lists a (mid.ends.requests.sent ++ requests_from mid.ends.requests.agent (length mid.ends.requests.sent) more) (mid.ends.answers.taken ++ answers_from mid.ends.requests.agent (length mid.ends.requests.sent) (flat_map reply_of told)) (mid.lost || lost)) first.agent_is
-      ∙ (λ i. with_lists old (mid_sent i ++ requests_from (mid_agent i) (length mid.ends.requests.sent) more) (mid_taken i ++ answers_from (mid_agent i) (length mid.ends.requests.sent) (flat_map reply_of told)) (mid_lost i || lost))
-      ∙ (λ i. with_lists old (sent i) ((taken ∙ ap (λ rs. old.ends.answers.taken ++ answers_from old.ends.requests.agent (length old.ends.requests.sent) rs) (sym replies)) i) (old.lost || lost))
+      ∙ ap (λ (a : Agent). with_lists a (mid.halves.requests.sent ++ requests_from mid.halves.requests.agent (length mid.halves.requests.sent) more) (mid.halves.answers.taken ++ answers_from mid.halves.requests.agent (length mid.halves.requests.sent) (flat_map reply_of said)) (mid.lost || lost)) first.agent_is
+      ∙ (λ i. with_lists old (mid_sent i ++ requests_from (mid_agent i) (length mid.halves.requests.sent) more) (mid_taken i ++ answers_from (mid_agent i) (length mid.halves.requests.sent) (flat_map reply_of said)) (mid_lost i || lost))
+      ∙ (λ i. with_lists old (sent i) ((taken ∙ ap (λ rs. old.halves.answers.taken ++ answers_from old.halves.requests.agent (length old.halves.requests.sent) rs) (sym replies)) i) (old.lost || lost))
 
   -- more was asked
-  pub asked-then : HasAsked old new (bodies ++ more) (answers ++ told) lost
+  pub asked-then : HasAsked old new (bodies ++ more) (answers ++ said) lost
   asked-then = record {
     agent_is = agent-then;
     idle = λ was.
         let mid_lost = ap (λ (a : Agent). a.lost) first.agent_is ∙ (or-false old.lost ∙ was) in
-        ((λ i. (first.idle was).0 i ++ (then.idle mid_lost).0 i), All-append (λ (answer : Spoken). answer ≢ spoken.Refused 44) answers told (first.idle was).1 (then.idle mid_lost).1);
-    replied = rw (length-append bodies more, flat_map-append reply_of answers told, length-append (flat_map reply_of answers) (flat_map reply_of told)) (replied-then lost (length bodies) (length more) (length (flat_map reply_of answers)) (length (flat_map reply_of told)) first.replied then.replied);
+        ((λ i. (first.idle was).0 i ++ (then.idle mid_lost).0 i), All-append (λ (answer : Spoken). answer ≢ spoken.Refused 44) answers said (first.idle was).1 (then.idle mid_lost).1);
+    replied = rw (length-append bodies more, flat_map-append reply_of answers said, length-append (flat_map reply_of answers) (flat_map reply_of said)) (replied-then lost (length bodies) (length more) (length (flat_map reply_of answers)) (length (flat_map reply_of said)) first.replied then.replied);
   }
 
 -- ---- one frame
@@ -180,7 +180,7 @@ module _ (old new : Agent) (body : Body) (place : ℕ) (bytes : List ℕ) (encod
     bodies = body ∷ [];
     takes = asked body answer.reply encoded ask.0.1;
     asked = record {
-      agent_is = ask.2 ∙ (λ i. with_lists old (sym (numbered-one (numbered_request old.ends.requests.agent) old.ends.requests.sent (length old.ends.requests.sent) body) i) (sym (numbered-one (numbered_answer old.ends.requests.agent) old.ends.answers.taken (length old.ends.requests.sent) answer.reply) i) (sym (or-false old.lost) i));
+      agent_is = ask.2 ∙ (λ i. with_lists old (sym (numbered-one (numbered_request old.halves.requests.agent) old.halves.requests.sent (length old.halves.requests.sent) body) i) (sym (numbered-one (numbered_answer old.halves.requests.agent) old.halves.answers.taken (length old.halves.requests.sent) answer.reply) i) (sym (or-false old.lost) i));
       idle = λ was. never old.lost ask.0.0 was;
       replied = refl;
     };
@@ -189,7 +189,7 @@ module _ (old new : Agent) (body : Body) (place : ℕ) (bytes : List ℕ) (encod
     bodies = [];
     takes = given_up body encoded refl;
     asked = record {
-      agent_is = ask.2 ∙ (λ i. with_lists old (sym (numbered-none (numbered_request old.ends.requests.agent) old.ends.requests.sent (length old.ends.requests.sent)) i) (sym (numbered-none (numbered_answer old.ends.requests.agent) old.ends.answers.taken (length old.ends.requests.sent)) i) (sym (or-true old.lost) i));
+      agent_is = ask.2 ∙ (λ i. with_lists old (sym (numbered-none (numbered_request old.halves.requests.agent) old.halves.requests.sent (length old.halves.requests.sent)) i) (sym (numbered-none (numbered_answer old.halves.requests.agent) old.halves.answers.taken (length old.halves.requests.sent)) i) (sym (or-true old.lost) i));
       idle = λ was. (refl, All-nil (λ (answer : Spoken). answer ≢ spoken.Refused 44));
       replied = inl refl;
     };
@@ -198,7 +198,7 @@ module _ (old new : Agent) (body : Body) (place : ℕ) (bytes : List ℕ) (encod
     bodies = body ∷ [];
     takes = given_up_after body encoded ask.0.1 refl;
     asked = record {
-      agent_is = ask.1 ∙ (λ i. with_lists old (sym (numbered-one (numbered_request old.ends.requests.agent) old.ends.requests.sent (length old.ends.requests.sent) body) i) (sym (numbered-none (numbered_answer old.ends.requests.agent) old.ends.answers.taken (length old.ends.requests.sent)) i) (sym (or-true old.lost) i));
+      agent_is = ask.1 ∙ (λ i. with_lists old (sym (numbered-one (numbered_request old.halves.requests.agent) old.halves.requests.sent (length old.halves.requests.sent) body) i) (sym (numbered-none (numbered_answer old.halves.requests.agent) old.halves.answers.taken (length old.halves.requests.sent)) i) (sym (or-true old.lost) i));
       idle = λ was. never old.lost ask.0.0 was;
       replied = inr refl;
     };
@@ -213,7 +213,7 @@ one-refused : (agent : Agent) (refusal : Refusal) → HasAsked agent agent [] (s
 one-refused agent refusal = asked-refused agent (refusal_code refusal) (λ _. refusal_apart refusal)
 
 -- a frame that was refused, and ended the session or not
-pub turn-refused : (agent : Agent) (place : ℕ) (bytes : List ℕ) (refusal : Refusal) → Takes Connection agent.limit (length agent.ends.requests.sent) place bytes [] (spoken.Refused (refusal_code refusal) ∷ []) (refusal_end refusal)
+pub turn-refused : (agent : Agent) (place : ℕ) (bytes : List ℕ) (refusal : Refusal) → Takes Connection agent.limit (length agent.halves.requests.sent) place bytes [] (spoken.Refused (refusal_code refusal) ∷ []) (refusal_end refusal)
     → IsTurn agent agent place bytes (Some (record { answer = spoken.Refused (refusal_code refusal); over = is_some (refusal_end refusal) }))
 turn-refused agent place bytes (refusals.Body fault) takes = record { bodies = []; takes = takes; asked = one-refused agent (refusals.Body fault) }
 turn-refused agent place bytes refusals.OutOfTurn takes = record { bodies = []; takes = takes; asked = one-refused agent refusals.OutOfTurn }

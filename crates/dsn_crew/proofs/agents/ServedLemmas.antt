@@ -17,10 +17,10 @@ use Rattle.dsn_frame.specs.declared.bodies.spoken.Spoken.{Spoken}
 use Rattle.dsn_frame.proofs.AnswerLemmas.{answer_frames_from-more}
 use Rattle.dsn_frame.specs.Frame.{ReadsNext}
 use Rattle.dsn_frame.specs.Session.{Connection, IsOpenSession, IsSession, Takes, written}
-use Rattle.dsn_frame.proofs.TellingLemmas.{length-more, sent-more, sent-lost}
+use Rattle.dsn_frame.proofs.SentAnswersLemmas.{length-more, sent-more, sent-lost}
 use Rattle.dsn_frame.proofs.SessionLemmas.{session_begun, session_more, session_stopped, session_unwritten}
 use Rattle.dsn_crew.specs.agents.Agent.{Agent}
-use Rattle.dsn_crew.specs.agents.Serve.{HasAsked, IsServed, IsTurn, is_lost, is_stream_failed, is_unwritten, served_end, told, turn_end, has_lost}
+use Rattle.dsn_crew.specs.agents.Serve.{HasAsked, IsServed, IsTurn, is_lost, is_stream_failed, is_unwritten, served_end, answer_in, turn_end, has_lost}
 use Rattle.dsn_crew.specs.declared.agents.serve_fault.ServeFault.{ServeFault}
 use Rattle.dsn_crew.specs.declared.agents.serve_fault.ServeFault.TheVariants.{WriteBack, Number, Lost}
 use Rattle.dsn_crew.specs.declared.agents.served.Served.{Served}
@@ -54,7 +54,7 @@ module _ {S : Type 0} (source : Source S) (drain : Drain S) where
     pub frames : List (List ℕ)
     pub bodies : List Body
     pub answers : List Spoken
-    pub session : IsOpenSession Connection old.limit (length old.ends.requests.sent) (source.remaining before) (source.remaining stream) frames bodies answers
+    pub session : IsOpenSession Connection old.limit (length old.halves.requests.sent) (source.remaining before) (source.remaining stream) frames bodies answers
     pub asked : HasAsked old now bodies answers false
     pub written : Appends (drain.contents before) (drain.contents stream) (answer_frames_from 0 answers)
     pub counts : Counts source.failures drain.flushes source.steady false before stream
@@ -68,7 +68,7 @@ module _ {S : Type 0} (source : Source S) (drain : Drain S) where
     frames = [];
     bodies = [];
     answers = [];
-    session = session_begun Connection agent.limit (length agent.ends.requests.sent) (source.remaining stream);
+    session = session_begun Connection agent.limit (length agent.halves.requests.sent) (source.remaining stream);
     asked = asked-nothing agent;
     written = Appends-nil (drain.contents stream);
     counts = counts-none source.failures drain.flushes source.steady stream;
@@ -78,7 +78,7 @@ module _ {S : Type 0} (source : Source S) (drain : Drain S) where
 
   -- the session ended where no more frame was taken
   pub served-end : (old now : Agent) (before stream after : S) (count : ℕ) (result : Result Served ServeFault) → (so_far : ServedSoFar old before count now stream)
-      → IsSession Connection old.limit (length old.ends.requests.sent) (source.remaining before) (source.remaining after) so_far.frames so_far.bodies so_far.answers (served_end result)
+      → IsSession Connection old.limit (length old.halves.requests.sent) (source.remaining before) (source.remaining after) so_far.frames so_far.bodies so_far.answers (served_end result)
       → is_lost result ≡ false → is_unwritten result ≡ false → IfOk result (λ served. served.frames ≡ count)
       → Keeps (drain.contents stream) (drain.contents after) → Counts source.failures drain.flushes source.steady (is_stream_failed result) stream after
       → IsServed source drain old now before after result
@@ -102,9 +102,9 @@ module _ {S : Type 0} (source : Source S) (drain : Drain S) where
     written-by-then : Appends (drain.contents before) (drain.contents read) (answer_frames_from 0 so_far.answers)
     written-by-then = Appends-kept (drain.contents before) (drain.contents stream) (drain.contents read) (answer_frames_from 0 so_far.answers) so_far.written kept
 
-    takes-here : (turn : Option Turn) (is : IsTurn now next count bytes turn) → Takes Connection old.limit (length old.ends.requests.sent + length so_far.bodies) (length so_far.frames) bytes is.bodies (told turn) (turn_end turn)
+    takes-here : (turn : Option Turn) (is : IsTurn now next count bytes turn) → Takes Connection old.limit (length old.halves.requests.sent + length so_far.bodies) (length so_far.frames) bytes is.bodies (answer_in turn) (turn_end turn)
     takes-here turn is =
-        let count_is = asked-count old now next so_far.bodies is.bodies so_far.answers (told turn) (has_lost turn) so_far.asked is.asked in
+        let count_is = asked-count old now next so_far.bodies is.bodies so_far.answers (answer_in turn) (has_lost turn) so_far.asked is.asked in
         let limit_is : now.limit ≡ old.limit = ap (λ (a : Agent). a.limit) so_far.asked.agent_is in
         rw (← count_is, so_far.frames_counted, ← limit_is) is.takes
 
@@ -114,7 +114,7 @@ module _ {S : Type 0} (source : Source S) (drain : Drain S) where
       frames = so_far.frames ++ bytes ∷ [];
       bodies = so_far.bodies ++ is.bodies;
       answers = so_far.answers ++ [];
-      session = session_stopped Connection old.limit (length old.ends.requests.sent) (source.remaining before) (source.remaining stream) (source.remaining read) so_far.frames so_far.bodies so_far.answers bytes so_far.session fewer reads is.bodies [] (Some 41) 41 (takes-here None is) (written [] (Some 41));
+      session = session_stopped Connection old.limit (length old.halves.requests.sent) (source.remaining before) (source.remaining stream) (source.remaining read) so_far.frames so_far.bodies so_far.answers bytes so_far.session fewer reads is.bodies [] (Some 41) 41 (takes-here None is) (written [] (Some 41));
       asked = asked-then old now next so_far.bodies is.bodies so_far.answers [] true so_far.asked is.asked;
       written = rw (append-nil so_far.answers) written-by-then;
       answered = tt;
@@ -144,7 +144,7 @@ module _ {S : Type 0} (source : Source S) (drain : Drain S) where
         frames = so_far.frames ++ bytes ∷ [];
         bodies = so_far.bodies ++ is.bodies;
         answers = so_far.answers ++ turn.answer ∷ [];
-        session = session_more Connection old.limit (length old.ends.requests.sent) (source.remaining before) (source.remaining stream) (source.remaining sent) so_far.frames so_far.bodies so_far.answers bytes so_far.session fewer reads-then is.bodies (turn.answer ∷ []) (rw goes_on at (takes-here (Some turn) is));
+        session = session_more Connection old.limit (length old.halves.requests.sent) (source.remaining before) (source.remaining stream) (source.remaining sent) so_far.frames so_far.bodies so_far.answers bytes so_far.session fewer reads-then is.bodies (turn.answer ∷ []) (rw goes_on at (takes-here (Some turn) is));
         asked = then-asked;
         written = then-written one;
         counts = then-counts false counts;
@@ -159,7 +159,7 @@ module _ {S : Type 0} (source : Source S) (drain : Drain S) where
         frames = so_far.frames ++ bytes ∷ [];
         bodies = so_far.bodies ++ is.bodies;
         answers = so_far.answers ++ turn.answer ∷ [];
-        session = session_unwritten Connection old.limit (length old.ends.requests.sent) (source.remaining before) (source.remaining stream) (source.remaining sent) so_far.frames so_far.bodies so_far.answers bytes so_far.session fewer reads-then is.bodies turn.answer (turn_end (Some turn)) (takes-here (Some turn) is);
+        session = session_unwritten Connection old.limit (length old.halves.requests.sent) (source.remaining before) (source.remaining stream) (source.remaining sent) so_far.frames so_far.bodies so_far.answers bytes so_far.session fewer reads-then is.bodies turn.answer (turn_end (Some turn)) (takes-here (Some turn) is);
         asked = then-asked;
         written = sent-lost answer_bytes answer_frames_from (drain.contents before) (drain.contents read) (drain.contents sent) so_far.answers turn.answer count so_far.answers_counted written-by-then (rw number_is at part);
         answered = tt;
@@ -173,7 +173,7 @@ module _ {S : Type 0} (source : Source S) (drain : Drain S) where
         frames = so_far.frames ++ bytes ∷ [];
         bodies = so_far.bodies ++ is.bodies;
         answers = so_far.answers ++ turn.answer ∷ [];
-        session = session_stopped Connection old.limit (length old.ends.requests.sent) (source.remaining before) (source.remaining stream) (source.remaining sent) so_far.frames so_far.bodies so_far.answers bytes so_far.session fewer reads-then is.bodies (turn.answer ∷ []) (Some 46) 46 (rw over at (takes-here (Some turn) is)) (written (turn.answer ∷ []) (Some 46));
+        session = session_stopped Connection old.limit (length old.halves.requests.sent) (source.remaining before) (source.remaining stream) (source.remaining sent) so_far.frames so_far.bodies so_far.answers bytes so_far.session fewer reads-then is.bodies (turn.answer ∷ []) (Some 46) 46 (rw over at (takes-here (Some turn) is)) (written (turn.answer ∷ []) (Some 46));
         asked = then-asked;
         written = then-written one;
         answered = tt;

@@ -6,17 +6,17 @@ use Rattle.std.proofs.lemmas.List.Elements.{All-cons, All-head, All-nil, All-tai
 use Rattle.std.proofs.lemmas.Simd.{map-map}
 use Rattle.std.specs.List.{slice_index_or}
 use mathlib.Core.List.{IsPrefix}
-use Rattle.dsn_lane.specs.Ends.{End, Identity}
+use Rattle.dsn_lane.specs.Halves.{Half, Identity}
 use Rattle.dsn_outcome.specs.Agents.{from_agent}
 use Rattle.dsn_outcome.specs.History.{Exchange, answers_to}
 use Rattle.dsn_outcome.specs.Request.{Request}
 use Rattle.dsn_outcome.specs.declared.answer.Answer.{Answer}
 use Rattle.dsn_outcome.proofs.HistoryLaws.{answers_length}
-use Rattle.dsn_crew.specs.agents.Agent.{Ends, IsFinished}
+use Rattle.dsn_crew.specs.agents.Agent.{LaneHalves, IsFinished}
 use Rattle.dsn_crew.specs.desk.Close.{AreCrew, AreOf, IsHeard}
 use Rattle.dsn_crew.specs.desk.Desk.{Desk, IsDesk, all_gone, history}
 use Rattle.dsn_crew.specs.agents.Place.{Place, place_at, place_of}
-use Rattle.dsn_crew.proofs.desk.DeskLemmas.{first_end}
+use Rattle.dsn_crew.proofs.desk.DeskLemmas.{first_half}
 
 -- ---- prefixes and lists
 
@@ -41,23 +41,23 @@ to_map P f (x ∷ xs) all = All-cons P (f x) (map f xs) (All-head (λ y. P (f y)
 
 -- ---- one agent
 
--- what the one end of a lane has sent begins with what was taken
-pub one_prefix : (ends : List (End Answer)) (end : End Answer) (agent : ℕ) (taken : List Answer) → ends ≡ end ∷ [] → end.agent ≡ agent → from_agent (λ (answer : Answer). answer.agent) agent taken ≡ taken
-    → All (λ (it : End Answer). IsPrefix (from_agent (λ (answer : Answer). answer.agent) it.agent taken) it.sent) ends → IsPrefix taken end.sent
-one_prefix ends end agent taken one of_agent mine all =
-    let here = All-head (λ (it : End Answer). IsPrefix (from_agent (λ (answer : Answer). answer.agent) it.agent taken) it.sent) end [] (subst (All (λ (it : End Answer). IsPrefix (from_agent (λ (answer : Answer). answer.agent) it.agent taken) it.sent)) one all) in
-    subst (λ (items : List Answer). IsPrefix items end.sent) (ap (λ (a : ℕ). from_agent (λ (answer : Answer). answer.agent) a taken) of_agent ∙ mine) here
+-- what the one sending half of a lane has sent begins with what was taken
+pub one_prefix : (halves : List (Half Answer)) (half : Half Answer) (agent : ℕ) (taken : List Answer) → halves ≡ half ∷ [] → half.agent ≡ agent → from_agent (λ (answer : Answer). answer.agent) agent taken ≡ taken
+    → All (λ (it : Half Answer). IsPrefix (from_agent (λ (answer : Answer). answer.agent) it.agent taken) it.sent) halves → IsPrefix taken half.sent
+one_prefix halves half agent taken one of_agent mine all =
+    let here = All-head (λ (it : Half Answer). IsPrefix (from_agent (λ (answer : Answer). answer.agent) it.agent taken) it.sent) half [] (subst (All (λ (it : Half Answer). IsPrefix (from_agent (λ (answer : Answer). answer.agent) it.agent taken) it.sent)) one all) in
+    subst (λ (items : List Answer). IsPrefix items half.sent) (ap (λ (a : ℕ). from_agent (λ (answer : Answer). answer.agent) a taken) of_agent ∙ mine) here
 
 -- an agent that said goodbye, and got the first of the answers that a history gives it
-pub record IsAnswered (exchanges : List Exchange) (ends : Ends) : Type 0 where
-  pub finished : IsFinished ends
-  pub got : IsPrefix ends.answers.taken (answers_to ends.requests.agent exchanges)
+pub record IsAnswered (exchanges : List Exchange) (halves : LaneHalves) : Type 0 where
+  pub finished : IsFinished halves
+  pub got : IsPrefix halves.answers.taken (answers_to halves.requests.agent exchanges)
 
 -- where what was taken of it is the first of what it sent, then it is all of that: it has an answer to each request
-heard : (desk : Desk) (ends : Ends) → IsAnswered (history desk) ends → IsPrefix (from_agent (λ (request : Request). request.agent) ends.requests.agent desk.requests.taken) ends.requests.sent → IsHeard desk ends
-heard desk ends answered taken =
+heard : (desk : Desk) (halves : LaneHalves) → IsAnswered (history desk) halves → IsPrefix (from_agent (λ (request : Request). request.agent) halves.requests.agent desk.requests.taken) halves.requests.sent → IsHeard desk halves
+heard desk halves answered taken =
     let each = answered.finished.answered in
-    let as_many = answers_length desk.book.limits ends.requests.agent desk.requests.taken in
+    let as_many = answers_length desk.book.limits halves.requests.agent desk.requests.taken in
     let less = prefix-length _ _ answered.got in
     let few = prefix-length _ _ taken in
     record {
@@ -67,34 +67,34 @@ heard desk ends answered taken =
 
 -- ---- all agents, one after another
 
--- an agent, and the end that answers it
-pub paired : (lane : Identity Request) (crew rest : List Ends) (lines left : List (End Answer)) (one : Ends) (line : End Answer) → map place_of crew ≡ map (place_at lane) lines → crew ≡ one ∷ rest → lines ≡ line ∷ left
+-- an agent, and the half that answers it
+pub paired : (lane : Identity Request) (crew rest : List LaneHalves) (lines left : List (Half Answer)) (one : LaneHalves) (line : Half Answer) → map place_of crew ≡ map (place_at lane) lines → crew ≡ one ∷ rest → lines ≡ line ∷ left
     → (place_of one ≡ place_at lane line) × (map place_of rest ≡ map (place_at lane) left)
 paired lane crew rest lines left one line same crew_is lines_are =
     let both : place_of one ∷ map place_of rest ≡ place_at lane line ∷ map (place_at lane) left = sym (ap (map place_of) crew_is) ∙ (same ∙ ap (map (place_at lane)) lines_are) in
     (cc, cc)
 
-pub as_many : (lane : Identity Request) (crew : List Ends) (lines : List (End Answer)) → map place_of crew ≡ map (place_at lane) lines → length crew ≡ length lines
+pub as_many : (lane : Identity Request) (crew : List LaneHalves) (lines : List (Half Answer)) → map place_of crew ≡ map (place_at lane) lines → length crew ≡ length lines
 as_many lane crew lines same = sym (length-map crew place_of) ∙ (ap length same ∙ length-map lines (place_at lane))
 
 -- one agent more is closed
-pub closed_more : (exchanges : List Exchange) (crew rest all : List Ends) (one : Ends) → crew ≡ one ∷ rest → IsAnswered exchanges one → (All (IsAnswered exchanges) crew → All (IsAnswered exchanges) all) → All (IsAnswered exchanges) rest → All (IsAnswered exchanges) all
+pub closed_more : (exchanges : List Exchange) (crew rest all : List LaneHalves) (one : LaneHalves) → crew ≡ one ∷ rest → IsAnswered exchanges one → (All (IsAnswered exchanges) crew → All (IsAnswered exchanges) all) → All (IsAnswered exchanges) rest → All (IsAnswered exchanges) all
 closed_more exchanges crew rest all one crew_is closed before left =
     before (subst (All (IsAnswered exchanges)) (sym crew_is) (All-cons (IsAnswered exchanges) one rest closed left))
 
-pub none_answered : (exchanges : List Exchange) (crew : List Ends) → length crew ≡ 0 → All (IsAnswered exchanges) crew
+pub none_answered : (exchanges : List Exchange) (crew : List LaneHalves) → length crew ≡ 0 → All (IsAnswered exchanges) crew
 none_answered exchanges crew none = λ k d inside. absurd (let nothing = none in omega arith)
 
--- and its end is kept for the close of the request lane
-pub kept_more : (room more : List (End Request)) (end : End Request) (crew rest all : List Ends) (one : Ends) → crew ≡ one ∷ rest → end ≡ one.requests → more ≡ room ++ end ∷ [] → room ++ map (λ (ends : Ends). ends.requests) crew ≡ map (λ (ends : Ends). ends.requests) all → more ++ map (λ (ends : Ends). ends.requests) rest ≡ map (λ (ends : Ends). ends.requests) all
-kept_more room more end crew rest all one crew_is end_is more_is before =
-    ap (λ (it : List (End Request)). it ++ map (λ (ends : Ends). ends.requests) rest) (more_is ∙ ap (λ (it : End Request). room ++ it ∷ []) end_is)
-    ∙ (append_assoc room (one.requests ∷ []) (map (λ (ends : Ends). ends.requests) rest)
-    ∙ (ap (λ (it : List Ends). room ++ map (λ (ends : Ends). ends.requests) it) (sym crew_is) ∙ before))
+-- and its half is kept for the close of the request lane
+pub kept_more : (room more : List (Half Request)) (half : Half Request) (crew rest all : List LaneHalves) (one : LaneHalves) → crew ≡ one ∷ rest → half ≡ one.requests → more ≡ room ++ half ∷ [] → room ++ map (λ (halves : LaneHalves). halves.requests) crew ≡ map (λ (halves : LaneHalves). halves.requests) all → more ++ map (λ (halves : LaneHalves). halves.requests) rest ≡ map (λ (halves : LaneHalves). halves.requests) all
+kept_more room more half crew rest all one crew_is end_is more_is before =
+    ap (λ (it : List (Half Request)). it ++ map (λ (halves : LaneHalves). halves.requests) rest) (more_is ∙ ap (λ (it : Half Request). room ++ it ∷ []) end_is)
+    ∙ (append_assoc room (one.requests ∷ []) (map (λ (halves : LaneHalves). halves.requests) rest)
+    ∙ (ap (λ (it : List LaneHalves). room ++ map (λ (halves : LaneHalves). halves.requests) it) (sym crew_is) ∙ before))
 
-pub kept_all : (room : List (End Request)) (left all : List Ends) → length left ≡ 0 → room ++ map (λ (ends : Ends). ends.requests) left ≡ map (λ (ends : Ends). ends.requests) all → room ≡ map (λ (ends : Ends). ends.requests) all
+pub kept_all : (room : List (Half Request)) (left all : List LaneHalves) → length left ≡ 0 → room ++ map (λ (halves : LaneHalves). halves.requests) left ≡ map (λ (halves : LaneHalves). halves.requests) all → room ≡ map (λ (halves : LaneHalves). halves.requests) all
 kept_all room left all none before =
-    sym (append-nil room) ∙ (ap (λ (it : List Ends). room ++ map (λ (ends : Ends). ends.requests) it) (sym (nil_from_length left none)) ∙ before)
+    sym (append-nil room) ∙ (ap (λ (it : List LaneHalves). room ++ map (λ (halves : LaneHalves). halves.requests) it) (sym (nil_from_length left none)) ∙ before)
 
 -- ---- the whole crew
 
@@ -102,41 +102,41 @@ not_failed : (failed right : Bool) → (not failed && right) ≡ true → failed
 not_failed true right is = absurd (false≢true is)
 not_failed false right is = refl
 
--- what each agent's end has sent, once all said goodbye
-pub lines_answered : (desk : Desk) → IsDesk desk → all_gone desk ≡ true → All (λ (end : End Answer). end.sent ≡ answers_to end.agent (history desk)) desk.answers
+-- what each agent's half has sent, once all said goodbye
+pub lines_answered : (desk : Desk) → IsDesk desk → all_gone desk ≡ true → All (λ (half : Half Answer). half.sent ≡ answers_to half.agent (history desk)) desk.answers
 lines_answered desk kept gone k d inside =
     kept.answered (not_failed desk.failed _ gone) k d inside ∙ ap (λ (a : ℕ). answers_to a (history desk)) (sym (kept.lines k d inside))
 
--- all ends are of the request lane
-pub of_one_lane : (lane : Identity Request) (crew : List Ends) (lines : List (End Answer)) → map place_of crew ≡ map (place_at lane) lines → All (λ (ends : Ends). ends.requests.lane ≡ lane) crew
-of_one_lane lane [] lines same = All-nil (λ (ends : Ends). ends.requests.lane ≡ lane)
+-- all halves are of the request lane
+pub of_one_lane : (lane : Identity Request) (crew : List LaneHalves) (lines : List (Half Answer)) → map place_of crew ≡ map (place_at lane) lines → All (λ (halves : LaneHalves). halves.requests.lane ≡ lane) crew
+of_one_lane lane [] lines same = All-nil (λ (halves : LaneHalves). halves.requests.lane ≡ lane)
 of_one_lane lane (one ∷ crew) [] same = cc
 of_one_lane lane (one ∷ crew) (line ∷ lines) same =
     let both = paired lane (one ∷ crew) crew (line ∷ lines) lines one line same refl refl in
-    All-cons (λ (ends : Ends). ends.requests.lane ≡ lane) one crew (ap (λ (place : Place). place.asks) both.0) (of_one_lane lane crew lines both.1)
+    All-cons (λ (halves : LaneHalves). halves.requests.lane ≡ lane) one crew (ap (λ (place : Place). place.asks) both.0) (of_one_lane lane crew lines both.1)
 
-pub room_of_one_lane : (lane : Identity Request) (crew : List Ends) (lines : List (End Answer)) (room : List (End Request)) → map place_of crew ≡ map (place_at lane) lines → room ≡ map (λ (ends : Ends). ends.requests) crew → All (λ (end : End Request). end.lane ≡ lane) room
+pub room_of_one_lane : (lane : Identity Request) (crew : List LaneHalves) (lines : List (Half Answer)) (room : List (Half Request)) → map place_of crew ≡ map (place_at lane) lines → room ≡ map (λ (halves : LaneHalves). halves.requests) crew → All (λ (half : Half Request). half.lane ≡ lane) room
 room_of_one_lane lane crew lines room same room_is =
-    subst (All (λ (end : End Request). end.lane ≡ lane)) (sym room_is) (to_map (λ (end : End Request). end.lane ≡ lane) (λ (ends : Ends). ends.requests) crew (of_one_lane lane crew lines same))
+    subst (All (λ (half : Half Request). half.lane ≡ lane)) (sym room_is) (to_map (λ (half : Half Request). half.lane ≡ lane) (λ (halves : LaneHalves). halves.requests) crew (of_one_lane lane crew lines same))
 
 -- each agent was heard
-pub all_heard : (desk : Desk) (crew : List Ends) (room : List (End Request)) → All (IsAnswered (history desk)) crew → room ≡ map (λ (ends : Ends). ends.requests) crew
-    → All (λ (end : End Request). IsPrefix (from_agent (λ (request : Request). request.agent) end.agent desk.requests.taken) end.sent) room → All (IsHeard desk) crew
+pub all_heard : (desk : Desk) (crew : List LaneHalves) (room : List (Half Request)) → All (IsAnswered (history desk)) crew → room ≡ map (λ (halves : LaneHalves). halves.requests) crew
+    → All (λ (half : Half Request). IsPrefix (from_agent (λ (request : Request). request.agent) half.agent desk.requests.taken) half.sent) room → All (IsHeard desk) crew
 all_heard desk crew room closed room_is taken k d inside =
-    heard desk _ (closed k d inside) (from_map (λ (end : End Request). IsPrefix (from_agent (λ (request : Request). request.agent) end.agent desk.requests.taken) end.sent) (λ (ends : Ends). ends.requests) crew (subst (All (λ (end : End Request). IsPrefix (from_agent (λ (request : Request). request.agent) end.agent desk.requests.taken) end.sent)) room_is taken) k d inside)
+    heard desk _ (closed k d inside) (from_map (λ (half : Half Request). IsPrefix (from_agent (λ (request : Request). request.agent) half.agent desk.requests.taken) half.sent) (λ (halves : LaneHalves). halves.requests) crew (subst (All (λ (half : Half Request). IsPrefix (from_agent (λ (request : Request). request.agent) half.agent desk.requests.taken) half.sent)) room_is taken) k d inside)
 
 -- what was taken is of agents of the crew
-same_agents : (lane : Identity Request) (crew : List Ends) (lines : List (End Answer)) → map place_of crew ≡ map (place_at lane) lines → map (λ (ends : Ends). ends.requests.agent) crew ≡ map (λ (end : End Answer). end.agent) lines
+same_agents : (lane : Identity Request) (crew : List LaneHalves) (lines : List (Half Answer)) → map place_of crew ≡ map (place_at lane) lines → map (λ (halves : LaneHalves). halves.requests.agent) crew ≡ map (λ (half : Half Answer). half.agent) lines
 same_agents lane crew lines same =
     sym (map-map (λ (place : Place). place.agent) place_of crew) ∙ (ap (map (λ (place : Place). place.agent)) same ∙ map-map (λ (place : Place). place.agent) (place_at lane) lines)
 
-pub all_of_crew : (desk : Desk) (crew : List Ends) → IsDesk desk → AreCrew crew desk → AreOf crew desk.requests.taken
+pub all_of_crew : (desk : Desk) (crew : List LaneHalves) → IsDesk desk → AreCrew crew desk → AreOf crew desk.requests.taken
 all_of_crew desk crew kept same =
-    All-weaker (λ (request : Request). request.agent < length desk.answers) (λ (request : Request). Contains (map (λ (ends : Ends). ends.requests.agent) crew) request.agent)
+    All-weaker (λ (request : Request). request.agent < length desk.answers) (λ (request : Request). Contains (map (λ (halves : LaneHalves). halves.requests.agent) crew) request.agent)
     (λ request inside. (
       request.agent,
-      (let count = as_many desk.requests.lane crew desk.answers same in let long = length-map crew (λ (ends : Ends). ends.requests.agent) in omega (arith, inside)),
-      (let d : End Answer = first_end desk.answers request.agent inside in
+      (let count = as_many desk.requests.lane crew desk.answers same in let long = length-map crew (λ (halves : LaneHalves). halves.requests.agent) in omega (arith, inside)),
+      (let d : Half Answer = first_half desk.answers request.agent inside in
           ap (λ (agents : List ℕ). slice_index_or agents request.agent request.agent) (same_agents desk.requests.lane crew desk.answers same)
-          ∙ (get_or-map (λ (end : End Answer). end.agent) desk.answers request.agent d request.agent inside ∙ kept.lines request.agent d inside)),
+          ∙ (get_or-map (λ (half : Half Answer). half.agent) desk.answers request.agent d request.agent inside ∙ kept.lines request.agent d inside)),
     )) desk.requests.taken kept.mine

@@ -9,48 +9,48 @@ use Rattle.std.proofs.lemmas.Bool.{false≢true}
 use mathlib.Core.List.{IsPrefix}
 use native.Mathlib.Decide.{ℕ_discrete}
 use Rattle.dsn_book.specs.Book.{Book, Represents}
-use Rattle.dsn_lane.specs.Ends.{End, Out, Identity}
+use Rattle.dsn_lane.specs.Halves.{Half, Out, Identity}
 use Rattle.dsn_lane.specs.Lane.{IsNumbered}
 use Rattle.dsn_outcome.specs.Agents.{from_agent}
 use Rattle.dsn_outcome.specs.History.{answer_of, answers_to, exchange_of, history_of}
 use Rattle.dsn_outcome.specs.Request.{Request, Body, Append, Flush, Discard, Forget, Bye}
 use Rattle.dsn_outcome.specs.declared.answer.Answer.{Answer}
 use Rattle.dsn_outcome.proofs.HistoryLaws.{answers_length, answers_mine, answers_more, answers_other, history_more, letters_few}
-use Rattle.dsn_crew.specs.desk.Desk.{Desk, IsDesk, AreAnswered, AreTold, IsStopped, answered_more, goodbyes, history, is_goodbye, next_exchange, places_of, taken_request}
-use Rattle.dsn_crew.specs.declared.desk.stop.Stop.{Stop}
+use Rattle.dsn_crew.specs.desk.Desk.{Desk, IsDesk, AreAnswered, IsAnswerSent, IsStopped, answered_more, goodbyes, history, is_goodbye, next_exchange, places_of, taken_request}
+use Rattle.dsn_crew.specs.declared.desk.stop_cause.StopCause.{StopCause}
 use Rattle.dsn_crew.specs.agents.Place.{Place, place_at}
 
--- ---- the ends of the answer lanes
+-- ---- the halves of the answer lanes
 
--- where there is an end, there is a first one
-pub first_end : (ends : List (End Answer)) (k : ℕ) → k < length ends → End Answer
-first_end [] k inside = absurd (omega arith)
-first_end (end ∷ ends) k inside = end
+-- where there is a half, there is a first one
+pub first_half : (halves : List (Half Answer)) (k : ℕ) → k < length halves → Half Answer
+first_half [] k inside = absurd (omega arith)
+first_half (half ∷ halves) k inside = half
 
--- an answer that was lost leaves all ends as they were
-pub told_none : (old new : List (End Answer)) (answer : Answer) → (d : End Answer) → AreTold false old answer new → new ≡ old
-told_none old new answer d told = told d ∙ set-get_or old answer.agent d
+-- an answer that was lost leaves all halves as they were
+pub sent_none : (old new : List (Half Answer)) (answer : Answer) → (d : Half Answer) → IsAnswerSent false old answer new → new ≡ old
+sent_none old new answer d is_sent = is_sent d ∙ set-get_or old answer.agent d
 
-places_set : (lane : Identity Request) (ends : List (End Answer)) (k : ℕ) (d end : End Answer) → place_at lane end ≡ place_at lane (slice_index_or ends k d) → map (place_at lane) (set ends k end) ≡ map (place_at lane) ends
-places_set lane [] k d end same = refl
-places_set lane (first ∷ ends) zero d end same = ap (λ (place : Place). place ∷ map (place_at lane) ends) same
-places_set lane (first ∷ ends) (suc k) d end same = ap (λ (places : List Place). place_at lane first ∷ places) (places_set lane ends k d end same)
+places_set : (lane : Identity Request) (halves : List (Half Answer)) (k : ℕ) (d half : Half Answer) → place_at lane half ≡ place_at lane (slice_index_or halves k d) → map (place_at lane) (set halves k half) ≡ map (place_at lane) halves
+places_set lane [] k d half same = refl
+places_set lane (first ∷ halves) zero d half same = ap (λ (place : Place). place ∷ map (place_at lane) halves) same
+places_set lane (first ∷ halves) (suc k) d half same = ap (λ (places : List Place). place_at lane first ∷ places) (places_set lane halves k d half same)
 
-same_place : (lane : Identity Request) (sent : Bool) (end : End Answer) (answer : Answer) → place_at lane (answered_more sent end answer) ≡ place_at lane end
-same_place lane true end answer = refl
-same_place lane false end answer = refl
+same_place : (lane : Identity Request) (sent : Bool) (half : Half Answer) (answer : Answer) → place_at lane (answered_more sent half answer) ≡ place_at lane half
+same_place lane true half answer = refl
+same_place lane false half answer = refl
 
 -- the agents keep their places
-pub told_places : (out : Out Request) (old : Desk) (new : List (End Answer)) (sent : Bool) (answer : Answer) → (d : End Answer) → AreTold sent old.answers answer new → out.lane ≡ old.requests.lane → map (place_at out.lane) new ≡ places_of old
-told_places out old new sent answer d told lane =
-    ap (map (place_at out.lane)) (told d)
+pub sent_places : (out : Out Request) (old : Desk) (new : List (Half Answer)) (sent : Bool) (answer : Answer) → (d : Half Answer) → IsAnswerSent sent old.answers answer new → out.lane ≡ old.requests.lane → map (place_at out.lane) new ≡ places_of old
+sent_places out old new sent answer d is_sent lane =
+    ap (map (place_at out.lane)) (is_sent d)
     ∙ (places_set out.lane old.answers answer.agent d (answered_more sent (slice_index_or old.answers answer.agent d) answer) (same_place out.lane sent (slice_index_or old.answers answer.agent d) answer)
     ∙ ap (λ (it : Identity Request). map (place_at it) old.answers) lane)
 
--- there is room for as many ends as before
-pub told_room : (sent : Bool) (old new : List (End Answer)) (answer : Answer) (room : ℕ) → (d : End Answer) → AreTold sent old answer new → length old ≤ room → length new ≤ room
-told_room sent old new answer room d told enough =
-    let same : length new ≡ length old = ap length (told d) ∙ length-set old answer.agent (answered_more sent (slice_index_or old answer.agent d) answer) in
+-- there is room for as many halves as before
+pub sent_room : (sent : Bool) (old new : List (Half Answer)) (answer : Answer) (room : ℕ) → (d : Half Answer) → IsAnswerSent sent old answer new → length old ≤ room → length new ≤ room
+sent_room sent old new answer room d is_sent enough =
+    let same : length new ≡ length old = ap length (is_sent d) ∙ length-set old answer.agent (answered_more sent (slice_index_or old answer.agent d) answer) in
     omega arith
 
 -- one more is counted
@@ -112,11 +112,11 @@ module _ (desk : Desk) (request : Request) (answer : Answer) (asked : IsAsked de
   pub within : answer.agent < length desk.answers
   within = let past = asked.kept.past in let agent = of_agent in let from = asked.from in omega arith
 
-  pub line_agent : (d : End Answer) → (slice_index_or desk.answers answer.agent d).agent ≡ answer.agent
+  pub line_agent : (d : Half Answer) → (slice_index_or desk.answers answer.agent d).agent ≡ answer.agent
   line_agent d = asked.kept.lines answer.agent d within
 
   -- the answer is the next of its lane
-  pub line_number : (d : End Answer) → length (slice_index_or desk.answers answer.agent d).sent ≡ answer.number
+  pub line_number : (d : Half Answer) → length (slice_index_or desk.answers answer.agent d).sent ≡ answer.number
   line_number d =
       ap length (asked.kept.answered asked.going answer.agent d within)
       ∙ (answers_length desk.book.limits answer.agent desk.requests.taken
@@ -137,63 +137,63 @@ module _ (desk : Desk) (request : Request) (answer : Answer) (asked : IsAsked de
   unfolding exchange_of
   not_mine a other = ne_eqb request.agent a (λ same. other (sym same ∙ sym of_agent))
 
-  module _ (book : Book) (out : Out Request) (ends : List (End Answer)) (missed : ℕ) (failed : Bool) (limits : book.limits ≡ desk.book.limits) (taken : out ≡ taken_request desk.requests request) where
+  module _ (book : Book) (out : Out Request) (halves : List (Half Answer)) (missed : ℕ) (failed : Bool) (limits : book.limits ≡ desk.book.limits) (taken : out ≡ taken_request desk.requests request) where
     abbrev new : Desk
-    new = record { book = book; requests = out; answers = ends; missed = missed; failed = failed }
+    new = record { book = book; requests = out; answers = halves; missed = missed; failed = failed }
 
     history_new : history new ≡ history desk ++ next_exchange desk request ∷ []
     history_new =
         (λ i. history_of (limits i) (taken i).taken) ∙ history_more desk.book.limits desk.requests.taken request
 
-    told_at : (told : AreTold true desk.answers answer ends) (a : ℕ) (d : End Answer) → a < length desk.answers → (slice_index_or ends a d).sent ≡ answers_to a (history desk ++ next_exchange desk request ∷ [])
-    told_at told a d inside =
+    sent_at : (is_sent : IsAnswerSent true desk.answers answer halves) (a : ℕ) (d : Half Answer) → a < length desk.answers → (slice_index_or halves a d).sent ≡ answers_to a (history desk ++ next_exchange desk request ∷ [])
+    sent_at is_sent a d inside =
         elim (ℕ_discrete a answer.agent) [
           | yes same ↦
-              ap (λ (es : List (End Answer)). (slice_index_or es a d).sent) (told d)
+              ap (λ (es : List (Half Answer)). (slice_index_or es a d).sent) (is_sent d)
               ∙ (ap (λ (k : ℕ). (slice_index_or (set desk.answers answer.agent (answered_more true (slice_index_or desk.answers answer.agent d) answer)) k d).sent) same
-              ∙ (ap (λ (e : End Answer). e.sent) (get_or-set_same desk.answers answer.agent (answered_more true (slice_index_or desk.answers answer.agent d) answer) d within)
+              ∙ (ap (λ (e : Half Answer). e.sent) (get_or-set_same desk.answers answer.agent (answered_more true (slice_index_or desk.answers answer.agent d) answer) d within)
               ∙ ((λ i. asked.kept.answered asked.going answer.agent d within i ++ asked.answer_is i ∷ [])
               ∙ (sym (answers_mine answer.agent (history desk) (next_exchange desk request) mine)
               ∙ ap (λ (k : ℕ). answers_to k (history desk ++ next_exchange desk request ∷ [])) (sym same)))))
           | no other ↦
-              ap (λ (es : List (End Answer)). (slice_index_or es a d).sent) (told d)
-              ∙ (ap (λ (e : End Answer). e.sent) (get_or-set_other desk.answers answer.agent a (answered_more true (slice_index_or desk.answers answer.agent d) answer) d other)
+              ap (λ (es : List (Half Answer)). (slice_index_or es a d).sent) (is_sent d)
+              ∙ (ap (λ (e : Half Answer). e.sent) (get_or-set_other desk.answers answer.agent a (answered_more true (slice_index_or desk.answers answer.agent d) answer) d other)
               ∙ (asked.kept.answered asked.going a d inside
               ∙ sym (answers_other a (history desk) (next_exchange desk request) (not_mine a other))))
         ]
 
-    long : (sent : Bool) (d : End Answer) → AreTold sent desk.answers answer ends → length ends ≡ length desk.answers
-    long sent d told = ap length (told d) ∙ length-set desk.answers answer.agent (answered_more sent (slice_index_or desk.answers answer.agent d) answer)
+    long : (sent : Bool) (d : Half Answer) → IsAnswerSent sent desk.answers answer halves → length halves ≡ length desk.answers
+    long sent d is_sent = ap length (is_sent d) ∙ length-set desk.answers answer.agent (answered_more sent (slice_index_or desk.answers answer.agent d) answer)
 
-    line_kept : (sent : Bool) (end : End Answer) → (answered_more sent end answer).agent ≡ end.agent
-    line_kept true end = refl
-    line_kept false end = refl
+    line_kept : (sent : Bool) (half : Half Answer) → (answered_more sent half answer).agent ≡ half.agent
+    line_kept true half = refl
+    line_kept false half = refl
 
-    lines_new : (sent : Bool) → AreTold sent desk.answers answer ends → (a : ℕ) (d : End Answer) → a < length desk.answers → (slice_index_or ends a d).agent ≡ a
-    lines_new sent told a d inside =
-        let e : End Answer = answered_more sent (slice_index_or desk.answers answer.agent d) answer in
+    lines_new : (sent : Bool) → IsAnswerSent sent desk.answers answer halves → (a : ℕ) (d : Half Answer) → a < length desk.answers → (slice_index_or halves a d).agent ≡ a
+    lines_new sent is_sent a d inside =
+        let e : Half Answer = answered_more sent (slice_index_or desk.answers answer.agent d) answer in
         elim (ℕ_discrete a answer.agent) [
           | yes same ↦
-              ap (λ (es : List (End Answer)). (slice_index_or es a d).agent) (told d)
+              ap (λ (es : List (Half Answer)). (slice_index_or es a d).agent) (is_sent d)
               ∙ (ap (λ (k : ℕ). (slice_index_or (set desk.answers answer.agent e) k d).agent) same
-              ∙ (ap (λ (it : End Answer). it.agent) (get_or-set_same desk.answers answer.agent e d within)
+              ∙ (ap (λ (it : Half Answer). it.agent) (get_or-set_same desk.answers answer.agent e d within)
               ∙ (line_kept sent (slice_index_or desk.answers answer.agent d) ∙ (line_agent d ∙ sym same))))
           | no other ↦
-              ap (λ (es : List (End Answer)). (slice_index_or es a d).agent) (told d)
-              ∙ (ap (λ (it : End Answer). it.agent) (get_or-set_other desk.answers answer.agent a e d other) ∙ asked.kept.lines a d inside)
+              ap (λ (es : List (Half Answer)). (slice_index_or es a d).agent) (is_sent d)
+              ∙ (ap (λ (it : Half Answer). it.agent) (get_or-set_other desk.answers answer.agent a e d other) ∙ asked.kept.lines a d inside)
         ]
 
     -- each agent was sent what the history with the request more answers it
-    answered_new : (d : End Answer) → AreTold true desk.answers answer ends → AreAnswered ends (history new)
-    answered_new d told = λ a d' inside. let same = long true d told in told_at told a d' (omega arith) ∙ ap (answers_to a) (sym history_new)
+    answered_new : (d : Half Answer) → IsAnswerSent true desk.answers answer halves → AreAnswered halves (history new)
+    answered_new d is_sent = λ a d' inside. let same = long true d is_sent in sent_at is_sent a d' (omega arith) ∙ ap (answers_to a) (sym history_new)
 
     -- or, where the answer was lost, the first of it
-    sent_new : (sent : Bool) (d : End Answer) → AreTold sent desk.answers answer ends → (a : ℕ) (d' : End Answer) → a < length ends → IsPrefix (slice_index_or ends a d').sent (answers_to a (history new))
-    sent_new true d told a d' inside = ([], append-nil (slice_index_or ends a d').sent ∙ answered_new d told a d' inside)
-    sent_new false d told a d' inside =
-        let same = told_none desk.answers ends answer d told in
-        let before : (slice_index_or ends a d').sent ≡ answers_to a (history desk) =
-        ap (λ (es : List (End Answer)). (slice_index_or es a d').sent) same ∙ asked.kept.answered asked.going a d' (subst (λ (es : List (End Answer)). a < length es) same inside) in (
+    sent_new : (sent : Bool) (d : Half Answer) → IsAnswerSent sent desk.answers answer halves → (a : ℕ) (d' : Half Answer) → a < length halves → IsPrefix (slice_index_or halves a d').sent (answers_to a (history new))
+    sent_new true d is_sent a d' inside = ([], append-nil (slice_index_or halves a d').sent ∙ answered_new d is_sent a d' inside)
+    sent_new false d is_sent a d' inside =
+        let same = sent_none desk.answers halves answer d is_sent in
+        let before : (slice_index_or halves a d').sent ≡ answers_to a (history desk) =
+        ap (λ (es : List (Half Answer)). (slice_index_or es a d').sent) same ∙ asked.kept.answered asked.going a d' (subst (λ (es : List (Half Answer)). a < length es) same inside) in (
           answers_to a (next_exchange desk request ∷ []),
           ap (λ (l : List Answer). l ++ answers_to a (next_exchange desk request ∷ [])) before
               ∙ (sym (answers_more a (history desk) (next_exchange desk request ∷ []))
@@ -202,18 +202,18 @@ module _ (desk : Desk) (request : Request) (answer : Answer) (asked : IsAsked de
 
     -- the collector stands for one request more
     -- what was taken is of its agents, with the request more
-    mine_new : length ends ≡ length desk.answers → All (λ (r : Request). r.agent < length ends) out.taken
+    mine_new : length halves ≡ length desk.answers → All (λ (r : Request). r.agent < length halves) out.taken
     mine_new same =
         let past = asked.kept.past in
         let from = asked.from in
-        subst (All (λ (r : Request). r.agent < length ends)) (sym (ap (λ (o : Out Request). o.taken) taken))
-        (All-append (λ (r : Request). r.agent < length ends) desk.requests.taken (request ∷ [])
+        subst (All (λ (r : Request). r.agent < length halves)) (sym (ap (λ (o : Out Request). o.taken) taken))
+        (All-append (λ (r : Request). r.agent < length halves) desk.requests.taken (request ∷ [])
         (subst (λ (n : ℕ). All (λ (r : Request). r.agent < n) desk.requests.taken) (sym same) asked.kept.mine)
-        (All-cons (λ (r : Request). r.agent < length ends) request [] (omega arith) (All-nil (λ (r : Request). r.agent < length ends))))
+        (All-cons (λ (r : Request). r.agent < length halves) request [] (omega arith) (All-nil (λ (r : Request). r.agent < length halves))))
 
-    pub keeps : ((a : ℕ) → IsNumbered (λ (r : Request). r.number) (from_agent (λ (r : Request). r.agent) a out.taken)) → (sent : Bool) (d : End Answer) → AreTold sent desk.answers answer ends → Represents book (history desk ++ next_exchange desk request ∷ []) → (failed ≡ false → sent ≡ true) → IsDesk new
-    keeps numbered sent d told book_is going_on =
-        let same = long sent d told in
+    pub keeps : ((a : ℕ) → IsNumbered (λ (r : Request). r.number) (from_agent (λ (r : Request). r.agent) a out.taken)) → (sent : Bool) (d : Half Answer) → IsAnswerSent sent desk.answers answer halves → Represents book (history desk ++ next_exchange desk request ∷ []) → (failed ≡ false → sent ≡ true) → IsDesk new
+    keeps numbered sent d is_sent book_is going_on =
+        let same = long sent d is_sent in
         let first = asked.kept.first in
         let past = asked.kept.past in
         let few = asked.kept.few in
@@ -225,10 +225,10 @@ module _ (desk : Desk) (request : Request) (answer : Answer) (asked : IsAsked de
           few = omega arith;
           mine = mine_new same;
           numbered = numbered;
-          lines = λ a d' inside. lines_new sent told a d' (omega arith);
+          lines = λ a d' inside. lines_new sent is_sent a d' (omega arith);
           book = subst (Represents book) (sym history_new) book_is;
-          sent = sent_new sent d told;
-          answered = λ well. answered_new d (subst (λ (it : Bool). AreTold it desk.answers answer ends) (going_on well) told);
+          sent = sent_new sent d is_sent;
+          answered = λ well. answered_new d (subst (λ (it : Bool). IsAnswerSent it desk.answers answer halves) (going_on well) is_sent);
         }
 
 -- fewer letters were sealed than a number of 64 bits counts
@@ -236,6 +236,6 @@ pub letters_fit : (book : Book) (requests : List Request) (taken : ℕ) → Repr
 letters_fit book requests taken stands counted few = omega (arith, letters_few book.limits requests, stands.sealed, counted, few)
 
 -- a collector that has not failed has no reason for it
-pub none_stopped : (stop : Option Stop) (taken : List Request) → is_some stop ≡ false → IfSome stop (IsStopped taken)
+pub none_stopped : (stop : Option StopCause) (taken : List Request) → is_some stop ≡ false → IfSome stop (IsStopped taken)
 none_stopped None taken going = tt
 none_stopped (Some stop) taken going = absurd (false≢true (sym going))

@@ -2,7 +2,7 @@
 use Rattle.dsn_crew.proofs.desk.CloseLemmas.{all_of_crew, kept_all, room_of_one_lane}
 use Rattle.dsn_crew.proofs.desk.RunLemmas.{run_none, run_then, took_fault, took_lost, took_none}
 
--- a crew that is closed, an agent's ends after another's
+-- a crew that is closed, an agent's halves after another's
 pub ruleset closing = (all_of_crew, kept_all, room_of_one_lane)
 
 -- a request that is taken, or none

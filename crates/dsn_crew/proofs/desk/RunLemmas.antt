@@ -6,7 +6,7 @@ use Rattle.std.proofs.lemmas.List.{append-nil, length-map, take-append-le}
 use Rattle.std.proofs.Math.Decide.{dec_lt}
 use Rattle.std.proofs.Math.Seq.{take-append-add}
 use Rattle.dsn_book.specs.Step.{letters_in}
-use Rattle.dsn_lane.specs.Ends.{End, Out}
+use Rattle.dsn_lane.specs.Halves.{Half, Out}
 use Rattle.dsn_outcome.specs.History.{exchange_of, history_of, letter_of, sealed_letters}
 use Rattle.dsn_outcome.specs.Letter.{Letter}
 use Rattle.dsn_outcome.specs.declared.answer.Answer.{Answer}
@@ -151,7 +151,7 @@ module _ {S : Type 0} (takes : S → Letter → S → Type 0) where
   }
   took_fault old new sink (Answers agent letter) kept left taken limits places =
       let answered : AreAnswered new.answers (history_with old []) =
-      subst (λ (ends : List (End Answer)). AreAnswered ends (history_with old [])) (sym taken.5)
+      subst (λ (ends : List (Half Answer)). AreAnswered ends (history_with old [])) (sym taken.5)
       (subst (λ (q : List Request). AreAnswered old.answers (history_of old.book.limits q)) (sym (append-nil old.requests.taken)) (kept.answered taken.1)) in
       one_run old new sink sink taken.0 [] (Err (Answers agent letter)) taken.3 limits places taken.6 refl taken.7 taken.1 (some_left old left taken.1) taken.2 (taken.1, taken.0, taken.4, last_one old taken.0 (letters_in letter) taken.7, answered)
   took_fault old new sink (Letters letter) kept left taken limits places = absurd taken
@@ -193,7 +193,7 @@ module _ {S : Type 0} (takes : S → Letter → S → Type 0) where
   still : {old mid : Desk} {first second : S} → IsRun takes old mid first second (Ok tt) → mid.failed ≡ old.failed
   still {old} run = run.failed ∙ sym (same_failed old.failed)
 
-  -- what a run took is told of the history that it began with
+  -- what a run took is said of the history that it began with
   history_then : {old mid : Desk} {first second : S} (run : IsRun takes old mid first second (Ok tt)) → (more : List Request) → history_with mid more ≡ history_with old (run.more ++ more)
   history_then {old} run more =
       (λ i. history_of (run.limits i) ((run.requests i).taken ++ more))

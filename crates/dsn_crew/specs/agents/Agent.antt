@@ -1,7 +1,7 @@
--- Agents: what contracts see of an agent and its ends, and what a request of it comes to.
+-- Agents: what contracts see of an agent and its halves, and what a request of it comes to.
 use Rattle.std.specs.Prelude.{◌≡◌, ◌≢◌, ℕ, ◌+◌, ◌<◌, ◌≤◌, Bool, true, false, List, [], ◌∷◌, ◌++◌, All, length, Option, Some, None, Result, Ok, Err}
 use Rattle.dsn_text.specs.FaultCode.{lane_lost_code, used_up_code}
-use Rattle.dsn_lane.specs.Ends.{End, Out}
+use Rattle.dsn_lane.specs.Halves.{Half, Out}
 use Rattle.dsn_outcome.specs.Agents.{from_agent}
 use Rattle.dsn_outcome.specs.Body.{body_of}
 use Rattle.dsn_outcome.specs.Request.{Request, Body, Bye}
@@ -24,87 +24,87 @@ abbrev pub ask_fault_code : AskFault → ℕ
 ask_fault_code (Limit body) = used_up_code
 ask_fault_code (Lost body) = lane_lost_code
 
--- an agent's two ends: the one by which it asks, and the one by which it is answered
-pub record Ends : Type 0 where
-  pub requests : End Request
+-- an agent's two halves: the one by which it asks, and the one by which it is answered
+pub record LaneHalves : Type 0 where
+  pub requests : Half Request
   pub answers : Out Answer
 
 -- the request of an agent that has this body, and the answer to it with this reply
-abbrev pub request_with : Ends → Body → Request
-request_with ends body =
-    record { agent = ends.requests.agent; number = length ends.requests.sent; body = body }
+abbrev pub request_with : LaneHalves → Body → Request
+request_with halves body =
+    record { agent = halves.requests.agent; number = length halves.requests.sent; body = body }
 
-abbrev pub answer_with : Ends → Reply → Answer
-answer_with ends reply =
-    record { agent = ends.requests.agent; number = length ends.requests.sent; reply = reply }
+abbrev pub answer_with : LaneHalves → Reply → Answer
+answer_with halves reply =
+    record { agent = halves.requests.agent; number = length halves.requests.sent; reply = reply }
 
-abbrev pub sent_more : End Request → Request → End Request
-sent_more end request =
-    record { lane = end.lane; agent = end.agent; sent = end.sent ++ request ∷ [] }
+abbrev pub sent_more : Half Request → Request → Half Request
+sent_more half request =
+    record { lane = half.lane; agent = half.agent; sent = half.sent ++ request ∷ [] }
 
 abbrev pub taken_more : Out Answer → Answer → Out Answer
 taken_more out answer =
     record { lane = out.lane; first = out.first; past = out.past; taken = out.taken ++ answer ∷ [] }
 
--- the ends once a body is sent, and once its reply has come
-abbrev pub after_send : Ends → Body → Ends
-after_send ends body =
-    record { requests = sent_more ends.requests (request_with ends body); answers = ends.answers }
+-- the halves once a body is sent, and once its reply has come
+abbrev pub after_send : LaneHalves → Body → LaneHalves
+after_send halves body =
+    record { requests = sent_more halves.requests (request_with halves body); answers = halves.answers }
 
-abbrev pub after_reply : Ends → Body → Reply → Ends
-after_reply ends body reply =
+abbrev pub after_reply : LaneHalves → Body → Reply → LaneHalves
+after_reply halves body reply =
     record {
-      requests = sent_more ends.requests (request_with ends body);
-      answers = taken_more ends.answers (answer_with ends reply);
+      requests = sent_more halves.requests (request_with halves body);
+      answers = taken_more halves.answers (answer_with halves reply);
     }
 
 -- a body that has no answer is not sent, and handed back; or it is sent
-abbrev pub IsUnanswered : Ends → Body → Ends → Option Body.Body → Type 0
+abbrev pub IsUnanswered : LaneHalves → Body → LaneHalves → Option Body.Body → Type 0
 IsUnanswered old body new (Some back) = (body_of back ≡ body) × (new ≡ old)
 IsUnanswered old body new None = new ≡ after_send old body
 
 -- what a body that is sent comes to: the answer to it, or none
-abbrev pub IsExchange : Ends → Body → Ends → Result Answer Unanswered → Type 0
+abbrev pub IsExchange : LaneHalves → Body → LaneHalves → Result Answer Unanswered → Type 0
 IsExchange old body new (Ok answer) =
     (answer ≡ answer_with old answer.reply) × (new ≡ after_reply old body answer.reply)
 IsExchange old body new (Err lost) = IsUnanswered old body new lost.body
 
--- what both ends keep: the answer lane is the agent's own
-pub record AreEnds (ends : Ends) : Type 0 where
-  pub first : ends.answers.first ≡ ends.requests.agent
-  pub past : ends.answers.past ≡ ends.requests.agent + 1
-  pub mine : from_agent (λ (answer : Answer). answer.agent) ends.requests.agent ends.answers.taken
-      ≡ ends.answers.taken
+-- what both halves keep: the answer lane is the agent's own
+pub record AreHalves (halves : LaneHalves) : Type 0 where
+  pub first : halves.answers.first ≡ halves.requests.agent
+  pub past : halves.answers.past ≡ halves.requests.agent + 1
+  pub mine : from_agent (λ (answer : Answer). answer.agent) halves.requests.agent halves.answers.taken
+      ≡ halves.answers.taken
 
--- an agent: its ends, how many requests it may make, and whether a lane was lost
+-- an agent: its halves, how many requests it may make, and whether a lane was lost
 pub record Agent : Type 0 where
-  pub ends : Ends
+  pub halves : LaneHalves
   pub limit : ℕ
   pub lost : Bool
 
 -- an agent that may ask
 abbrev pub MayAsk : Agent → Type 0
-MayAsk agent = (agent.lost ≡ false) × (length agent.ends.requests.sent < agent.limit)
+MayAsk agent = (agent.lost ≡ false) × (length agent.halves.requests.sent < agent.limit)
 
-abbrev pub with_ends : Agent → Ends → Agent
-with_ends agent ends = record { ends = ends; limit = agent.limit; lost = agent.lost }
+abbrev pub with_halves : Agent → LaneHalves → Agent
+with_halves agent halves = record { halves = halves; limit = agent.limit; lost = agent.lost }
 
--- an agent that has lost a lane, with these ends
-abbrev pub losing : Agent → Ends → Agent
-losing agent ends = record { ends = ends; limit = agent.limit; lost = true }
+-- an agent that has lost a lane, with these halves
+abbrev pub losing : Agent → LaneHalves → Agent
+losing agent halves = record { halves = halves; limit = agent.limit; lost = true }
 
 -- what an ask comes to: once a lane was lost, every ask is lost with its body; at the limit the
 -- agent stays as it is
 abbrev pub IsAsk : Agent → Body → Agent → Result Answer AskFault → Type 0
 IsAsk old body new (Ok answer) =
-    MayAsk old × (answer ≡ answer_with old.ends answer.reply)
-    × (new ≡ with_ends old (after_reply old.ends body answer.reply))
+    MayAsk old × (answer ≡ answer_with old.halves answer.reply)
+    × (new ≡ with_halves old (after_reply old.halves body answer.reply))
 IsAsk old body new (Err (Lost (Some back))) =
-    (old.lost ≡ false → length old.ends.requests.sent < old.limit) × (body_of back ≡ body)
-    × (new ≡ losing old old.ends)
-IsAsk old body new (Err (Lost None)) = MayAsk old × (new ≡ losing old (after_send old.ends body))
+    (old.lost ≡ false → length old.halves.requests.sent < old.limit) × (body_of back ≡ body)
+    × (new ≡ losing old old.halves)
+IsAsk old body new (Err (Lost None)) = MayAsk old × (new ≡ losing old (after_send old.halves body))
 IsAsk old body new (Err (Limit back)) =
-    (old.lost ≡ false) × (length old.ends.requests.sent ≡ old.limit) × (body_of back ≡ body)
+    (old.lost ≡ false) × (length old.halves.requests.sent ≡ old.limit) × (body_of back ≡ body)
     × (new ≡ old)
 
 -- no request is a goodbye
@@ -114,16 +114,16 @@ Stays requests = All (λ (request : Request). request.body ≢ Bye) requests
 -- what every agent keeps: it makes no more requests than it may, and `most_requests` at most; it has not
 -- said goodbye; and while no lane was lost it has an answer to each request
 pub record IsAgent (agent : Agent) : Type 0 where
-  pub limited : length agent.ends.requests.sent ≤ agent.limit
+  pub limited : length agent.halves.requests.sent ≤ agent.limit
   pub few : agent.limit ≤ most_requests
-  pub stays : Stays agent.ends.requests.sent
+  pub stays : Stays agent.halves.requests.sent
   pub answered : agent.lost ≡ false
-      → length agent.ends.answers.taken ≡ length agent.ends.requests.sent
+      → length agent.halves.answers.taken ≡ length agent.halves.requests.sent
 
 -- what a goodbye comes to: it is the agent's last request, and Gone is the answer to it; or a lane
 -- is lost
-abbrev pub IsGoodbye : Agent → Result Ends AskFault → Type 0
-IsGoodbye old (Ok finished) = (old.lost ≡ false) × (finished ≡ after_reply old.ends Bye Gone)
+abbrev pub IsGoodbye : Agent → Result LaneHalves AskFault → Type 0
+IsGoodbye old (Ok finished) = (old.lost ≡ false) × (finished ≡ after_reply old.halves Bye Gone)
 IsGoodbye old (Err (Lost (Some back))) = body_of back ≡ Bye
 IsGoodbye old (Err (Lost None)) = old.lost ≡ false
 IsGoodbye old (Err (Limit back)) = ⊥
@@ -137,9 +137,9 @@ is_unsent Answered = false
 abbrev pub was_unsent : Unheard → Type 0
 was_unsent unheard = is_unsent unheard.cause ≡ true
 
--- what a goodbye that tells why it was not heard comes to
-abbrev pub IsLeave : Agent → Result Ends Unheard → Type 0
-IsLeave old (Ok finished) = (old.lost ≡ false) × (finished ≡ after_reply old.ends Bye Gone)
+-- what a goodbye that says why it was not heard comes to
+abbrev pub IsLeave : Agent → Result LaneHalves Unheard → Type 0
+IsLeave old (Ok finished) = (old.lost ≡ false) × (finished ≡ after_reply old.halves Bye Gone)
 IsLeave old (Err unheard) = old.lost ≡ true → was_unsent unheard
 
 -- the fault that a goodbye answers where it was not heard
@@ -148,14 +148,14 @@ IsFaultOf unheard (Limit back) = ⊥
 IsFaultOf unheard (Lost (Some back)) = body_of back ≡ Bye
 IsFaultOf unheard (Lost None) = is_unsent unheard.cause ≡ false
 
--- what the ends of an agent that said goodbye keep: what it sent ends with its only goodbye, what
+-- what the halves of an agent that said goodbye keep: what it sent ends with its only goodbye, what
 -- it was answered ends with Gone, and it has an answer to each request
-pub record IsFinished (ends : Ends) : Type 0 where
-  pub answered : length ends.answers.taken ≡ length ends.requests.sent
+pub record IsFinished (halves : LaneHalves) : Type 0 where
+  pub answered : length halves.answers.taken ≡ length halves.requests.sent
   pub before : List Request
   pub stays : Stays before
-  pub bye : ends.requests.sent
-      ≡ before ++ record { agent = ends.requests.agent; number = length before; body = Bye } ∷ []
+  pub bye : halves.requests.sent
+      ≡ before ++ record { agent = halves.requests.agent; number = length before; body = Bye } ∷ []
   pub got : List Answer
-  pub gone : ends.answers.taken
-      ≡ got ++ record { agent = ends.requests.agent; number = length before; reply = Gone } ∷ []
+  pub gone : halves.answers.taken
+      ≡ got ++ record { agent = halves.requests.agent; number = length before; reply = Gone } ∷ []

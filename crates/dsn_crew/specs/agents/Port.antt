@@ -9,11 +9,11 @@ use Rattle.dsn_outcome.specs.Request.{Body, Bye}
 use Rattle.dsn_outcome.specs.declared.answer.Reply.TheVariants.{Gone}
 use Rattle.dsn_frame.specs.declared.bodies.spoken.Spoken.{Spoken}
 use Rattle.dsn_frame.specs.Session.{Connection, IsSession}
-use Rattle.dsn_crew.specs.agents.Agent.{Agent, Ends, after_reply}
+use Rattle.dsn_crew.specs.agents.Agent.{Agent, LaneHalves, after_reply}
 use Rattle.dsn_crew.specs.agents.Serve.{HasAsked}
 use Rattle.dsn_crew.specs.declared.agents.agent_line.AgentLine.{AgentLine}
-use Rattle.dsn_crew.specs.declared.agents.next.Next.{Next}
-use Rattle.dsn_crew.specs.declared.agents.next.Next.TheVariants as next
+use Rattle.dsn_crew.specs.declared.agents.next_connection.Next.{Next}
+use Rattle.dsn_crew.specs.declared.agents.next_connection.Next.TheVariants as next
 use Rattle.dsn_crew.specs.agents.PortEnd.{PortEnd}
 
 -- how many connections an agent serves at most
@@ -45,7 +45,7 @@ all_given connections None = replicate connections connection
 all_given connections (Some last) = replicate connections connection ++ last ∷ []
 
 -- the last answer of a port that gave so many connections: that it is done, or that it failed, which
--- is told; or there is none, where a lane was lost, or as many connections were served as an agent
+-- is known; or there is none, where a lane was lost, or as many connections were served as an agent
 -- serves
 abbrev pub IsLastGiven : ℕ → Bool → Bool → Option Given → Type 0
 IsLastGiven connections lost port_failed None =
@@ -55,7 +55,7 @@ IsLastGiven connections lost port_failed (Some done) = (port_failed ≡ false) �
 IsLastGiven connections lost port_failed (Some failed) = (port_failed ≡ true) × (lost ≡ false)
 
 -- what a port gave an agent with this line, by what the port may give: as many connections as the
--- line tells, and then its last answer
+-- line says, and then its last answer
 pub record HasGiven (may_give : List Given → Type 0) (line : AgentLine) (lost : Bool)
     : Type 0 where
   pub last : Option Given
@@ -136,7 +136,7 @@ pub record IsOver (conn : Conn) (session : Session) : Type 0 where
 
 -- the sessions over the connections of a port that tells them: one over each, in order, from the
 -- first on. None is left but those beyond the `most_connections` that an agent serves, unless a lane
--- was lost; and the port is not told to have failed
+-- was lost; and the port is not said to have failed
 pub record AreOverConns (conns : List Conn) (sessions : List Session)
     (lost port_failed : Bool) : Type 0 where
   pub served : List Conn
@@ -162,18 +162,18 @@ pub record HasServed (conns : Option (List Conn)) (may_give : List Given → Typ
     (line : AgentLine) : Type 0 where
   pub sessions : List Session
   pub lost : Bool
-  pub follow : AreSessions old.limit (length old.ends.requests.sent) sessions
+  pub follow : AreSessions old.limit (length old.halves.requests.sent) sessions
   pub over : AreOverPort conns sessions lost line.port_failed
   pub gave : HasGiven may_give line lost
   pub asked : HasAsked old new (bodies_of sessions) (answers_of sessions) lost
   pub heard : lost ≡ false → All (λ (session : Session). session.end ≢ Some lane_lost_code) sessions
   pub few : length sessions ≤ most_connections
-  pub requests : line.requests ≡ length new.ends.requests.sent
+  pub requests : line.requests ≡ length new.halves.requests.sent
   pub connections : line.connections ≡ length sessions
   pub faults : line.faults ≡ faults_of sessions
 
 -- the same, and nothing beside was asked of the port: whatever it may give now it may have given
--- after all that is told
+-- after all that is known
 pub record HasServedOnly (conns : Option (List Conn)) (may_give may_now : List Given → Type 0)
     (old new : Agent)
     (line : AgentLine) : Type 0 where
@@ -182,10 +182,10 @@ pub record HasServedOnly (conns : Option (List Conn)) (may_give may_now : List G
       → may_now rest → may_give (all_given line.connections served.gave.last ++ rest)
 
 -- what serving a port comes to: its connections were served, and then the agent said goodbye and
--- was heard; else a lane was lost, and the line tells what was served before
+-- was heard; else a lane was lost, and the line says what was served before
 pub record IsPortServed (conns : Option (List Conn)) (may_give : List Given → Type 0)
     (agent : Agent) (end : PortEnd) : Type 0 where
   pub last : Agent
   pub served : HasServed conns may_give agent last end.line
   pub goodbye : IfSome end.finished
-      (λ (finished : Ends). (served.lost ≡ false) × (finished ≡ after_reply last.ends Bye Gone))
+      (λ (finished : LaneHalves). (served.lost ≡ false) × (finished ≡ after_reply last.halves Bye Gone))

@@ -14,7 +14,7 @@ use Rattle.dsn_frame.specs.declared.bodies.spoken.Spoken.{Spoken}
 use Rattle.dsn_frame.specs.declared.bodies.spoken.Spoken.TheVariants as spoken
 use Rattle.dsn_frame.specs.FrameFault.{frame_fault_code, source_failed}
 use Rattle.dsn_frame.specs.Session.{Connection, IsSession, Takes}
-use Rattle.dsn_frame.specs.Telling.{AnswersSent}
+use Rattle.dsn_frame.specs.SentAnswers.{AnswersSent}
 use Rattle.dsn_crew.specs.agents.Agent.{Agent}
 use Rattle.dsn_crew.specs.declared.agents.ask_fault.AskFault.{AskFault}
 use Rattle.dsn_crew.specs.declared.agents.ask_fault.AskFault.TheVariants as asks
@@ -88,19 +88,19 @@ answers_from agent = numbered_from (numbered_answer agent)
 -- lost a lane, or not
 abbrev pub after_requests : Agent → List Body → List Reply → Bool → Agent
 after_requests agent bodies replies lost = record {
-  ends = record {
+  halves = record {
     requests = record {
-      lane = agent.ends.requests.lane;
-      agent = agent.ends.requests.agent;
-      sent = agent.ends.requests.sent
-          ++ requests_from agent.ends.requests.agent (length agent.ends.requests.sent) bodies;
+      lane = agent.halves.requests.lane;
+      agent = agent.halves.requests.agent;
+      sent = agent.halves.requests.sent
+          ++ requests_from agent.halves.requests.agent (length agent.halves.requests.sent) bodies;
     };
     answers = record {
-      lane = agent.ends.answers.lane;
-      first = agent.ends.answers.first;
-      past = agent.ends.answers.past;
-      taken = agent.ends.answers.taken
-          ++ answers_from agent.ends.requests.agent (length agent.ends.requests.sent) replies;
+      lane = agent.halves.answers.lane;
+      first = agent.halves.answers.first;
+      past = agent.halves.answers.past;
+      taken = agent.halves.answers.taken
+          ++ answers_from agent.halves.requests.agent (length agent.halves.requests.sent) replies;
     };
   };
   limit = agent.limit;
@@ -114,7 +114,7 @@ AreReplied false bodies replies = bodies ≡ replies
 AreReplied true bodies replies = (bodies ≡ replies) ⊎ (bodies ≡ suc replies)
 
 -- what an agent that serves comes to: it sent requests with these bodies, and got the replies among
--- these answers; where a lane was lost before, it sent none, and told nobody that its requests are
+-- these answers; where a lane was lost before, it sent none, and answered nobody that its requests are
 -- used up
 pub record HasAsked (old new : Agent) (bodies : List Body) (answers : List Spoken)
     (lost : Bool) : Type 0 where
@@ -133,7 +133,7 @@ pub record IsServed {S : Type 0} (source : Source S) (drain : Drain S) (old new 
   pub frames : List (List ℕ)
   pub bodies : List Body
   pub answers : List Spoken
-  pub session : IsSession Connection old.limit (length old.ends.requests.sent)
+  pub session : IsSession Connection old.limit (length old.halves.requests.sent)
       (source.remaining before) (source.remaining after) frames bodies answers (served_end result)
   pub asked : HasAsked old new bodies answers (is_lost result)
   pub written : AnswersSent answer_bytes answer_frames_from (is_unwritten result)
@@ -150,9 +150,9 @@ asked_turn (Err (asks.Limit body)) = Some (record { answer = spoken.Refused used
 asked_turn (Err (asks.Lost back)) = None
 
 -- the answers that one frame has: none where the collector is gone
-abbrev pub told : Option Turn → List Spoken
-told None = []
-told (Some turn) = turn.answer ∷ []
+abbrev pub answer_in : Option Turn → List Spoken
+answer_in None = []
+answer_in (Some turn) = turn.answer ∷ []
 
 -- the number with which one frame ends the session, if it does
 abbrev pub turn_end : Option Turn → Option ℕ
@@ -166,6 +166,6 @@ has_lost (Some turn) = false
 -- what a frame at its place came to, and what it left of the agent
 pub record IsTurn (old new : Agent) (place : ℕ) (bytes : List ℕ) (turn : Option Turn) : Type 0 where
   pub bodies : List Body
-  pub takes : Takes Connection old.limit (length old.ends.requests.sent) place bytes bodies
-      (told turn) (turn_end turn)
-  pub asked : HasAsked old new bodies (told turn) (has_lost turn)
+  pub takes : Takes Connection old.limit (length old.halves.requests.sent) place bytes bodies
+      (answer_in turn) (turn_end turn)
+  pub asked : HasAsked old new bodies (answer_in turn) (has_lost turn)

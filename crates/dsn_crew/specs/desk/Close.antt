@@ -4,30 +4,30 @@ use Rattle.dsn_book.specs.Book.{Book}
 use Rattle.dsn_outcome.specs.Agents.{from_agent}
 use Rattle.dsn_outcome.specs.History.{answers_to}
 use Rattle.dsn_outcome.specs.Request.{Request}
-use Rattle.dsn_crew.specs.agents.Agent.{Ends}
+use Rattle.dsn_crew.specs.agents.Agent.{LaneHalves}
 use Rattle.dsn_crew.specs.desk.Desk.{Desk, history, places_of}
 use Rattle.dsn_crew.specs.agents.Place.{place_of}
 
 -- these are all agents of this collector, in their order
-abbrev pub AreCrew : List Ends → Desk → Type 0
+abbrev pub AreCrew : List LaneHalves → Desk → Type 0
 AreCrew crew desk = map place_of crew ≡ places_of desk
 
 -- all that an agent sent was taken, in that order, and it got just the answers that the history
 -- gives it
-pub record IsHeard (desk : Desk) (ends : Ends) : Type 0 where
+pub record IsHeard (desk : Desk) (halves : LaneHalves) : Type 0 where
   pub taken : from_agent
-      (λ (request : Request). request.agent) ends.requests.agent desk.requests.taken
-      ≡ ends.requests.sent
-  pub got : ends.answers.taken ≡ answers_to ends.requests.agent (history desk)
+      (λ (request : Request). request.agent) halves.requests.agent desk.requests.taken
+      ≡ halves.requests.sent
+  pub got : halves.answers.taken ≡ answers_to halves.requests.agent (history desk)
 
 -- these requests are of these agents
-abbrev pub AreOf : List Ends → List Request → Type 0
+abbrev pub AreOf : List LaneHalves → List Request → Type 0
 AreOf crew requests =
     All (λ (request : Request). Contains
-    (map (λ (ends : Ends). ends.requests.agent) crew) request.agent) requests
+    (map (λ (halves : LaneHalves). halves.requests.agent) crew) request.agent) requests
 
 -- a closed crew: its book, and its agents and its collector as they were at the close
 pub record Shut : Type 0 where
   pub book : Book
-  pub crew : List Ends
+  pub crew : List LaneHalves
   pub desk : Desk

@@ -4,7 +4,7 @@ use mathlib.Core.List.{IsPrefix}
 use Rattle.std.specs.List.{slice_index_or}
 use Rattle.dsn_book.specs.Book.{Book, Represents}
 use Rattle.dsn_book.specs.Step.{letters_in}
-use Rattle.dsn_lane.specs.Ends.{End, Out}
+use Rattle.dsn_lane.specs.Halves.{Half, Out}
 use Rattle.dsn_lane.specs.Lane.{IsNumbered, most_agents}
 use Rattle.dsn_outcome.specs.Agents.{from_agent}
 use Rattle.dsn_outcome.specs.History.{Exchange, answer_of, answers_to, exchange_of, history_of, letter_of, sealed_letters}
@@ -15,15 +15,15 @@ use Rattle.dsn_post.specs.Sink.{Handed}
 use Rattle.dsn_crew.specs.agents.Place.{Place, place_at}
 use Rattle.dsn_crew.specs.declared.desk.desk_fault.DeskFault.{DeskFault}
 use Rattle.dsn_crew.specs.declared.desk.desk_fault.DeskFault.TheVariants.{Requests, Answers, Letters}
-use Rattle.dsn_crew.specs.declared.desk.stop.Stop.{Stop}
-use Rattle.dsn_crew.specs.declared.desk.stop.Stop.TheVariants.{Gone, Refused, Full}
+use Rattle.dsn_crew.specs.declared.desk.stop_cause.StopCause.{StopCause}
+use Rattle.dsn_crew.specs.declared.desk.stop_cause.StopCause.TheVariants.{Gone, Refused, Full}
 
--- the collector: its book, the end by which it takes requests, the ends by which it answers, agent
--- by agent, how many agents it was told of that never start, and whether it failed
+-- the collector: its book, the half by which it takes requests, the halves by which it answers, agent
+-- by agent, how many agents it has heard of that never start, and whether it failed
 pub record Desk : Type 0 where
   pub book : Book
   pub requests : Out Request
-  pub answers : List (End Answer)
+  pub answers : List (Half Answer)
   pub missed : ℕ
   pub failed : Bool
 
@@ -48,7 +48,7 @@ abbrev pub AreLeft : Desk → List Request → Type 0
 AreLeft desk requests = goodbyes requests + desk.missed ≢ length desk.answers
 
 -- a collector by its parts
-abbrev pub desk_of : Book → Out Request → List (End Answer) → ℕ → Bool → Desk
+abbrev pub desk_of : Book → Out Request → List (Half Answer) → ℕ → Bool → Desk
 desk_of book requests answers missed failed =
     record { book = book; requests = requests; answers = answers; missed = missed; failed = failed }
 
@@ -63,10 +63,10 @@ abbrev pub next_exchange : Desk → Request → Exchange
 next_exchange desk request = exchange_of desk.book.limits (history desk) request
 
 -- each agent was sent what a history answers it
-abbrev pub AreAnswered : List (End Answer) → List Exchange → Type 0
-AreAnswered ends exchanges =
-    (a : ℕ) (d : End Answer) → a < length ends
-    → (slice_index_or ends a d).sent ≡ answers_to a exchanges
+abbrev pub AreAnswered : List (Half Answer) → List Exchange → Type 0
+AreAnswered halves exchanges =
+    (a : ℕ) (d : Half Answer) → a < length halves
+    → (slice_index_or halves a d).sent ≡ answers_to a exchanges
 
 -- what every collector keeps: each answer lane is of its agent, and the agents are numbered from 0,
 -- up to `most_agents`; what it took is of these agents, and numbered from 0 agent by agent; its
@@ -76,14 +76,14 @@ pub record IsDesk (desk : Desk) : Type 0 where
   pub first : desk.requests.first ≡ 0
   pub past : desk.requests.past ≡ length desk.answers
   pub few : length desk.answers ≤ most_agents
-  pub lines : (a : ℕ) (d : End Answer) → a < length desk.answers
+  pub lines : (a : ℕ) (d : Half Answer) → a < length desk.answers
       → (slice_index_or desk.answers a d).agent ≡ a
   pub mine : All (λ (request : Request). request.agent < length desk.answers) desk.requests.taken
   pub numbered : (agent : ℕ)
       → IsNumbered (λ (request : Request). request.number)
       (from_agent (λ (request : Request). request.agent) agent desk.requests.taken)
   pub book : Represents desk.book (history desk)
-  pub sent : (a : ℕ) (d : End Answer) → a < length desk.answers
+  pub sent : (a : ℕ) (d : Half Answer) → a < length desk.answers
       → IsPrefix (slice_index_or desk.answers a d).sent (answers_to a (history desk))
   pub answered : desk.failed ≡ false → AreAnswered desk.answers (history desk)
 
@@ -95,27 +95,27 @@ AreCounted requests taken gone = (taken ≡ length requests) × (gone ≡ goodby
 abbrev pub most_taken : ℕ
 most_taken = 4294967295
 
--- why it has failed: a lane told that its other side is gone; its sink handed a letter back; or it
+-- why it has failed: a lane reported that its other side is gone; its sink handed a letter back; or it
 -- took all that it may
-abbrev pub IsStopped : List Request → Stop → Type 0
+abbrev pub IsStopped : List Request → StopCause → Type 0
 IsStopped taken (Gone gone) = Unit {0}
 IsStopped taken (Refused refused) = Unit {0}
 IsStopped taken Full = length taken ≡ most_taken
 
--- what holds nothing yet, and has room for an end of each agent
-abbrev pub HasRoom : List (End Answer) → List (End Request) → ℕ → Type 0
+-- what holds nothing yet, and has room for a half of each agent
+abbrev pub HasRoom : List (Half Answer) → List (Half Request) → ℕ → Type 0
 HasRoom answers held capacity = (held ≡ []) × (length answers ≤ capacity)
 
--- an answer lane's end once an answer was sent, or was lost
-abbrev pub answered_more : Bool → End Answer → Answer → End Answer
-answered_more true end answer =
-    record { lane = end.lane; agent = end.agent; sent = end.sent ++ answer ∷ [] }
-answered_more false end answer = end
+-- an answer lane's half once an answer was sent, or was lost
+abbrev pub answered_more : Bool → Half Answer → Answer → Half Answer
+answered_more true half answer =
+    record { lane = half.lane; agent = half.agent; sent = half.sent ++ answer ∷ [] }
+answered_more false half answer = half
 
--- the ends once this answer was sent to its agent, or was lost
-abbrev pub AreTold : Bool → List (End Answer) → Answer → List (End Answer) → Type 0
-AreTold sent old answer new =
-    (d : End Answer)
+-- the halves once this answer was sent to its agent, or was lost
+abbrev pub IsAnswerSent : Bool → List (Half Answer) → Answer → List (Half Answer) → Type 0
+IsAnswerSent sent old answer new =
+    (d : Half Answer)
     → new ≡ slice_set old answer.agent
     (answered_more sent (slice_index_or old answer.agent d) answer)
 
@@ -132,7 +132,7 @@ taken_request out request =
 abbrev pub with_failed : Desk → Bool → Desk
 with_failed desk failed = desk_of desk.book desk.requests desk.answers desk.missed failed
 
--- a collector that is told of so many agents more that never start, with nothing else changed
+-- a collector that hears of so many agents more that never start, with nothing else changed
 abbrev pub missing : Desk → ℕ → Desk
 missing desk agents =
     desk_of desk.book desk.requests desk.answers (desk.missed + agents) desk.failed
@@ -144,7 +144,7 @@ abbrev pub IsRequestTaken : Desk → Desk → Result (Option Letter) DeskFault �
 IsRequestTaken old new (Ok letter) =
     (request : Request) × (old.failed ≡ false) × (new.failed ≡ false)
     × (new.requests ≡ taken_request old.requests request)
-    × AreTold true old.answers (answer_of (next_exchange old request)) new.answers
+    × IsAnswerSent true old.answers (answer_of (next_exchange old request)) new.answers
     × (new.missed ≡ old.missed)
     × (letters_in letter ≡ letter_of (history old) (next_exchange old request))
 IsRequestTaken old new (Err Requests) = new ≡ with_failed old true
@@ -179,7 +179,7 @@ pub record IsLastRequest (desk : Desk) (more : List Request) (last : Request)
       ≡ letter_of (history_with desk earlier)
       (exchange_of desk.book.limits (history_with desk earlier) last)
 
--- what a fault that ends a run tells of it. `Requests`: all that was taken was answered, and agents
+-- what a fault that ends a run says of it. `Requests`: all that was taken was answered, and agents
 -- are left. `Answers`: so it was, but for the last request, which was of this agent and sealed this
 -- letter, if any. `Letters`: all was answered, and the last request sealed this letter. A collector
 -- that had failed before answers `Requests`

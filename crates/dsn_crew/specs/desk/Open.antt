@@ -2,7 +2,7 @@
 use Rattle.std.specs.Prelude.{◌≡◌, ℕ, ◌<◌, ◌+◌, false, List, [], length, map}
 use Rattle.std.specs.List.{slice_index_or}
 use Rattle.dsn_text.specs.FaultCode.{agent_count_code, crew_refused_code}
-use Rattle.dsn_lane.specs.Ends.{End, Identity}
+use Rattle.dsn_lane.specs.Halves.{Half, Identity}
 use Rattle.dsn_outcome.specs.History.{Limits}
 use Rattle.dsn_outcome.specs.Request.{Request}
 use Rattle.dsn_outcome.specs.declared.answer.Answer.{Answer}
@@ -19,26 +19,26 @@ abbrev pub crew_open_fault_code : CrewOpenFault → ℕ
 crew_open_fault_code NoMemory = crew_refused_code
 crew_open_fault_code AgentCount = agent_count_code
 
--- the agent whom this end answers, before its first request, on a request lane
-abbrev pub opened_agent : ℕ → Identity Request → End Answer → Agent
-opened_agent limit lane end = record {
-  ends = record {
-    requests = record { lane = lane; agent = end.agent; sent = [] };
-    answers = record { lane = end.lane; first = end.agent; past = end.agent + 1; taken = [] };
+-- the agent whom this half answers, before its first request, on a request lane
+abbrev pub opened_agent : ℕ → Identity Request → Half Answer → Agent
+opened_agent limit lane half = record {
+  halves = record {
+    requests = record { lane = lane; agent = half.agent; sent = [] };
+    answers = record { lane = half.lane; first = half.agent; past = half.agent + 1; taken = [] };
   };
   limit = limit;
   lost = false;
 }
 
--- the end of an answer lane of this agent, for one item, over which nothing was sent
-pub record IsLine (agent : ℕ) (end : End Answer) : Type 0 where
-  pub agent_is : end.agent ≡ agent
-  pub unused : end.sent ≡ []
-  pub capacity : end.lane.capacity ≡ 1
+-- the half of an answer lane of this agent, for one item, over which nothing was sent
+pub record IsLine (agent : ℕ) (half : Half Answer) : Type 0 where
+  pub agent_is : half.agent ≡ agent
+  pub unused : half.sent ≡ []
+  pub capacity : half.lane.capacity ≡ 1
 
 -- so it is of the agents from 0 on
-abbrev pub AreLines : List (End Answer) → Type 0
-AreLines ends = (a : ℕ) (d : End Answer) → a < length ends → IsLine a (slice_index_or ends a d)
+abbrev pub AreLines : List (Half Answer) → Type 0
+AreLines halves = (a : ℕ) (d : Half Answer) → a < length halves → IsLine a (slice_index_or halves a d)
 
 -- a crew of so many agents, before the first request: each agent has the lane on which it asks, and
 -- the one on which the collector answers it; `requests_waiting` requests wait at most, and 1

@@ -5,8 +5,8 @@ ghost use Rattle.dsn_outcome.specs.Request.{Bye};
 ghost use Rattle.dsn_crew.specs.agents.Agent.{IsAgent, IsAsk, IsFinished, IsGoodbye, IsLeave, most_requests};
 
 use crate::agents::ask_fault::AskFault;
-use crate::agents::ends::Ends;
-use crate::agents::finished::Finished;
+use crate::agents::finished_agent::FinishedAgent;
+use crate::agents::lane_halves::LaneHalves;
 use crate::agents::unanswered::Unanswered;
 use crate::agents::unheard::{Unheard, say_bye};
 use dsn_lane::{LaneGone, LaneIn, LaneOut};
@@ -17,9 +17,9 @@ use std::sync::Wait;
 /// An agent of a crew, on a thread of its own: it asks the collector, and waits for each answer.
 #[derive(Drop)]
 pub struct Agent {
-    pub(crate) ends: Ends,
+    pub(crate) halves: LaneHalves,
     pub(crate) limit: u32,
-    /// What a lane told, once one was lost.
+    /// What a lane reported, once one was lost.
     lost: Option<LaneGone>,
 }
 
@@ -29,14 +29,14 @@ impl Model for Agent {
 
     ghost Value = { Agent };
 
-    ghost view = { λ a. record { ends = a.ends; limit = a.limit; lost = is_some a.lost } };
+    ghost view = { λ a. record { halves = a.halves; limit = a.limit; lost = is_some a.lost } };
 
     ghost invariant = { λ a. IsAgent
-        (record { ends = a.ends; limit = a.limit; lost = is_some a.lost }) };
+        (record { halves = a.halves; limit = a.limit; lost = is_some a.lost }) };
 }
 
 impl Agent {
-    /// The agent of this number, which has asked nothing and may make so many requests: by the end
+    /// The agent of this number, which has asked nothing and may make so many requests: by the half
     /// by which it asks, and that of an answer lane of its own.
     pub fn new(agent: u32, requests: LaneIn<Request>, answers: LaneOut<Answer>, limit: u32) -> Agent
         requires own { (requests.agent ≡ agent) × (answers.first ≡ agent)
@@ -44,13 +44,13 @@ impl Agent {
         requires unused { (requests.sent ≡ []) × (answers.taken ≡ []) }
         requires limit { limit ≤ most_requests }
         ensures { result ≡ record {
-          ends = record { requests = requests; answers = answers };
+          halves = record { requests = requests; answers = answers };
           limit = limit;
           lost = false;
         } }
     {
         Agent {
-            ends: Ends::new(agent, requests, answers),
+            halves: LaneHalves::new(agent, requests, answers),
             limit,
             lost: None,
         }
@@ -58,18 +58,18 @@ impl Agent {
 
     /// The agent's number, from 0.
     pub fn number(&self) -> u32
-        ensures { result ≡ self.now.ends.requests.agent }
+        ensures { result ≡ self.now.halves.requests.agent }
     {
-        self.ends.agent()
+        self.halves.agent()
     }
 
-    /// The ends of an agent that leaves without a goodbye.
-    pub fn into_ends(self) -> (LaneIn<Request>, LaneOut<Answer>)
-        ensures requests { result.0 ≡ self.ends.requests }
-        ensures answers { result.1 ≡ self.ends.answers }
+    /// The halves of an agent that leaves without a goodbye.
+    pub fn into_halves(self) -> (LaneIn<Request>, LaneOut<Answer>)
+        ensures requests { result.0 ≡ self.halves.requests }
+        ensures answers { result.1 ≡ self.halves.answers }
     {
-        let Agent { ends, .. } = self;
-        ends.into_parts()
+        let Agent { halves, .. } = self;
+        halves.into_parts()
     }
 
     /// Asks the collector, and waits for its answer. It asks for a body that isn't a goodbye
@@ -86,10 +86,10 @@ impl Agent {
         if self.lost.is_some() {
             return Err(AskFault::Lost(Some(body)));
         }
-        if self.ends.requests.count() >= self.limit {
+        if self.halves.requests.count() >= self.limit {
             return Err(AskFault::Limit(body));
         }
-        match self.ends.exchange(rt, body) {
+        match self.halves.exchange(rt, body) {
             Ok(answer) => Ok(answer),
             Err(Unanswered { body, gone }) => {
                 self.lost = Some(gone);
@@ -99,9 +99,9 @@ impl Agent {
     }
 
     /// Says goodbye, which is allowed at the limit too, and waits until the collector has heard it.
-    /// `Lost` (41) comes where a lane was lost before or is lost now; the agent's ends are dropped.
+    /// `Lost` (41) comes where a lane was lost before or is lost now; the agent's halves are dropped.
     #[tactic(auto, using(crate::proofs::agents::AgentLemmas::goodbye_fault))]
-    pub fn bye(self, rt: &impl Wait) -> Result<Finished, AskFault>
+    pub fn bye(self, rt: &impl Wait) -> Result<FinishedAgent, AskFault>
         ensures bye { IsGoodbye self result }
         ensures finished { IfOk result IsFinished }
     {
@@ -111,15 +111,15 @@ impl Agent {
         }
     }
 
-    /// Says goodbye, as [`Agent::bye`] does, and tells why it was not heard where it wasn't.
-    pub(crate) fn leave(self, rt: &impl Wait) -> Result<Finished, Unheard>
+    /// Says goodbye, as [`Agent::bye`] does, and says why it was not heard where it wasn't.
+    pub(crate) fn leave(self, rt: &impl Wait) -> Result<FinishedAgent, Unheard>
         ensures leave { IsLeave self result }
         ensures finished { IfOk result IsFinished }
     {
-        let Agent { ends, lost, .. } = self;
+        let Agent { halves, lost, .. } = self;
         match lost {
             Some(gone) => Err(Unheard::unsent(gone)),
-            None => say_bye(rt, ends),
+            None => say_bye(rt, halves),
         }
     }
 }

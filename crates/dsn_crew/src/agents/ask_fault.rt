@@ -10,7 +10,7 @@ use dsn_text::fault_code;
 pub enum AskFault {
     /// The agent's requests are used up: the body is handed back, and the agent may say goodbye.
     Limit(Body),
-    /// A lane's other end is gone, now or at an earlier request. The body is handed back where the
+    /// A lane's other half is gone, now or at an earlier request. The body is handed back where the
     /// request was not sent.
     Lost(Option<Body>),
 }

@@ -2,7 +2,7 @@
 ghost use Rattle.std.specs.Prelude.{◌≡◌};
 ghost use Rattle.dsn_crew.specs.agents.Port.{Gives, GivesFirst, connection, given_of};
 
-use crate::agents::next::Next;
+use crate::agents::next_connection::Next;
 use dsn_device::Stream;
 
 /// Where an agent gets the connections that it serves, one after another: a listening socket, say.

@@ -7,6 +7,6 @@ use dsn_outcome::Body;
 pub(crate) struct Unanswered {
     /// The body, where it was not sent.
     pub(crate) body: Option<Body>,
-    /// What the lane told.
+    /// What the lane reported.
     pub(crate) gone: LaneGone,
 }

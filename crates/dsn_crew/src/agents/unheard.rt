@@ -6,8 +6,8 @@ ghost use Rattle.dsn_outcome.specs.Request.{Bye};
 ghost use Rattle.dsn_crew.specs.agents.Agent.{IsFaultOf, IsFinished, Stays, after_reply, was_unsent};
 
 use crate::agents::ask_fault::AskFault;
-use crate::agents::ends::Ends;
-use crate::agents::finished::Finished;
+use crate::agents::finished_agent::FinishedAgent;
+use crate::agents::lane_halves::LaneHalves;
 use crate::agents::unanswered::Unanswered;
 use dsn_lane::LaneGone;
 use dsn_outcome::{Body, Reply};
@@ -16,23 +16,23 @@ use std::sync::Wait;
 /// Why a goodbye was not heard.
 #[derive(Clone, Copy, Debug, PartialEq, Eq)]
 pub(crate) enum Cause {
-    /// It was not sent: a lane told, now or at an earlier request, that the collector is gone.
+    /// It was not sent: a lane reported, now or at an earlier request, that the collector is gone.
     Unsent(LaneGone),
-    /// It was sent, and a lane told that the collector is gone.
+    /// It was sent, and a lane reported that the collector is gone.
     Sent(LaneGone),
     /// It was answered by another reply than Gone.
     Answered,
 }
 
-/// A goodbye was not heard: a lane told that the collector is gone, or another reply than Gone
-/// came. Only a goodbye that was tried makes it, and an agent to which a lane had told so before.
+/// A goodbye was not heard: a lane reported that the collector is gone, or another reply than Gone
+/// came. Only a goodbye that was tried makes it, and an agent to which a lane had reported it before.
 #[derive(Clone, Copy, Debug, PartialEq, Eq)]
 pub(crate) struct Unheard {
     cause: Cause,
 }
 
 impl Unheard {
-    /// A goodbye that isn't sent, since a lane told before that the collector is gone.
+    /// A goodbye that isn't sent, since a lane reported before that the collector is gone.
     pub(crate) fn unsent(gone: LaneGone) -> Unheard
         ensures { was_unsent result }
     {
@@ -53,17 +53,17 @@ impl Unheard {
     }
 }
 
-/// Says the goodbye of an agent with these ends, and waits until the collector has heard it.
-pub(crate) fn say_bye(rt: &impl Wait, ends: Ends) -> Result<Finished, Unheard>
-    requires answered { length ends.answers.taken ≡ length ends.requests.sent }
-    requires room { length ends.requests.sent < most_sent }
-    requires stays { Stays ends.requests.sent }
-    ensures heard { IfOk result (λ finished. finished ≡ after_reply ends Bye Gone) }
+/// Says the goodbye of an agent with these halves, and waits until the collector has heard it.
+pub(crate) fn say_bye(rt: &impl Wait, halves: LaneHalves) -> Result<FinishedAgent, Unheard>
+    requires answered { length halves.answers.taken ≡ length halves.requests.sent }
+    requires room { length halves.requests.sent < most_sent }
+    requires stays { Stays halves.requests.sent }
+    ensures heard { IfOk result (λ finished. finished ≡ after_reply halves Bye Gone) }
     ensures finished { IfOk result IsFinished }
 {
-    let mut ends = ends;
-    match ends.exchange(rt, Body::Bye) {
-        Ok(answer) if answer.reply == Reply::Gone => Ok(Finished::new(ends)),
+    let mut halves = halves;
+    match halves.exchange(rt, Body::Bye) {
+        Ok(answer) if answer.reply == Reply::Gone => Ok(FinishedAgent::new(halves)),
         Ok(_) => Err(Unheard {
             cause: Cause::Answered,
         }),

@@ -8,42 +8,42 @@ use dsn_outcome::Answer;
 use std::marker::Model;
 use std::sync::Wait;
 
-/// The end by which one agent is answered, with room for it at the close.
+/// The half by which one agent is answered, with room for it at the close.
 #[derive(Drop)]
 pub(crate) struct AnswerLane {
-    pub(crate) end: LaneIn<Answer>,
+    pub(crate) half: LaneIn<Answer>,
     pub(crate) room: Vec<LaneIn<Answer>>,
 }
 
 impl Model for AnswerLane {
     ghost use Rattle.std.specs.Prelude.{◌≡◌, ◌≤◌, [], vec_capacity};
-    ghost use Rattle.dsn_lane.specs.Ends.{End};
+    ghost use Rattle.dsn_lane.specs.Halves.{Half};
     ghost use Rattle.dsn_outcome.specs.declared.answer.Answer.{Answer};
 
-    ghost Value = { End Answer };
+    ghost Value = { Half Answer };
 
-    ghost view = { λ l. l.end };
+    ghost view = { λ l. l.half };
 
     ghost invariant = { λ l. (l.room.items ≡ []) × (1 ≤ vec_capacity l.room) };
 }
 
 impl AnswerLane {
-    /// The end of a lane that has just this one.
-    pub(crate) fn new(end: LaneIn<Answer>, room: Vec<LaneIn<Answer>>) -> AnswerLane
+    /// The sending half of a lane that has just this one.
+    pub(crate) fn new(half: LaneIn<Answer>, room: Vec<LaneIn<Answer>>) -> AnswerLane
         requires { (room.items ≡ []) × (1 ≤ vec_capacity room) }
-        ensures { result ≡ end }
+        ensures { result ≡ half }
     {
-        AnswerLane { end, room }
+        AnswerLane { half, room }
     }
 
-    /// Sends an answer, or says what the lane told where the agent is gone.
+    /// Sends an answer, or says what the lane reported where the agent is gone.
     pub(crate) fn send(&mut self, rt: &impl Wait, answer: Answer) -> Result<(), LaneGone>
         requires agent { answer.agent ≡ self.old.agent }
         requires number { answer.number ≡ length self.old.sent }
         requires room { length self.old.sent < most_sent }
         ensures { self.new ≡ answered_more (is_ok result) self.old answer }
     {
-        match self.end.send(rt, answer) {
+        match self.half.send(rt, answer) {
             Ok(()) => Ok(()),
             Err(lost) => Err(lost.gone),
         }

@@ -6,7 +6,7 @@ ghost use Rattle.dsn_crew.specs.agents.Agent.{IsFinished};
 ghost use Rattle.dsn_crew.specs.desk.Close.{AreCrew, AreOf, IsHeard};
 ghost use Rattle.dsn_crew.specs.desk.Desk.{all_gone, history};
 
-use crate::agents::Finished;
+use crate::agents::FinishedAgent;
 use crate::desk::answer_lane::AnswerLane;
 use crate::desk::crew_shut::CrewShut;
 use crate::desk::desk::Desk;
@@ -18,9 +18,9 @@ use std::sync::Wait;
 /// Closes a crew, of which it takes all agents, in their order, and the collector. Each of its
 /// lanes is closed, in room that was taken when the crew was opened. It asks that all agents said
 /// goodbye and the collector has not failed (`Desk::all_gone`); an agent that never started has no
-/// end to give back, so its crew is dropped instead.
+/// half to give back, so its crew is dropped instead.
 #[tactic(auto, using(crate::proofs::desk::Rules::closing))]
-pub fn close_crew(rt: &impl Wait, crew: Vec<Finished>, desk: Desk) -> CrewShut
+pub fn close_crew(rt: &impl Wait, crew: Vec<FinishedAgent>, desk: Desk) -> CrewShut
     requires crew { AreCrew crew.items desk }
     requires gone { all_gone desk ≡ true }
     ensures heard { All (IsHeard desk) crew.items }
@@ -49,16 +49,16 @@ pub fn close_crew(rt: &impl Wait, crew: Vec<Finished>, desk: Desk) -> CrewShut
     CrewShut::new(book, agents, collector)
 }
 
-/// Closes an agent's answer lane, and gives the end by which the agent asked.
-fn close_answers(rt: &impl Wait, finished: Finished, line: AnswerLane) -> LaneIn<Request>
+/// Closes an agent's answer lane, and gives the half by which the agent asked.
+fn close_answers(rt: &impl Wait, finished: FinishedAgent, line: AnswerLane) -> LaneIn<Request>
     requires lane { (line.lane ≡ finished.answers.lane) × (line.agent ≡ finished.requests.agent) }
-    ensures end { result ≡ finished.requests }
+    ensures half { result ≡ finished.requests }
     ensures got { IsPrefix finished.answers.taken line.sent }
     ensures finished { IsFinished finished }
 {
-    let (requests, answers) = finished.into_ends();
-    let AnswerLane { end, mut room } = line;
-    room.push_reserved(end);
+    let (requests, answers) = finished.into_halves();
+    let AnswerLane { half, mut room } = line;
+    room.push_reserved(half);
     close_lane(rt, room, answers);
     requests
 }

@@ -2,16 +2,16 @@
 ghost use Rattle.std.specs.Prelude.{◌≡◌, ◌+◌, ◌<◌, ◌≤◌, ℕ, false, true, [], is_ok, length, OnOk, vec_capacity};
 ghost use Rattle.std.specs.List.{slice_index_or};
 ghost use Rattle.dsn_book.specs.Book.{Represents};
-ghost use Rattle.dsn_lane.specs.Ends.{End};
+ghost use Rattle.dsn_lane.specs.Halves.{Half};
 ghost use Rattle.dsn_lane.specs.Lane.{most_agents, most_sent};
 ghost use Rattle.dsn_outcome.specs.declared.answer.Answer.{Answer};
 ghost use Rattle.dsn_crew.specs.desk.Open.{AreLines};
-ghost use Rattle.dsn_crew.specs.desk.Desk.{AreTold, HasRoom, IsDesk, IsRun, IsRequestTaken, IsStopped, all_gone, desk_of, goodbyes, missing, most_taken, places_of, with_failed};
+ghost use Rattle.dsn_crew.specs.desk.Desk.{IsAnswerSent, HasRoom, IsDesk, IsRun, IsRequestTaken, IsStopped, all_gone, desk_of, goodbyes, missing, most_taken, places_of, with_failed};
 
 use crate::desk::answer_lane::AnswerLane;
 use crate::desk::desk_fault::DeskFault;
-use crate::desk::refused::{Returned, offer};
-use crate::desk::stop::Stop;
+use crate::desk::returned_letter::{ReturnedLetter, offer};
+use crate::desk::stop_cause::StopCause;
 use dsn_book::{Book, Step};
 use dsn_lane::{LaneGone, LaneIn, LaneOut};
 use dsn_outcome::{Answer, Letter, Request};
@@ -32,7 +32,7 @@ pub struct Desk {
     gone: u32,
     missed: u32,
     /// Why it has failed, if it has.
-    stop: Option<Stop>,
+    stop: Option<StopCause>,
 }
 
 impl Model for Desk {
@@ -87,7 +87,7 @@ impl Desk {
     }
 
     /// Why it has failed. It asks that it has.
-    pub(crate) fn stopped(&self) -> Stop
+    pub(crate) fn stopped(&self) -> StopCause
         requires { self.now.failed ≡ true }
         ensures { IsStopped self.now.requests.taken result }
     {
@@ -126,13 +126,13 @@ impl Desk {
             return Err(DeskFault::Requests);
         }
         if self.taken == u32::MAX {
-            self.stop = Some(Stop::Full);
+            self.stop = Some(StopCause::Full);
             return Err(DeskFault::Requests);
         }
         let request = match self.requests.take(rt) {
             Ok(request) => request,
             Err(end) => {
-                self.stop = Some(Stop::Gone(end.gone));
+                self.stop = Some(StopCause::Gone(end.gone));
                 return Err(DeskFault::Requests);
             }
         };
@@ -140,10 +140,10 @@ impl Desk {
         let agent = request.agent;
         self.gone += u32::from(request.body.is_bye());
         let Step { answer, letter } = self.book.apply(request);
-        match tell(rt, &mut self.lines, answer) {
+        match send_answer(rt, &mut self.lines, answer) {
             Ok(()) => Ok(letter),
             Err(gone) => {
-                self.stop = Some(Stop::Gone(gone));
+                self.stop = Some(StopCause::Gone(gone));
                 Err(DeskFault::Answers(agent, letter))
             }
         }
@@ -190,23 +190,23 @@ impl Desk {
         };
         match offer(rt, sink, letter) {
             Ok(()) => Ok(()),
-            Err(Returned { letter, refused }) => {
-                self.stop = Some(Stop::Refused(refused));
+            Err(ReturnedLetter { letter, refused }) => {
+                self.stop = Some(StopCause::Refused(refused));
                 Err(DeskFault::Letters(letter))
             }
         }
     }
 }
 
-/// Sends an answer over the lane of its agent, or says what the lane told where the agent is gone.
-fn tell(rt: &impl Wait, lines: &mut Vec<AnswerLane>, answer: Answer) -> Result<(), LaneGone>
+/// Sends an answer over the lane of its agent, or says what the lane reported where the agent is gone.
+fn send_answer(rt: &impl Wait, lines: &mut Vec<AnswerLane>, answer: Answer) -> Result<(), LaneGone>
     requires within { answer.agent < length lines.old.items }
-    requires agent { (d : End Answer)
+    requires agent { (d : Half Answer)
         → (slice_index_or lines.old.items answer.agent d).agent ≡ answer.agent }
-    requires number { (d : End Answer)
+    requires number { (d : Half Answer)
         → length (slice_index_or lines.old.items answer.agent d).sent ≡ answer.number }
     requires room { answer.number < most_sent }
-    ensures { AreTold (is_ok result) lines.old.items answer lines.new.items }
+    ensures { IsAnswerSent (is_ok result) lines.old.items answer lines.new.items }
 {
     lines[answer.agent as usize].send(rt, answer)
 }

@@ -12,7 +12,7 @@ use dsn_text::fault_code;
 pub enum DeskFault {
     /// The agents are gone, the collector failed before, or 4,294,967,295 requests were taken.
     Requests,
-    /// This agent is gone, and its answer is lost. The letter that the answer tells of comes back.
+    /// This agent is gone, and its answer is lost. The letter that the answer speaks of comes back.
     Answers(u32, Option<Letter>),
     /// The sink is gone, or takes no more letters.
     Letters(Letter),

@@ -38,7 +38,7 @@ pub fn open_crew(
 }
 
 /// The crew itself.
-#[tactic(auto, using(crate::proofs::OpenLemmas::length_ends))]
+#[tactic(auto, using(crate::proofs::OpenLemmas::length_halves))]
 fn open_room(
     rt: &impl Wait,
     alloc: Global,
@@ -52,7 +52,7 @@ fn open_room(
     let Ok(book) = Book::new(alloc, limits) else {
         return Err(CrewOpenFault::NoMemory);
     };
-    let Ok((ends, requests)) = open_lane::<Request>(rt, alloc, 0, agents, REQUESTS_WAITING) else {
+    let Ok((halves, requests)) = open_lane::<Request>(rt, alloc, 0, agents, REQUESTS_WAITING) else {
         return Err(CrewOpenFault::NoMemory);
     };
     let Ok(mut crew) = Vec::with_capacity(alloc, agents as usize) else {
@@ -64,12 +64,12 @@ fn open_room(
     let Ok(room) = Vec::with_capacity(alloc, agents as usize) else {
         return Err(CrewOpenFault::NoMemory);
     };
-    let mut ends = ends.into_iter();
+    let mut halves = halves.into_iter();
     for agent in 0..agents {
-        let Some(end) = ends.next() else {
+        let Some(half) = halves.next() else {
             unreachable!()
         };
-        let Ok((one, line)) = open_agent(rt, alloc, limits, agent, end) else {
+        let Ok((one, line)) = open_agent(rt, alloc, limits, agent, half) else {
             return Err(CrewOpenFault::NoMemory);
         };
         crew.push_reserved(one);
@@ -78,7 +78,7 @@ fn open_room(
     Ok((crew, Desk::new(book, requests, lines, room)))
 }
 
-/// An agent with this end for its requests, and the collector's end for its answers.
+/// An agent with this half for its requests, and the collector's half for its answers.
 pub(crate) fn open_agent(
     rt: &impl Wait,
     alloc: Global,
@@ -92,10 +92,10 @@ pub(crate) fn open_agent(
         (λ pair. pair.0 ≡ opened_agent limits.requests requests.lane pair.1) }
     ensures line { IfOk result (λ pair. IsLine agent pair.1) }
 {
-    let (mut ends, answers) = open_lane(rt, alloc, agent, 1, 1)?;
-    let Some(end) = ends.pop() else {
+    let (mut halves, answers) = open_lane(rt, alloc, agent, 1, 1)?;
+    let Some(half) = halves.pop() else {
         unreachable!()
     };
     let asks = Agent::new(agent, requests, answers, limits.requests());
-    Ok((asks, AnswerLane::new(end, ends)))
+    Ok((asks, AnswerLane::new(half, halves)))
 }

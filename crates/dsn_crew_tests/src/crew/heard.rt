@@ -1,7 +1,7 @@
 //! What clients of a crew hear, for tests: the answers that are written to connections in memory.
 use super::frames::Frames;
 use super::memory_port::{MemoryPort, Text};
-use crate::same::same;
+use crate::assert_same::same;
 use std::alloc::Global;
 use std::process::Abort;
 use std::sync::atomic::{AtomicU8, Ordering};

@@ -1,7 +1,7 @@
 //! Crews whose agents serve ports to their ends: what each port and connection counts.
 use super::memory_port::MemoryPort;
 use super::whole_crew::{EMPTY, line, port, run_all};
-use crate::same::same;
+use crate::assert_same::same;
 use dsn_crew::AgentLine;
 use std::alloc::Global;
 use std::process::Abort;
@@ -24,14 +24,14 @@ fn assert_lines<R: Threads + Wait + Sync + Abort>(
     ports: Vec<MemoryPort<'_>>,
     lines: &[AgentLine],
 ) -> Result<(), Fail> {
-    let told = run_all(rt, alloc, requests, ports)?;
-    same(rt, told.code, 0);
-    same(rt, told.agents.as_slice(), lines);
-    assert!(rt; told.whole && told.letters == 0);
-    same(rt, told.open.len(), 0);
+    let seen = run_all(rt, alloc, requests, ports)?;
+    same(rt, seen.code, 0);
+    same(rt, seen.agents.as_slice(), lines);
+    assert!(rt; seen.whole && seen.letters == 0);
+    same(rt, seen.open.len(), 0);
     same(
         rt,
-        told.outbox.into_inner().text.as_slice(),
+        seen.outbox.into_inner().text.as_slice(),
         EMPTY.as_slice(),
     );
     Ok(())
@@ -124,10 +124,10 @@ fn all_ports_fail_at_once(rt: HostRuntime) -> Result<(), Fail> {
 fn crew_of_0_or_17_ports_is_refused(rt: HostRuntime) -> Result<(), Fail> {
     for count in [0u32, 17] {
         let ports = failing_ports(rt.alloc(), count)?;
-        let told = run_all(&rt, rt.alloc(), 8, ports)?;
-        same(&rt, told.code, 43);
-        assert!(rt; told.unsent.is_empty());
-        assert!(rt; told.outbox.into_inner().text.is_empty());
+        let seen = run_all(&rt, rt.alloc(), 8, ports)?;
+        same(&rt, seen.code, 43);
+        assert!(rt; seen.unsent.is_empty());
+        assert!(rt; seen.outbox.into_inner().text.is_empty());
     }
     Ok(())
 }

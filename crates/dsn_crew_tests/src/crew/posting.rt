@@ -5,8 +5,8 @@ use super::memory_port::MemoryPort;
 use super::outbox::Outbox;
 use super::outbox_text::ONE_NOTICE;
 use super::side_by_side::ports_of;
-use super::whole_crew::{Told, line, open, outbox, port, run_all, run_over};
-use crate::same::same;
+use super::whole_crew::{Seen, line, open, outbox, port, run_all, run_over};
+use crate::assert_same::same;
 use dsn_book::OpenLine;
 use dsn_crew::{AgentLine, NoGate};
 use dsn_device::Plain;
@@ -41,19 +41,19 @@ fn one_port<'a>(alloc: Global, texts: &[(&'a [u8], bool)]) -> Result<Vec<MemoryP
 }
 
 /// Asserts that a run ended well, what comes of its one agent, and that the outbox holds the notice.
-fn assert_one_notice<R: Abort>(rt: &R, told: Told<Plain<Outbox>>, line: AgentLine) {
-    same(rt, (told.code, told.letters), (0, 1));
-    same(rt, told.agents.as_slice(), [line].as_slice());
-    let text = told.outbox.into_inner().text;
+fn assert_one_notice<R: Abort>(rt: &R, seen: Seen<Plain<Outbox>>, line: AgentLine) {
+    same(rt, (seen.code, seen.letters), (0, 1));
+    same(rt, seen.agents.as_slice(), [line].as_slice());
+    let text = seen.outbox.into_inner().text;
     same(rt, text.as_slice(), ONE_NOTICE.as_slice());
 }
 
 #[test]
 fn one_append_one_flush(rt: HostRuntime) -> Result<(), Fail> {
     let ports = one_port(rt.alloc(), &[(ONE_MESSAGE.as_slice(), true)])?;
-    let told = run_all(&rt, rt.alloc(), 8, ports)?;
-    assert!(rt; told.whole && told.open.is_empty());
-    assert_one_notice(&rt, told, line(2, 1));
+    let seen = run_all(&rt, rt.alloc(), 8, ports)?;
+    assert!(rt; seen.whole && seen.open.is_empty());
+    assert_one_notice(&rt, seen, line(2, 1));
     Ok(())
 }
 
@@ -67,8 +67,8 @@ fn client_leaves_mid_frame(rt: HostRuntime) -> Result<(), Fail> {
         port_failed: false,
     };
     let ports = one_port(rt.alloc(), &texts)?;
-    let told = run_all(&rt, rt.alloc(), 8, ports)?;
-    assert_one_notice(&rt, told, line);
+    let seen = run_all(&rt, rt.alloc(), 8, ports)?;
+    assert_one_notice(&rt, seen, line);
     Ok(())
 }
 
@@ -102,11 +102,11 @@ fn outbox_fails_in_a_crew(rt: HostRuntime) -> Result<(), Fail> {
     let room = GREETING + SHORTER_LETTER + 20;
     let ports = ports_of(rt.alloc(), &all)?;
     let outbox = outbox(rt.alloc(), room);
-    let told = run_over(&rt, rt.alloc(), 8, ports, outbox, &NoGate)?;
-    same(&rt, (told.code, told.letters, told.whole), (0, 1, false));
-    same(&rt, told.unsent.as_slice(), b"K2K3".as_slice());
-    same(&rt, told.agents.as_slice(), [line(6, 1)].as_slice());
-    let text = told.outbox.into_inner().text;
+    let seen = run_over(&rt, rt.alloc(), 8, ports, outbox, &NoGate)?;
+    same(&rt, (seen.code, seen.letters, seen.whole), (0, 1, false));
+    same(&rt, seen.unsent.as_slice(), b"K2K3".as_slice());
+    same(&rt, seen.agents.as_slice(), [line(6, 1)].as_slice());
+    let text = seen.outbox.into_inner().text;
     same(&rt, text.len(), room);
     assert!(rt; text.ends_with(b"\r\n.\r\nMAIL FROM:<>\r\nRCPT T"));
     Ok(())
@@ -140,15 +140,15 @@ fn flush_between(alloc: Global) -> Result<Frames, Fail> {
 
 /// The codes and counts of a run whose third ask waits for the outbox's first write, which waits for
 /// the answer to that ask; and how many holds ran out.
-fn told_aside<R: Threads + Wait + Clock + Sync>(
+fn seen_aside<R: Threads + Wait + Clock + Sync>(
     rt: &R,
     alloc: Global,
     ports: Vec<MemoryPort<'_>>,
     hold: &Hold<'_, R>,
 ) -> Result<(u32, u32, bool, Vec<OpenLine>), Fail> {
     let outbox = Plain::new(Aside { hold });
-    let told = run_over(rt, alloc, 8, ports, outbox, hold)?;
-    Ok((told.code, told.letters, told.whole, told.open))
+    let seen = run_over(rt, alloc, 8, ports, outbox, hold)?;
+    Ok((seen.code, seen.letters, seen.whole, seen.open))
 }
 
 #[test]
@@ -165,7 +165,7 @@ fn notice_written_aside(rt: HostRuntime) -> Result<(), Fail> {
     let hold = Hold::new(&rt, until);
     let all = [flush_between(rt.alloc())?];
     let ports = ports_of(rt.alloc(), &all)?;
-    let (code, letters, whole, lines) = told_aside(&rt, rt.alloc(), ports, &hold)?;
+    let (code, letters, whole, lines) = seen_aside(&rt, rt.alloc(), ports, &hold)?;
     same(&rt, (code, letters, whole, hold.ran_out()), (0, 1, true, 0));
     same(&rt, lines.as_slice(), want.as_slice());
     Ok(())

@@ -5,8 +5,8 @@ use super::heard::{ANSWER, Heard, after_logged, answer, ports_heard, two_heard};
 use super::hold::{Hold, Until};
 use super::memory_port::MemoryPort;
 use super::outbox::Outbox;
-use super::whole_crew::{EMPTY, Told, line, open, outbox, port, run_over};
-use crate::same::same;
+use super::whole_crew::{EMPTY, Seen, line, open, outbox, port, run_over};
+use crate::assert_same::same;
 use dsn_book::OpenLine;
 use dsn_device::Plain;
 use std::alloc::Global;
@@ -31,7 +31,7 @@ fn held<R: Threads + Wait + Clock + Sync>(
     alloc: Global,
     all: &[Frames],
     until: Until,
-) -> Result<(Told<Plain<Outbox>>, u64), Fail> {
+) -> Result<(Seen<Plain<Outbox>>, u64), Fail> {
     held_over(rt, alloc, ports_of(alloc, all)?, until)
 }
 
@@ -41,10 +41,10 @@ fn held_over<R: Threads + Wait + Clock + Sync>(
     alloc: Global,
     ports: Vec<MemoryPort<'_>>,
     until: Until,
-) -> Result<(Told<Plain<Outbox>>, u64), Fail> {
+) -> Result<(Seen<Plain<Outbox>>, u64), Fail> {
     let hold = Hold::new(rt, until);
-    let told = run_over(rt, alloc, 100, ports, outbox(alloc, usize::MAX), &hold)?;
-    Ok((told, hold.ran_out()))
+    let seen = run_over(rt, alloc, 100, ports, outbox(alloc, usize::MAX), &hold)?;
+    Ok((seen, hold.ran_out()))
 }
 
 /// The same over ports that keep what is heard.
@@ -54,7 +54,7 @@ fn held_heard<R: Threads + Wait + Clock + Sync>(
     all: &[Frames],
     heard: &[Heard],
     until: Until,
-) -> Result<(Told<Plain<Outbox>>, u64), Fail> {
+) -> Result<(Seen<Plain<Outbox>>, u64), Fail> {
     held_over(rt, alloc, ports_heard(alloc, all, heard)?, until)
 }
 
@@ -78,20 +78,20 @@ fn two_appends(alloc: Global, count: u32) -> Result<[Frames; 2], Fail> {
 /// out, that no letter was made, and which logs are open.
 fn assert_empty<R: Abort>(
     rt: &R,
-    told: (Told<Plain<Outbox>>, u64),
+    seen: (Seen<Plain<Outbox>>, u64),
     agents: usize,
     requests: u32,
     lines: &[OpenLine],
 ) {
-    let (told, ran_out) = told;
-    same(rt, (told.code, ran_out, told.letters), (0, 0, 0));
-    same(rt, told.agents.len(), agents);
-    for agent in &told.agents {
+    let (seen, ran_out) = seen;
+    same(rt, (seen.code, ran_out, seen.letters), (0, 0, 0));
+    same(rt, seen.agents.len(), agents);
+    for agent in &seen.agents {
         same(rt, *agent, line(requests, 1));
     }
-    assert!(rt; told.whole);
-    same(rt, told.open.as_slice(), lines);
-    let text = told.outbox.into_inner().text;
+    assert!(rt; seen.whole);
+    same(rt, seen.open.as_slice(), lines);
+    let text = seen.outbox.into_inner().text;
     same(rt, text.as_slice(), EMPTY.as_slice());
 }
 
@@ -117,8 +117,8 @@ fn agents_side_by_side(rt: HostRuntime) -> Result<(), Fail> {
     let lines = [open(b"Q1", 1)?, open(b"Q2", 1)?];
     let all = two_appends(rt.alloc(), 1)?;
     let heard = two_heard(rt.alloc(), 1, 1)?;
-    let told = held_heard(&rt, rt.alloc(), &all, &heard, until)?;
-    assert_empty(&rt, told, 2, 1, &lines);
+    let seen = held_heard(&rt, rt.alloc(), &all, &heard, until)?;
+    assert_empty(&rt, seen, 2, 1, &lines);
     assert_one_logged(&rt, rt.alloc(), &heard)
 }
 
@@ -134,8 +134,8 @@ fn agents_cross(rt: HostRuntime) -> Result<(), Fail> {
     };
     let lines = [open(b"Q1", 2)?, open(b"Q2", 2)?];
     let all = two_appends(rt.alloc(), 2)?;
-    let told = held(&rt, rt.alloc(), &all, until)?;
-    assert_empty(&rt, told, 2, 2, &lines);
+    let seen = held(&rt, rt.alloc(), &all, until)?;
+    assert_empty(&rt, seen, 2, 2, &lines);
     Ok(())
 }
 
@@ -160,8 +160,8 @@ fn sixteen_agents(rt: HostRuntime) -> Result<(), Fail> {
     };
     let lines = [open(b"Q1", 160)?];
     let all = sixteen_appends(rt.alloc())?;
-    let told = held(&rt, rt.alloc(), &all, until)?;
-    assert_empty(&rt, told, 16, 10, &lines);
+    let seen = held(&rt, rt.alloc(), &all, until)?;
+    assert_empty(&rt, seen, 16, 10, &lines);
     Ok(())
 }
 
@@ -232,13 +232,13 @@ fn fifty_each(alloc: Global) -> Result<[Frames; 2], Fail> {
 
 /// Asserts that a run of such agents ended well, that no hold ran out, and that one letter was made
 /// with each agent's recipients in their order.
-fn assert_one_letter<R: Abort>(rt: &R, told: (Told<Plain<Outbox>>, u64)) {
-    let (told, ran_out) = told;
-    same(rt, (told.code, ran_out, told.letters), (0, 0, 1));
+fn assert_one_letter<R: Abort>(rt: &R, seen: (Seen<Plain<Outbox>>, u64)) {
+    let (seen, ran_out) = seen;
+    same(rt, (seen.code, ran_out, seen.letters), (0, 0, 1));
     let lines = [line(51, 1), line(50, 1)];
-    same(rt, told.agents.as_slice(), lines.as_slice());
-    assert!(rt; told.whole && told.open.is_empty());
-    let text = told.outbox.into_inner().text;
+    same(rt, seen.agents.as_slice(), lines.as_slice());
+    assert!(rt; seen.whole && seen.open.is_empty());
+    let text = seen.outbox.into_inner().text;
     same(rt, groups(&text), 100);
     same(rt, groups_in_order(&text, b'a'), 50);
     same(rt, groups_in_order(&text, b'b'), 50);
@@ -256,7 +256,7 @@ fn two_agents_one_log(rt: HostRuntime) -> Result<(), Fail> {
     };
     let all = fifty_each(rt.alloc())?;
     let heard = two_heard(rt.alloc(), 51, 50)?;
-    let told = held_heard(&rt, rt.alloc(), &all, &heard, until)?;
-    assert_one_letter(&rt, told);
+    let seen = held_heard(&rt, rt.alloc(), &all, &heard, until)?;
+    assert_one_letter(&rt, seen);
     assert_heard(&rt, rt.alloc(), &heard)
 }

@@ -2,7 +2,7 @@
 use super::memory_port::{MemoryPort, Text};
 use super::outbox::Outbox;
 use dsn_book::{Limits, OpenLine};
-use dsn_crew::{Account, AgentLine, CrewFault, Gate, NoGate, run_crew};
+use dsn_crew::{AgentLine, CrewAccount, CrewFault, Gate, NoGate, run_crew};
 use dsn_device::{Drain, Plain};
 use dsn_outcome::{Key, Letters, QueueId, Service};
 use dsn_report::Site;
@@ -16,7 +16,7 @@ pub(super) const EMPTY: &[u8; 27] = b"EHLO mx.example.net\r\nQUIT\r\n";
 
 /// What a run came to.
 #[derive(Drop)]
-pub(super) struct Told<W> {
+pub(super) struct Seen<W> {
     /// The number of its fault, or 0.
     pub(super) code: u32,
     pub(super) agents: Vec<AgentLine>,
@@ -48,8 +48,8 @@ fn ids_of(alloc: Global, mut letters: Letters) -> Result<Vec<u8>, Fail> {
     Ok(ids)
 }
 
-fn told_of_account<W: Drop>(alloc: Global, account: Account<W>) -> Result<Told<W>, Fail> {
-    let Account {
+fn seen_of_account<W: Drop>(alloc: Global, account: CrewAccount<W>) -> Result<Seen<W>, Fail> {
+    let CrewAccount {
         agents,
         letters,
         unsent,
@@ -58,7 +58,7 @@ fn told_of_account<W: Drop>(alloc: Global, account: Account<W>) -> Result<Told<W
         book,
         ..
     } = account;
-    Ok(Told {
+    Ok(Seen {
         code: 0,
         agents,
         letters,
@@ -69,14 +69,14 @@ fn told_of_account<W: Drop>(alloc: Global, account: Account<W>) -> Result<Told<W
     })
 }
 
-fn told_of_fault<W: Drop>(alloc: Global, fault: CrewFault<W>) -> Result<Told<W>, Fail> {
+fn seen_of_fault<W: Drop>(alloc: Global, fault: CrewFault<W>) -> Result<Seen<W>, Fail> {
     let CrewFault {
         cause,
         outbox,
         unsent,
         ..
     } = fault;
-    Ok(Told {
+    Ok(Seen {
         code: cause.code(),
         agents: Vec::new(alloc),
         letters: 0,
@@ -95,12 +95,12 @@ pub(super) fn run_over<R: Threads + Wait + Sync, W: Drain + Drop + Send, G: Gate
     ports: Vec<MemoryPort<'_>>,
     outbox: W,
     gate: &G,
-) -> Result<Told<W>, Fail> {
+) -> Result<Seen<W>, Fail> {
     let site = Site::new(alloc, b"mx.example.net")?;
     let limits = Limits::new(64, 1000, requests).ok_or("limits")?;
     match run_crew(rt, alloc, site, limits, ports, outbox, gate) {
-        Ok(account) => told_of_account(alloc, account),
-        Err(fault) => told_of_fault(alloc, fault),
+        Ok(account) => seen_of_account(alloc, account),
+        Err(fault) => seen_of_fault(alloc, fault),
     }
 }
 
@@ -110,7 +110,7 @@ pub(super) fn run_all<R: Threads + Wait + Sync>(
     alloc: Global,
     requests: u32,
     ports: Vec<MemoryPort<'_>>,
-) -> Result<Told<Plain<Outbox>>, Fail> {
+) -> Result<Seen<Plain<Outbox>>, Fail> {
     let outbox = outbox(alloc, usize::MAX);
     run_over(rt, alloc, requests, ports, outbox, &NoGate)
 }

@@ -1,11 +1,11 @@
 //! An agent by one thread, whose answers wait before it asks: what its session calls, reads and
-//! writes, and what it is told where no answer comes.
+//! writes, and what it is answered where no answer comes.
 ghost use Rattle.std.specs.Prelude.{◌<◌, IfSome};
 ghost use Rattle.dsn_crew.specs.desk.Open.{IsLine};
 
 use super::bodies::discard;
 use super::memory::Memory;
-use crate::same::same;
+use crate::assert_same::same;
 use dsn_crew::{Agent, AskFault, Gate, ServeFault, Served};
 use dsn_lane::{LaneIn, LaneOut, open_lane};
 use dsn_outcome::{Answer, Reply, Request};
@@ -20,7 +20,7 @@ const DISCARD: &[u8] = b"\0\0\0\x0b\x01\x03\0\0\0\0\x01\0\x02K1";
 /// The first answer of a connection: nothing was logged that could be discarded.
 const DISCARDED: &[u8] = b"\0\0\0\x0a\x01\x08\0\0\0\0\0\0\0\0";
 
-/// The agent of this number, with the end that takes its requests, and the one that answers it.
+/// The agent of this number, with the half that takes its requests, and the one that answers it.
 fn alone(
     rt: &impl Wait,
     alloc: Global,
@@ -98,15 +98,15 @@ fn answer_is_one_write_to_a_stream_that_tells_its_bytes(rt: HostRuntime) -> Resu
 }
 
 #[test]
-fn gate_is_told_the_agent_and_the_number(rt: HostRuntime) -> Result<(), Fail> {
+fn gate_gets_the_agent_and_the_number(rt: HostRuntime) -> Result<(), Fail> {
     let (_, calls, _) = discarded(&rt, rt.alloc()).ok_or("a session")?;
     same(&rt, calls, 131_231);
     Ok(())
 }
 
 /// The number of the fault that ended a session, or 0.
-fn code_of(told: Result<Served, ServeFault>) -> u32 {
-    match told {
+fn code_of(seen: Result<Served, ServeFault>) -> u32 {
+    match seen {
         Ok(_) => 0,
         Err(fault) => fault.code(),
     }
@@ -130,12 +130,12 @@ fn deserted(rt: &impl Wait, alloc: Global) -> Option<(u32, u32, u64, usize)> {
 
 #[test]
 fn agent_without_its_collector_answers_nothing(rt: HostRuntime) -> Result<(), Fail> {
-    let told = deserted(&rt, rt.alloc()).ok_or("an agent")?;
-    same(&rt, told, (41, 41, 130_130, 0));
+    let seen = deserted(&rt, rt.alloc()).ok_or("an agent")?;
+    same(&rt, seen, (41, 41, 130_130, 0));
     Ok(())
 }
 
-/// What an agent is told whose request is taken, and whose collector is gone then: at this ask and
+/// What an agent is answered whose request is taken, and whose collector is gone then: at this ask and
 /// the next; and whether the request was taken.
 fn unanswered(rt: &impl Wait, alloc: Global) -> Option<(bool, bool, bool)> {
     let (mut agent, mut requests, line) = alone(rt, alloc, 3)?;
@@ -148,7 +148,7 @@ fn unanswered(rt: &impl Wait, alloc: Global) -> Option<(bool, bool, bool)> {
 
 #[test]
 fn request_that_is_taken_and_not_answered(rt: HostRuntime) -> Result<(), Fail> {
-    let told = unanswered(&rt, rt.alloc()).ok_or("an agent")?;
-    same(&rt, told, (true, true, true));
+    let seen = unanswered(&rt, rt.alloc()).ok_or("an agent")?;
+    same(&rt, seen, (true, true, true));
     Ok(())
 }

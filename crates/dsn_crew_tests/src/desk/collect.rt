@@ -1,6 +1,6 @@
 //! A collector that runs until its agents are gone.
 ghost use Rattle.std.specs.Prelude.{◌≡◌, List, true, IfSome};
-ghost use Rattle.dsn_crew.specs.agents.Agent.{Ends};
+ghost use Rattle.dsn_crew.specs.agents.Agent.{LaneHalves};
 ghost use Rattle.dsn_crew.specs.desk.Close.{AreCrew};
 ghost use Rattle.dsn_crew.specs.desk.Desk.{all_gone};
 
@@ -28,7 +28,7 @@ impl Sink for Dropped {
 /// The collector once all its agents said goodbye, and how many letters they sealed.
 pub(super) fn collect(rt: &impl Wait, desk: Desk) -> Option<(Desk, u32)>
     ensures gone { IfSome result (λ pair. all_gone pair.0 ≡ true) }
-    ensures crew { IfSome result (λ pair. (crew : List Ends) → AreCrew crew desk → AreCrew crew pair.0) }
+    ensures crew { IfSome result (λ pair. (crew : List LaneHalves) → AreCrew crew desk → AreCrew crew pair.0) }
 {
     let mut desk = desk;
     let mut sink = Dropped { letters: 0 };

@@ -1,7 +1,7 @@
 //! What comes when one side of a crew is gone.
 use super::bodies::discard;
 use super::opened::opened;
-use crate::same::same;
+use crate::assert_same::same;
 use dsn_book::Limits;
 use dsn_crew::{Agent, AskFault, Desk, DeskFault, open_crew};
 use std::alloc::Global;
@@ -14,7 +14,7 @@ fn loses_with_body(rt: &impl Wait, agent: &mut Agent) -> Option<bool> {
     Some(matches!(agent.ask(rt, body), Err(AskFault::Lost(Some(_)))))
 }
 
-/// What an agent is told whose collector is gone: at two asks whether the body came back, and
+/// What an agent is answered whose collector is gone: at two asks whether the body came back, and
 /// whether its goodbye is lost.
 fn without_desk(rt: &impl Wait, alloc: Global) -> Option<(bool, bool, bool)> {
     let (mut agents, desk) = opened(rt, alloc, 1, 2)?.ok()?;
@@ -28,8 +28,8 @@ fn without_desk(rt: &impl Wait, alloc: Global) -> Option<(bool, bool, bool)> {
 
 #[test]
 fn agent_without_its_collector_is_lost(rt: HostRuntime) -> Result<(), Fail> {
-    let told = without_desk(&rt, rt.alloc()).expect(&rt, "a crew");
-    same(&rt, told, (true, true, true));
+    let seen = without_desk(&rt, rt.alloc()).expect(&rt, "a crew");
+    same(&rt, seen, (true, true, true));
     Ok(())
 }
 
@@ -54,8 +54,8 @@ fn without_agents(rt: &impl Wait, alloc: Global) -> Option<(bool, bool)> {
 
 #[test]
 fn collector_without_agents_has_failed(rt: HostRuntime) -> Result<(), Fail> {
-    let told = without_agents(&rt, rt.alloc()).expect(&rt, "a crew");
-    same(&rt, told, (true, true));
+    let seen = without_agents(&rt, rt.alloc()).expect(&rt, "a crew");
+    same(&rt, seen, (true, true));
     Ok(())
 }
 
@@ -72,7 +72,7 @@ fn missed(rt: &impl Wait, alloc: Global) -> Option<(bool, bool)> {
 
 #[test]
 fn agents_that_never_start_are_not_awaited(rt: HostRuntime) -> Result<(), Fail> {
-    let told = missed(&rt, rt.alloc()).expect(&rt, "a crew");
-    same(&rt, told, (false, true));
+    let seen = missed(&rt, rt.alloc()).expect(&rt, "a crew");
+    same(&rt, seen, (false, true));
     Ok(())
 }

@@ -1,6 +1,6 @@
 //! Letters that a collector seals and hands on, by one thread: its agents have asked before it runs.
 use super::bodies::{append, flush};
-use crate::same::same;
+use crate::assert_same::same;
 use dsn_book::Limits;
 use dsn_crew::{Agent, Desk, DeskFault, open_crew};
 use dsn_lane::LaneOut;
@@ -49,8 +49,8 @@ enum RunEnd {
 }
 
 impl RunEnd {
-    fn of(told: Result<(), DeskFault>) -> RunEnd {
-        match told {
+    fn of(seen: Result<(), DeskFault>) -> RunEnd {
+        match seen {
             Ok(()) => RunEnd::Well,
             Err(DeskFault::Requests) => RunEnd::Requests,
             Err(DeskFault::Answers(agent, Some(letter))) => {
@@ -74,11 +74,11 @@ fn body_of(alloc: Global, agent: u32) -> Option<Body> {
     }
 }
 
-/// Sends the agent's only request, and gives the end by which it is answered.
+/// Sends the agent's only request, and gives the half by which it is answered.
 fn send_one(rt: &impl Wait, alloc: Global, agent: Agent) -> Option<LaneOut<Answer>> {
     let agent_number = agent.number();
     let body = body_of(alloc, agent_number)?;
-    let (mut requests, answers) = agent.into_ends();
+    let (mut requests, answers) = agent.into_halves();
     let number = requests.count();
     if number == u32::MAX {
         return None;
@@ -94,7 +94,7 @@ fn send_one(rt: &impl Wait, alloc: Global, agent: Agent) -> Option<LaneOut<Answe
     }
 }
 
-/// Sends each agent's only request, and gives the ends by which they are answered.
+/// Sends each agent's only request, and gives the halves by which they are answered.
 fn send_all(rt: &impl Wait, alloc: Global, crew: Vec<Agent>) -> Option<Vec<LaneOut<Answer>>> {
     let mut heard = Vec::new(alloc);
     for agent in crew {
@@ -104,7 +104,7 @@ fn send_all(rt: &impl Wait, alloc: Global, crew: Vec<Agent>) -> Option<Vec<LaneO
 }
 
 /// A collector that five agents have asked, of which only the fifth's goodbye is awaited. Beside it,
-/// the ends by which the agents are answered.
+/// the halves by which the agents are answered.
 fn asked(rt: &impl Wait, alloc: Global) -> Option<(Vec<LaneOut<Answer>>, Desk)> {
     let limits = Limits::new(8, 8, 8)?;
     let (crew, mut desk) = open_crew(rt, alloc, limits, 5).ok()?;
@@ -137,17 +137,17 @@ fn runs(
 
 #[test]
 fn letters_are_handed_on_in_order(rt: HostRuntime) -> Result<(), Fail> {
-    let told = runs(&rt, rt.alloc(), 5, 4).ok_or("a crew")?;
-    same(&rt, told, (RunEnd::Well, RunEnd::Well, *b"12\0\0"));
+    let seen = runs(&rt, rt.alloc(), 5, 4).ok_or("a crew")?;
+    same(&rt, seen, (RunEnd::Well, RunEnd::Well, *b"12\0\0"));
     Ok(())
 }
 
 #[test]
 fn letter_comes_back_from_a_sink_that_is_gone(rt: HostRuntime) -> Result<(), Fail> {
-    let told = runs(&rt, rt.alloc(), 5, 1).ok_or("a crew")?;
+    let seen = runs(&rt, rt.alloc(), 5, 1).ok_or("a crew")?;
     same(
         &rt,
-        told,
+        seen,
         (RunEnd::Letters(b'2'), RunEnd::Requests, *b"1\0\0\0"),
     );
     Ok(())
@@ -155,10 +155,10 @@ fn letter_comes_back_from_a_sink_that_is_gone(rt: HostRuntime) -> Result<(), Fai
 
 #[test]
 fn letter_of_an_answer_that_is_lost_comes_back(rt: HostRuntime) -> Result<(), Fail> {
-    let told = runs(&rt, rt.alloc(), 1, 4).ok_or("a crew")?;
+    let seen = runs(&rt, rt.alloc(), 1, 4).ok_or("a crew")?;
     same(
         &rt,
-        told,
+        seen,
         (RunEnd::Answers(1, b'1'), RunEnd::Requests, *b"\0\0\0\0"),
     );
     Ok(())

@@ -1,16 +1,16 @@
 //! Two agents on a thread beside their collector: what each is answered, the limit of its requests,
 //! and the close of the crew.
 ghost use Rattle.std.specs.Prelude.{◌≡◌, List, true, [], ◌∷◌, IfSome};
-ghost use Rattle.dsn_crew.specs.agents.Agent.{Ends};
+ghost use Rattle.dsn_crew.specs.agents.Agent.{LaneHalves};
 ghost use Rattle.dsn_crew.specs.desk.Close.{AreCrew};
 ghost use Rattle.dsn_crew.specs.agents.Place.{place_of};
 ghost use Rattle.dsn_crew.specs.desk.Desk.{all_gone};
 
 use super::bodies::append;
 use super::collect::collect;
-use crate::same::same;
+use crate::assert_same::same;
 use dsn_book::{Book, Limits};
-use dsn_crew::{Agent, AskFault, Desk, Finished, close_crew, open_crew};
+use dsn_crew::{Agent, AskFault, Desk, FinishedAgent, close_crew, open_crew};
 use dsn_outcome::{Body, Reply};
 use std::alloc::Global;
 use std::sync::Wait;
@@ -18,18 +18,18 @@ use std::test::Fail;
 use std::thread;
 use std::thread::Threads;
 
-/// What two agents were told, each of which may ask once.
+/// What two agents were answered, each of which may ask once.
 #[derive(Drop)]
-struct Told {
+struct Seen {
     /// The reply to the first one's request. Its second one was handed back as one too many.
     reply: Reply,
-    first: Finished,
-    second: Finished,
+    first: FinishedAgent,
+    second: FinishedAgent,
 }
 
 /// The reply to an append.
 fn append_once(rt: &impl Wait, alloc: Global, agent: &mut Agent) -> Option<Reply>
-    ensures { IfSome result (λ _. place_of agent.new.ends ≡ place_of agent.old.ends) }
+    ensures { IfSome result (λ _. place_of agent.new.halves ≡ place_of agent.old.halves) }
 {
     let body = append(alloc, b"K1")?;
     match agent.ask(rt, body) {
@@ -40,7 +40,7 @@ fn append_once(rt: &impl Wait, alloc: Global, agent: &mut Agent) -> Option<Reply
 
 /// An append that is handed back as one request too many; where it isn't, none.
 fn append_too_many(rt: &impl Wait, alloc: Global, agent: &mut Agent) -> Option<()>
-    ensures { IfSome result (λ _. place_of agent.new.ends ≡ place_of agent.old.ends) }
+    ensures { IfSome result (λ _. place_of agent.new.halves ≡ place_of agent.old.halves) }
 {
     let body = append(alloc, b"K1")?;
     match agent.ask(rt, body) {
@@ -50,46 +50,46 @@ fn append_too_many(rt: &impl Wait, alloc: Global, agent: &mut Agent) -> Option<(
 }
 
 /// The first agent asks twice, the second one not at all; both say goodbye.
-fn ask(rt: &impl Wait, alloc: Global, first: Agent, second: Agent) -> Option<Told>
-    ensures { IfSome result (λ told. (place_of told.first ≡ place_of first.ends) × (place_of told.second ≡ place_of second.ends)) }
+fn ask(rt: &impl Wait, alloc: Global, first: Agent, second: Agent) -> Option<Seen>
+    ensures { IfSome result (λ seen. (place_of seen.first ≡ place_of first.halves) × (place_of seen.second ≡ place_of second.halves)) }
 {
     let mut first = first;
     let reply = append_once(rt, alloc, &mut first)?;
     append_too_many(rt, alloc, &mut first)?;
     let first = first.bye(rt).ok()?;
     let second = second.bye(rt).ok()?;
-    Some(Told {
+    Some(Seen {
         reply,
         first,
         second,
     })
 }
 
-/// What the agents of a crew of two were told, how many requests each made, and the book at the end.
+/// What the agents of a crew of two were answered, how many requests each made, and the book at last.
 fn two_agents<R: Threads + Wait + Sync>(
     rt: &R,
     alloc: Global,
     crew: Vec<Agent>,
     desk: Desk,
 ) -> Option<(Reply, u32, u32, Book)>
-    requires { (first : Agent) × (second : Agent) × (crew.items ≡ first ∷ second ∷ []) × AreCrew (first.ends ∷ second.ends ∷ []) desk }
+    requires { (first : Agent) × (second : Agent) × (crew.items ≡ first ∷ second ∷ []) × AreCrew (first.halves ∷ second.halves ∷ []) desk }
 {
     let mut crew = crew;
     let second = crew.pop()?;
     let first = crew.pop()?;
-    let (told, desk) = thread::join(
+    let (seen, desk) = thread::join(
         rt,
         move || ask(rt, alloc, first, second),
         move || collect(rt, desk),
     );
-    let told = told?;
+    let seen = seen?;
     let (desk, _) = desk?;
-    let (first, second) = (told.first.requests(), told.second.requests());
+    let (first, second) = (seen.first.requests(), seen.second.requests());
     let mut ended = Vec::with_capacity(alloc, 2).ok()?;
-    ended.push_reserved(told.first);
-    ended.push_reserved(told.second);
+    ended.push_reserved(seen.first);
+    ended.push_reserved(seen.second);
     let shut = close_crew(rt, ended, desk);
-    Some((told.reply, first, second, shut.book))
+    Some((seen.reply, first, second, shut.book))
 }
 
 /// The same of a crew that was just opened, with the log that stays open.
@@ -108,7 +108,7 @@ fn limit_of_one<R: Threads + Wait + Sync>(rt: &R, alloc: Global) -> Option<(Repl
 
 #[test]
 fn agent_counts_and_request_limit(rt: HostRuntime) -> Result<(), Fail> {
-    let told = limit_of_one(&rt, rt.alloc()).expect(&rt, "a crew that ends well");
-    same(&rt, told, (Reply::Logged(0), 1, 0, 1));
+    let seen = limit_of_one(&rt, rt.alloc()).expect(&rt, "a crew that ends well");
+    same(&rt, seen, (Reply::Logged(0), 1, 0, 1));
     Ok(())
 }

@@ -1,5 +1,5 @@
 //! Crews of so many agents, and how many a crew may have.
-use crate::same::same;
+use crate::assert_same::same;
 use dsn_book::Limits;
 use dsn_crew::{Agent, CrewOpenFault, Desk, open_crew};
 use std::alloc::Global;
@@ -22,11 +22,11 @@ fn crew_has_1_to_16_agents(rt: HostRuntime) -> Result<(), Fail> {
     for agents in 0..18u32 {
         let code = if agents == 0 || agents == 17 { 43 } else { 0 };
         let opened = opened(&rt, rt.alloc(), 1, agents).expect(&rt, "limits");
-        let told = match opened {
+        let seen = match opened {
             Ok(crew) => u32::from(crew.0.len() != agents as usize),
             Err(fault) => fault.code(),
         };
-        same(&rt, told, code);
+        same(&rt, seen, code);
     }
     Ok(())
 }

@@ -1,7 +1,8 @@
-//! A connection in memory for tests, which takes and gives bytes in pieces and fails where it is told.
+//! A connection in memory for tests, which takes and gives bytes in pieces and fails where a test
+//! sets it.
 ghost use Rattle.std.specs.Prelude.{refl};
 
-use dsn_device::Opaque;
+use dsn_device::OpaqueStream;
 use std::io;
 use std::io::{ErrorKind, Read, Write};
 
@@ -41,7 +42,7 @@ impl Write for Peer<'_> {
     }
 }
 
-impl Opaque for Peer<'_> {
+impl OpaqueStream for Peer<'_> {
     ghost untold_input = { λ _. refl };
 
     ghost untold_output = { λ _. refl };

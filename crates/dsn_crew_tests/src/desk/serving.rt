@@ -3,7 +3,7 @@ ghost use Rattle.std.specs.Thread.{IsSync};
 
 use super::opened::opened;
 use super::peer::Peer;
-use crate::same::same;
+use crate::assert_same::same;
 use dsn_crew::{Agent, Desk, Gate, NoGate};
 use dsn_device::Plain;
 use std::alloc::Global;
@@ -45,7 +45,7 @@ const USED_UP: &[u8] = b"\0\0\0\x0a\x01\x0a\0\0\0\0\0\0\0\x2c";
 /// What became of one connection: the number of its fault, or 0; how many frames were answered
 /// where it ended well; and what was written.
 #[derive(Drop)]
-struct Told {
+struct Seen {
     code: u32,
     frames: u32,
     written: Vec<u8>,
@@ -68,13 +68,13 @@ fn serve_one<G: Gate>(
     agent: &mut Agent,
     peer: Peer<'_>,
     gate: &G,
-) -> Told {
+) -> Seen {
     let mut stream = Plain::new(peer);
     let (code, frames) = match agent.serve(rt, alloc, &mut stream, gate) {
         Ok(served) => (0, served.frames),
         Err(fault) => (fault.code(), 0),
     };
-    Told {
+    Seen {
         code,
         frames,
         written: stream.into_inner().heard,
@@ -89,7 +89,7 @@ fn serve_sent(
     sent: &'static [u8],
     most: usize,
     room: usize,
-) -> Told {
+) -> Seen {
     let peer = Peer {
         sent,
         most,
@@ -100,7 +100,7 @@ fn serve_sent(
 }
 
 /// Serves each connection in turn, as far as there is memory for what becomes of them.
-fn serve_each(rt: &impl Wait, alloc: Global, work: Work) -> Vec<Told> {
+fn serve_each(rt: &impl Wait, alloc: Global, work: Work) -> Vec<Seen> {
     let Work {
         mut agent,
         inputs,
@@ -109,8 +109,8 @@ fn serve_each(rt: &impl Wait, alloc: Global, work: Work) -> Vec<Told> {
     } = work;
     let mut all = Vec::new(alloc);
     for sent in inputs {
-        let told = serve_sent(rt, alloc, &mut agent, sent, most, room);
-        if all.push(told).is_err() {
+        let seen = serve_sent(rt, alloc, &mut agent, sent, most, room);
+        if all.push(seen).is_err() {
             return all;
         }
         room = usize::MAX;
@@ -139,12 +139,12 @@ fn served<R: Threads + Wait + Sync>(
     alloc: Global,
     work: Work,
     desk: Desk,
-) -> Option<Vec<Told>> {
+) -> Option<Vec<Seen>> {
     let mut desk = desk;
     thread::scope(
         thread::scope_env(),
         rt,
-        move |scope| -> Option<Vec<Told>>
+        move |scope| -> Option<Vec<Seen>>
             requires { IsSync R.row }
         {
             match scope.spawn(move || serve_each(rt, alloc, work)) {
@@ -172,10 +172,10 @@ fn inputs_of(alloc: Global, connections: &[Connection]) -> Result<Vec<&'static [
 }
 
 /// Asserts what became of these connections.
-fn assert_told(rt: &impl Abort, all: &[Told], connections: &[Connection]) {
+fn assert_seen(rt: &impl Abort, all: &[Seen], connections: &[Connection]) {
     same(rt, all.len(), connections.len());
-    for (told, (_, end, written)) in all.iter().zip(connections) {
-        let came = (told.code, told.frames, told.written.as_slice());
+    for (seen, (_, end, written)) in all.iter().zip(connections) {
+        let came = (seen.code, seen.frames, seen.written.as_slice());
         same(rt, came, (end.0, end.1, *written));
     }
 }
@@ -199,7 +199,7 @@ fn assert_served<R: Threads + Wait + Sync + Abort>(
             room,
         };
         let all = served(rt, alloc, work, desk).ok_or("a thread")?;
-        assert_told(rt, &all, connections);
+        assert_seen(rt, &all, connections);
     }
     Ok(())
 }
@@ -289,7 +289,7 @@ impl<R: Clock> Gate for Calls<'_, R> {
 
 /// What becomes of two connections, each with a discard, where the collector is gone; and how often
 /// the gate was called before an ask and after an answer.
-fn without_desk<R: Clock + Wait>(rt: &R, alloc: Global) -> Option<(Told, Told, u64, u64)> {
+fn without_desk<R: Clock + Wait>(rt: &R, alloc: Global) -> Option<(Seen, Seen, u64, u64)> {
     let (mut agent, desk) = one_agent(rt, alloc, 8)?;
     drop(desk);
     let gate = Calls {
@@ -313,9 +313,9 @@ fn without_desk<R: Clock + Wait>(rt: &R, alloc: Global) -> Option<(Told, Told, u
 #[test]
 fn agent_without_its_collector_answers_nothing(rt: HostRuntime) -> Result<(), Fail> {
     let (first, second, asked, answered) = without_desk(&rt, rt.alloc()).ok_or("a crew")?;
-    for told in [first, second] {
-        same(&rt, told.code, 41);
-        same(&rt, told.written.len(), 0);
+    for seen in [first, second] {
+        same(&rt, seen.code, 41);
+        same(&rt, seen.written.len(), 0);
     }
     same(&rt, (asked, answered), (2, 0));
     Ok(())

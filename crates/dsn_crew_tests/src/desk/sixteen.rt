@@ -1,7 +1,7 @@
 //! Sixteen agents, each on a thread of its own, beside their collector.
 use super::bodies::append;
 use super::collect::collect;
-use crate::same::same;
+use crate::assert_same::same;
 use dsn_book::Limits;
 use dsn_crew::{Agent, open_crew};
 use dsn_outcome::Reply;

@@ -1,8 +1,8 @@
 //! Texts to a writer that fails once and then works again.
 use super::*;
-use crate::fakes::PieceWriter;
-use crate::plain::Plain;
-use crate::same::same;
+use crate::assert_same::same;
+use crate::fake_devices::PieceWriter;
+use crate::std_device::Plain;
 use std::test::Fail;
 
 /// Writes three texts and flushes after each. What the writer held is given, and whether it failed.
@@ -25,8 +25,8 @@ fn nothing_after_the_first_failure(rt: HostRuntime) -> Result<(), Fail> {
     // the last flush fails where all ten bytes were taken and no more
     for room in 0..12usize {
         let (failed, held) = written(&rt, room)?;
-        let told = (failed, held.as_slice());
-        same(&rt, told, (room < 11, &b"EHLO\nQUIT\n"[..room.min(10)]));
+        let left = (failed, held.as_slice());
+        same(&rt, left, (room < 11, &b"EHLO\nQUIT\n"[..room.min(10)]));
     }
     Ok(())
 }

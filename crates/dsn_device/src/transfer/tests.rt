@@ -3,9 +3,9 @@ ghost use Rattle.std.specs.Prelude.{OnOk};
 ghost use Rattle.std.specs.Io.KnownBytes.{Appends};
 
 use super::*;
-use crate::fakes::{PieceConnection, PieceReader, PieceWriter};
-use crate::plain::Plain;
-use crate::same::same;
+use crate::assert_same::same;
+use crate::fake_devices::{PieceConnection, PieceReader, PieceWriter};
+use crate::std_device::Plain;
 use crate::stream::Stream;
 use std::os::unix::net::UnixStream;
 use std::test::Fail;
@@ -28,10 +28,10 @@ fn sends_a_front_up_to_the_failure(rt: HostRuntime) -> Result<(), Fail> {
     for most in 1..TEXT.len() + 1 {
         for room in 0..TEXT.len() + 1 {
             let (sent, held) = sent_into(&rt, room, most)?;
-            let told = (sent, held.as_slice());
+            let left = (sent, held.as_slice());
             same(
                 &rt,
-                (most, told),
+                (most, left),
                 (most, (room == TEXT.len(), &TEXT[..room])),
             );
         }

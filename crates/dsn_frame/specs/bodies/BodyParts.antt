@@ -1,11 +1,11 @@
 -- The fields of a body as the program's references hold them.
 use Rattle.dsn_frame.specs.bodies.Wire.{Head, RecipientFields, RetryFields, FlushFields, WireBody, AppendFields, DatedAppendFields, FlushFieldsOf, DiscardFields, ForgetFields}
-use Rattle.dsn_frame.specs.declared.bodies.parts.BodyParts.{BodyParts}
-use Rattle.dsn_frame.specs.declared.bodies.parts.BodyParts.TheVariants as parts
-use Rattle.dsn_frame.specs.declared.bodies.parts.FlushParts.{FlushParts}
-use Rattle.dsn_frame.specs.declared.bodies.parts.HeadParts.{HeadParts}
-use Rattle.dsn_frame.specs.declared.bodies.parts.RecipientParts.{RecipientParts}
-use Rattle.dsn_frame.specs.declared.bodies.parts.RetryParts.{RetryParts}
+use Rattle.dsn_frame.specs.declared.bodies.body_parts.BodyParts.{BodyParts}
+use Rattle.dsn_frame.specs.declared.bodies.body_parts.BodyParts.TheVariants as parts
+use Rattle.dsn_frame.specs.declared.bodies.body_parts.FlushParts.{FlushParts}
+use Rattle.dsn_frame.specs.declared.bodies.body_parts.HeadParts.{HeadParts}
+use Rattle.dsn_frame.specs.declared.bodies.body_parts.RecipientParts.{RecipientParts}
+use Rattle.dsn_frame.specs.declared.bodies.body_parts.RetryParts.{RetryParts}
 
 -- the texts that the references point to
 abbrev pub head_in : HeadParts → Head

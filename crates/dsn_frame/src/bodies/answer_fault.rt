@@ -26,7 +26,7 @@ pub enum AnswerFault {
 }
 
 impl AnswerFault {
-    /// The number of the refusal, 21 to 24 or 34, as notes tell it.
+    /// The number of the refusal, 21 to 24 or 34, as notes name it.
     pub fn code(&self) -> u32
         ensures { result ≡ answer_fault_code self.now }
     {

@@ -11,7 +11,7 @@ ghost use Rattle.dsn_frame.specs.bodies.BodyParts.{head_in, recipient_fields_in,
 ghost use Rattle.dsn_frame.specs.bodies.FrameBody.{IsFrameBody};
 ghost use Rattle.dsn_frame.specs.bodies.Request.{Encodes, IsWritten, append_written_as, fields_for, moment_or_none, retry_fields_for, fields_written, flush_fields_for, head_for, request_body, request_bytes, text_or_empty};
 
-use crate::bodies::parts::{
+use crate::bodies::body_parts::{
     BodyParts, FlushParts, HeadParts, NO_MOMENT, RecipientParts, RetryParts,
 };
 use crate::bodies::write_fields::{body_len, push_frame};

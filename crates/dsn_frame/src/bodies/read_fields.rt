@@ -7,7 +7,7 @@ ghost use Rattle.dsn_frame.specs.bodies.BodyParts.{head_in, recipient_fields_in,
 ghost use Rattle.dsn_frame.specs.bodies.Wire.{byte_at, number_at, text_at, head_at, append_at, retry_at, append_body_at, flush_at, own_at, body_at};
 
 use crate::bodies::VERSION;
-use crate::bodies::parts::{BodyParts, FlushParts, HeadParts, RecipientParts, RetryParts};
+use crate::bodies::body_parts::{BodyParts, FlushParts, HeadParts, RecipientParts, RetryParts};
 
 fn byte_of(bytes: &[u8]) -> Option<(u8, &[u8])>
     ensures { option_map (λ read. (read.0, read.1.now)) result ≡ byte_at bytes.now }

@@ -6,7 +6,7 @@ ghost use Rattle.dsn_frame.specs.bodies.FrameBody.{frame, longest_body};
 ghost use Rattle.dsn_frame.specs.bodies.Wire;
 ghost use Rattle.dsn_frame.specs.bodies.Wire.{FitsAppend, FitsFlush, FitsHead, FitsOwn, FitsText, number_bytes, text_bytes, head_bytes, append_bytes, retry_bytes, flush_bytes, own_bytes, body_bytes};
 
-use crate::bodies::parts::{BodyParts, FlushParts, HeadParts, RecipientParts, RetryParts};
+use crate::bodies::body_parts::{BodyParts, FlushParts, HeadParts, RecipientParts, RetryParts};
 
 /// Bytes of what every body begins with, beside its queue id: the version, the kind, the number, the
 /// service and the id's length.

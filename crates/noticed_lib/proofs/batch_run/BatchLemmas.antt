@@ -6,7 +6,7 @@ use Rattle.std.proofs.KnownBytes.{Appends-nil, Appends-trans, Appends-kept}
 use Rattle.std.proofs.lemmas.List.Sorted.{IsPermutation-refl}
 use Rattle.dsn_text.specs.Key.{key_cmp}
 use Rattle.dsn_book.specs.OpenLine.{open_lines_after}
-use Rattle.dsn_book.specs.declared.line.OpenLine.{OpenLine}
+use Rattle.dsn_book.specs.declared.open_line.OpenLine.{OpenLine}
 use Rattle.dsn_device.specs.Failures.{counted}
 use Rattle.dsn_device.specs.declared.drain.Drain.{Ghosts as Drain}
 use Rattle.dsn_device.specs.declared.source.Source.{Ghosts as Source}
@@ -17,13 +17,13 @@ use Rattle.dsn_outcome.specs.History.{Limits, held_after, history_after, history
 use Rattle.dsn_device.specs.UntilFailure.{Sent, counts_failure}
 use Rattle.dsn_report.specs.Outgoing.{Outgoing, Delivered}
 use Rattle.noticed_lib.proofs.batch_run.RunLemmas.{letters-none, replies-none}
-use Rattle.noticed_lib.proofs.notes.TellingLemmas.{steady-none, steady-then}
+use Rattle.noticed_lib.proofs.notes.SteadyLemmas.{steady-none, steady-then}
 use Rattle.noticed_lib.specs.batch_run.Batch.{ended_with, NotesSent, IsBatch}
 use Rattle.noticed_lib.specs.batch_run.Harvest.{Harvested, Ended}
 use Rattle.noticed_lib.specs.notes.Notes.{answer_line, answer_lines_from}
 use Rattle.noticed_lib.specs.batch_run.ReadingEnd.{reading_code, is_notes_lost, is_read_failed}
 use Rattle.noticed_lib.specs.batch_run.Requests.{batch_requests_from, requests_of}
-use Rattle.dsn_frame.specs.Telling.{AnswersSent}
+use Rattle.dsn_frame.specs.SentAnswers.{AnswersSent}
 use Rattle.noticed_lib.specs.declared.batch_run.batch_end.BatchEnd.{BatchEnd}
 use Rattle.noticed_lib.specs.declared.batch_run.reading_end.ReadingEnd.{ReadingEnd}
 use Rattle.noticed_lib.specs.declared.batch_run.reading_end.ReadingEnd.TheVariants.{AtEnd, Unreadable, OutOfTurn, TooMany, NotesLost, NoMemory}
@@ -66,24 +66,24 @@ read-code NoMemory = refl
 
 -- the lines of the answers, and then those of the end
 notes-sent : (stopped lost : Bool) (x y z : Option (List ℕ)) (answers : List Spoken) (ending : List ℕ) → AnswersSent answer_line answer_lines_from stopped x y answers → Sent stopped lost y z ending → NotesSent stopped lost x z answers ending
-notes-sent false false x y z answers ending told ended = Appends-trans x y z (answer_lines_from 0 answers) ending told ended
-notes-sent false true x y z answers ending told ended = record {
+notes-sent false false x y z answers ending noted ended = Appends-trans x y z (answer_lines_from 0 answers) ending noted ended
+notes-sent false true x y z answers ending noted ended = record {
   part = ended.front;
   lost = ended.unsent;
   some = ended.some;
   split = ended.split;
-  appended = Appends-trans x y z (answer_lines_from 0 answers) ended.front told ended.appended;
+  appended = Appends-trans x y z (answer_lines_from 0 answers) ended.front noted ended.appended;
 }
-notes-sent true false x y z answers ending told ended = absurd ended
-notes-sent true true x y z answers ending told ended = record {
-  before = told.before;
-  last = told.last;
-  answers_are = told.answers_are;
-  part = told.part;
-  lost = told.lost;
-  some = told.some;
-  text_is = told.text_is;
-  appended = Appends-kept x y z (answer_lines_from 0 told.before ++ told.part) told.appended ended;
+notes-sent true false x y z answers ending noted ended = absurd ended
+notes-sent true true x y z answers ending noted ended = record {
+  before = noted.before;
+  last = noted.last;
+  answers_are = noted.answers_are;
+  part = noted.part;
+  lost = noted.lost;
+  some = noted.some;
+  text_is = noted.text_is;
+  appended = Appends-kept x y z (answer_lines_from 0 noted.before ++ noted.part) noted.appended ended;
 }
 
 notes-count : (stopped lost : Bool) (y z : Option (List ℕ)) (ending : List ℕ) (l m n : ℕ) → Sent stopped lost y z ending → m ≡ counted stopped l → n ≡ counts_failure stopped lost m → n ≡ counted lost l
@@ -104,7 +104,7 @@ module _ {R W N : Type 0} (input_device : Source R) (outbox_device : Drain W) (n
     replies = replies-none limits;
     delivered = rw (letters-none limits) delivered;
     logs_are = rw (lines-none limits, empty) (IsPermutation-refl [], sorted-none);
-    told = record { sent = Appends-nil (notes_device.contents notes); count = refl; steady = steady-none notes_device notes };
+    noted = record { sent = Appends-nil (notes_device.contents notes); count = refl; steady = steady-none notes_device notes };
     read_count = refl;
   }
 
@@ -125,9 +125,9 @@ module _ {R W N : Type 0} (input_device : Source R) (outbox_device : Drain W) (n
     logs = logs;
     logs_are = harvest.logs_are;
     lost = ended.lost;
-    notes_sent = rw (lost-code reading) (notes-sent (is_notes_lost reading) ended.lost (notes_device.contents notes) (notes_device.contents middle) (notes_device.contents later) harvest.answers _ harvest.told.sent ended.told.sent);
-    notes_count = notes-count (is_notes_lost reading) ended.lost (notes_device.contents middle) (notes_device.contents later) _ (notes_device.failures notes) (notes_device.failures middle) (notes_device.failures later) ended.told.sent harvest.told.count ended.told.count;
-    notes_steady = steady-then notes_device notes middle later harvest.told.steady ended.told.stays_steady;
+    notes_sent = rw (lost-code reading) (notes-sent (is_notes_lost reading) ended.lost (notes_device.contents notes) (notes_device.contents middle) (notes_device.contents later) harvest.answers _ harvest.noted.sent ended.noted.sent);
+    notes_count = notes-count (is_notes_lost reading) ended.lost (notes_device.contents middle) (notes_device.contents later) _ (notes_device.failures notes) (notes_device.failures middle) (notes_device.failures later) ended.noted.sent harvest.noted.count ended.noted.count;
+    notes_steady = steady-then notes_device notes middle later harvest.noted.steady ended.noted.stays_steady;
     fault_is = ended.fault_is;
     status_is = ended.status_is;
   }

@@ -12,18 +12,18 @@ use Rattle.dsn_outcome.specs.Request.{Body}
 use Rattle.dsn_frame.specs.declared.bodies.spoken.Spoken.{Spoken}
 use Rattle.dsn_frame.specs.Frame.{ReadsNext}
 use Rattle.dsn_frame.specs.Session.{Input, Takes, written, IsSession}
-use Rattle.dsn_frame.proofs.TellingLemmas.{length-more, sent-more, sent-lost}
+use Rattle.dsn_frame.proofs.SentAnswersLemmas.{length-more, sent-more, sent-lost}
 use Rattle.dsn_frame.proofs.SessionLemmas.{session_begun, session_more, session_stopped, session_unwritten}
 use Rattle.dsn_report.specs.Outgoing.{StaysSteady}
 use Rattle.noticed_lib.proofs.notes.NotesLemmas.{answer_lines_from-more}
 use Rattle.noticed_lib.proofs.batch_run.RunLemmas.{replies-none, requests-more, requests-length}
-use Rattle.noticed_lib.proofs.notes.TellingLemmas.{steady-none, steady-then}
+use Rattle.noticed_lib.proofs.notes.SteadyLemmas.{steady-none, steady-then}
 use Rattle.noticed_lib.specs.notes.Notes.{answer_line, answer_lines_from}
 use Rattle.noticed_lib.specs.batch_run.Reading.{HeardSoFar, Heard}
 use Rattle.noticed_lib.specs.batch_run.ReadingEnd.{reading_code, is_notes_lost, is_read_failed}
 use Rattle.noticed_lib.specs.batch_run.Requests.{requests_of}
 use Rattle.noticed_lib.specs.batch_run.Run.{Stands, Answered, end_after}
-use Rattle.noticed_lib.specs.notes.Telling.{AnswersTold}
+use Rattle.noticed_lib.specs.notes.NotedAnswers.{AnswersNoted}
 use Rattle.noticed_lib.specs.declared.batch_run.reading_end.ReadingEnd.{ReadingEnd}
 use Rattle.noticed_lib.specs.declared.batch_run.reading_end.ReadingEnd.TheVariants.{NotesLost, OutOfTurn}
 use Rattle.noticed_lib.specs.declared.batch_run.run.Run.{Run}
@@ -43,12 +43,12 @@ counted-after false old new is count = absurd (not-false is)
 
 -- ---- the lines of answers
 
-module _ {N : Type 0} (notes_device : Drain N) (notes later last : N) (answers : List Spoken) (count : ℕ) (answer : Spoken) (counted_so : length answers ≡ count) (before : AnswersTold notes_device false notes later answers) (steady : StaysSteady notes_device later last) where
+module _ {N : Type 0} (notes_device : Drain N) (notes later last : N) (answers : List Spoken) (count : ℕ) (answer : Spoken) (counted_so : length answers ≡ count) (before : AnswersNoted notes_device false notes later answers) (steady : StaysSteady notes_device later last) where
   lines-before : Appends (notes_device.contents notes) (notes_device.contents later) (answer_lines_from 0 answers)
   lines-before = before.sent
 
   -- one line more
-  lines-more : Appends (notes_device.contents later) (notes_device.contents last) (answer_line count answer) → notes_device.failures last ≡ notes_device.failures later → AnswersTold notes_device false notes last (answers ++ answer ∷ [])
+  lines-more : Appends (notes_device.contents later) (notes_device.contents last) (answer_line count answer) → notes_device.failures last ≡ notes_device.failures later → AnswersNoted notes_device false notes last (answers ++ answer ∷ [])
   lines-more one good =
       record {
         sent = sent-more answer_line answer_lines_from (notes_device.contents notes) (notes_device.contents later) (notes_device.contents last) answers answer count counted_so lines-before (answer_lines_from-more 0 answers answer) one;
@@ -57,7 +57,7 @@ module _ {N : Type 0} (notes_device : Drain N) (notes later last : N) (answers :
       }
 
   -- a line that could not be written
-  lines-lost : AppendsPart (notes_device.contents later) (notes_device.contents last) (answer_line count answer) → notes_device.failures last ≡ counted true (notes_device.failures later) → AnswersTold notes_device true notes last (answers ++ answer ∷ [])
+  lines-lost : AppendsPart (notes_device.contents later) (notes_device.contents last) (answer_line count answer) → notes_device.failures last ≡ counted true (notes_device.failures later) → AnswersNoted notes_device true notes last (answers ++ answer ∷ [])
   lines-lost part failed = record {
     sent = sent-lost answer_line answer_lines_from (notes_device.contents notes) (notes_device.contents later) (notes_device.contents last) answers answer count counted_so lines-before part;
     count = failed ∙ ap (counted true) before.count;
@@ -75,15 +75,15 @@ module _ {R W N : Type 0} (input_device : Source R) (outbox_device : Drain W) (n
     session = session_begun Input limits.requests 0 (input_device.remaining input);
     replies = replies-none limits;
     stands = stands;
-    told = record { sent = Appends-nil (notes_device.contents notes); count = refl; steady = steady-none notes_device notes };
+    noted = record { sent = Appends-nil (notes_device.contents notes); count = refl; steady = steady-none notes_device notes };
     read_count = refl;
     frames_counted = refl;
     answers_counted = refl;
   }
 
   -- the requests of the bodies are as many
-  takes-here : (frames : List (List ℕ)) (bodies more : List Body) (count : ℕ) (bytes : List ℕ) (told : List Spoken) (end : Option ℕ) → length frames ≡ count → Takes Input limits.requests (length (requests_of bodies)) count bytes more told end → Takes Input limits.requests (0 + length bodies) (length frames) bytes more told end
-  takes-here frames bodies more count bytes told end counted_so takes =
+  takes-here : (frames : List (List ℕ)) (bodies more : List Body) (count : ℕ) (bytes : List ℕ) (noted : List Spoken) (end : Option ℕ) → length frames ≡ count → Takes Input limits.requests (length (requests_of bodies)) count bytes more noted end → Takes Input limits.requests (0 + length bodies) (length frames) bytes more noted end
+  takes-here frames bodies more count bytes noted end counted_so takes =
       let accepted : length (requests_of bodies) ≡ 0 + length bodies = omega (arith, requests-length 0 bodies) in
       rw (counted_so, ← accepted) takes
 
@@ -100,7 +100,7 @@ module _ {R W N : Type 0} (input_device : Source R) (outbox_device : Drain W) (n
     session = session;
     replies = so_far.replies;
     stands = so_far.stands;
-    told = rw not_lost so_far.told;
+    noted = rw not_lost so_far.noted;
     read_count = read ∙ ap (counted (is_read_failed end)) so_far.read_count;
   }
 
@@ -113,7 +113,7 @@ module _ {R W N : Type 0} (input_device : Source R) (outbox_device : Drain W) (n
     takes : (end : Option ℕ) → end_after turn.over ≡ end → Takes Input limits.requests (0 + length so_far.bodies) (length so_far.frames) bytes answer.asked (turn.answer ∷ []) end
     takes end is = takes-here so_far.frames so_far.bodies answer.asked count bytes (turn.answer ∷ []) end so_far.frames_counted (rw is at answer.takes)
 
-    -- one more frame was read, answered and told
+    -- one more frame was read, answered and noted
     pub heard-more : turn.over ≡ false → Appends (notes_device.contents later) (notes_device.contents last) (answer_line count turn.answer) → notes_device.failures last ≡ notes_device.failures later
         → HeardSoFar input_device outbox_device notes_device limits host start (count + 1) input after next notes last
     heard-more goes_on line told_good = record {
@@ -123,13 +123,13 @@ module _ {R W N : Type 0} (input_device : Source R) (outbox_device : Drain W) (n
       session = session_more Input limits.requests 0 (input_device.remaining input) (input_device.remaining now) (input_device.remaining after) so_far.frames so_far.bodies so_far.answers bytes so_far.session fewer read answer.asked (turn.answer ∷ []) (takes None (ap end_after goes_on));
       replies = rw (requests-more so_far.bodies answer.asked) (answer.replies so_far.answers so_far.replies);
       stands = rw (requests-more so_far.bodies answer.asked) answer.stands;
-      told = lines-more notes_device notes later last so_far.answers count turn.answer so_far.answers_counted so_far.told steady line told_good;
+      noted = lines-more notes_device notes later last so_far.answers count turn.answer so_far.answers_counted so_far.noted steady line told_good;
       read_count = good ∙ so_far.read_count;
       frames_counted = length-more so_far.frames bytes count so_far.frames_counted;
       answers_counted = length-more so_far.answers turn.answer count so_far.answers_counted;
     }
 
-    -- the reading ended with an answer that could not be told
+    -- the reading ended with an answer that could not be noted
     pub heard-lost : AppendsPart (notes_device.contents later) (notes_device.contents last) (answer_line count turn.answer) → notes_device.failures last ≡ counted true (notes_device.failures later)
         → Heard input_device outbox_device notes_device limits host start input after next notes last NotesLost
     heard-lost part failed = record {
@@ -139,7 +139,7 @@ module _ {R W N : Type 0} (input_device : Source R) (outbox_device : Drain W) (n
       session = session_unwritten Input limits.requests 0 (input_device.remaining input) (input_device.remaining now) (input_device.remaining after) so_far.frames so_far.bodies so_far.answers bytes so_far.session fewer read answer.asked turn.answer (end_after turn.over) (takes (end_after turn.over) refl);
       replies = rw (requests-more so_far.bodies answer.asked) (answer.replies so_far.answers so_far.replies);
       stands = rw (requests-more so_far.bodies answer.asked) answer.stands;
-      told = lines-lost notes_device notes later last so_far.answers count turn.answer so_far.answers_counted so_far.told steady part failed;
+      noted = lines-lost notes_device notes later last so_far.answers count turn.answer so_far.answers_counted so_far.noted steady part failed;
       read_count = good ∙ so_far.read_count;
     }
 
@@ -153,6 +153,6 @@ module _ {R W N : Type 0} (input_device : Source R) (outbox_device : Drain W) (n
       session = session_stopped Input limits.requests 0 (input_device.remaining input) (input_device.remaining now) (input_device.remaining after) so_far.frames so_far.bodies so_far.answers bytes so_far.session fewer read answer.asked (turn.answer ∷ []) (Some 46) 46 (takes (Some 46) (ap end_after over)) (written (turn.answer ∷ []) (Some 46));
       replies = rw (requests-more so_far.bodies answer.asked) (answer.replies so_far.answers so_far.replies);
       stands = rw (requests-more so_far.bodies answer.asked) answer.stands;
-      told = lines-more notes_device notes later last so_far.answers count turn.answer so_far.answers_counted so_far.told steady line told_good;
+      noted = lines-more notes_device notes later last so_far.answers count turn.answer so_far.answers_counted so_far.noted steady line told_good;
       read_count = good ∙ so_far.read_count;
     }

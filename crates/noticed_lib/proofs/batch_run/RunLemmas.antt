@@ -87,10 +87,10 @@ replies-asked limits answers before body are =
     let request = next_request before body in
     let exchange = exchange_of limits history request in
     let reply = reply_to limits history request in
-    let told = flat_map-append reply_of answers (spoken.Reply reply ∷ []) in
+    let noted = flat_map-append reply_of answers (spoken.Reply reply ∷ []) in
     let all : map (λ (a : Answer). a.reply) (answers_to 0 (history_of limits (before ++ request ∷ []))) ≡ map (λ (a : Answer). a.reply) (answers_to 0 history) ++ reply ∷ [] =
     rw (history_more limits before request, answers_mine 0 history exchange (mine limits history before body), map-append (λ (a : Answer). a.reply) (answers_to 0 history) (answer_of exchange ∷ []), reply-answer_of limits history request) refl in
-    record { replies = told ∙ ap (λ (rs : List Reply). rs ++ reply ∷ []) are.replies ∙ sym all }
+    record { replies = noted ∙ ap (λ (rs : List Reply). rs ++ reply ∷ []) are.replies ∙ sym all }
 
 -- ---- one frame's answer
 

@@ -200,21 +200,21 @@ known-rest old None text bytes is consumed = let never = rw is at consumed in ab
 known-rest old (Some rest) text bytes is consumed = record { rest = rest; now_is = refl; split = rw is at consumed }
 
 pub sees-answers : (given : List Spoken) → SeesAnswers given
-sees-answers given most start now frames told fault unread fit sends =
-    let known = known-rest start.unread sends.left.unread (answer_frames_from 0 given) (answer_frames_from 0 told) unread sends.answered.got in
-    let after = rests 0 told given known.rest sends.answered.fit fit known.split in
-    let place : 0 + length told ≡ length frames = omega (arith, sends.answered.each) in
+sees-answers given most start now frames noted fault unread fit sends =
+    let known = known-rest start.unread sends.left.unread (answer_frames_from 0 given) (answer_frames_from 0 noted) unread sends.answered.got in
+    let after = rests 0 noted given known.rest sends.answered.fit fit known.split in
+    let place : 0 + length noted ≡ length frames = omega (arith, sends.answered.each) in
     let left_is : sends.left.unread ≡ Some (answer_frames_from (length frames) after.more) = known.now_is ∙ ap (λ (bytes : List ℕ). Some bytes) after.left ∙ ap (λ (n : ℕ). Some (answer_frames_from n after.more)) place in
     let end = at_end (length frames) after.more (subst (λ (n : ℕ). FitFrom n after.more) place after.fits) most sends.left now left_is fault sends.ends in
     record {
       first = (after.more, after.split);
       blameless = end.0;
-      none_left = λ is. sym (after.split ∙ ap (λ (xs : List Spoken). told ++ xs) (end.1 is) ∙ append-nil told);
+      none_left = λ is. sym (after.split ∙ ap (λ (xs : List Spoken). noted ++ xs) (end.1 is) ∙ append-nil noted);
     }
 
 -- ---- a session's answers
 
-takes-few : (medium : Medium) (limit accepted place : ℕ) (bytes : List ℕ) (more : List Body) (told : List Spoken) (end : Option ℕ) → Takes medium limit accepted place bytes more told end → length told ≤ 1
+takes-few : (medium : Medium) (limit accepted place : ℕ) (bytes : List ℕ) (more : List Body) (noted : List Spoken) (end : Option ℕ) → Takes medium limit accepted place bytes more noted end → length noted ≤ 1
 takes-few medium limit accepted place bytes _ _ _ (faulty fault is) = omega arith
 takes-few medium limit accepted place bytes _ _ _ (out_of_memory is) = omega arith
 takes-few medium limit accepted place bytes _ _ _ (out_of_turn number body encoded apart) = omega arith
@@ -226,8 +226,8 @@ takes-few medium limit accepted place bytes _ _ _ (given_up_after body encoded r
 -- a session has no more answers than frames
 few-answers : (medium : Medium) (limit before : ℕ) (frames : List (List ℕ)) (bodies : List Body) (answers : List Spoken) (made : Option ℕ) → SessionSoFar medium limit before frames bodies answers made → length answers ≤ length frames
 few-answers medium limit before _ _ _ _ begun = omega arith
-few-answers medium limit before _ _ _ _ (taken frames bodies more answers told bytes end last so_far few legal_bytes takes goes) =
-    omega (arith, length-append frames (bytes ∷ []), length-append answers told, few-answers medium limit before frames bodies answers None so_far, takes-few medium limit (before + length bodies) (length frames) bytes more told end takes)
+few-answers medium limit before _ _ _ _ (taken frames bodies more answers noted bytes end last so_far few legal_bytes takes goes) =
+    omega (arith, length-append frames (bytes ∷ []), length-append answers noted, few-answers medium limit before frames bodies answers None so_far, takes-few medium limit (before + length bodies) (length frames) bytes more noted end takes)
 
 wrote-is : (a b c : Option (List ℕ)) (earlier wrote text : List ℕ) → a ≡ Some earlier → c ≡ Some (earlier ++ wrote) → Appends a b text → Keeps b c → wrote ≡ text
 wrote-is a None c earlier wrote text a_is c_is appended kept = let never = rw a_is at appended in absurd never
@@ -241,11 +241,11 @@ nothing-more [] is = refl
 nothing-more (x ∷ xs) is = absurd (omega (arith, is))
 
 pub sees-session : (given : List Spoken) → SeesSession given
-sees-session given limit before most start now earlier wrote left frames others bodies told end unread fit start_is now_is session sends =
-    let seen = sees-answers given most start now frames told None unread fit sends in
+sees-session given limit before most start now earlier wrote left frames others bodies noted end unread fit start_is now_is session sends =
+    let seen = sees-answers given most start now frames noted None unread fit sends in
     let wrote_is : wrote ≡ flat_map frame frames = wrote-is start.sent sends.left.sent now.sent earlier wrote (flat_map frame frames) start_is now_is sends.answered.sent sends.ends.1.nothing_sent in
     let of : AreFramesOf wrote frames None = record { rest = []; begins = record { front = wrote_is ∙ sym (append-nil (flat_map frame frames)); whole = sends.answered.legal }; ends = refl } in
     let firsts = takes_its_frames wrote Connection limit before left others frames bodies given end None session of in
     let few = few-answers Connection limit before others bodies given session.made session.takes in
-    let all : length seen.first.0 ≡ 0 = omega (arith, few, sends.answered.each, ap length firsts.first.1, length-append others firsts.first.0, ap length seen.first.1, length-append told seen.first.0) in
-    sym (seen.first.1 ∙ ap (λ (xs : List Spoken). told ++ xs) (nothing-more seen.first.0 all) ∙ append-nil told)
+    let all : length seen.first.0 ≡ 0 = omega (arith, few, sends.answered.each, ap length firsts.first.1, length-append others firsts.first.0, ap length seen.first.1, length-append noted seen.first.0) in
+    sym (seen.first.1 ∙ ap (λ (xs : List Spoken). noted ++ xs) (nothing-more seen.first.0 all) ∙ append-nil noted)

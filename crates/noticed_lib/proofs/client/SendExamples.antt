@@ -26,7 +26,7 @@ place_5 = 0 ∷ 0 ∷ 0 ∷ 10 ∷ 1 ∷ 1 ∷ 0 ∷ 0 ∷ 0 ∷ 5 ∷ 0 ∷ 0 �
 bytes_of : List ℕ → List ℕ → List ℕ → List ℕ → Known
 bytes_of input sent unread lines = record { input = Some input; sent = Some sent; unread = Some unread; lines = Some lines }
 
--- the frame is sent, and its answer is told
+-- the frame is sent, and its answer is noted
 one_refused : Sends 5 (bytes_of frame_of_seven [] refused_23 []) (bytes_of [] frame_of_seven [] line_of_refused) ((7 ∷ []) ∷ []) (Refused 23 ∷ []) None
 unfolding frame_of_seven refused_23 line_of_refused bytes_of answer_body answer_bytes answer_frames_from answer_line answer_lines_from spoken_words
 one_refused = record {
@@ -38,9 +38,9 @@ one_refused = record {
     read = refl;
     sent = refl;
     got = refl;
-    told = refl;
+    noted = refl;
   };
-  ends = ((refl, refl), record { nothing_sent = refl; nothing_got = refl; nothing_told = refl });
+  ends = ((refl, refl), record { nothing_sent = refl; nothing_got = refl; nothing_noted = refl });
 }
 
 some_line : 0 < length (answer_line 0 (Refused 23))
@@ -55,7 +55,7 @@ one_untold : Sends 5 (bytes_of frame_of_seven [] refused_23 []) (bytes_of [] fra
 unfolding frame_of_seven refused_23 bytes_of answer_body answer_bytes answer_frames_from answer_line answer_lines_from spoken_words
 one_untold = record {
   left = bytes_of frame_of_seven [] refused_23 [];
-  answered = record { each = refl; legal = tt; fit = tt; read = refl; sent = refl; got = refl; told = refl };
+  answered = record { each = refl; legal = tt; fit = tt; read = refl; sent = refl; got = refl; noted = refl };
   ends = record {
     answer = Refused 23;
     at_frame = record {
@@ -68,7 +68,7 @@ one_untold = record {
   };
 }
 
--- no answer is to blame for the line that was lost: the one answer was right, and the client tells none
+-- no answer is to blame for the line that was lost: the one answer was right, and the client notes none
 one_untold_seen : Sees (Refused 23 ∷ []) [] (Some NotesLost)
 one_untold_seen = record { first = (Refused 23 ∷ [], refl); blameless = tt; none_left = λ same. cc }
 
@@ -77,21 +77,21 @@ one_too_many : Sends 0 (bytes_of frame_of_seven [] refused_23 []) (bytes_of [] [
 unfolding frame_of_seven refused_23 bytes_of answer_frames_from answer_lines_from
 one_too_many = record {
   left = bytes_of frame_of_seven [] refused_23 [];
-  answered = record { each = refl; legal = tt; fit = tt; read = refl; sent = refl; got = refl; told = refl };
+  answered = record { each = refl; legal = tt; fit = tt; read = refl; sent = refl; got = refl; noted = refl };
   ends = record {
     all = refl;
     bytes = 7 ∷ [];
     read = ((lit≤ tt, lit≤ tt), refl);
-    silent = record { nothing_sent = refl; nothing_got = refl; nothing_told = refl };
+    silent = record { nothing_sent = refl; nothing_got = refl; nothing_noted = refl };
   };
 }
 
--- an answer to place 5 in place of 0: the frame is sent, and nothing is told
+-- an answer to place 5 in place of 0: the frame is sent, and nothing is noted
 one_out_of_turn : Sends 5 (bytes_of frame_of_seven [] place_5 []) (bytes_of [] frame_of_seven [] []) [] [] (Some OutOfTurn)
 unfolding frame_of_seven place_5 bytes_of answer_body answer_bytes answer_frames_from answer_lines_from
 one_out_of_turn = record {
   left = bytes_of frame_of_seven [] place_5 [];
-  answered = record { each = refl; legal = tt; fit = tt; read = refl; sent = refl; got = refl; told = refl };
+  answered = record { each = refl; legal = tt; fit = tt; read = refl; sent = refl; got = refl; noted = refl };
   ends = record {
     at_frame = record {
       few = lit< tt;
@@ -107,6 +107,6 @@ one_out_of_turn = record {
         },
       );
     };
-    nothing_told = refl;
+    nothing_noted = refl;
   };
 }

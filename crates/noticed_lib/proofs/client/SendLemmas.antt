@@ -17,7 +17,7 @@ use Rattle.dsn_frame.proofs.AnswerLemmas.{answer_frames_from-more}
 use Rattle.dsn_frame.specs.Frame.{ReadsNext, ReadsNone}
 use Rattle.dsn_frame.specs.declared.frame_fault.FrameFault.{FrameFault}
 use Rattle.dsn_frame.proofs.SessionFrames.{all_both}
-use Rattle.dsn_frame.proofs.TellingLemmas.{length-more}
+use Rattle.dsn_frame.proofs.SentAnswersLemmas.{length-more}
 use Rattle.noticed_lib.proofs.notes.NotesLemmas.{answer_lines_from-more}
 use Rattle.noticed_lib.specs.notes.Notes.{answer_line, answer_lines_from}
 use Rattle.noticed_lib.specs.client.Ask.{IsAsked}
@@ -31,7 +31,7 @@ use Rattle.noticed_lib.specs.declared.client.send_fault.SendFault.TheVariants.{I
 -- ---- counts
 
 module _ {D : Type 0} (failures flushes : D → ℕ) (steady : D → Type 0) where
-  -- a count that a call tells
+  -- a count that a call gives
   pub counts-of : (failed : Bool) (x y : D) → failures y ≡ counted failed (failures x) → flushes y ≡ flushes x → (steady x → steady y × (failures y ≡ failures x)) → Counts failures flushes steady failed x y
   counts-of failed x y count no_flush stays = record { count = count; no_flush = no_flush; stays_steady = stays }
 
@@ -57,7 +57,7 @@ answered-none start = record {
   read = Consumes-nil start.input;
   sent = Appends-nil start.sent;
   got = Consumes-nil start.unread;
-  told = Appends-nil start.lines;
+  noted = Appends-nil start.lines;
 }
 
 module _ (start left now : Known) (frames : List (List ℕ)) (answers : List Spoken) (count : ℕ) (bytes : List ℕ) (answer : Spoken) (so_far : AreAllAnswered start left frames answers) (counted_so : length frames ≡ count)
@@ -65,7 +65,7 @@ module _ (start left now : Known) (frames : List (List ℕ)) (answers : List Spo
   place-is : 0 + length answers ≡ count
   place-is = omega (arith, so_far.each, counted_so)
 
-  -- one frame more was answered, and its answer told
+  -- one frame more was answered, and its answer noted
   pub answered-more : AreAllAnswered start now (frames ++ bytes ∷ []) (answers ++ answer ∷ [])
   answered-more = record {
     each = omega (arith, so_far.each, length-more answers answer (length answers) refl, length-more frames bytes (length frames) refl);
@@ -74,7 +74,7 @@ module _ (start left now : Known) (frames : List (List ℕ)) (answers : List Spo
     read = rw (frames-more frames bytes) (Consumes-trans start.input left.input now.input (flat_map frame frames) (frame bytes) so_far.read read.1);
     sent = rw (frames-more frames bytes) (Appends-trans start.sent left.sent now.sent (flat_map frame frames) (frame bytes) so_far.sent asked.0);
     got = rw (answer_frames_from-more 0 answers answer, place-is) (Consumes-trans start.unread left.unread now.unread (answer_frames_from 0 answers) (answer_bytes count answer) so_far.got asked.1.got);
-    told = rw (answer_lines_from-more 0 answers answer, place-is) (Appends-trans start.lines left.lines now.lines (answer_lines_from 0 answers) (answer_line count answer) so_far.told line);
+    noted = rw (answer_lines_from-more 0 answers answer, place-is) (Appends-trans start.lines left.lines now.lines (answer_lines_from 0 answers) (answer_line count answer) so_far.noted line);
   }
 
 -- ---- a frame that was not answered
@@ -82,11 +82,11 @@ module _ (start left now : Known) (frames : List (List ℕ)) (answers : List Spo
 ends-unanswered : (limit count : ℕ) (left now : Known) (fault : SendFault) → EndsAtFrame limit count left now (Err fault) → Keeps left.lines now.lines → SendEnds limit count left now (Some fault)
 ends-unanswered limit count left now (Input fault) at_frame kept = absurd at_frame.asked
 ends-unanswered limit count left now TooMany at_frame kept = absurd at_frame.asked
-ends-unanswered limit count left now NotSent at_frame kept = record { at_frame = at_frame; nothing_told = kept }
-ends-unanswered limit count left now Unanswered at_frame kept = record { at_frame = at_frame; nothing_told = kept }
-ends-unanswered limit count left now (AnswerFrame fault) at_frame kept = record { at_frame = at_frame; nothing_told = kept }
-ends-unanswered limit count left now (Answer fault) at_frame kept = record { at_frame = at_frame; nothing_told = kept }
-ends-unanswered limit count left now OutOfTurn at_frame kept = record { at_frame = at_frame; nothing_told = kept }
+ends-unanswered limit count left now NotSent at_frame kept = record { at_frame = at_frame; nothing_noted = kept }
+ends-unanswered limit count left now Unanswered at_frame kept = record { at_frame = at_frame; nothing_noted = kept }
+ends-unanswered limit count left now (AnswerFrame fault) at_frame kept = record { at_frame = at_frame; nothing_noted = kept }
+ends-unanswered limit count left now (Answer fault) at_frame kept = record { at_frame = at_frame; nothing_noted = kept }
+ends-unanswered limit count left now OutOfTurn at_frame kept = record { at_frame = at_frame; nothing_noted = kept }
 ends-unanswered limit count left now NotesLost at_frame kept = absurd at_frame.asked
 
 -- neither the input nor the notes failed
@@ -163,7 +163,7 @@ module _ {R S N : Type 0} (input_device : Source R) (source : Source S) (drain :
         → HandsOver input_device source drain notes_device input after stream later notes last (Some (Input fault))
     sent-cut fault none of_input =
         sent-end count input now after stream later later notes last last so_far (Some (Input fault))
-        (none, record { nothing_sent = Keeps-refl (drain.contents later); nothing_got = Keeps-refl (source.remaining later); nothing_told = Keeps-refl (notes_device.contents last) })
+        (none, record { nothing_sent = Keeps-refl (drain.contents later); nothing_got = Keeps-refl (source.remaining later); nothing_noted = Keeps-refl (notes_device.contents last) })
         of_input (counts-none source.failures source.flushes source.steady later) (counts-none notes_device.failures notes_device.flushes notes_device.steady last)
 
     module _ (few : count < most_frames) (bytes : List ℕ) (read : ReadsNext (input_device.remaining now) (input_device.remaining after) (Some bytes)) (of_input : Counts input_device.failures input_device.flushes input_device.steady false now after) (then : S) where

@@ -3,16 +3,16 @@ use Rattle.std.proofs.Common.{◌≡◌, ℕ, suc, ◌<◌, ◌⊎◌, List, [],
 use Rattle.std.proofs.lemmas.List.{length-replicate}
 use Rattle.std.proofs.lemmas.List.Elements.{All-cons, All-head, All-nil, All-tail}
 use Rattle.std.specs.Prelude.{None}
-use Rattle.dsn_crew.specs.agents.Agent.{Ends}
+use Rattle.dsn_crew.specs.agents.Agent.{LaneHalves}
 use Rattle.dsn_crew.specs.agents.Port.{AreOverPort, Given, all_given}
-use Rattle.dsn_crew.specs.Crew.{Account, AreAgentAccounts, IsAccount, IsAgentAccount, most_ports}
+use Rattle.dsn_crew.specs.Crew.{CrewAccount, AreAgentAccounts, IsAccount, IsAgentAccount, most_ports}
 use Rattle.dsn_crew.specs.declared.crew_cause.CrewCause.TheVariants.{PortCount}
 use Rattle.dsn_crew.specs.declared.agents.agent_line.AgentLine.{AgentLine}
 use Rattle.dsn_crew.specs.declared.agents.port.Port.{Ghosts as Port}
 use Rattle.dsn_device.specs.declared.drain.Drain.{Ghosts as Drain}
 use Rattle.dsn_outcome.specs.History.{Limits}
 use Rattle.dsn_outcome.specs.Request.{Request}
-use Rattle.noticed_lib.specs.daemon.Serve.{IsServe, TellsFault}
+use Rattle.noticed_lib.specs.daemon.Serve.{IsServe, WritesFault}
 use Rattle.noticed_lib.specs.daemon.SocketUses.{IsWithin, socket_port}
 use Rattle.noticed_lib.specs.declared.daemon.serve_end.ServeEnd.{ServeEnd}
 
@@ -22,7 +22,7 @@ module _ {P S : Type 0} (port : Port P S) (untold : (one : P) → port.conns one
   Fits one = (given : List Given) → port.may_give one given → IsWithin may_end uses given
 
   module _ (limits : Limits) (taken : List Request) where
-    agent-uses : (agent : ℕ) (one : P) (line : AgentLine) (ends : Ends) → Fits one → IsAgentAccount (port.conns one) (port.may_give one) limits taken agent line ends → IsAgentAccount None (IsWithin may_end uses) limits taken agent line ends
+    agent-uses : (agent : ℕ) (one : P) (line : AgentLine) (ends : LaneHalves) → Fits one → IsAgentAccount (port.conns one) (port.may_give one) limits taken agent line ends → IsAgentAccount None (IsWithin may_end uses) limits taken agent line ends
     agent-uses agent one line ends fits is = record {
       number = is.number;
       taken_all = is.taken_all;
@@ -40,7 +40,7 @@ module _ {P S : Type 0} (port : Port P S) (untold : (one : P) → port.conns one
       few = is.few;
     }
 
-    agents-uses : (agent : ℕ) (ports : List P) (lines : List AgentLine) (crew : List Ends) → All Fits ports
+    agents-uses : (agent : ℕ) (ports : List P) (lines : List AgentLine) (crew : List LaneHalves) → All Fits ports
         → AreAgentAccounts port limits taken agent ports lines crew → AreAgentAccounts (socket_port may_end) limits taken agent (replicate (length ports) uses) lines crew
     agents-uses agent [] [] [] fit are = are
     agents-uses agent [] [] (ends ∷ crew) fit are = absurd are
@@ -53,9 +53,9 @@ module _ {P S : Type 0} (port : Port P S) (untold : (one : P) → port.conns one
     )
 
   module _ {W N : Type 0} (drain : Drain W) (notes_device : Drain N) (host : List ℕ) (limits : Limits) (ports : List P) (fit : All Fits ports) (start : W) (notes later : N) (end : ServeEnd W) where
-    account-uses : (account : Account W) → IsAccount port drain host limits ports start account → IsAccount (socket_port may_end) drain host limits (replicate (length ports) uses) start account
+    account-uses : (account : CrewAccount W) → IsAccount port drain host limits ports start account → IsAccount (socket_port may_end) drain host limits (replicate (length ports) uses) start account
     account-uses account is = record {
-      agents = agents-uses limits account.taken 0 ports account.agents account.ends fit is.agents;
+      agents = agents-uses limits account.taken 0 ports account.agents account.halves fit is.agents;
       only = rw (length-replicate (length ports)) is.only;
       book_limits = is.book_limits;
       book = is.book;
@@ -68,13 +68,13 @@ module _ {P S : Type 0} (port : Port P S) (untold : (one : P) → port.conns one
       account = served.account;
       crew = account-uses served.account served.crew;
       count = rw (length-replicate (length ports)) served.count;
-      told = served.told;
+      noted = served.noted;
     })
     serve-uses (inr faulted) = inr (record {
       fault = faulted.fault;
       crew = rw (length-replicate (length ports)) faulted.crew;
       counted = rw (length-replicate (length ports)) faulted.counted;
-      told = faulted.told;
+      noted = faulted.noted;
     })
 
 -- ports that have these uses, and this watch, may give no more than these uses have it
@@ -93,10 +93,10 @@ module _ {P H : Type 0} (ends : H → Type 0) (watch_of : P → H) (left_of : P 
   ports-fit (one ∷ ports) are = All-cons GivesWithin one ports (port-fits one (All-head IsOf one ports are)) (ports-fit ports (All-tail IsOf one ports are))
 
 -- a run that was refused for the number of its agents
-pub serve-refused : {W N : Type 0} (may_end : Type 0) (uses : ℕ) (drain : Drain W) (notes_device : Drain N) (host : List ℕ) (limits : Limits) (agents : ℕ) (start : W) (notes later : N) (end : ServeEnd W) → (agents ≡ 0) ⊎ (most_ports < agents) → TellsFault notes_device PortCount start [] notes later end → IsServe (socket_port may_end) drain notes_device host limits (replicate agents uses) start notes later end
-serve-refused may_end uses drain notes_device host limits agents start notes later end few told = inr (record {
+pub serve-refused : {W N : Type 0} (may_end : Type 0) (uses : ℕ) (drain : Drain W) (notes_device : Drain N) (host : List ℕ) (limits : Limits) (agents : ℕ) (start : W) (notes later : N) (end : ServeEnd W) → (agents ≡ 0) ⊎ (most_ports < agents) → WritesFault notes_device PortCount start [] notes later end → IsServe (socket_port may_end) drain notes_device host limits (replicate agents uses) start notes later end
+serve-refused may_end uses drain notes_device host limits agents start notes later end few noted = inr (record {
   fault = record { cause = PortCount; outbox = start; unsent = []; taken = [] };
   crew = (refl, refl, refl);
   counted = (λ is. rw (length-replicate agents) few, λ is. refl);
-  told = told;
+  noted = noted;
 })

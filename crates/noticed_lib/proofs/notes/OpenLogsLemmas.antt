@@ -5,7 +5,7 @@ use Rattle.std.specs.List.Sorted.{IsSortedByKey}
 use Rattle.std.specs.Option.{option_map}
 use Rattle.std.specs.Result.{result_ok}
 use Rattle.dsn_book.specs.OpenLine.{open_lines_after}
-use Rattle.dsn_book.specs.declared.line.OpenLine.{OpenLine}
+use Rattle.dsn_book.specs.declared.open_line.OpenLine.{OpenLine}
 use Rattle.dsn_outcome.specs.History.{Exchange}
 use Rattle.dsn_text.specs.Key.{key_cmp}
 use Rattle.noticed_lib.specs.notes.OpenLogs.{AreOpenLines}

@@ -4,7 +4,7 @@ use Rattle.std.specs.Io.KnownBytes.{Appends}
 use Rattle.std.specs.Option.{option_map_or}
 use Rattle.dsn_device.specs.declared.drain.Drain.{Ghosts as Drain}
 use Rattle.dsn_device.specs.declared.source.Source.{Ghosts as Source}
-use Rattle.dsn_book.specs.declared.line.OpenLine.{OpenLine}
+use Rattle.dsn_book.specs.declared.open_line.OpenLine.{OpenLine}
 use Rattle.dsn_frame.specs.Session.{Input, IsSession}
 use Rattle.dsn_device.specs.Failures.{counted}
 use Rattle.dsn_text.specs.FaultCode.{notes_write_code, read_failed_code}
@@ -14,7 +14,7 @@ use Rattle.noticed_lib.specs.notes.OpenLogs.{AreOpenLines}
 use Rattle.noticed_lib.specs.notes.Notes.{answer_line, answer_lines_from, end_lines}
 use Rattle.dsn_report.specs.Outgoing.{StaysSteady, IsOutbox}
 use Rattle.noticed_lib.specs.batch_run.Requests.{AreReplies, requests_of}
-use Rattle.dsn_frame.specs.Telling.{LosesLast}
+use Rattle.dsn_frame.specs.SentAnswers.{LosesLast}
 use Rattle.noticed_lib.specs.declared.batch_run.batch_end.BatchEnd.{BatchEnd}
 use Rattle.dsn_frame.specs.declared.bodies.spoken.Spoken.{Spoken}
 

@@ -2,7 +2,7 @@
 use Rattle.std.specs.Prelude.{◌≡◌, ℕ, Bool, List, Option, Some, if◌then◌else◌}
 use Rattle.dsn_device.specs.declared.drain.Drain.{Ghosts as Drain}
 use Rattle.dsn_device.specs.declared.source.Source.{Ghosts as Source}
-use Rattle.dsn_book.specs.declared.line.OpenLine.{OpenLine}
+use Rattle.dsn_book.specs.declared.open_line.OpenLine.{OpenLine}
 use Rattle.dsn_frame.specs.Session.{Input, IsSession}
 use Rattle.dsn_device.specs.Failures.{counted}
 use Rattle.dsn_device.specs.UntilFailure.{WritesUntilFailure}
@@ -15,7 +15,7 @@ use Rattle.noticed_lib.specs.notes.OpenLogs.{AreOpenLines}
 use Rattle.noticed_lib.specs.notes.Notes.{end_lines}
 use Rattle.dsn_report.specs.Outgoing.{Delivered, IsOutbox, Outgoing}
 use Rattle.noticed_lib.specs.batch_run.Requests.{AreReplies, requests_of}
-use Rattle.noticed_lib.specs.notes.Telling.{AnswersTold}
+use Rattle.noticed_lib.specs.notes.NotedAnswers.{AnswersNoted}
 use Rattle.noticed_lib.specs.batch_run.ReadingEnd.{reading_code, is_notes_lost, is_read_failed}
 use Rattle.noticed_lib.specs.declared.batch_run.batch_end.BatchEnd.{BatchEnd}
 use Rattle.noticed_lib.specs.declared.batch_run.reading_end.ReadingEnd.{ReadingEnd}
@@ -36,7 +36,7 @@ module _ {R W N : Type 0} (input_device : Source R) (outbox_device : Drain W)
     pub delivered : Delivered outbox_device host start outgoing
         (sealed_letters (history_of limits (requests_of bodies)))
     pub logs_are : AreOpenLines (history_of limits (requests_of bodies)) logs
-    pub told : AnswersTold notes_device (is_notes_lost end) notes later answers
+    pub noted : AnswersNoted notes_device (is_notes_lost end) notes later answers
     pub read_count : input_device.failures now
         ≡ counted (is_read_failed end) (input_device.failures input)
 
@@ -46,7 +46,7 @@ pub record Ended {W N : Type 0} (outbox_device : Drain W) (notes_device : Drain 
     (notes later : N) (end : BatchEnd W) : Type 0 where
   pub outbox : IsOutbox outbox_device host start end.outbox end.whole end.unsent letters
   pub lost : Bool
-  pub told : WritesUntilFailure notes_device (is_notes_lost reading) lost notes later
+  pub noted : WritesUntilFailure notes_device (is_notes_lost reading) lost notes later
       (end_lines (reading_code reading) end.whole end.unsent logs)
   pub fault_is : end.fault ≡ (if lost then Some notes_write_code else reading_code reading)
   pub status_is : end.status ≡ status_of end.fault end.whole logs

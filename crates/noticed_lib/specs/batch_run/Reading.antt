@@ -9,7 +9,7 @@ use Rattle.dsn_frame.specs.Session.{Input, IsOpenSession, IsSession}
 use Rattle.noticed_lib.specs.batch_run.ReadingEnd.{reading_code, is_notes_lost, is_read_failed}
 use Rattle.noticed_lib.specs.batch_run.Requests.{AreReplies, requests_of}
 use Rattle.noticed_lib.specs.batch_run.Run.{Stands}
-use Rattle.noticed_lib.specs.notes.Telling.{AnswersTold}
+use Rattle.noticed_lib.specs.notes.NotedAnswers.{AnswersNoted}
 use Rattle.noticed_lib.specs.declared.batch_run.reading_end.ReadingEnd.{ReadingEnd}
 use Rattle.noticed_lib.specs.declared.batch_run.run.Run.{Run}
 use Rattle.dsn_frame.specs.declared.bodies.spoken.Spoken.{Spoken}
@@ -26,7 +26,7 @@ module _ {R W N : Type 0} (input_device : Source R) (outbox_device : Drain W)
         (input_device.remaining now) frames bodies answers
     pub replies : AreReplies limits answers (requests_of bodies)
     pub stands : Stands outbox_device limits host start run (requests_of bodies)
-    pub told : AnswersTold notes_device false notes later answers
+    pub noted : AnswersNoted notes_device false notes later answers
     pub read_count : input_device.failures now ≡ input_device.failures input
     pub frames_counted : length frames ≡ count
     pub answers_counted : length answers ≡ count
@@ -42,6 +42,6 @@ module _ {R W N : Type 0} (input_device : Source R) (outbox_device : Drain W)
         (input_device.remaining now) frames bodies answers (reading_code end)
     pub replies : AreReplies limits answers (requests_of bodies)
     pub stands : Stands outbox_device limits host start run (requests_of bodies)
-    pub told : AnswersTold notes_device (is_notes_lost end) notes later answers
+    pub noted : AnswersNoted notes_device (is_notes_lost end) notes later answers
     pub read_count : input_device.failures now
         ≡ counted (is_read_failed end) (input_device.failures input)

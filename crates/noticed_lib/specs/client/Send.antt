@@ -1,4 +1,4 @@
--- Sends: what a client comes to that hands the frames of an input to a daemon, and tells what each
+-- Sends: what a client comes to that hands the frames of an input to a daemon, and notes what each
 -- was answered (this project's profile).
 use Rattle.std.specs.Prelude.{◌≡◌, ℕ, suc, ◌<◌, List, [], ◌∷◌, length, Option, Some, None, Result, Ok, Err, is_some, if◌then◌else◌}
 use Rattle.std.specs.Io.KnownBytes.{Appends, Consumes, Keeps}
@@ -24,7 +24,7 @@ abbrev pub most_frames : ℕ
 most_frames = 1000000
 
 -- what the devices of a client tell of their bytes: what is left of the input, what the daemon was
--- sent, what is left of what it has to say, and what was told
+-- sent, what is left of what it has to say, and what was noted
 pub record Known : Type 0 where
   pub input : Option (List ℕ)
   pub sent : Option (List ℕ)
@@ -36,7 +36,7 @@ abbrev pub FitFrom : ℕ → List Spoken → Type 0
 FitFrom place [] = Unit {0}
 FitFrom place (answer ∷ rest) = FitsAnswer place answer × FitFrom (suc place) rest
 
--- the frames of these bodies were read and sent, and each was answered, and its answer told
+-- the frames of these bodies were read and sent, and each was answered, and its answer noted
 pub record AreAllAnswered (start left : Known) (frames : List (List ℕ))
     (answers : List Spoken) : Type 0 where
   pub each : length answers ≡ length frames
@@ -45,13 +45,13 @@ pub record AreAllAnswered (start left : Known) (frames : List (List ℕ))
   pub read : Consumes start.input left.input (flat_map frame frames)
   pub sent : Appends start.sent left.sent (flat_map frame frames)
   pub got : Consumes start.unread left.unread (answer_frames_from 0 answers)
-  pub told : Appends start.lines left.lines (answer_lines_from 0 answers)
+  pub noted : Appends start.lines left.lines (answer_lines_from 0 answers)
 
--- nothing was sent, got or told
+-- nothing was sent, got or noted
 pub record IsSilent (left now : Known) : Type 0 where
   pub nothing_sent : Keeps left.sent now.sent
   pub nothing_got : Keeps left.unread now.unread
-  pub nothing_told : Keeps left.lines now.lines
+  pub nothing_noted : Keeps left.lines now.lines
 
 -- the next frame was read, and sent, and this is what became of it
 pub record EndsAtFrame (limit count : ℕ) (left now : Known)
@@ -61,10 +61,10 @@ pub record EndsAtFrame (limit count : ℕ) (left now : Known)
   pub read : ReadsNext left.input now.input (Some bytes)
   pub asked : IsAsked count bytes left.sent now.sent left.unread now.unread result
 
--- it was not answered, and nothing was told
+-- it was not answered, and nothing was noted
 pub record EndsUnanswered (limit count : ℕ) (left now : Known) (fault : SendFault) : Type 0 where
   pub at_frame : EndsAtFrame limit count left now (Err fault)
-  pub nothing_told : Keeps left.lines now.lines
+  pub nothing_noted : Keeps left.lines now.lines
 
 -- it was answered, and a part of the answer's line was written, and not all of it
 pub record EndsUntold (limit count : ℕ) (left now : Known) : Type 0 where
@@ -95,7 +95,7 @@ SendEnds limit count left now (Some (Answer fault)) =
 SendEnds limit count left now (Some OutOfTurn) = EndsUnanswered limit count left now OutOfTurn
 SendEnds limit count left now (Some NotesLost) = EndsUntold limit count left now
 
--- a send of at most so many frames: these are the frames that were answered and told, and so it
+-- a send of at most so many frames: these are the frames that were answered and noted, and so it
 -- ended
 pub record Sends (limit : ℕ) (start now : Known) (frames : List (List ℕ)) (answers : List Spoken)
     (fault : Option SendFault) : Type 0 where

@@ -27,32 +27,32 @@ IsBlameless (Some (Answer fault)) = ⊥
 IsBlameless (Some OutOfTurn) = ⊥
 IsBlameless (Some NotesLost) = Unit {0}
 
--- a client that told these answers of those that were given: the first ones, without a fault of
+-- a client that noted these answers of those that were given: the first ones, without a fault of
 -- theirs, and all of them where none came any more
-pub record Sees (given told : List Spoken) (fault : Option SendFault) : Type 0 where
-  pub first : (more : List Spoken) × (given ≡ told ++ more)
+pub record Sees (given noted : List Spoken) (fault : Option SendFault) : Type 0 where
+  pub first : (more : List Spoken) × (given ≡ noted ++ more)
   pub blameless : IsBlameless fault
-  pub none_left : fault ≡ Some Unanswered → told ≡ given
+  pub none_left : fault ≡ Some Unanswered → noted ≡ given
 
 -- of a daemon that has the frames of these answers to say, in turn from the first place, a client
--- tells the first ones
+-- notes the first ones
 abbrev pub SeesAnswers : List Spoken → Type 0
 SeesAnswers given =
-    (most : ℕ) (start now : Known) (frames : List (List ℕ)) (told : List Spoken)
+    (most : ℕ) (start now : Known) (frames : List (List ℕ)) (noted : List Spoken)
     (fault : Option SendFault)
     → start.unread ≡ Some (answer_frames_from 0 given) → FitFrom 0 given
-    → Sends most start now frames told fault
-    → Sees given told fault
+    → Sends most start now frames noted fault
+    → Sees given noted fault
 
--- and where they are those of a session over the bytes that the client wrote, it tells all of them
+-- and where they are those of a session over the bytes that the client wrote, it notes all of them
 -- where it ends well
 abbrev pub SeesSession : List Spoken → Type 0
 SeesSession given =
     (limit before most : ℕ) (start now : Known) (earlier wrote : List ℕ) (left : Option (List ℕ))
     (frames taken : List (List ℕ))
-    (bodies : List Body) (told : List Spoken) (end : Option ℕ)
+    (bodies : List Body) (noted : List Spoken) (end : Option ℕ)
     → start.unread ≡ Some (answer_frames_from 0 given) → FitFrom 0 given
     → start.sent ≡ Some earlier → now.sent ≡ Some (earlier ++ wrote)
     → IsSession Connection limit before (Some wrote) left taken bodies given end
-    → Sends most start now frames told None
-    → told ≡ given
+    → Sends most start now frames noted None
+    → noted ≡ given

@@ -1,7 +1,7 @@
 -- Serve: what the daemon's run over ports comes to.
 use Rattle.std.specs.Prelude.{◌≡◌, ℕ, ◌<◌, ◌≤◌, ◌⊎◌, ◌↔◌, Bool, false, not, ◌||◌, List, [], length, Option, replicate, is_some, is_none, if◌then◌else◌}
-use Rattle.dsn_book.specs.declared.line.OpenLine.{OpenLine}
-use Rattle.dsn_crew.specs.Crew.{Account, CrewFault, IsAccount, IsCrewFault, most_ports}
+use Rattle.dsn_book.specs.declared.open_line.OpenLine.{OpenLine}
+use Rattle.dsn_crew.specs.Crew.{CrewAccount, CrewFault, IsAccount, IsCrewFault, most_ports}
 use Rattle.dsn_crew.specs.declared.crew_cause.CrewCause.{CrewCause}
 use Rattle.dsn_crew.specs.declared.crew_cause.CrewCause.TheVariants.{Refused, PortCount}
 use Rattle.dsn_crew.specs.declared.agents.port.Port.{Ghosts as Port}
@@ -10,33 +10,33 @@ use Rattle.dsn_device.specs.declared.drain.Drain.{Ghosts as Drain}
 use Rattle.dsn_outcome.specs.History.{Exchange, Limits, history_of}
 use Rattle.dsn_outcome.specs.Letter.{Letter}
 use Rattle.noticed_lib.specs.notes.OpenLogs.{AreOpenLines}
-use Rattle.noticed_lib.specs.daemon.Lines.{account_lines, crew_fault_lines, port_fault}
+use Rattle.noticed_lib.specs.daemon.AgentLines.{account_lines, crew_fault_lines, port_fault}
 use Rattle.noticed_lib.specs.daemon.SocketUses.{socket_port}
 use Rattle.noticed_lib.specs.declared.daemon.serve_end.ServeEnd.{ServeEnd}
 
 -- the exit status of a run that ended well, by whether a line of the notes was lost
-abbrev pub account_status : {W : Type 0} → Bool → Account W → Option (List OpenLine) → ℕ
+abbrev pub account_status : {W : Type 0} → Bool → CrewAccount W → Option (List OpenLine) → ℕ
 account_status lost account logs =
     if lost || (is_some (port_fault account.agents) || (not account.whole || is_none logs)) then 1
     else 0
 
 module _ {W N : Type 0} (notes_device : Drain N) where
-  -- a run with this history and account was told in the notes: each line, up to one that could not
+  -- a run with this history and account was written to the notes: each line, up to one that could not
   -- be written
-  pub record TellsAccount (history : List Exchange) (account : Account W) (notes later : N)
+  pub record WritesAccount (history : List Exchange) (account : CrewAccount W) (notes later : N)
       (end : ServeEnd W) : Type 0 where
     pub logs : Option (List OpenLine)
     pub logs_are : AreOpenLines history logs
     pub lost : Bool
-    pub told : WritesUntilFailure notes_device false lost notes later (account_lines account logs)
+    pub noted : WritesUntilFailure notes_device false lost notes later (account_lines account logs)
     pub outbox_is : end.outbox ≡ account.outbox
     pub status_is : end.status ≡ account_status lost account logs
 
-  -- a crew's fault was told in the notes: each line, up to one that could not be written
-  pub record TellsFault (cause : CrewCause) (outbox : W) (unsent : List Letter) (notes later : N)
+  -- a crew's fault was written to the notes: each line, up to one that could not be written
+  pub record WritesFault (cause : CrewCause) (outbox : W) (unsent : List Letter) (notes later : N)
       (end : ServeEnd W) : Type 0 where
     pub lost : Bool
-    pub told : WritesUntilFailure notes_device false lost notes later
+    pub noted : WritesUntilFailure notes_device false lost notes later
         (crew_fault_lines cause unsent)
     pub outbox_is : end.outbox ≡ outbox
     pub status_is : end.status ≡ 1
@@ -47,10 +47,10 @@ module _ {P S W N : Type 0} (port : Port P S) (drain : Drain W) (notes_device : 
   -- a run that ended well: all that is true of its crew, and its notes, over the logs that the
   -- requests taken leave open
   pub record IsServed : Type 0 where
-    pub account : Account W
+    pub account : CrewAccount W
     pub crew : IsAccount port drain host limits ports start account
     pub count : (1 ≤ length ports) × (length ports ≤ most_ports)
-    pub told : TellsAccount notes_device (history_of limits account.taken) account notes later end
+    pub noted : WritesAccount notes_device (history_of limits account.taken) account notes later end
 
   -- a run whose crew ended with a fault: what is left of it, and its notes. The cause is PortCount
   -- where there are not 1 to `most_ports` ports
@@ -58,7 +58,7 @@ module _ {P S W N : Type 0} (port : Port P S) (drain : Drain W) (notes_device : 
     pub fault : CrewFault W
     pub crew : IsCrewFault drain host limits (length ports) start fault fault.cause
     pub counted : (fault.cause ≡ PortCount) ↔ ((length ports ≡ 0) ⊎ (most_ports < length ports))
-    pub told : TellsFault notes_device fault.cause fault.outbox fault.unsent notes later end
+    pub noted : WritesFault notes_device fault.cause fault.outbox fault.unsent notes later end
 
   -- a run over these ports
   abbrev pub IsServe : Type 0
@@ -73,4 +73,4 @@ IsSocketServe drain notes_device may_end host limits agents uses start notes lat
     IsServe (socket_port may_end) drain notes_device host limits (replicate agents uses) start notes
     later end
     ⊎ (((1 ≤ agents) × (agents ≤ most_ports))
-    × TellsFault notes_device Refused start [] notes later end)
+    × WritesFault notes_device Refused start [] notes later end)

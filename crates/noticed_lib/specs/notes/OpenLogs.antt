@@ -1,8 +1,8 @@
--- Open logs: the list of the logs that a run leaves open, as its notes tell them.
+-- Open logs: the list of the logs that a run leaves open, as its notes name them.
 use Rattle.std.specs.Prelude.{List, Option, MatchOption, IsPermutation}
 use Rattle.std.specs.List.Sorted.{IsSortedByKey}
 use Rattle.dsn_book.specs.OpenLine.{open_lines_after}
-use Rattle.dsn_book.specs.declared.line.OpenLine.{OpenLine}
+use Rattle.dsn_book.specs.declared.open_line.OpenLine.{OpenLine}
 use Rattle.dsn_outcome.specs.History.{Exchange}
 use Rattle.dsn_text.specs.Key.{key_cmp}
 

@@ -6,11 +6,11 @@ use dsn_outcome::Letters;
 pub struct BatchEnd<W> {
     /// The outbox.
     pub outbox: W,
-    /// Whether the outbox has the notice of each sealed log, and its end.
+    /// Whether the outbox has the notice of each sealed log, and QUIT.
     pub whole: bool,
     /// The number of the fault that ended the run: 9, 11 to 14, 46 or 47 of the reading, or 33
     /// where a line of the notes could not be written; none where the reading ended well and no
-    /// line was lost. An outbox that failed is told by `whole`, and open logs that could not be
+    /// line was lost. An outbox that failed is shown by `whole`, and open logs that could not be
     /// listed by `status` alone.
     pub fault: Option<u32>,
     /// The letters that could not be written, in order.

@@ -3,7 +3,7 @@ ghost use Rattle.noticed_lib.specs.batch_run.MemoryRun.{IsMemoryRun};
 
 use crate::batch_run::batch_end::BatchEnd;
 use crate::batch_run::memory_source::MemorySource;
-use crate::batch_run::whole_run::batch;
+use crate::batch_run::whole_batch::batch;
 use dsn_book::Limits;
 use dsn_device::MemoryDrain;
 use dsn_outcome::Letters;
@@ -18,7 +18,7 @@ pub struct MemoryRun {
     pub outbox: Vec<u8>,
     /// The notes.
     pub notes: Vec<u8>,
-    /// Whether the outbox has the notice of each sealed log, and its end.
+    /// Whether the outbox has the notice of each sealed log, and QUIT.
     pub whole: bool,
     /// The number of the fault that ended the run, as in [`BatchEnd`].
     pub fault: Option<u32>,

@@ -12,7 +12,7 @@ use dsn_frame::FrameBuffer;
 use dsn_outcome::{Drain, Source, send};
 use std::alloc::Global;
 
-/// Reads and answers frames, as many as the limit allows, and tells each answer in a line of its
+/// Reads and answers frames, as many as the limit allows, and writes each answer in a line of its
 /// own, before the next frame is read. Nothing is read once a line could not be written. One
 /// buffer serves all frames.
 pub(crate) fn read_all<R: Source, W: Drain, N: Drain>(

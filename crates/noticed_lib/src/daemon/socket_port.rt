@@ -3,8 +3,8 @@ ghost use Rattle.std.specs.Prelude.{◌≡◌, true, None};
 ghost use Rattle.dsn_crew.specs.agents.Port.{GivesFirst, done, given_of};
 ghost use Rattle.noticed_lib.specs.daemon.SocketUses.{IsWithin, UsesOne};
 
-use crate::daemon::connection::Connection;
 use crate::daemon::watch::Watch;
+use crate::daemon::watched_connection::WatchedConnection;
 use dsn_crew::{Next, Port};
 use dsn_device::Plain;
 use std::io;
@@ -41,14 +41,14 @@ impl<'a, H: Watch> SocketPort<'a, H> {
 
     /// What the port answers to a connection that was accepted. In a run that is ending it is let
     /// go, and its client goes to the next daemon.
-    fn answer(&self, stream: UnixStream) -> Next<Plain<Connection<'a, H>>>
+    fn answer(&self, stream: UnixStream) -> Next<Plain<WatchedConnection<'a, H>>>
         ensures { given_of result ≡ done → H.may_end self.now.watch.now }
     {
         if self.is_over() {
             self.watch.connection_refused();
             return Next::Done;
         }
-        match Connection::new(stream, self.watch) {
+        match WatchedConnection::new(stream, self.watch) {
             Ok(connection) => Next::Conn(Plain::new(connection)),
             Err(error) => self.failed(&error),
         }
@@ -56,7 +56,7 @@ impl<'a, H: Watch> SocketPort<'a, H> {
 
     /// What the port answers where it could get no connection. An accept is also ended by the end
     /// of the run.
-    fn failed(&self, error: &io::Error) -> Next<Plain<Connection<'a, H>>>
+    fn failed(&self, error: &io::Error) -> Next<Plain<WatchedConnection<'a, H>>>
         ensures { given_of result ≡ done → H.may_end self.now.watch.now }
     {
         if self.watch.is_ending() {
@@ -67,7 +67,7 @@ impl<'a, H: Watch> SocketPort<'a, H> {
     }
 
     /// Waits for a connection, which takes one of the uses.
-    fn accept(&self) -> Next<Plain<Connection<'a, H>>>
+    fn accept(&self) -> Next<Plain<WatchedConnection<'a, H>>>
         ensures { given_of result ≡ done → H.may_end self.now.watch.now }
     {
         for _ in 0..u64::MAX {
@@ -85,13 +85,13 @@ impl<'a, H: Watch> SocketPort<'a, H> {
 }
 
 impl<'a, H: Watch + Sync> Port for SocketPort<'a, H> {
-    type Stream = Plain<Connection<'a, H>>;
+    type Stream = Plain<WatchedConnection<'a, H>>;
 
     ghost conns = { λ _. None };
 
     ghost may_give = { λ p. IsWithin (H.may_end p.watch.now) p.left };
 
-    fn next(&mut self) -> Next<Plain<Connection<'a, H>>>
+    fn next(&mut self) -> Next<Plain<WatchedConnection<'a, H>>>
         ensures given { GivesFirst (IsWithin (H.may_end self.old.watch.now) self.old.left)
             (IsWithin (H.may_end self.new.watch.now) self.new.left) (given_of result) }
         ensures uses { UsesOne (H.may_end self.old.watch.now) self.old.left self.new.left

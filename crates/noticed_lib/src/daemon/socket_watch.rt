@@ -14,7 +14,7 @@ use std::{fs, io};
 /// The device and the inode that no file has.
 const NO_FILE: (u64, u64) = (0, 0);
 
-/// What the watch of a run is told to do.
+/// What the watch of a run is asked to do.
 #[derive(Clone, Copy)]
 pub struct WatchOptions {
     /// After how many seconds a client that says nothing is cut off, if ever.
@@ -44,7 +44,7 @@ pub struct SocketWatch<'a, R> {
 impl<'a, R: Files + Eprint> SocketWatch<'a, R> {
     /// The watch over the socket that was just bound to this path, whose accepts it gives a time
     /// limit. Where its file is gone already the run ends at once. An error comes where the system
-    /// doesn't tell of the file, or has no descriptor left.
+    /// doesn't answer for the file, or has no descriptor left.
     pub fn new(
         rt: &'a R,
         listener: &UnixListener,

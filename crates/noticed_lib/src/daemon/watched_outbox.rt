@@ -1,14 +1,14 @@
 //! The writer of an outbox, under a watch.
 ghost use Rattle.std.specs.Prelude.{◌≡◌};
 
-use crate::daemon::notice_line::{LINE_ROOM, notice_line};
+use crate::daemon::log_line::{LINE_ROOM, notice_line};
 use crate::daemon::watch::Watch;
 use arrayvec::ArrayString;
 use std::io;
 use std::io::{ErrorKind, Write};
 use std::marker::Model;
 
-/// A writer that tells its watch of each notice once it is flushed, and of the first failure. What
+/// A writer that reports to its watch each notice once it is flushed, and the first failure. What
 /// is written between two flushes is one notice, as a poster writes them, and its first write has
 /// its envelope and its header's beginning.
 #[derive(Drop)]
@@ -66,7 +66,7 @@ impl<'a, W, H: Watch> WatchedOutbox<'a, W, H> {
         }
     }
 
-    /// Tells of a failure, if it is the first.
+    /// Reports a failure, if it is the first.
     fn failed(&mut self, error: &io::Error)
         ensures { self.new ≡ self.old }
     {

@@ -40,11 +40,11 @@ fn body_of(alloc: Global, agent: u32) -> Option<Body> {
     }
 }
 
-/// Sends the agent's only request, and gives the end by which it is answered.
+/// Sends the agent's only request, and gives the half by which it is answered.
 fn send_one(rt: &impl Wait, alloc: Global, agent: Agent) -> Option<LaneOut<Answer>> {
     let agent_number = agent.number();
     let body = body_of(alloc, agent_number)?;
-    let (mut requests, answers) = agent.into_ends();
+    let (mut requests, answers) = agent.into_halves();
     let number = requests.count();
     if number == u32::MAX {
         return None;
@@ -60,7 +60,7 @@ fn send_one(rt: &impl Wait, alloc: Global, agent: Agent) -> Option<LaneOut<Answe
     }
 }
 
-/// Sends each agent's only request, and gives the ends by which they are answered.
+/// Sends each agent's only request, and gives the halves by which they are answered.
 fn send_all(rt: &impl Wait, alloc: Global, crew: Vec<Agent>) -> Option<Vec<LaneOut<Answer>>> {
     let mut heard = Vec::new(alloc);
     for agent in crew {
@@ -70,7 +70,7 @@ fn send_all(rt: &impl Wait, alloc: Global, crew: Vec<Agent>) -> Option<Vec<LaneO
 }
 
 /// A collector that five agents have asked, of which only the fifth's goodbye is awaited. Beside it,
-/// the ends by which the agents are answered.
+/// the halves by which the agents are answered.
 fn asked(rt: &impl Wait, alloc: Global) -> Option<(Vec<LaneOut<Answer>>, Desk)> {
     let limits = Limits::new(8, 8, 8)?;
     let (crew, mut desk) = open_crew(rt, alloc, limits, 5).ok()?;

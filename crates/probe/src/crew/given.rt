@@ -3,7 +3,7 @@ ghost use Rattle.std.specs.Prelude.{None, refl};
 
 use crate::crew::failing::{Call, Failing};
 use dsn_crew::{Next, Port};
-use dsn_device::{Opaque, Plain};
+use dsn_device::{OpaqueStream, Plain};
 use std::io;
 use std::io::{Read, Write};
 
@@ -40,14 +40,14 @@ impl<R: Print> Write for Given<'_, R> {
     }
 }
 
-impl<R: Print> Opaque for Given<'_, R> {
+impl<R: Print> OpaqueStream for Given<'_, R> {
     ghost untold_input = { λ _. refl };
 
     ghost untold_output = { λ _. refl };
 }
 
-/// A port that gives connections, each told on standard output by four bytes, `conn`. What each peer
-/// sends stands in one text, a length in four bytes before each.
+/// A port that gives connections, each announced on standard output by four bytes, `conn`. What
+/// each peer sends stands in one text, a length in four bytes before each.
 #[derive(Drop)]
 pub(crate) struct GivenPort<'a, R> {
     pub(crate) rt: &'a R,

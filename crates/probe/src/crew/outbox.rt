@@ -2,7 +2,7 @@
 ghost use Rattle.std.specs.Prelude.{refl};
 
 use crate::crew::failing::{Call, Failing};
-use dsn_device::Opaque;
+use dsn_device::OpaqueStream;
 use std::io;
 use std::io::{Read, Write};
 
@@ -36,7 +36,7 @@ impl Write for Outbox<'_> {
     }
 }
 
-impl Opaque for Outbox<'_> {
+impl OpaqueStream for Outbox<'_> {
     ghost untold_input = { λ _. refl };
 
     ghost untold_output = { λ _. refl };

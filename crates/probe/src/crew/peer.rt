@@ -1,7 +1,7 @@
 //! A connection in memory that asks, and drops what it is answered.
 ghost use Rattle.std.specs.Prelude.{refl};
 
-use dsn_device::Opaque;
+use dsn_device::OpaqueStream;
 use std::io;
 use std::io::{Read, Write};
 
@@ -86,7 +86,7 @@ impl Write for Peer {
     }
 }
 
-impl Opaque for Peer {
+impl OpaqueStream for Peer {
     ghost untold_input = { λ _. refl };
 
     ghost untold_output = { λ _. refl };

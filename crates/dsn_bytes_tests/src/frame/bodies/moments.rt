@@ -1,6 +1,6 @@
 //! Appends of version 2: two moments after the reason.
 use super::*;
-use crate::same::same;
+use crate::assert_same::same;
 use dsn_frame::encode_request;
 use dsn_outcome::{LAST_MOMENT, Outcome, Parts, QueueId, Stamp};
 

@@ -2,7 +2,7 @@ use Rattle.std.proofs.Common.{◌∙◌, sym, arith}
 use Rattle.std.proofs.lemmas.Grind.{common_steps}
 use Rattle.std.proofs.lemmas.Result.{err_from_is_err_and}
 use Rattle.dsn_frame.proofs.FrameRoom.{room_of_part}
-use Rattle.dsn_frame.proofs.TellingLemmas.{OnOk-is_err}
+use Rattle.dsn_frame.proofs.SentAnswersLemmas.{OnOk-is_err}
 use Rattle.dsn_frame.proofs.frame_buffer.read_into.Goals as goal
 
 pub returns-in_err-fill_front-clause-room_at_fault : goal.returns-in_err-fill_front-clause-room_at_fault

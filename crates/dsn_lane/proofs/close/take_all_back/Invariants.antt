@@ -1,23 +1,23 @@
--- The receiving end has taken some ends back; with those that are left it will have taken all.
+-- The receiving half has taken some halves back; with those that are left it will have taken all.
 use Rattle.std.proofs.Common.{◌≡◌, ◌+◌, ◌*◌, ◌≤◌, All, length}
 use Rattle.std.specs.List.{sum_by}
 use Rattle.std.specs.Vec.Iter.{into_iter_items, into_iter_len}
 use Rattle.crossbeam_channel.specs.Claims.{view, IsSeatAt}
 use Rattle.crossbeam_channel.specs.Ends.{sends_on}
-use Rattle.dsn_lane.specs.declared.token.Token.TheVariants.{Takes}
-use Rattle.dsn_lane.specs.Ends.{End, capacity_of, lane_at, taking}
+use Rattle.dsn_lane.specs.declared.lane_knowledge.LaneKnowledge.TheVariants.{Takes}
+use Rattle.dsn_lane.specs.Halves.{Half, capacity_of, lane_at, taking}
 use Rattle.dsn_lane.proofs.CloseLemmas.{after_joins}
 use Rattle.dsn_lane.proofs.close.take_all_back.Given as goal
 
-abbrev pub invariant-loop-end : goal.invariant-loop-end
-invariant-loop-end g l = record {
-  iterator : (goal.iterator-loop-end g).can_next l.end-iterator × (goal.iterator-loop-end g).is_finite l.end-iterator;
+abbrev pub invariant-loop-half : goal.invariant-loop-half
+invariant-loop-half g l = record {
+  iterator : (goal.iterator-loop-half g).can_next l.half-iterator × (goal.iterator-loop-half g).is_finite l.half-iterator;
   seat : IsSeatAt (sends_on l.sender) l.pass;
   receiver : view l.pass ≡ Takes (capacity_of (view l.initial.pass)) (taking (view l.pass));
-  joined : after_joins (view l.pass) (into_iter_items l.end-iterator) ≡ after_joins (view l.initial.pass) (into_iter_items l.initial.end-iterator);
-  lanes : All (λ (end : End g.row.T.Denot). end.lane ≡ lane_at (sends_on l.sender)) (into_iter_items l.end-iterator);
+  joined : after_joins (view l.pass) (into_iter_items l.half-iterator) ≡ after_joins (view l.initial.pass) (into_iter_items l.initial.half-iterator);
+  lanes : All (λ (half : Half g.row.T.Denot). half.lane ≡ lane_at (sends_on l.sender)) (into_iter_items l.half-iterator);
   total :
-      l.sent + sum_by (λ (end : End g.row.T.Denot). length end.sent) (into_iter_items l.end-iterator)
-      ≡ l.initial.sent + sum_by (λ (end : End g.row.T.Denot). length end.sent) (into_iter_items l.initial.end-iterator);
-  few : l.sent + into_iter_len l.end-iterator * 4294967295 ≤ 68719476720;
+      l.sent + sum_by (λ (half : Half g.row.T.Denot). length half.sent) (into_iter_items l.half-iterator)
+      ≡ l.initial.sent + sum_by (λ (half : Half g.row.T.Denot). length half.sent) (into_iter_items l.initial.half-iterator);
+  few : l.sent + into_iter_len l.half-iterator * 4294967295 ≤ 68719476720;
 }

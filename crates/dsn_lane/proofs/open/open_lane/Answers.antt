@@ -1,11 +1,11 @@
--- A lane with nothing in it meets the rule, and each agent's end is split off in its turn.
+-- A lane with nothing in it meets the rule, and each agent's half is split off in its turn.
 use Rattle.std.proofs.Common.{rules, ◌≡◌, ◌+◌, ℕ, [], ap, subst, sym, ◌∙◌}
-use Rattle.dsn_lane.proofs.EndLemmas.{new_out, new_receiving}
-use Rattle.dsn_lane.specs.Ends.{Out, lane_of}
+use Rattle.dsn_lane.proofs.HalfLemmas.{new_out, new_receiving}
+use Rattle.dsn_lane.specs.Halves.{Out, lane_of}
 use Rattle.dsn_lane.proofs.open.open_lane.Goals as goal
 
 pub new-requires-clause-kept : goal.new-requires-clause-kept
-new-requires-clause-kept g c = (new_receiving g.T.Carried.agent g.T.Carried.number _ _ _ _ (search rules) (search rules) c.loop.invariant.1).1
+new-requires-clause-kept g c = (new_receiving g.T.LaneItem.agent g.T.LaneItem.number _ _ _ _ (search rules) (search rules) c.loop.invariant.1).1
 
 pub returns-clause-out : goal.returns-clause-out
 returns-clause-out g c =

@@ -1,12 +1,12 @@
--- So many agents have their ends, in their order.
+-- So many agents have their halves, in their order.
 use Rattle.std.proofs.Common.{◌≡◌, ◌+◌, ◌≤◌, [], vec_capacity, vec_len}
 use Rattle.crossbeam_channel.specs.Claims.{view, IsSeatAt}
 use Rattle.crossbeam_channel.specs.Ends.{sends_on, ruled_capacity}
-use Rattle.dsn_lane.specs.declared.token.Token.TheVariants.{Takes}
-use Rattle.dsn_lane.specs.Ends.{fresh, fresh_ends, lane_at}
+use Rattle.dsn_lane.specs.declared.lane_knowledge.LaneKnowledge.TheVariants.{Takes}
+use Rattle.dsn_lane.specs.Halves.{fresh, fresh_halves, lane_at}
 use Rattle.dsn_lane.proofs.open.open_lane.Given as goal
 
 abbrev pub invariant-loop : goal.invariant-loop
 invariant-loop g l =
     IsSeatAt (sends_on l.sender) l.pass × (view l.pass ≡ Takes (ruled_capacity (sends_on l.sender)) (record { made = l.first + l.counter; taken = []; back = fresh 0 l.first }))
-    × (l.ends.items ≡ fresh_ends (lane_at (sends_on l.sender)) l.first l.counter) × (vec_len l.ends ≡ l.counter) × (l.agents ≤ vec_capacity l.ends)
+    × (l.halves.items ≡ fresh_halves (lane_at (sends_on l.sender)) l.first l.counter) × (vec_len l.halves ≡ l.counter) × (l.agents ≤ vec_capacity l.halves)

@@ -2,7 +2,7 @@
 use Rattle.std.proofs.Common.{◌≡◌}
 use Rattle.std.specs.List.{list_any}
 use Rattle.dsn_report.specs.Boundary.{header_lines, is_dashed}
-use Rattle.dsn_report.specs.HeaderLines.{lines_left}
+use Rattle.dsn_report.specs.ReturnedLines.{lines_left}
 use Rattle.dsn_report.proofs.boundary_number.has_dashed_line.Given as goal
 
 abbrev pub invariant-loop-line : goal.invariant-loop-line

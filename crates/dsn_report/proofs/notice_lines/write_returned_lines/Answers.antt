@@ -1,7 +1,7 @@
 use Rattle.std.proofs.Common.{refl, rules, sym, ap, map}
 use Rattle.dsn_report.proofs.LineWriterLemmas.{Wrote-as, Wrote-none, Wrote-then}
 use Rattle.dsn_report.specs.Boundary.{returned_lines, shown_line}
-use Rattle.dsn_report.specs.HeaderLines.{lines_left}
+use Rattle.dsn_report.specs.ReturnedLines.{lines_left}
 use Rattle.dsn_report.proofs.notice_lines.write_returned_lines.Goals as goal
 
 pub loop-line-init : goal.loop-line-init

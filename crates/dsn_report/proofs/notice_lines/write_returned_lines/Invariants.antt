@@ -1,7 +1,7 @@
 -- Whoever writes what is left has written all.
 use Rattle.std.proofs.Common.{◌≡◌, map, length}
 use Rattle.dsn_report.specs.Boundary.{shown_line, returned_lines}
-use Rattle.dsn_report.specs.HeaderLines.{lines_left}
+use Rattle.dsn_report.specs.ReturnedLines.{lines_left}
 use Rattle.dsn_report.specs.LineWriter.{Wrote}
 use Rattle.dsn_report.proofs.notice_lines.write_returned_lines.Given as goal
 

@@ -1,4 +1,4 @@
--- The receiving end stays the same lane's.
+-- The receiving half stays the same lane's.
 use Rattle.std.proofs.Common.{◌≡◌}
 use Rattle.dsn_base_tests.proofs.lane.item.take_many.Given as goal
 

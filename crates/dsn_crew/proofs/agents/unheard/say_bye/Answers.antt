@@ -1,4 +1,4 @@
--- What the goodbye leaves is the end of the agent's requests.
+-- What the goodbye leaves is the half of the agent's requests.
 use Rattle.std.proofs.Common.{rules}
 use Rattle.dsn_crew.proofs.agents.AgentLemmas.{finishes}
 use Rattle.dsn_crew.proofs.agents.unheard.say_bye.Goals as goal

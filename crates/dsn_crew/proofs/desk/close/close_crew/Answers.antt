@@ -4,12 +4,12 @@ use Rattle.std.proofs.lemmas.List.{length-map}
 use Rattle.std.proofs.lemmas.List.Elements.{All-head, All-tail}
 use mathlib.Core.List.{IsPrefix}
 use Rattle.std.specs.Vec.Iter.{into_iter_items}
-use Rattle.dsn_lane.specs.Ends.{End}
+use Rattle.dsn_lane.specs.Halves.{Half}
 use Rattle.dsn_outcome.specs.Agents.{from_agent}
 use Rattle.dsn_outcome.specs.History.{answers_to}
 use Rattle.dsn_outcome.specs.declared.answer.Answer.{Answer}
 use Rattle.dsn_outcome.specs.Request.{Request}
-use Rattle.dsn_crew.specs.agents.Agent.{Ends}
+use Rattle.dsn_crew.specs.agents.Agent.{LaneHalves}
 use Rattle.dsn_crew.specs.agents.Place.{Place, place_at, place_of}
 use Rattle.dsn_crew.specs.desk.Desk.{Desk, IsDesk, history}
 use Rattle.dsn_crew.proofs.desk.CloseLemmas.{IsAnswered, all_heard, all_of_crew, as_many, closed_more, kept_all, kept_more, lines_answered, none_answered, paired, room_of_one_lane}
@@ -24,8 +24,8 @@ loop-finished-init g c =
       iterator = (tt, tt);
       crew = ap (map place_of) gives ∙ (c.requires.crew ∙ ap (map (place_at c.args.desk.requests.lane)) (sym lines));
       len = c.into_iter-lines.ensures.len ∙ (c.desk.inside.lines.ok.0 ∙ sym (ap length c.into_iter-lines.ensures.rest));
-      answered = subst (All (λ (end : End Answer). end.sent ≡ answers_to end.agent (history c.args.desk))) (sym lines) (lines_answered c.args.desk (subst IsDesk c.desk.view_is c.desk.invariant.0) c.requires.gone);
-      asked = ap (λ (room : List (End Request)). room ++ map (λ (ends : Ends). ends.requests) (into_iter_items c.into_iter-finished-iterator.result)) c.desk.invariant.2.0 ∙ ap (map (λ (ends : Ends). ends.requests)) gives;
+      answered = subst (All (λ (half : Half Answer). half.sent ≡ answers_to half.agent (history c.args.desk))) (sym lines) (lines_answered c.args.desk (subst IsDesk c.desk.view_is c.desk.invariant.0) c.requires.gone);
+      asked = ap (λ (room : List (Half Request)). room ++ map (λ (halves : LaneHalves). halves.requests) (into_iter_items c.into_iter-finished-iterator.result)) c.desk.invariant.2.0 ∙ ap (map (λ (halves : LaneHalves). halves.requests)) gives;
       room = (let none = ap length c.desk.invariant.2.0 in let room = c.desk.invariant.2.1 in let same = ap length (ap (λ (desk : Desk). desk.answers) c.desk.view_is) in let long = ap length gives in omega arith);
       closed = λ all. subst (All (IsAnswered (history c.args.desk))) gives all;
     }
@@ -33,15 +33,15 @@ loop-finished-init g c =
 pub loop-finished-preserved : goal.loop-finished-preserved
 loop-finished-preserved g c =
     let pair = paired _ _ _ _ _ c.in-Some.finished c.in-Some-next.line c.loop-finished.invariant.crew c.in-Some.ensures.steps.0 c.in-Some-next.ensures.items in
-    let lines = subst (All (λ (end : End Answer). end.sent ≡ answers_to end.agent (history c.args.desk))) c.in-Some-next.ensures.items c.loop-finished.invariant.answered in
-    let sent = All-head (λ (end : End Answer). end.sent ≡ answers_to end.agent (history c.args.desk)) c.in-Some-next.line _ lines in
+    let lines = subst (All (λ (half : Half Answer). half.sent ≡ answers_to half.agent (history c.args.desk))) c.in-Some-next.ensures.items c.loop-finished.invariant.answered in
+    let sent = All-head (λ (half : Half Answer). half.sent ≡ answers_to half.agent (history c.args.desk)) c.in-Some-next.line _ lines in
     let answers : c.in-Some-next.line.sent ≡ answers_to c.in-Some.finished.requests.agent (history c.args.desk) = sent ∙ ap (λ (place : Place). answers_to place.agent (history c.args.desk)) (sym pair.0) in
     record {
       iterator = (tt, tt);
       crew = pair.1;
       len = (let before = c.loop-finished.invariant.len in let one = c.in-Some-next.ensures.len in let long = ap length c.in-Some-next.ensures.items in omega arith);
-      answered = All-tail (λ (end : End Answer). end.sent ≡ answers_to end.agent (history c.args.desk)) c.in-Some-next.line _ lines;
-      asked = kept_more _ _ _ _ _ _ c.in-Some.finished c.in-Some.ensures.steps.0 c.close_answers.ensures.end c.push_reserved.ensures.items c.loop-finished.invariant.asked;
+      answered = All-tail (λ (half : Half Answer). half.sent ≡ answers_to half.agent (history c.args.desk)) c.in-Some-next.line _ lines;
+      asked = kept_more _ _ _ _ _ _ c.in-Some.finished c.in-Some.ensures.steps.0 c.close_answers.ensures.half c.push_reserved.ensures.items c.loop-finished.invariant.asked;
       room = (let before = c.loop-finished.invariant.room in let long = ap length c.in-Some.ensures.steps.0 in let one = ap length c.push_reserved.ensures.items ∙ length-append c.loop-finished.room.items (c.close_answers.result ∷ []) in let same = c.push_reserved.ensures.capacity in omega arith);
       closed = closed_more _ _ _ _ c.in-Some.finished c.in-Some.ensures.steps.0 (record { finished = c.close_answers.ensures.finished; got = subst (IsPrefix c.in-Some.finished.answers.taken) answers c.close_answers.ensures.got }) c.loop-finished.invariant.closed;
     }
@@ -54,7 +54,7 @@ close_lane-requires-clause-lane g c =
 pub close_lane-requires-clause-all : goal.close_lane-requires-clause-all
 close_lane-requires-clause-all g c =
     let room = ap length (kept_all _ _ _ (search rules) c.loop-finished.invariant.asked) in
-    let ends = length-map c.args.crew.items (λ (ends : Ends). ends.requests) in
+    let halves = length-map c.args.crew.items (λ (halves : LaneHalves). halves.requests) in
     let count = as_many _ c.args.crew.items c.args.desk.answers c.requires.crew in
     let lines = ap (λ (desk : Desk). length desk.answers) c.desk.view_is in
     omega (arith, c.desk.invariant.0.first, c.desk.invariant.0.past)
@@ -62,7 +62,7 @@ close_lane-requires-clause-all g c =
 pub returns-clause-heard : goal.returns-clause-heard
 returns-clause-heard g c =
     let room = kept_all _ _ _ (search rules) c.loop-finished.invariant.asked in
-    let taken = subst (λ (desk : Desk). All (λ (end : End Request). IsPrefix (from_agent (λ (request : Request). request.agent) end.agent desk.requests.taken) end.sent) c.loop-finished.room.items) c.desk.view_is c.close_lane.ensures.prefix in
+    let taken = subst (λ (desk : Desk). All (λ (half : Half Request). IsPrefix (from_agent (λ (request : Request). request.agent) half.agent desk.requests.taken) half.sent) c.loop-finished.room.items) c.desk.view_is c.close_lane.ensures.prefix in
     all_heard c.args.desk _ _ (c.loop-finished.invariant.closed (none_answered _ _ (search rules))) room taken
 
 pub returns-clause-only : goal.returns-clause-only

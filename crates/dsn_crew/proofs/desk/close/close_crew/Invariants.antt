@@ -1,10 +1,10 @@
--- Some agents' lanes are closed; those that are left stand beside the ends that answer them.
+-- Some agents' lanes are closed; those that are left stand beside the halves that answer them.
 use Rattle.std.proofs.Common.{◌≡◌, ◌+◌, ◌≤◌, All, ◌++◌, length, map, vec_capacity}
 use Rattle.std.specs.Vec.Iter.{into_iter_items, into_iter_len}
-use Rattle.dsn_lane.specs.Ends.{End}
+use Rattle.dsn_lane.specs.Halves.{Half}
 use Rattle.dsn_outcome.specs.History.{answers_to}
 use Rattle.dsn_outcome.specs.declared.answer.Answer.{Answer}
-use Rattle.dsn_crew.specs.agents.Agent.{Ends}
+use Rattle.dsn_crew.specs.agents.Agent.{LaneHalves}
 use Rattle.dsn_crew.specs.agents.Place.{place_at, place_of}
 use Rattle.dsn_crew.specs.desk.Desk.{history}
 use Rattle.dsn_crew.proofs.desk.CloseLemmas.{IsAnswered}
@@ -15,8 +15,8 @@ invariant-loop-finished g l = record {
   iterator : (goal.iterator-loop-finished g).can_next l.finished-iterator × (goal.iterator-loop-finished g).is_finite l.finished-iterator;
   crew : map place_of (into_iter_items l.finished-iterator) ≡ map (place_at l.fn.desk.requests.lane) (into_iter_items l.lines);
   len : into_iter_len l.lines ≡ length (into_iter_items l.lines);
-  answered : All (λ (end : End Answer). end.sent ≡ answers_to end.agent (history l.fn.desk)) (into_iter_items l.lines);
-  asked : l.room.items ++ map (λ (ends : Ends). ends.requests) (into_iter_items l.finished-iterator) ≡ map (λ (ends : Ends). ends.requests) l.fn.crew.items;
+  answered : All (λ (half : Half Answer). half.sent ≡ answers_to half.agent (history l.fn.desk)) (into_iter_items l.lines);
+  asked : l.room.items ++ map (λ (halves : LaneHalves). halves.requests) (into_iter_items l.finished-iterator) ≡ map (λ (halves : LaneHalves). halves.requests) l.fn.crew.items;
   room : length l.room.items + length (into_iter_items l.finished-iterator) ≤ vec_capacity l.room;
   closed : All (IsAnswered (history l.fn.desk)) (into_iter_items l.finished-iterator) → All (IsAnswered (history l.fn.desk)) l.fn.crew.items;
 }

@@ -1,15 +1,15 @@
--- Each agent gets the next end of the request lane, and an answer lane of its own.
+-- Each agent gets the next half of the request lane, and an answer lane of its own.
 use Rattle.std.proofs.Common.{rules, ℕ, ap, sym, subst, ◌∙◌, arith}
-use Rattle.dsn_lane.specs.Ends.{End, Identity}
+use Rattle.dsn_lane.specs.Halves.{Half, Identity}
 use Rattle.dsn_outcome.specs.Request.{Request}
 use Rattle.dsn_crew.specs.desk.Open.{IsLine, opened_agent}
-use Rattle.dsn_crew.proofs.OpenLemmas.{crew_push, lines_push, next_end}
+use Rattle.dsn_crew.proofs.OpenLemmas.{crew_push, lines_push, next_half}
 use Rattle.dsn_crew.proofs.desk.open.open_room.Goals as goal
 
 pub loop-agent-preserved : goal.loop-agent-preserved
 loop-agent-preserved g c =
-    let it = next_end _ _ _ _ _ c.in-Some.end c.loop-agent-test.true c.loop-agent.invariant.left c.in-Some.ensures.items in
-    let lane = ap (λ (end : End Request). end.lane) it.0 in record {
+    let it = next_half _ _ _ _ _ c.in-Some.half c.loop-agent-test.true c.loop-agent.invariant.left c.in-Some.ensures.items in
+    let lane = ap (λ (half : Half Request). half.lane) it.0 in record {
       left = it.1;
       len = let before = c.loop-agent.invariant.len in let one = c.in-Some.ensures.len in let more = c.loop-agent-test.true in omega arith;
       crew =

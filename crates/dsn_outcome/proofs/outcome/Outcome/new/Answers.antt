@@ -1,6 +1,6 @@
 use Rattle.std.proofs.Common.{refl, ap}
 use Rattle.dsn_text.specs.Optional.{unless_empty}
-use Rattle.dsn_outcome.specs.Parts.{fields_of}
+use Rattle.dsn_outcome.specs.OutcomeParts.{fields_of}
 use Rattle.dsn_outcome.proofs.OutcomeLemmas.{passes-none, legal-IsOutcomeOf}
 use Rattle.dsn_outcome.proofs.outcome.Outcome.new.Goals as goal
 

@@ -1,4 +1,4 @@
--- A letter's number tells how many came before it.
+-- A letter's number says how many came before it.
 use Rattle.std.proofs.Common.{ap, sym, ◌∙◌, ◌∷◌, [], Bool, length, refl, subst, length-append, arith}
 use Rattle.std.specs.Prelude.{IsSome}
 use Rattle.dsn_post.specs.LetterSource.{taken_parcels}

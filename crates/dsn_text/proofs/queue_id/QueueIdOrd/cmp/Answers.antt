@@ -1,6 +1,6 @@
 -- The blocks are in the order of the queue ids that they hold.
 use Rattle.std.proofs.Common.{refl, ◌∙◌}
-use Rattle.dsn_text.proofs.WordLemmas.{block-order}
+use Rattle.dsn_text.proofs.BlockOrderLemmas.{block-order}
 use Rattle.dsn_text.proofs.queue_id.QueueIdOrd.cmp.Goals as goal
 
 pub returns : goal.returns

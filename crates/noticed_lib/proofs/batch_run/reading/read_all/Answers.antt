@@ -1,7 +1,7 @@
 use Rattle.std.proofs.Common.{◌≡◌, ◌∙◌, refl, sym, length, arith, ◌<◌}
 use Rattle.dsn_frame.specs.Session.{Input}
 use Rattle.dsn_frame.proofs.SessionLemmas.{session_well, session_cut, session_too_many}
-use Rattle.dsn_frame.proofs.TellingLemmas.{OnErr-is_err, OnOk-is_err}
+use Rattle.dsn_frame.proofs.SentAnswersLemmas.{OnErr-is_err, OnOk-is_err}
 use Rattle.noticed_lib.proofs.batch_run.ReadingLemmas.{heard-nothing, heard-more, heard-end, heard-lost, heard-out-of-turn, counted-after, same-after}
 use Rattle.noticed_lib.specs.batch_run.Requests.{requests_of}
 use Rattle.noticed_lib.specs.declared.batch_run.reading_end.ReadingEnd.TheVariants.{AtEnd, Unreadable, TooMany}

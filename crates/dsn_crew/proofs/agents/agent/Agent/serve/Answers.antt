@@ -1,7 +1,7 @@
 use Rattle.std.proofs.Common.{◌≡◌, ◌∙◌, refl, ap, sym, arith, ◌<◌, false}
 use Rattle.dsn_frame.specs.Session.{Connection}
 use Rattle.dsn_frame.proofs.SessionLemmas.{session_well, session_cut, session_too_many}
-use Rattle.dsn_frame.proofs.TellingLemmas.{OnErr-is_err, OnOk-is_err}
+use Rattle.dsn_frame.proofs.SentAnswersLemmas.{OnErr-is_err, OnOk-is_err}
 use Rattle.dsn_crew.specs.agents.Agent.{Agent}
 use Rattle.dsn_crew.proofs.agents.ServedLemmas.{keeps-as, counts-read, counts-sent, served-nothing, served-more, served-end, served-lost, served-unwritten, served-out-of-turn}
 use Rattle.dsn_crew.proofs.agents.agent.Agent.serve.Goals as goal

@@ -1,4 +1,4 @@
--- The thread's closure holds the end alone.
+-- The thread's closure holds the half alone.
 use Rattle.std.proofs.Common.{[], ◌∷◌}
 use denote.Exit.{no}
 use denote.Param.Send.{param_send, arg_send}

@@ -1,0 +1,23 @@
+-- Rooms: what a run of a crew has before its first thread is started.
+use Rattle.std.specs.Prelude.{◌≡◌, ℕ, ◌≤◌, false, [], vec_capacity}
+use Rattle.dsn_outcome.specs.History.{Limits}
+use Rattle.dsn_post.specs.LetterSink.{letters_waiting}
+use Rattle.dsn_crew.specs.desk.Open.{IsOpened}
+use Rattle.dsn_crew.specs.declared.crew_memory.CrewMemory.{CrewMemory}
+use Rattle.dsn_crew.specs.declared.agent_memory.AgentMemory.{AgentMemory}
+
+-- room for what comes of so many agents
+pub record AreSlots {P S : Type 0} (agents : ℕ) (slots : AgentMemory P S) : Type 0 where
+  pub handles : (slots.handles.items ≡ []) × (agents ≤ vec_capacity slots.handles)
+  pub ends : (slots.ends.items ≡ []) × (agents ≤ vec_capacity slots.ends)
+  pub lines : (slots.lines.items ≡ []) × (agents ≤ vec_capacity slots.lines)
+  pub finished : (slots.finished.items ≡ []) × (agents ≤ vec_capacity slots.finished)
+
+-- a crew of so many agents, the two halves of a lane over which no letter was sent, and room for each
+-- agent
+pub record IsRoom {P S : Type 0} (limits : Limits) (agents : ℕ) (room : CrewMemory P S) : Type 0 where
+  pub opened : IsOpened limits agents room.agents.items room.desk
+  pub source : room.source ≡ record { lane = room.sink.lane; letters = []; marked = false }
+  pub sink : room.sink.letters ≡ []
+  pub waiting : room.sink.lane.capacity ≡ letters_waiting
+  pub slots : AreSlots agents room.slots

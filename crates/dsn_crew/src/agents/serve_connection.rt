@@ -1,0 +1,108 @@
+//! An agent's session over one connection.
+ghost use Rattle.std.specs.Prelude.{◌≢◌, ℕ, List};
+ghost use Rattle.dsn_outcome.specs.Body.{body_of};
+ghost use Rattle.dsn_outcome.specs.Request.{Bye};
+ghost use Rattle.dsn_frame.specs.bodies.Request.{Encodes};
+ghost use Rattle.dsn_crew.specs.agents.Agent.{IsAgent};
+ghost use Rattle.dsn_crew.specs.agents.Serve.{IsServed, IsTurn};
+
+use crate::agents::agent::Agent;
+use crate::agents::gate::Gate;
+use crate::agents::serve_fault::ServeFault;
+use crate::agents::served::Served;
+use crate::agents::turn::Turn;
+use dsn_device::{Stream, send};
+use dsn_frame::{FrameBuffer, Spoken, encode_answer, next_request};
+use dsn_outcome::Body;
+use std::alloc::Global;
+use std::sync::Wait;
+
+impl Agent {
+    /// Serves one connection: reads its frames, asks the collector what they ask, and answers each
+    /// frame before the next one is read. It makes no flush. Memory is taken only to read a frame
+    /// that is longer than any before it on the connection, in one buffer that is kept until its
+    /// end, and for what a frame asks.
+    ///
+    /// A body that is refused, and one beyond the agent's requests (44), is answered so, and the
+    /// session goes on. It ends with the first of these: `Frame` (9, 11 to 14) where no frame can
+    /// be read; `Frames` (47) where there are more frames than the agent may make requests;
+    /// `Number` (46) once a number out of turn is answered; `Lost` (41) where the collector is
+    /// gone, with no answer to that frame; `WriteBack` (35) where an answer could not be written.
+    /// After any of them but `Lost` the agent can serve the next connection, unless it was lost
+    /// before.
+    pub fn serve<S: Stream, G: Gate>(
+        &mut self,
+        rt: &impl Wait,
+        alloc: Global,
+        stream: &mut S,
+        gate: &G,
+    ) -> Result<Served, ServeFault>
+        ensures served { IsServed S.Source S.Drain self.old self.new stream.old stream.new result }
+        ensures kept { IsAgent self.new }
+    {
+        let limit = self.limit;
+        let mut buffer = FrameBuffer::new(alloc);
+        for place in 0..limit {
+            if let Err(fault) = buffer.read_next(stream) {
+                return Err(ServeFault::Frame(fault));
+            }
+            let Some(frame) = buffer.frame() else {
+                return Ok(Served { frames: place });
+            };
+            let Some(turn) = self.answer(rt, alloc, gate, place, frame.body()) else {
+                return Err(ServeFault::Lost);
+            };
+            if send(stream, &encode_answer(place, &turn.answer)).is_err() {
+                return Err(ServeFault::WriteBack);
+            }
+            if turn.over {
+                return Err(ServeFault::Number);
+            }
+        }
+        if let Err(fault) = buffer.read_next(stream) {
+            return Err(ServeFault::Frame(fault));
+        }
+        match buffer.frame() {
+            Some(_) => Err(ServeFault::Frames),
+            None => Ok(Served { frames: limit }),
+        }
+    }
+
+    /// What the frame at this place of a connection is answered; none where the collector is gone.
+    fn answer<G: Gate>(
+        &mut self,
+        rt: &impl Wait,
+        alloc: Global,
+        gate: &G,
+        place: u32,
+        bytes: &[u8],
+    ) -> Option<Turn>
+        ensures turn { IsTurn self.old self.new place bytes.now result }
+        ensures kept { IsAgent self.new }
+    {
+        // Opens the agent's model: the proof needs what it keeps.
+        let _ = &self.halves;
+        match next_request(alloc, place, bytes) {
+            Ok(body) => self.ask_at(rt, gate, body),
+            Err(refusal) => Some(Turn {
+                answer: Spoken::Refused(refusal.code()),
+                over: refusal.ends(),
+            }),
+        }
+    }
+
+    /// Asks a body, between the calls of the gate.
+    fn ask_at<G: Gate>(&mut self, rt: &impl Wait, gate: &G, body: Body) -> Option<Turn>
+        requires stays { body_of body ≢ Bye }
+        ensures turn { (place : ℕ) (bytes : List ℕ) → Encodes bytes place (body_of body)
+            → IsTurn self.old self.new place bytes result }
+        ensures kept { IsAgent self.new }
+    {
+        gate.before_ask(self.halves.agent(), self.halves.requests.count());
+        let asked = self.ask(rt, body);
+        if let Ok(answer) = &asked {
+            gate.after_answer(answer.agent, answer.number);
+        }
+        Turn::of_ask(asked)
+    }
+}

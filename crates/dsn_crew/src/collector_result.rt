@@ -1,0 +1,35 @@
+//! How the collector's part of a run ended.
+ghost use Rattle.dsn_crew.specs.CollectorResult.{IsCollectorResult};
+
+use crate::desk::{Desk, StopCause};
+use dsn_outcome::Letter;
+use dsn_post::LetterSink;
+use std::snapshot::Snapshot;
+use std::sync::Wait;
+
+/// How the collector's part of a run ended.
+#[derive(Drop)]
+pub(crate) enum CollectorResult {
+    /// All agents are gone.
+    Whole(Desk),
+    /// The collector has failed, and its halves are given up, so that no agent waits for them: why it
+    /// has, the letter that it still held, and the collector as it was, for contracts.
+    Failed(StopCause, Option<Letter>, Snapshot<Desk>),
+}
+
+impl CollectorResult {
+    /// Takes the agents' requests until all agents are gone, or the collector fails.
+    pub(crate) fn by(rt: &impl Wait, desk: Desk, sink: &mut LetterSink) -> CollectorResult
+        ensures { IsCollectorResult desk sink.old sink.new result }
+    {
+        let mut desk = desk;
+        match desk.run(rt, sink) {
+            Ok(()) => CollectorResult::Whole(desk),
+            Err(fault) => CollectorResult::Failed(
+                desk.stopped(),
+                fault.into_letter(),
+                Snapshot::of(&desk),
+            ),
+        }
+    }
+}

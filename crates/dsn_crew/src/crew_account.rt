@@ -1,0 +1,79 @@
+//! What a crew's run that ended well comes to.
+ghost use Rattle.std.specs.Prelude.{◌≡◌};
+
+use crate::agents::AgentLine;
+use crate::desk::CrewShut;
+use dsn_book::Book;
+use dsn_outcome::Letters;
+use std::marker::Model;
+use std::snapshot::Snapshot;
+
+/// A crew's run that ended well. Contracts see, beside its fields, the requests that the collector
+/// took, and what each agent sent and got; that takes no bytes.
+#[derive(Drop)]
+pub struct CrewAccount<W> {
+    /// What each agent did, from agent 0 on.
+    pub agents: Vec<AgentLine>,
+    /// How many letters were posted.
+    pub letters: u32,
+    /// The letters that could not be written, in order.
+    pub unsent: Letters,
+    /// Whether nothing failed in the outbox, so that it has the notice of each letter, and QUIT.
+    pub whole: bool,
+    /// The outbox.
+    pub outbox: W,
+    /// The book of the collector, with the logs that are still open.
+    pub book: Book,
+    shut: Snapshot<CrewShut>,
+}
+
+impl<W> Model for CrewAccount<W> {
+    ghost use Rattle.dsn_crew.specs.Crew.{CrewAccount};
+
+    ghost Value = { CrewAccount W };
+
+    ghost view = { λ a. record {
+      agents = a.agents.items;
+      letters = a.letters;
+      unsent = a.unsent;
+      whole = a.whole;
+      outbox = a.outbox;
+      book = a.book;
+      taken = a.shut.value.desk.requests.taken;
+      halves = a.shut.value.crew;
+    } };
+}
+
+impl<W> CrewAccount<W> {
+    /// The account of a crew that was closed so, with its outbox.
+    pub(crate) fn new(
+        shut: CrewShut,
+        agents: Vec<AgentLine>,
+        outbox: W,
+        whole: bool,
+        unsent: Letters,
+        letters: u32,
+    ) -> CrewAccount<W>
+        ensures { result ≡ record {
+          agents = agents.items;
+          letters = letters;
+          unsent = unsent;
+          whole = whole;
+          outbox = outbox;
+          book = shut.book;
+          taken = shut.desk.requests.taken;
+          halves = shut.crew;
+        } }
+    {
+        let closed = Snapshot::of(&shut);
+        CrewAccount {
+            agents,
+            letters,
+            unsent,
+            whole,
+            outbox,
+            book: shut.book,
+            shut: closed,
+        }
+    }
+}

@@ -1,0 +1,50 @@
+//! What a run of a crew needs memory for.
+ghost use Rattle.std.specs.Prelude.{◌≤◌, IfOk};
+ghost use Rattle.dsn_lane.specs.Lane.{most_agents};
+ghost use Rattle.dsn_crew.specs.CrewMemory.{IsRoom};
+
+use crate::agent_memory::AgentMemory;
+use crate::agents::{Agent, Port};
+use crate::desk::{Desk, open_crew};
+use dsn_book::Limits;
+use dsn_outcome::NoMemory;
+use dsn_post::{LetterSink, LetterSource, open_post};
+use std::alloc::Global;
+use std::sync::Wait;
+
+/// All that a run needs memory for, but for what the system takes to start a thread: so once the
+/// first is started no growth of the run's own is refused.
+#[derive(Drop)]
+pub(crate) struct CrewMemory<P: Port> {
+    pub(crate) agents: Vec<Agent>,
+    pub(crate) desk: Desk,
+    pub(crate) sink: LetterSink,
+    pub(crate) source: LetterSource,
+    pub(crate) slots: AgentMemory<P>,
+}
+
+impl<P: Port> CrewMemory<P> {
+    /// The room of a run with so many agents. `NoMemory` comes only where memory was refused.
+    pub(crate) fn take(
+        rt: &impl Wait,
+        alloc: Global,
+        limits: Limits,
+        agents: u32,
+    ) -> Result<CrewMemory<P>, NoMemory>
+        requires { (1 ≤ agents) × (agents ≤ most_agents) }
+        ensures { IfOk result (IsRoom limits agents) }
+    {
+        let Ok((crew, desk)) = open_crew(rt, alloc, limits, agents) else {
+            return Err(NoMemory);
+        };
+        let (sink, source) = open_post(rt, alloc)?;
+        let slots = AgentMemory::take(alloc, agents)?;
+        Ok(CrewMemory {
+            agents: crew,
+            desk,
+            sink,
+            source,
+            slots,
+        })
+    }
+}

@@ -1,0 +1,128 @@
+//! A whole crew, from its first thread to its last.
+ghost use Rattle.std.specs.Prelude.{◌≡◌, ◌≢◌, ◌≤◌, ◌<◌, ◌↔◌, ◌⊎◌, All, length, IfErr, IfOk};
+ghost use Rattle.dsn_crew.specs.Crew.{IsAccount, IsCrewFault, most_ports};
+
+use crate::agent_memory::AgentMemory;
+use crate::agents::{Gate, Port};
+use crate::agents_result::AgentsResult;
+use crate::breach::Breach;
+use crate::collector_result::CollectorResult;
+use crate::conclude::conclude;
+use crate::crew_account::CrewAccount;
+use crate::crew_cause::CrewCause;
+use crate::crew_fault::CrewFault;
+use crate::crew_memory::CrewMemory;
+use crate::start_serving::{count_missing, join_all, start_all};
+use dsn_book::Limits;
+use dsn_device::Drain;
+use dsn_post::{end_posting, start_posting};
+use dsn_report::Site;
+use std::alloc::Global;
+use std::sync::Wait;
+use std::thread;
+use std::thread::{Scope, Threads};
+
+/// The largest number of ports.
+const MOST_PORTS: usize = 16;
+
+/// Runs a crew: one agent for each port, each on a thread of its own, which serves the port's
+/// connections until the port is done and then says goodbye; the collector, on this thread; and a
+/// poster on a thread of its own, which writes a notice of each letter while requests are taken.
+///
+/// `PortCount` (43) comes where there are not 1 to 16 ports, before anything else. `Refused` (42)
+/// comes where memory or the poster's thread is refused, before any agent is started and with
+/// nothing written; and where an agent's thread is refused, once all other agents were served.
+/// `Lost` (41) comes where the collector, an agent or the poster was gone before its time. An
+/// outbox that fails is no fault: the letters from the failed one on are `unsent`.
+///
+/// It asks that each port may be asked, and asks none again that was done or failed.
+pub fn run_crew<
+    R: Threads + Wait + Sync,
+    P: Port + Drop + Send,
+    W: Drain + Drop + Send,
+    G: Gate + Sync,
+>(
+    rt: &R,
+    alloc: Global,
+    site: Site,
+    limits: Limits,
+    ports: Vec<P>,
+    outbox: W,
+    gate: &G,
+) -> Result<CrewAccount<W>, CrewFault<W>>
+    requires asked { All P.may_be_asked ports.items }
+    ensures account { IfOk result (IsAccount P.Port W.Drain site limits ports.items outbox) }
+    ensures count { IfOk result
+        (λ _. (1 ≤ length ports.items) × (length ports.items ≤ most_ports)) }
+    ensures fault { IfErr result
+        (λ fault. IsCrewFault W.Drain site limits (length ports.items) outbox fault fault.cause) }
+    ensures refused { IfErr result
+        (λ fault. (fault.cause ≡ CrewCause.PortCount)
+        ↔ ((length ports.items ≡ 0) ⊎ (most_ports < length ports.items))) }
+{
+    let agents = ports.len();
+    if agents == 0 || agents > MOST_PORTS {
+        return Err(CrewFault::unbegun(Breach::PortCount, outbox));
+    }
+    thread::scope(
+        thread::scope_env(),
+        rt,
+        move |scope| -> Result<CrewAccount<W>, CrewFault<W>>
+            requires { (1 ≤ length ports.items) × (length ports.items ≤ most_ports)
+                × All P.may_be_asked ports.items }
+        { run_in(scope, rt, alloc, site, limits, ports, outbox, gate) },
+    )
+}
+
+/// Runs a crew on threads of this scope.
+fn run_in<
+    's,
+    E: 's,
+    R: Threads + Wait + Sync,
+    P: Port + Drop + Send + 's,
+    W: Drain + Drop + Send + 's,
+    G: Gate + Sync,
+>(
+    scope: &Scope<'s, E>,
+    rt: &'s R,
+    alloc: Global,
+    site: Site,
+    limits: Limits,
+    ports: Vec<P>,
+    outbox: W,
+    gate: &'s G,
+) -> Result<CrewAccount<W>, CrewFault<W>>
+    requires few { (1 ≤ length ports.items) × (length ports.items ≤ most_ports) }
+    requires asked { All P.may_be_asked ports.items }
+    ensures account { IfOk result (IsAccount P.Port W.Drain site limits ports.items outbox) }
+    ensures fault { IfErr result
+        (λ fault. IsCrewFault W.Drain site limits (length ports.items) outbox fault fault.cause) }
+    ensures counted { IfErr result (λ fault. fault.cause ≢ CrewCause.PortCount) }
+{
+    let Ok(room) = CrewMemory::take(rt, alloc, limits, ports.len() as u32) else {
+        return Err(CrewFault::unbegun(Breach::Refused, outbox));
+    };
+    let CrewMemory {
+        agents,
+        mut desk,
+        sink,
+        source,
+        slots,
+    } = room;
+    let (mut sink, poster) = match start_posting(scope, rt, site, outbox, sink, source) {
+        Ok(started) => started,
+        Err(outbox) => return Err(CrewFault::unbegun(Breach::Refused, outbox)),
+    };
+    let AgentMemory {
+        handles,
+        ends,
+        lines,
+        finished,
+    } = slots;
+    let handles = start_all(scope, rt, alloc, agents, ports, handles, gate);
+    desk.miss(count_missing(&handles) as u32);
+    let collected = CollectorResult::by(rt, desk, &mut sink);
+    let gathered = AgentsResult::of(join_all(rt, handles, ends), lines, finished);
+    let posted = end_posting(rt, sink, poster);
+    conclude(rt, collected, gathered, posted)
+}

@@ -1,0 +1,37 @@
+//! A sink that hands a letter back.
+ghost use Rattle.std.specs.Prelude.{◌≡◌, OnOk, IfErr};
+
+use dsn_outcome::Letter;
+use dsn_post::Sink;
+use std::sync::Wait;
+
+/// A sink handed a letter back. Only [`offer`] makes it, so whoever shows one has asked a sink.
+#[derive(Clone, Copy, Debug, Drop, PartialEq, Eq)]
+pub(crate) struct Refused {
+    handed_back: (),
+}
+
+/// A letter that a sink handed back.
+#[derive(Drop)]
+pub(crate) struct ReturnedLetter {
+    pub(crate) letter: Letter,
+    pub(crate) refused: Refused,
+}
+
+/// Hands a letter to a sink.
+pub(crate) fn offer<K: Sink>(
+    rt: &impl Wait,
+    sink: &mut K,
+    letter: Letter,
+) -> Result<(), ReturnedLetter>
+    ensures ok { OnOk result (K.takes sink.old letter sink.new) }
+    ensures lost { IfErr result (λ back. (back.letter ≡ letter) × (sink.new ≡ sink.old)) }
+{
+    match sink.hand(rt, letter) {
+        Ok(()) => Ok(()),
+        Err(letter) => Err(ReturnedLetter {
+            letter,
+            refused: Refused { handed_back: () },
+        }),
+    }
+}

@@ -1,0 +1,243 @@
+//! Devices made of std's readers and writers.
+ghost use Rattle.std.specs.Prelude.{◌≡◌, true, false};
+ghost use Rattle.dsn_device.specs.Failures.{counted};
+
+use crate::broken::Broken;
+use crate::drain::Drain;
+use crate::opaque_stream::OpaqueStream;
+use crate::source::Source;
+use crate::stream::Stream;
+use std::io::{Read, Write};
+use std::marker::Model;
+
+/// A reader or a writer of std's with a count of its failures and one of its flushes, which stand
+/// still at `u64::MAX`. Every error is a failure, `Interrupted` too, and no call is tried again.
+#[derive(Drop)]
+pub struct Plain<T> {
+    inner: T,
+    failures: u64,
+    flushes: u64,
+    /// Whether it has taken bytes since the last flush that went well.
+    unflushed: bool,
+}
+
+impl<T> Model for Plain<T> {
+    ghost use Rattle.dsn_device.specs.Plain.{Plain};
+
+    ghost Value = { Plain T };
+
+    ghost view = { λ p. record {
+      inner = p.inner;
+      failures = p.failures;
+      flushes = p.flushes;
+      unflushed = p.unflushed;
+    } };
+}
+
+impl<T> Plain<T> {
+    /// The device that reads from or writes to `inner`, and has not failed and was not flushed so
+    /// far.
+    pub fn new(inner: T) -> Plain<T>
+        ensures { result ≡ record { inner = inner; failures = 0; flushes = 0; unflushed = false } }
+    {
+        Plain {
+            inner,
+            failures: 0,
+            flushes: 0,
+            unflushed: false,
+        }
+    }
+
+    /// The reader or writer inside.
+    pub fn into_inner(self) -> T
+        ensures { result ≡ self.inner }
+    {
+        let Plain {
+            inner,
+            failures: _,
+            flushes: _,
+            unflushed: _,
+        } = self;
+        inner
+    }
+
+    // Counts a failure.
+    fn count_failure(&mut self)
+        ensures { self.new ≡ record self.old { failures = counted true self.old.failures } }
+    {
+        self.failures = self.failures.saturating_add(1);
+    }
+
+    // Counts a flush.
+    fn count_flush(&mut self)
+        ensures { self.new ≡ record self.old { flushes = counted true self.old.flushes } }
+    {
+        self.flushes = self.flushes.saturating_add(1);
+    }
+}
+
+impl<T: Read> Source for Plain<T> {
+    ghost remaining = { λ p. T.remaining p.inner };
+
+    ghost failures = { λ p. p.failures };
+
+    ghost flushes = { λ p. p.flushes };
+
+    ghost unflushed = { λ p. p.unflushed };
+
+    ghost steady = { λ _. ⊥ };
+
+    fn read(&mut self, buffer: &mut [u8]) -> Result<usize, Broken> {
+        match self.inner.read(buffer) {
+            Ok(count) => Ok(count),
+            Err(_) => {
+                self.count_failure();
+                Err(Broken)
+            }
+        }
+    }
+}
+
+impl<T: Write> Drain for Plain<T> {
+    ghost contents = { λ p. T.contents p.inner };
+
+    ghost failures = { λ p. p.failures };
+
+    ghost flushes = { λ p. p.flushes };
+
+    ghost unflushed = { λ p. p.unflushed };
+
+    ghost steady = { λ _. ⊥ };
+
+    fn write(&mut self, text: &[u8]) -> Result<usize, Broken> {
+        match self.inner.write(text) {
+            Ok(0) if !text.is_empty() => {
+                self.count_failure();
+                Ok(0)
+            }
+            Ok(count) => {
+                self.unflushed |= count > 0;
+                Ok(count)
+            }
+            Err(_) => {
+                self.count_failure();
+                Err(Broken)
+            }
+        }
+    }
+
+    fn flush(&mut self) -> Result<(), Broken> {
+        self.count_flush();
+        match self.inner.flush() {
+            Ok(()) => {
+                self.unflushed = false;
+                Ok(())
+            }
+            Err(_) => {
+                self.count_failure();
+                Err(Broken)
+            }
+        }
+    }
+}
+
+impl<T: OpaqueStream> Stream for Plain<T> {
+    ghost use Rattle.std.specs.Prelude.{refl};
+    ghost use Rattle.std.proofs.Common.{sym};
+
+    ghost one_count = { λ _. refl };
+
+    ghost one_flush_count = { λ _. refl };
+
+    ghost one_unflushed = { λ _. refl };
+
+    ghost one_promise = { λ _. (λ h. h, λ h. h) };
+
+    ghost held_is_written = { λ p. sym (T.untold_output p.inner) };
+
+    ghost left_is_unread = { λ p. sym (T.untold_input p.inner) };
+}
+
+#[cfg(test)]
+mod tests {
+    use super::*;
+    use crate::assert_same::same;
+    use crate::fake_devices::{PieceReader, PieceWriter};
+    use std::alloc::Global;
+
+    /// What a read came to, and how many failures are counted then.
+    fn read(
+        source: &mut Plain<PieceReader<'_>>,
+        buffer: &mut [u8],
+    ) -> (Result<usize, Broken>, u64) {
+        let read = source.read(buffer);
+        (read, source.failures)
+    }
+
+    #[test]
+    fn failed_reads_are_counted(rt: HostRuntime) {
+        let mut source = Plain::new(PieceReader {
+            rest: b"QUIT",
+            most: 4,
+            good: 1,
+        });
+        let mut buffer = [0; 8];
+        same(&rt, read(&mut source, &mut buffer), (Ok(4), 0));
+        same(&rt, read(&mut source, &mut buffer), (Err(Broken), 1));
+        same(&rt, read(&mut source, &mut buffer), (Ok(0), 1));
+        same(&rt, source.into_inner().rest.len(), 0);
+    }
+
+    /// A device over a writer that takes so many bytes a write, and fails once it has taken so
+    /// many.
+    fn drain(alloc: Global, most: usize, room: usize) -> Plain<PieceWriter> {
+        Plain::new(PieceWriter {
+            held: Vec::new(alloc),
+            most,
+            room,
+        })
+    }
+
+    /// What a write came to, and how many failures are counted then.
+    fn write(drain: &mut Plain<PieceWriter>, text: &[u8]) -> (Result<usize, Broken>, u64) {
+        let wrote = drain.write(text);
+        (wrote, drain.failures)
+    }
+
+    /// The same of a flush.
+    fn flush(drain: &mut Plain<PieceWriter>) -> (Result<(), Broken>, u64) {
+        let flushed = drain.flush();
+        (flushed, drain.failures)
+    }
+
+    #[test]
+    fn failed_writes_are_counted(rt: HostRuntime) {
+        let mut drain = drain(rt.alloc(), 3, 3);
+        same(&rt, write(&mut drain, b"QUIT"), (Ok(3), 0));
+        same(&rt, write(&mut drain, b"T"), (Err(Broken), 1));
+        same(&rt, write(&mut drain, b""), (Ok(0), 1));
+        drain.inner.most = 0;
+        same(&rt, write(&mut drain, b"T"), (Ok(0), 2));
+        same(&rt, drain.into_inner().held.as_slice(), b"QUI".as_slice());
+    }
+
+    #[test]
+    fn failed_flushes_are_counted(rt: HostRuntime) {
+        let mut drain = drain(rt.alloc(), 3, 0);
+        same(&rt, write(&mut drain, b"T"), (Err(Broken), 1));
+        same(&rt, flush(&mut drain), (Ok(()), 1));
+        drain.inner.room = 0;
+        same(&rt, flush(&mut drain), (Err(Broken), 2));
+    }
+
+    #[test]
+    fn the_count_stands_still_at_its_end(rt: HostRuntime) {
+        let mut source = Plain::new(PieceReader {
+            rest: b"QUIT",
+            most: 4,
+            good: 0,
+        });
+        source.failures = u64::MAX;
+        same(&rt, read(&mut source, &mut [0; 8]), (Err(Broken), u64::MAX));
+    }
+}

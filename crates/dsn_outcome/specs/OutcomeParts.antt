@@ -1,0 +1,17 @@
+-- Parts: the fields of an outcome as the program's references hand them in.
+use Rattle.dsn_outcome.specs.Outcome.{Fields}
+use Rattle.dsn_outcome.specs.declared.outcome_parts.Parts.{Parts}
+
+-- the texts that the references point to, and the two moments
+abbrev pub fields_of : Parts → Fields
+fields_of parts = record {
+  recipient = parts.recipient.now;
+  original = parts.original.now;
+  action = parts.action;
+  status = parts.status.now;
+  mta = parts.mta.now;
+  diagnostic = parts.diagnostic.now;
+  reason = parts.reason.now;
+  last_attempt = parts.last_attempt;
+  retry_until = parts.retry_until;
+}

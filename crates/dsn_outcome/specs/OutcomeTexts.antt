@@ -1,0 +1,47 @@
+-- The texts of an outcome as they are kept: one after another in the same bytes, where an empty one
+-- means that there is none.
+use Rattle.std.specs.Prelude.{ℕ, ◌≤◌, List, take, drop, length, slice_range, Option}
+use Rattle.dsn_outcome.specs.Outcome.{Outcome}
+use Rattle.dsn_text.specs.Optional.{unless_empty}
+use Rattle.dsn_text.specs.declared.action.Action.{Action}
+use Rattle.dsn_text.specs.declared.service.Service.{Service}
+use Rattle.dsn_outcome.specs.declared.outcome_texts.Offsets.{Offsets}
+
+pub record OutcomeTexts : Type 0 where
+  pub recipient : List ℕ
+  pub original : List ℕ
+  pub mta : List ℕ
+  pub diagnostic : List ℕ
+  pub reason : List ℕ
+
+-- the texts in these bytes, by the offset behind each but the last: the next one begins there
+abbrev pub texts_in : List ℕ → Offsets → OutcomeTexts
+texts_in bytes offsets = record {
+  recipient = take offsets.recipient bytes;
+  original = slice_range bytes offsets.recipient offsets.original;
+  mta = slice_range bytes offsets.original offsets.mta;
+  diagnostic = slice_range bytes offsets.mta offsets.diagnostic;
+  reason = drop offsets.diagnostic bytes;
+}
+
+-- no text ends before it begins, and none goes on past the bytes
+pub record AreInOrder (bytes : List ℕ) (offsets : Offsets) : Type 0 where
+  pub original : offsets.recipient ≤ offsets.original
+  pub mta : offsets.original ≤ offsets.mta
+  pub diagnostic : offsets.mta ≤ offsets.diagnostic
+  pub reason : offsets.diagnostic ≤ length bytes
+
+-- the outcome with these texts
+abbrev pub outcome_of : OutcomeTexts → Service → Action → List ℕ → Option ℕ → Option ℕ → Outcome
+outcome_of texts service action status last_attempt retry_until = record {
+  service = service;
+  recipient = texts.recipient;
+  original = unless_empty texts.original;
+  action = action;
+  status = status;
+  mta = unless_empty texts.mta;
+  diagnostic = unless_empty texts.diagnostic;
+  reason = unless_empty texts.reason;
+  last_attempt = last_attempt;
+  retry_until = retry_until;
+}

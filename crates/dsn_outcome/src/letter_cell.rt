@@ -1,0 +1,86 @@
+//! The one cell of memory that a draft, a letter and a letter in a queue are, so that sealing and
+//! queueing take no memory.
+ghost use Rattle.std.specs.Prelude.{◌≡◌};
+ghost use Rattle.std.specs.Option.{option_copied};
+
+use crate::outcome_links::OutcomeLinks;
+use dsn_text::{Address, EnvelopeId, Key, RawHeader, Stamp};
+use std::marker::Model;
+
+/// What a flush says of its notice: to whom it goes, and what it quotes of the message. A draft and
+/// a letter lend it.
+#[derive(Drop)]
+pub struct Terms {
+    pub(crate) moment: Stamp,
+    pub(crate) arrival: Stamp,
+    pub(crate) return_path: Option<Address>,
+    pub(crate) envelope_id: Option<EnvelopeId>,
+    pub(crate) header: RawHeader,
+}
+
+impl Model for Terms {
+    ghost use Rattle.dsn_outcome.specs.Draft.{Draft};
+
+    ghost Value = { Draft };
+
+    ghost view = { λ t. record {
+      moment = t.moment;
+      arrival = t.arrival;
+      return_path = t.return_path;
+      envelope_id = t.envelope_id;
+      header = t.header;
+    } };
+}
+
+impl Terms {
+    /// When the flush was asked for; the notice's date.
+    pub fn moment(&self) -> Stamp
+        ensures { result ≡ self.now.moment }
+    {
+        self.moment
+    }
+
+    /// When the message arrived.
+    pub fn arrival(&self) -> Stamp
+        ensures { result ≡ self.now.arrival }
+    {
+        self.arrival
+    }
+
+    /// Whom the notice goes to; `None` is the null path.
+    pub fn return_path(&self) -> Option<&Address>
+        ensures { option_copied result ≡ self.now.return_path }
+    {
+        self.return_path.as_ref()
+    }
+
+    /// The sender's envelope id, if there was one.
+    pub fn envelope_id(&self) -> Option<&EnvelopeId>
+        ensures { option_copied result ≡ self.now.envelope_id }
+    {
+        self.envelope_id.as_ref()
+    }
+
+    /// The message's header as it came.
+    pub fn header(&self) -> &RawHeader
+        ensures { result.now ≡ self.now.header }
+    {
+        &self.header
+    }
+}
+
+/// The log that a letter reports.
+#[derive(Drop)]
+pub(crate) struct Sealed {
+    pub(crate) key: Key,
+    pub(crate) outcomes: OutcomeLinks,
+    pub(crate) serial: u64,
+}
+
+/// A draft; once it is sealed, a letter; and with a link, a letter in a queue.
+#[derive(Drop)]
+pub(crate) struct LetterCell {
+    pub(crate) terms: Terms,
+    pub(crate) sealed: Option<Sealed>,
+    pub(crate) next: Option<Box<LetterCell>>,
+}

@@ -1,0 +1,22 @@
+-- The closure, and what it gives back, go from one thread to another; a refused start leaves the outbox as it was.
+use denote.Exit.{no}
+use denote.Param.Send.{param_send, arg_send}
+use mir.Syntax.{named}
+use Rattle.std.proofs.Common.{rules, sym, ◌∙◌, subst}
+use Rattle.dsn_post.specs.Posting.{IsPosting, IsUntouched}
+use Rattle.dsn_post.proofs.PostingLemmas.{none_first, untouched}
+use Rattle.dsn_post.proofs.SendLemmas.{posting_send, posts_send}
+use Rattle.dsn_post.proofs.posting_start.start_posting.Goals as goal
+
+pub spawn_with-requires-send-F : goal.spawn_with-requires-send-F
+spawn_with-requires-send-F g c κs within =
+    param_send 2 _ (arg_send _ no _ (posts_send _ (record { mir = named 6; lft = κs.1.1.1.1.1.1.0 }) g.row.R g.row.W c.type_bounds.sync-R c.type_bounds.send-W))
+
+pub spawn_with-requires-send-T : goal.spawn_with-requires-send-T
+spawn_with-requires-send-T g c κs within = param_send 3 _ (arg_send _ no _ (posting_send g.row.W c.type_bounds.send-W))
+
+pub returns-in-Err-clause-refused : goal.returns-in-Err-clause-refused
+returns-in-Err-clause-refused g c =
+    let posting : IsPosting g.W.Drain c.args.site c.args.outbox c.args.source.lane c.spawn_with-outgoing.result = search rules in
+    let none = none_first _ _ c.close.ensures.first (c.mark-sink.ensures.1 ∙ c.requires.sink) in
+    subst (IsUntouched g.W.Drain c.args.outbox) (sym c.into_outbox.ensures) (untouched g.W.Drain c.args.site c.args.outbox _ _ none posting.delivered)

@@ -1,7 +1,0 @@
--- What an iterator over a header's lines has left.
-use Rattle.std.specs.Prelude.{ℕ, List}
-use Rattle.dsn_report.specs.Boundary.{header_lines}
-use Rattle.dsn_report.specs.declared.header_lines.HeaderLines.{HeaderLines}
-
-abbrev pub lines_left : HeaderLines → List (List ℕ)
-lines_left lines = header_lines lines.rest.now

@@ -1,0 +1,75 @@
+//! The client's side of the mail protocol.
+ghost use Rattle.std.specs.Prelude.{◌≡◌, true, [], ◌++◌, if◌then◌else◌};
+ghost use Rattle.dsn_device.specs.QuietWriter.{Writes};
+ghost use Rattle.dsn_report.specs.LineWriter.{Took};
+ghost use Rattle.dsn_report.specs.Outbox.{greeting, goodbye, mail_transaction};
+
+use crate::line_writer::LineWriter;
+use crate::notice_lines::write_notice;
+use crate::site::Site;
+use dsn_device::Drain;
+use dsn_outcome::Letter;
+
+/// Sends a letter's mail transaction, after what opens the session unless that is sent.
+pub(crate) fn send_letter<W: Drain>(
+    lines: &mut LineWriter<W>,
+    site: &Site,
+    letter: &Letter,
+    greeted: bool,
+)
+    requires dots { lines.old.dots ≡ true }
+    requires none_pending { lines.old.pending ≡ [] }
+    ensures sent { Writes W.Drain lines.old.writer lines.new.writer
+        ((if greeted then [] else greeting site.now) ++ mail_transaction site.now letter.now) }
+    ensures dots { lines.new.dots ≡ true }
+    ensures none_pending { lines.new.pending ≡ [] }
+{
+    greet_once(lines, site, greeted);
+    write_transaction(lines, site, letter);
+    lines.settle();
+}
+
+/// Sends what ends the session, after what opens it unless that is sent.
+pub(crate) fn send_goodbye<W: Drain>(lines: &mut LineWriter<W>, site: &Site, greeted: bool)
+    requires { lines.old.pending ≡ [] }
+    ensures { Writes W.Drain lines.old.writer lines.new.writer
+        ((if greeted then [] else greeting site.now) ++ goodbye) }
+{
+    greet_once(lines, site, greeted);
+    write_goodbye(lines);
+    lines.settle();
+}
+
+/// Writes what opens the session, unless it is written.
+#[tactic(auto, unfolding(crate::specs::Outbox::greeting, crate::specs::Lines::text_of_lines))]
+fn greet_once<W: Drain>(lines: &mut LineWriter<W>, site: &Site, greeted: bool)
+    ensures { Took W.Drain lines.old lines.new (if greeted then [] else greeting site.now) }
+{
+    if !greeted {
+        lines.piece(b"EHLO ");
+        lines.piece(site.bytes());
+        lines.piece(b"\r\n");
+    }
+}
+
+/// Writes the mail transaction of a letter.
+fn write_transaction<W: Drain>(lines: &mut LineWriter<W>, site: &Site, letter: &Letter)
+    requires { lines.old.dots ≡ true }
+    ensures { Took W.Drain lines.old lines.new (mail_transaction site.now letter.now) }
+{
+    lines.block(&[
+        b"MAIL FROM:<>\r\nRCPT TO:<",
+        letter.return_path().bytes(),
+        b">\r\nDATA\r\n",
+    ]);
+    write_notice(lines, site, letter);
+    lines.piece(b".\r\n");
+}
+
+/// Writes what ends the session.
+#[tactic(auto, unfolding(crate::specs::Outbox::goodbye, crate::specs::Lines::text_of_lines))]
+fn write_goodbye<W: Drain>(lines: &mut LineWriter<W>)
+    ensures { Took W.Drain lines.old lines.new goodbye }
+{
+    lines.piece(b"QUIT\r\n");
+}

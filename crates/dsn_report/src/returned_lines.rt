@@ -1,0 +1,95 @@
+//! The lines of a message's header that a notice returns.
+ghost use Rattle.std.specs.Prelude.{◌≡◌, ◌+◌, ◌≤◌, ◌==◌, [], ◌∷◌, ◌++◌, codes, length, take, if◌then◌else◌};
+ghost use Rattle.std.specs.Iterator.{YieldsFirstRef, item_count};
+ghost use Rattle.std.specs.Str.Lines.{strip_carriage_return};
+ghost use Rattle.dsn_report.specs.Boundary.{header_lines, shown_byte, shown_line};
+ghost use Rattle.dsn_report.specs.ReturnedLines.{lines_left};
+
+use bstr::ByteSlice;
+
+/// The longest line of a notice, in bytes without its CRLF (RFC 5322 section 2.1.1).
+pub(crate) const LONGEST_LINE: usize = 998;
+
+/// Room for a line of a notice with its CRLF, and for a dot before it.
+pub(crate) const LINE_ROOM: usize = LONGEST_LINE + 3;
+
+/// The lines of a header up to its first empty one, as they came, without their line feeds.
+#[derive(Drop)]
+pub(crate) struct ReturnedLines<'a> {
+    pub(crate) rest: &'a [u8],
+}
+
+impl<'a> Iterator for ReturnedLines<'a> {
+    type Item = &'a [u8];
+
+    ghost next_gives = { YieldsFirstRef lines_left };
+
+    ghost remaining = { item_count lines_left };
+
+    fn next(&mut self) -> Option<&'a [u8]> {
+        let (line, rest) = first_line(self.rest);
+        if line.is_empty() {
+            return None;
+        }
+        self.rest = rest;
+        Some(line)
+    }
+}
+
+/// A text's first line, and what follows it. A line ends at LF, and a CR before it goes with it.
+#[inline(always)]
+#[tactic(auto, using(crate::proofs::Rules::header))]
+pub(crate) fn first_line(text: &[u8]) -> (&[u8], &[u8])
+    ensures { header_lines text.now
+        ≡ (if length result.0.now == 0 then [] else result.0.now ∷ header_lines result.1.now) }
+{
+    match text.find_byte(b'\n') {
+        Some(feed) => (without_carriage_return(&text[..feed]), &text[feed + 1..]),
+        None => (text, &text[text.len()..]),
+    }
+}
+
+fn without_carriage_return(line: &[u8]) -> &[u8]
+    ensures { result.now ≡ strip_carriage_return line.now }
+{
+    if !line.is_empty() && line[line.len() - 1] == b'\r' {
+        &line[..line.len() - 1]
+    } else {
+        line
+    }
+}
+
+/// Puts a dot, and then a line as a notice shows it, at the front of `shown`, and says how long the
+/// line is.
+pub(crate) fn show_line(line: &[u8], shown: &mut [u8; LINE_ROOM]) -> usize
+    ensures within { result ≤ LONGEST_LINE }
+    ensures line { take (result + 1) shown.new ≡ codes "." ++ shown_line line.now }
+{
+    shown[0] = b'.';
+    let len = line.len().min(LONGEST_LINE);
+    for (index, byte) in line[..len].iter().enumerate() {
+        shown[index + 1] = shown_byte(*byte);
+    }
+    len
+}
+
+/// Puts a dot, and then a line as a notice shows it, with its CRLF, at the front of `shown`, and
+/// gives them.
+pub(crate) fn show_dotted_line<'a>(line: &[u8], shown: &'a mut [u8; LINE_ROOM]) -> &'a [u8]
+    ensures { result.now ≡ codes "." ++ shown_line line.now ++ codes "\r\n" }
+{
+    let len = show_line(line, shown);
+    shown[len + 1] = b'\r';
+    shown[len + 2] = b'\n';
+    &shown[..len + 3]
+}
+
+/// A byte as a notice shows it.
+fn shown_byte(byte: u8) -> u8
+    ensures { result ≡ shown_byte byte }
+{
+    match byte {
+        b' '..=b'~' | b'\t' => byte,
+        _ => b'?',
+    }
+}

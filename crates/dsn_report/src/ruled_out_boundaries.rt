@@ -1,0 +1,82 @@
+//! The numbers that a header's lines rule out for a notice's boundary.
+ghost use Rattle.std.specs.Prelude.{◌≡◌, ◌≢◌, ◌+◌, ◌*◌, ◌<◌, ℕ, ◌++◌, IsTrue, IsFalse, IfNone, IfSome, slice_index_or, nat_eq, false, not, position};
+ghost use Rattle.std.specs.List.{starts_with};
+ghost use Rattle.dsn_report.specs.Boundary.{boundary_numbers, four_digits, is_delimiter, rules_out};
+
+use crate::returned_lines::{LINE_ROOM, ReturnedLines, show_line};
+
+/// More numbers than a header can rule out. What is proved is 2,979: a line that rules one out has
+/// at least ten bytes and a line feed. (The shortest has twelve, so 2,520 is the most.)
+pub(crate) const NUMBERS: usize = 2_980;
+
+/// Which numbers the returned lines of a header rule out, for boundaries that begin so.
+pub(crate) fn numbers_ruled_out(front: &[u8], header: &[u8]) -> [bool; NUMBERS]
+    ensures { (number : ℕ) → number < NUMBERS
+        → slice_index_or result number false ≡ rules_out front.now header.now number }
+{
+    let mut ruled_out = [false; NUMBERS];
+    let mut shown = [0; LINE_ROOM];
+    for line in (ReturnedLines { rest: header }) {
+        if line.starts_with(b"--") {
+            let len = show_line(line, &mut shown);
+            if let Some(number) = number_ruled_out(front, &shown[1..len + 1]) {
+                if number < NUMBERS {
+                    ruled_out[number] = true;
+                }
+            }
+        }
+    }
+    ruled_out
+}
+
+/// The least number that isn't ruled out, if there is one.
+pub(crate) fn first_free(ruled_out: &[bool; NUMBERS]) -> Option<usize>
+    ensures first { result ≡ position not ruled_out.now }
+    ensures within { IfSome result (λ number. number < NUMBERS) }
+{
+    ruled_out.iter().position(|ruled_out| !ruled_out)
+}
+
+/// The number that a line rules out, if it rules one out.
+fn number_ruled_out(front: &[u8], line: &[u8]) -> Option<usize>
+    ensures some { IfSome result
+        (λ number. (number < boundary_numbers)
+        × IsTrue (is_delimiter (front.now ++ four_digits number) line.now)) }
+    ensures none { IfNone result
+        ((number : ℕ) → number < boundary_numbers
+        → IsFalse (is_delimiter (front.now ++ four_digits number) line.now)) }
+{
+    leading_number(line.strip_prefix(b"--")?.strip_prefix(front)?)
+}
+
+/// The number in four digits that a text begins with, if it begins with one.
+fn leading_number(text: &[u8]) -> Option<usize>
+    ensures some { IfSome result
+        (λ number. (number < boundary_numbers)
+        × IsTrue (starts_with nat_eq text.now (four_digits number))) }
+    ensures none { IfNone result
+        ((number : ℕ) → number < boundary_numbers
+        → IsFalse (starts_with nat_eq text.now (four_digits number))) }
+{
+    let [thousands, hundreds, tens, ones, ..] = *text else {
+        return None;
+    };
+    Some(
+        digit_value(thousands)? * 1000
+            + digit_value(hundreds)? * 100
+            + digit_value(tens)? * 10
+            + digit_value(ones)?,
+    )
+}
+
+/// The value of a digit, if the byte is one.
+fn digit_value(byte: u8) -> Option<usize>
+    ensures some { IfSome result (λ value. (value < 10) × (byte ≡ 48 + value)) }
+    ensures none { IfNone result ((value : ℕ) → value < 10 → byte ≢ 48 + value) }
+{
+    if byte.is_ascii_digit() {
+        Some((byte - b'0') as usize)
+    } else {
+        None
+    }
+}

@@ -1,8 +1,0 @@
-use Rattle.std.proofs.Common.{take}
-use Rattle.dsn_device.specs.UntilFailure.{WritesUntilFailure}
-use Rattle.noticed_lib.specs.daemon.Lines.{agent_lines}
-use Rattle.noticed_lib.proofs.daemon.telling.tell_agents.Given as goal
-
-abbrev pub invariant-loop-agent : goal.invariant-loop-agent
-invariant-loop-agent g l =
-    WritesUntilFailure g.N.Drain l.initial.telling.failed l.telling.failed l.initial.notes l.notes (agent_lines (take l.agent l.agents))

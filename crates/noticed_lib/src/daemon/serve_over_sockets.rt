@@ -1,0 +1,126 @@
+//! The run of the daemon over a listening socket.
+ghost use Rattle.std.specs.Prelude.{◌≡◌, ◌≤◌, ◌<◌, ◌⊎◌, All, length, true, false, IfOk};
+ghost use Rattle.dsn_book.specs.Limits.{limits_of};
+ghost use Rattle.dsn_crew.specs.Crew.{most_ports};
+ghost use Rattle.noticed_lib.specs.daemon.Serve.{IsSocketServe};
+
+use crate::daemon::no_watch::NoWatch;
+use crate::daemon::run_notes::write_fault;
+use crate::daemon::serve_end::ServeEnd;
+use crate::daemon::serve_over_ports::serve_ports;
+use crate::daemon::socket_port::SocketPort;
+use crate::daemon::watch::Watch;
+use dsn_book::Limits;
+use dsn_crew::{CrewCause, NoGate};
+use dsn_device::Drain;
+use dsn_outcome::{Letters, NoMemory};
+use dsn_report::Site;
+use std::alloc::Global;
+use std::os::unix::net::UnixListener;
+use std::sync::Wait;
+use std::thread::Threads;
+
+/// How many agents a crew has at most.
+const MOST_AGENTS: u32 = 16;
+
+/// Serves what connects to `listener` by a crew of `agents` agents, as [`serve_ports`] does. All of
+/// them accept on the one listener, and each is done once it has served `max_use` connections; its
+/// port fails where an accept fails. Where there are not 1 to 16 agents that is noted (43) before
+/// any memory is taken; refused memory for the ports is noted as the crew's is (42).
+pub fn serve<R: Threads + Wait + Sync, W: Drain + Drop + Send, N: Drain>(
+    rt: &R,
+    alloc: Global,
+    listener: &UnixListener,
+    site: Site,
+    limits: Limits,
+    agents: u32,
+    max_use: u32,
+    outbox: W,
+    notes: &mut N,
+) -> ServeEnd<W>
+    ensures { IsSocketServe W.Drain N.Drain ⊥ site limits agents max_use outbox notes.old notes.new
+        result }
+{
+    let watch = NoWatch;
+    serve_socket(
+        rt, alloc, listener, &watch, site, limits, agents, max_use, outbox, notes,
+    )
+}
+
+/// Serves with the program's limits, under a watch: each agent is done also once the watch finds
+/// that the run is to end. Else it is as [`serve`].
+pub fn serve_watched<R: Threads + Wait + Sync, H: Watch + Sync, W: Drain + Drop + Send, N: Drain>(
+    rt: &R,
+    alloc: Global,
+    listener: &UnixListener,
+    watch: &H,
+    site: Site,
+    agents: u32,
+    max_use: u32,
+    outbox: W,
+    notes: &mut N,
+) -> ServeEnd<W>
+    ensures { IsSocketServe W.Drain N.Drain (H.may_end watch.now) site
+        (limits_of 4096 1000 1000000) agents max_use outbox notes.old notes.new result }
+{
+    let limits = Limits::of_program();
+    serve_socket(
+        rt, alloc, listener, watch, site, limits, agents, max_use, outbox, notes,
+    )
+}
+
+/// Serves what connects to `listener`, with these limits and under this watch.
+fn serve_socket<R: Threads + Wait + Sync, H: Watch + Sync, W: Drain + Drop + Send, N: Drain>(
+    rt: &R,
+    alloc: Global,
+    listener: &UnixListener,
+    watch: &H,
+    site: Site,
+    limits: Limits,
+    agents: u32,
+    max_use: u32,
+    outbox: W,
+    notes: &mut N,
+) -> ServeEnd<W>
+    ensures { IsSocketServe W.Drain N.Drain (H.may_end watch.now) site limits agents max_use outbox
+        notes.old notes.new result }
+{
+    if !is_crew(agents) {
+        return write_fault(alloc, CrewCause::PortCount, outbox, Letters::new(), notes);
+    }
+    match socket_ports(alloc, listener, watch, agents, max_use) {
+        Ok(ports) => serve_ports(rt, alloc, site, limits, ports, outbox, &NoGate, notes),
+        Err(NoMemory) => write_fault(alloc, CrewCause::Refused, outbox, Letters::new(), notes),
+    }
+}
+
+/// Whether a crew may have so many agents.
+fn is_crew(agents: u32) -> bool
+    ensures crew { result ≡ true → (1 ≤ agents) × (agents ≤ most_ports) }
+    ensures none { result ≡ false → (agents ≡ 0) ⊎ (most_ports < agents) }
+{
+    agents >= 1 && agents <= MOST_AGENTS
+}
+
+/// So many ports over one listener.
+fn socket_ports<'a, H>(
+    alloc: Global,
+    listener: &'a UnixListener,
+    watch: &'a H,
+    agents: u32,
+    max_use: u32,
+) -> Result<Vec<SocketPort<'a, H>>, NoMemory>
+    ensures count { IfOk result (λ ports. length ports.items ≡ agents) }
+    ensures uses { IfOk result (λ ports. All
+        (λ port. (port.left ≡ max_use) × (port.watch.now ≡ watch.now)) ports.items) }
+{
+    let mut ports = Vec::with_capacity(alloc, agents as usize).map_err(|_| NoMemory)?;
+    for _ in 0..agents {
+        ports.push_reserved(SocketPort {
+            listener,
+            watch,
+            left: max_use,
+        });
+    }
+    Ok(ports)
+}

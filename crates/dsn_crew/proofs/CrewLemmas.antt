@@ -28,7 +28,7 @@ use Rattle.dsn_crew.specs.agents.Agent.{Agent, LaneHalves, after_reply}
 use Rattle.dsn_crew.specs.desk.Close.{IsHeard}
 use Rattle.dsn_crew.specs.CollectorResult.{IsCollectorResult}
 use Rattle.dsn_crew.specs.Conclude.{Concludes, MayClose, account_of, fault_of, missing_cause}
-use Rattle.dsn_crew.specs.Crew.{CrewAccount, AreAgentAccounts, CrewFault, IsAccount, IsAgentAccount, IsBrokenOff, IsCrewFault}
+use Rattle.dsn_crew.specs.Crew.{Account, AreAgentAccounts, CrewFault, IsAccount, IsAgentAccount, IsBrokenOff, IsCrewFault}
 use Rattle.dsn_crew.specs.desk.Desk.{Desk, IsDesk, IsRun, goodbyes, history, letter_kept, missing as missing_more, places_of}
 use Rattle.dsn_crew.specs.AgentsResult.{AreEnded, IsAgentsResult}
 use Rattle.dsn_crew.specs.desk.Open.{IsOpened, opened_agent}
@@ -204,7 +204,7 @@ missing≢count : (all : Bool) → missing_cause all ≢ causes.PortCount
 missing≢count true same = let never : causes.Refused ≡ causes.PortCount = same in cc
 missing≢count false same = let never : causes.Lost ≡ causes.PortCount = same in cc
 
-pub no_count : {W : Type 0} (collected : CollectorResult) (all : AgentsResult) (posted : Posted W) (result : Result (CrewAccount W) (CrewFault W)) → Concludes collected all posted result → IfErr result (λ fault. fault.cause ≢ causes.PortCount)
+pub no_count : {W : Type 0} (collected : CollectorResult) (all : AgentsResult) (posted : Posted W) (result : Result (Account W) (CrewFault W)) → Concludes collected all posted result → IfErr result (λ fault. fault.cause ≢ causes.PortCount)
 no_count collected all posted (Ok account) ends_so = tt
 no_count (Whole new) (gathered.All lines crew) posted (Err fault) faulted = λ same. missing≢count false (sym (ap (λ it. it.cause) faulted.1) ∙ same)
 no_count (Whole new) gathered.Missing posted (Err fault) faulted = λ same. missing≢count posted.all (sym (ap (λ it. it.cause) faulted) ∙ same)
@@ -276,11 +276,11 @@ module _ {P S W : Type 0} (port : Port P S) (drain : Drain W) (host : List ℕ) 
               outbox = subst (IsOutbox drain host start posted.outbox posted.whole posted.unsent) sealed post.outbox;
             }
 
-        pub account_is : (collected : CollectorResult) (all : AgentsResult) (result : Result (CrewAccount W) (CrewFault W)) → IsCollectorResult begun sink after collected → IsAgentsResult ends all → Concludes collected all posted result → IfOk result (IsAccount port drain host limits ports start)
+        pub account_is : (collected : CollectorResult) (all : AgentsResult) (result : Result (Account W) (CrewFault W)) → IsCollectorResult begun sink after collected → IsAgentsResult ends all → Concludes collected all posted result → IfOk result (IsAccount port drain host limits ports start)
         account_is collected all (Err fault) has is ends_so = tt
         account_is (Whole new) (gathered.All lines crew) (Ok account) has is closed =
             subst (IsAccount port drain host limits ports start) (sym closed.account_is)
-            (account_at new lines.items crew.items has.0 has.2 is closed.all closed.heard (subst (λ (it : CrewAccount W). Represents it.book (history new)) closed.account_is closed.stands))
+            (account_at new lines.items crew.items has.0 has.2 is closed.all closed.heard (subst (λ (it : Account W). Represents it.book (history new)) closed.account_is closed.stands))
         account_is (Whole new) gathered.Missing (Ok account) has is closed = absurd closed
         account_is (Whole new) (gathered.Lost unheard) (Ok account) has is closed = absurd closed
         account_is (Failed stop held new) all (Ok account) has is closed = absurd closed
@@ -295,7 +295,7 @@ module _ {P S W : Type 0} (port : Port P S) (drain : Drain W) (host : List ℕ) 
           missing_at : fault ≡ fault_of (missing_cause posted.all) [] new posted → IsCrewFault drain host limits (length ports) start fault fault.cause
           missing_at = missing_fault drain host limits start after.letters posted post new (limits_are new run) kept (length ports) (lines_length new run) sealed_are fault
 
-        pub fault_is : (collected : CollectorResult) (all : AgentsResult) (result : Result (CrewAccount W) (CrewFault W)) → IsCollectorResult begun sink after collected → Concludes collected all posted result → IfErr result (λ fault. IsCrewFault drain host limits (length ports) start fault fault.cause)
+        pub fault_is : (collected : CollectorResult) (all : AgentsResult) (result : Result (Account W) (CrewFault W)) → IsCollectorResult begun sink after collected → Concludes collected all posted result → IfErr result (λ fault. IsCrewFault drain host limits (length ports) start fault fault.cause)
         fault_is collected all (Ok account) has ends_so = tt
         fault_is (Whole new) (gathered.All lines crew) (Err fault) has faulted = lost_at new fault has.0 has.2 faulted.1
         fault_is (Whole new) gathered.Missing (Err fault) has faulted = missing_at new fault has.0 has.2 faulted

@@ -4,7 +4,7 @@ use Rattle.std.proofs.Crossing.{crosses}
 use Rattle.std.proofs.option.Option.TheSendSync as option
 use Rattle.std.specs.contracts.alloc.Global as Global
 use Rattle.dsn_crew.specs.contracts.agents.agent.Agent as Agent
-use Rattle.dsn_crew.specs.contracts.agents.finished_agent.FinishedAgent as FinishedAgent
+use Rattle.dsn_crew.specs.contracts.agents.finished_agent.Finished as Finished
 use Rattle.dsn_crew.specs.contracts.agents.port_end.PortEnd as PortEnd
 use Rattle.dsn_lane.proofs.SendLemmas.{requests_in_send, answers_out_send}
 
@@ -14,7 +14,7 @@ global_send = search sendable depth 20
 pub agent_send : IsSend Agent.the_row
 agent_send = search (requests_in_send, answers_out_send, crosses, option.the_field_send, sendable) depth 20
 
-pub finished_send : IsSend FinishedAgent.the_row
+pub finished_send : IsSend Finished.the_row
 finished_send = search (requests_in_send, answers_out_send, crosses, sendable) depth 20
 
 -- what came of an agent that served its port

@@ -8,7 +8,7 @@ use Rattle.dsn_outcome.specs.Letter.{Letter}
 use Rattle.dsn_post.specs.declared.posted.Posted.{Posted}
 use Rattle.dsn_crew.specs.agents.Agent.{LaneHalves, IsFinished}
 use Rattle.dsn_crew.specs.desk.Close.{AreCrew, AreOf, IsHeard}
-use Rattle.dsn_crew.specs.Crew.{CrewAccount, CrewFault}
+use Rattle.dsn_crew.specs.Crew.{Account, CrewFault}
 use Rattle.dsn_crew.specs.desk.Desk.{Desk, IsStopped, all_gone, history}
 use Rattle.dsn_crew.specs.declared.agents.agent_line.AgentLine.{AgentLine}
 use Rattle.dsn_crew.specs.declared.collector_result.CollectorResult.{CollectorResult}
@@ -27,7 +27,7 @@ MayClose (Whole desk) (Lost unheard) = Unit {0}
 MayClose (Failed stop held desk) gathered = IsStopped desk.value.requests.taken stop
 
 -- what a closed crew comes to, with its outbox
-abbrev pub account_of : {W : Type 0} → List AgentLine → List LaneHalves → Desk → Posted W → CrewAccount W
+abbrev pub account_of : {W : Type 0} → List AgentLine → List LaneHalves → Desk → Posted W → Account W
 account_of lines agents desk posted = record {
   agents = lines;
   letters = posted.posted;
@@ -52,7 +52,7 @@ fault_of cause held desk posted =
 -- a crew that was closed
 pub record HasClosed {W : Type 0} (lines : List AgentLine) (agents : List LaneHalves) (desk : Desk)
     (posted : Posted W)
-    (account : CrewAccount W) : Type 0 where
+    (account : Account W) : Type 0 where
   pub all : posted.all ≡ true
   pub account_is : account ≡ account_of lines agents desk posted
   pub heard : Prelude.All (IsHeard desk) agents
@@ -67,7 +67,7 @@ missing_cause false = causes.Lost
 
 -- where all went well the crew is closed; else this is its fault
 abbrev pub Concludes : {W : Type 0} → CollectorResult → AgentsResult → Posted W
-    → Result (CrewAccount W) (CrewFault W) → Type 0
+    → Result (Account W) (CrewFault W) → Type 0
 Concludes (Whole desk) (All lines agents) posted (Ok account) =
     HasClosed lines.items agents.items desk posted account
 Concludes (Whole desk) (All lines agents) posted (Err fault) =

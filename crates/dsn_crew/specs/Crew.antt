@@ -34,7 +34,7 @@ crew_cause_code PortCount = agent_count_code
 -- a run that ended well: what each agent did; how many letters were posted, and those that were
 -- not, in order; the outbox, and whether nothing failed in it; the book at the end; the requests
 -- that the collector took, in order; and each agent's two halves, with all that it sent and got
-pub record CrewAccount (W : Type 0) : Type 0 where
+pub record Account (W : Type 0) : Type 0 where
   pub agents : List AgentLine
   pub letters : ℕ
   pub unsent : List Letter
@@ -91,7 +91,7 @@ AreAgentAccounts port limits taken agent ports lines crew = ⊥
 -- sealed, in order, each of them posted or unsent
 pub record IsAccount {P S W : Type 0} (port : Port P S) (drain : Drain W) (host : List ℕ)
     (limits : Limits)
-    (ports : List P) (start : W) (account : CrewAccount W) : Type 0 where
+    (ports : List P) (start : W) (account : Account W) : Type 0 where
   pub agents : AreAgentAccounts port limits account.taken 0 ports account.agents account.halves
   pub only : All (λ (request : Request). request.agent < length ports) account.taken
   pub book_limits : account.book.limits ≡ limits

@@ -2,7 +2,7 @@
 ghost use Rattle.std.specs.Prelude.{IfOk};
 ghost use Rattle.dsn_crew.specs.CrewMemory.{AreSlots};
 
-use crate::agents::{AgentLine, FinishedAgent, Port, PortEnd};
+use crate::agents::{AgentLine, Finished, Port, PortEnd};
 use crate::start_serving::Serves;
 use dsn_outcome::NoMemory;
 use std::alloc::Global;
@@ -14,7 +14,7 @@ pub(crate) struct AgentMemory<P: Port> {
     pub(crate) handles: Vec<Option<PromisedHandle<PortEnd, Serves<P>>>>,
     pub(crate) ends: Vec<Option<PortEnd>>,
     pub(crate) lines: Vec<AgentLine>,
-    pub(crate) finished: Vec<FinishedAgent>,
+    pub(crate) finished: Vec<Finished>,
 }
 
 impl<P: Port> AgentMemory<P> {

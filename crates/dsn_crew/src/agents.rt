@@ -19,7 +19,7 @@ mod unheard;
 pub use agent::Agent;
 pub use agent_line::AgentLine;
 pub use ask_fault::AskFault;
-pub use finished_agent::FinishedAgent;
+pub use finished_agent::Finished;
 pub use gate::{Gate, NoGate};
 pub use next_connection::Next;
 pub use port::Port;

@@ -2,13 +2,13 @@
 ghost use Rattle.std.specs.Prelude.{◌≡◌, ◌≤◌, [], length, vec_capacity};
 ghost use Rattle.dsn_crew.specs.AgentsResult.{IsAgentsResult};
 
-use crate::agents::{AgentLine, FinishedAgent, PortEnd, Unheard};
+use crate::agents::{AgentLine, Finished, PortEnd, Unheard};
 
 /// What came of the agents' threads, taken together.
 #[derive(Drop)]
 pub(crate) enum AgentsResult {
     /// All agents said goodbye: their lines, and the agents, in their order.
-    All(Vec<AgentLine>, Vec<FinishedAgent>),
+    All(Vec<AgentLine>, Vec<Finished>),
     /// Threads could not be made; all other agents said goodbye.
     Missing,
     /// An agent lost a lane, so that its goodbye was not heard.
@@ -21,7 +21,7 @@ impl AgentsResult {
     pub(crate) fn of(
         ends: Vec<Option<PortEnd>>,
         lines: Vec<AgentLine>,
-        finished: Vec<FinishedAgent>,
+        finished: Vec<Finished>,
     ) -> AgentsResult
         requires lines { (lines.items ≡ []) × (length ends.items ≤ vec_capacity lines) }
         requires finished { (finished.items ≡ []) × (length ends.items ≤ vec_capacity finished) }

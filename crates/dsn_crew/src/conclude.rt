@@ -5,7 +5,7 @@ ghost use Rattle.dsn_crew.specs.Conclude.{Concludes, MayClose};
 use crate::agents_result::AgentsResult;
 use crate::breach::{Breach, Loss};
 use crate::collector_result::CollectorResult;
-use crate::crew_account::CrewAccount;
+use crate::crew_account::Account;
 use crate::crew_fault::CrewFault;
 use crate::desk::close_crew;
 use dsn_post::Posted;
@@ -18,7 +18,7 @@ pub(crate) fn conclude<W>(
     collected: CollectorResult,
     gathered: AgentsResult,
     posted: Posted<W>,
-) -> Result<CrewAccount<W>, CrewFault<W>>
+) -> Result<Account<W>, CrewFault<W>>
     requires close { MayClose collected gathered }
     requires unlost { (posted.all ≡ true) ↔ (posted.lost ≡ None) }
     ensures { Concludes collected gathered posted result }
@@ -43,7 +43,7 @@ pub(crate) fn conclude<W>(
         None => match gathered {
             AgentsResult::All(lines, agents) => {
                 let shut = close_crew(rt, agents, desk);
-                return Ok(CrewAccount::new(shut, lines, outbox, whole, unsent, posted));
+                return Ok(Account::new(shut, lines, outbox, whole, unsent, posted));
             }
             AgentsResult::Missing => Breach::Refused,
             AgentsResult::Lost(unheard) => Breach::Lost(Loss::Agent(unheard)),

@@ -11,7 +11,7 @@ use std::snapshot::Snapshot;
 /// A crew's run that ended well. Contracts see, beside its fields, the requests that the collector
 /// took, and what each agent sent and got; that takes no bytes.
 #[derive(Drop)]
-pub struct CrewAccount<W> {
+pub struct Account<W> {
     /// What each agent did, from agent 0 on.
     pub agents: Vec<AgentLine>,
     /// How many letters were posted.
@@ -27,10 +27,10 @@ pub struct CrewAccount<W> {
     shut: Snapshot<CrewShut>,
 }
 
-impl<W> Model for CrewAccount<W> {
-    ghost use Rattle.dsn_crew.specs.Crew.{CrewAccount};
+impl<W> Model for Account<W> {
+    ghost use Rattle.dsn_crew.specs.Crew.{Account};
 
-    ghost Value = { CrewAccount W };
+    ghost Value = { Account W };
 
     ghost view = { λ a. record {
       agents = a.agents.items;
@@ -44,7 +44,7 @@ impl<W> Model for CrewAccount<W> {
     } };
 }
 
-impl<W> CrewAccount<W> {
+impl<W> Account<W> {
     /// The account of a crew that was closed so, with its outbox.
     pub(crate) fn new(
         shut: CrewShut,
@@ -53,7 +53,7 @@ impl<W> CrewAccount<W> {
         whole: bool,
         unsent: Letters,
         letters: u32,
-    ) -> CrewAccount<W>
+    ) -> Account<W>
         ensures { result ≡ record {
           agents = agents.items;
           letters = letters;
@@ -66,7 +66,7 @@ impl<W> CrewAccount<W> {
         } }
     {
         let closed = Snapshot::of(&shut);
-        CrewAccount {
+        Account {
             agents,
             letters,
             unsent,

@@ -8,7 +8,7 @@ use crate::agents_result::AgentsResult;
 use crate::breach::Breach;
 use crate::collector_result::CollectorResult;
 use crate::conclude::conclude;
-use crate::crew_account::CrewAccount;
+use crate::crew_account::Account;
 use crate::crew_cause::CrewCause;
 use crate::crew_fault::CrewFault;
 use crate::crew_memory::CrewMemory;
@@ -49,7 +49,7 @@ pub fn run_crew<
     ports: Vec<P>,
     outbox: W,
     gate: &G,
-) -> Result<CrewAccount<W>, CrewFault<W>>
+) -> Result<Account<W>, CrewFault<W>>
     requires asked { All P.may_be_asked ports.items }
     ensures account { IfOk result (IsAccount P.Port W.Drain site limits ports.items outbox) }
     ensures count { IfOk result
@@ -67,7 +67,7 @@ pub fn run_crew<
     thread::scope(
         thread::scope_env(),
         rt,
-        move |scope| -> Result<CrewAccount<W>, CrewFault<W>>
+        move |scope| -> Result<Account<W>, CrewFault<W>>
             requires { (1 ≤ length ports.items) × (length ports.items ≤ most_ports)
                 × All P.may_be_asked ports.items }
         { run_in(scope, rt, alloc, site, limits, ports, outbox, gate) },
@@ -91,7 +91,7 @@ fn run_in<
     ports: Vec<P>,
     outbox: W,
     gate: &'s G,
-) -> Result<CrewAccount<W>, CrewFault<W>>
+) -> Result<Account<W>, CrewFault<W>>
     requires few { (1 ≤ length ports.items) × (length ports.items ≤ most_ports) }
     requires asked { All P.may_be_asked ports.items }
     ensures account { IfOk result (IsAccount P.Port W.Drain site limits ports.items outbox) }

@@ -17,10 +17,10 @@ mod desk;
 mod start_serving;
 
 pub use agents::{
-    Agent, AgentLine, AskFault, FinishedAgent, Gate, Next, NoGate, Port, PortEnd, ServeFault,
-    Served, serve_port,
+    Agent, AgentLine, AskFault, Finished, Gate, Next, NoGate, Port, PortEnd, ServeFault, Served,
+    serve_port,
 };
-pub use crew_account::CrewAccount;
+pub use crew_account::Account;
 pub use crew_cause::CrewCause;
 pub use crew_fault::CrewFault;
 pub use crew_run::run_crew;

@@ -13,24 +13,24 @@ use Rattle.dsn_lane.specs.contracts.lane_in.LaneIn as LaneIn
 use Rattle.dsn_lane.specs.contracts.lane_out.LaneOut as LaneOut
 use Rattle.dsn_outcome.proofs.SendLemmas.{request_send}
 use Rattle.dsn_outcome.specs.contracts.answer.Answer as Answer
-use Rattle.dsn_outcome.specs.contracts.answer.AnswerLaneItem.TheImpl as AnswerLaneItem
+use Rattle.dsn_outcome.specs.contracts.answer.AnswerCarried.TheImpl as AnswerCarried
 use Rattle.dsn_outcome.specs.contracts.request.Request as Request
-use Rattle.dsn_outcome.specs.contracts.request.RequestLaneItem.TheImpl as RequestLaneItem
+use Rattle.dsn_outcome.specs.contracts.request.RequestCarried.TheImpl as RequestCarried
 
 abbrev pub requests_in : RattleType
-requests_in = LaneIn.the_row Request.the_row RequestLaneItem.ghosts
+requests_in = LaneIn.the_row Request.the_row RequestCarried.ghosts
 
 abbrev pub answers_out : RattleType
-answers_out = LaneOut.the_row Answer.the_row AnswerLaneItem.ghosts
+answers_out = LaneOut.the_row Answer.the_row AnswerCarried.ghosts
 
 pub requests_in_send : IsSend requests_in
-requests_in_send = lane_in.the_send Request.the_row RequestLaneItem.ghosts request_send
+requests_in_send = lane_in.the_send Request.the_row RequestCarried.ghosts request_send
 
 answer_send : IsSend Answer.the_row
 answer_send = search sendable depth 20
 
 pub answers_out_send : IsSend answers_out
-answers_out_send = lane_out.the_send Answer.the_row AnswerLaneItem.ghosts answer_send
+answers_out_send = lane_out.the_send Answer.the_row AnswerCarried.ghosts answer_send
 
 -- a closure, a tuple of what it captures, may go where each of them may
 parts_send : (Ts : List RattleType) → AllSend Ts → FieldsHave IsSend (parts Ts)

@@ -17,12 +17,12 @@ use crate::lane_out::LaneOut;
 use crate::lane_rule::{LaneRule, ReadsOff, TakeBack};
 use crate::lane_shut::LaneShut;
 use crossbeam_channel::{Pass, RuledSender};
-use dsn_outcome::LaneItem;
+use dsn_outcome::Carried;
 use std::sync::Wait;
 
 /// Closes a lane, of which it takes the receiving half and all sending halves, in any order. What
 /// waits is dropped, and counted.
-pub fn close_lane<T: LaneItem>(
+pub fn close_lane<T: Carried>(
     _rt: &impl Wait,
     halves: Vec<LaneIn<T>>,
     out: LaneOut<T>,
@@ -53,7 +53,7 @@ pub fn close_lane<T: LaneItem>(
 }
 
 /// Takes all sending halves back, says how many items they had sent, and reads what waits.
-fn take_all_back<T: LaneItem>(
+fn take_all_back<T: Carried>(
     pass: &mut Pass<T, LaneKnowledge<T>>,
     mut halves: Vec<LaneIn<T>>,
 ) -> u64
@@ -85,7 +85,7 @@ fn take_all_back<T: LaneItem>(
 }
 
 /// Takes a sending half back, and says how many items it had sent.
-fn take_back<T: LaneItem>(
+fn take_back<T: Carried>(
     sender: &RuledSender<T, LaneKnowledge<T>, LaneRule>,
     pass: &mut Pass<T, LaneKnowledge<T>>,
     half: LaneIn<T>,

@@ -11,16 +11,16 @@ ghost use Rattle.dsn_lane.specs.Step.{after_split};
 use crate::lane_gone::LaneGone;
 use crate::lane_knowledge::LaneKnowledge;
 use crate::lane_rule::{Adds, LaneRule, SplitOff};
-use crate::lost_item::LostItem;
+use crate::lost_item::Lost;
 use crossbeam_channel::{Pass, RuledSender};
-use dsn_outcome::{LaneItem, NoMemory};
+use dsn_outcome::{Carried, NoMemory};
 use std::marker::Model;
 use std::sync::Wait;
 
 /// The half of a lane by which one agent sends. Contracts see its lane with its capacity, its agent
 /// and the items that it has sent, in order.
 #[derive(Drop)]
-pub struct LaneIn<T: LaneItem> {
+pub struct LaneIn<T: Carried> {
     /// The channel.
     pub(crate) sender: RuledSender<T, LaneKnowledge<T>, LaneRule>,
     /// What the half knows.
@@ -29,7 +29,7 @@ pub struct LaneIn<T: LaneItem> {
     pub(crate) count: u32,
 }
 
-impl<T: LaneItem> Model for LaneIn<T> {
+impl<T: Carried> Model for LaneIn<T> {
     ghost use Rattle.std.specs.Prelude.{◌≡◌};
     ghost use Rattle.crossbeam_channel.specs.Claims;
     ghost use Rattle.crossbeam_channel.specs.Claims.{IsSeatAt};
@@ -47,7 +47,7 @@ impl<T: LaneItem> Model for LaneIn<T> {
         × IsSending T.agent T.number (sending (Claims.view e.pass)) e.count };
 }
 
-impl<T: LaneItem> LaneIn<T> {
+impl<T: Carried> LaneIn<T> {
     /// The half of the next agent, whose pass is split off the receiving half's. `NoMemory` comes
     /// only where there is no room for one more half.
     #[tactic(auto, using(crate::proofs::RuleLemmas::splits))]
@@ -86,9 +86,9 @@ impl<T: LaneItem> LaneIn<T> {
         self.count
     }
 
-    /// Sends an item, and waits while the lane is full. `LostItem` comes once the receiving half is
+    /// Sends an item, and waits while the lane is full. `Lost` comes once the receiving half is
     /// gone, and hands the item back; that it comes then, and not before, isn't proved.
-    pub fn send(&mut self, rt: &impl Wait, item: T) -> Result<(), LostItem<T>>
+    pub fn send(&mut self, rt: &impl Wait, item: T) -> Result<(), Lost<T>>
         requires agent { T.agent item ≡ self.old.agent }
         requires number { T.number item ≡ length self.old.sent }
         requires room { length self.old.sent < most_sent }
@@ -103,7 +103,7 @@ impl<T: LaneItem> LaneIn<T> {
                 self.count += 1;
                 Ok(())
             }
-            Err(refused) => Err(LostItem {
+            Err(refused) => Err(Lost {
                 item: refused.into_inner(),
                 gone: LaneGone::reported(),
             }),

@@ -2,18 +2,18 @@
 ghost use Rattle.std.specs.Prelude.{◌≡◌};
 
 use crate::lane_out::LaneOut;
-use dsn_outcome::LaneItem;
+use dsn_outcome::Carried;
 use std::marker::Model;
 use std::snapshot::Snapshot;
 
 /// A receiving half that is gone. It has no bytes: contracts see the half as it was when it left,
 /// with all that it had taken.
 #[derive(Drop)]
-pub struct LaneLeft<T: LaneItem> {
+pub struct LaneLeft<T: Carried> {
     out: Snapshot<LaneOut<T>>,
 }
 
-impl<T: LaneItem> Model for LaneLeft<T> {
+impl<T: Carried> Model for LaneLeft<T> {
     ghost use Rattle.dsn_lane.specs.Halves.{Out};
 
     ghost Value = { Out T };
@@ -21,7 +21,7 @@ impl<T: LaneItem> Model for LaneLeft<T> {
     ghost view = { λ l. l.out.value };
 }
 
-impl<T: LaneItem> LaneLeft<T> {
+impl<T: Carried> LaneLeft<T> {
     /// What a receiving half leaves.
     pub(crate) fn of(out: &LaneOut<T>) -> LaneLeft<T>
         ensures { result ≡ out.now }

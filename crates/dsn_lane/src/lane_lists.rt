@@ -3,19 +3,19 @@ ghost use Rattle.std.specs.Prelude.{◌≡◌};
 
 use crate::lane_in::LaneIn;
 use crate::lane_out::LaneOut;
-use dsn_outcome::LaneItem;
+use dsn_outcome::Carried;
 use std::marker::Model;
 use std::snapshot::Snapshot;
 
 /// The lists of a lane. It has no bytes: contracts see the halves as they were at the close, with
 /// all that they had sent and taken.
 #[derive(Drop)]
-pub struct LaneLists<T: LaneItem> {
+pub struct LaneLists<T: Carried> {
     halves: Snapshot<Vec<LaneIn<T>>>,
     out: Snapshot<LaneOut<T>>,
 }
 
-impl<T: LaneItem> Model for LaneLists<T> {
+impl<T: Carried> Model for LaneLists<T> {
     ghost use Rattle.dsn_lane.specs.Halves.{Lists};
 
     ghost Value = { Lists T };
@@ -23,7 +23,7 @@ impl<T: LaneItem> Model for LaneLists<T> {
     ghost view = { λ l. record { halves = l.halves.value.items; out = l.out.value } };
 }
 
-impl<T: LaneItem> LaneLists<T> {
+impl<T: Carried> LaneLists<T> {
     /// What these halves have sent and taken.
     pub(crate) fn of(halves: &Vec<LaneIn<T>>, out: &LaneOut<T>) -> LaneLists<T>
         ensures { result ≡ record { halves = halves.now.items; out = out.now } }

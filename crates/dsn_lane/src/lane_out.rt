@@ -13,14 +13,14 @@ use crate::lane_knowledge::LaneKnowledge;
 use crate::lane_left::LaneLeft;
 use crate::lane_rule::{LaneRule, Removes};
 use crossbeam_channel::{Pass, RuledReceiver};
-use dsn_outcome::LaneItem;
+use dsn_outcome::Carried;
 use std::marker::Model;
 use std::sync::Wait;
 
 /// The half of a lane that takes what the agents send. Contracts see its lane with its capacity, its
 /// agents, from `first` on and below `past`, and the items that it has taken, in order.
 #[derive(Drop)]
-pub struct LaneOut<T: LaneItem> {
+pub struct LaneOut<T: Carried> {
     /// The channel.
     pub(crate) receiver: RuledReceiver<T, LaneKnowledge<T>, LaneRule>,
     /// What the half knows.
@@ -29,7 +29,7 @@ pub struct LaneOut<T: LaneItem> {
     pub(crate) count: u64,
 }
 
-impl<T: LaneItem> Model for LaneOut<T> {
+impl<T: Carried> Model for LaneOut<T> {
     ghost use Rattle.std.specs.Prelude.{◌≡◌};
     ghost use Rattle.crossbeam_channel.specs.Claims;
     ghost use Rattle.crossbeam_channel.specs.Claims.{IsSeatAt};
@@ -47,7 +47,7 @@ impl<T: LaneItem> Model for LaneOut<T> {
         × IsReceiving T.agent T.number (taking (Claims.view o.pass)) o.count };
 }
 
-impl<T: LaneItem> LaneOut<T> {
+impl<T: Carried> LaneOut<T> {
     /// The receiving half of a pass that has taken nothing.
     pub(crate) fn new(
         receiver: RuledReceiver<T, LaneKnowledge<T>, LaneRule>,

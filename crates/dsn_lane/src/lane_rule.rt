@@ -3,13 +3,13 @@
 
 use crate::lane_knowledge::LaneKnowledge;
 use crossbeam_channel::protocol::{Join, Lesson, Outcome, Protocol, Split};
-use dsn_outcome::LaneItem;
+use dsn_outcome::Carried;
 
 /// The rule: accepted is taken followed by what waits, each agent's part of it is what that agent
 /// sent, and no more waits than the lane's capacity.
 pub struct LaneRule;
 
-impl<T: LaneItem> Protocol<T, LaneKnowledge<T>> for LaneRule {
+impl<T: Carried> Protocol<T, LaneKnowledge<T>> for LaneRule {
     ghost use Rattle.dsn_lane.specs.Lane.{IsLane};
     ghost use Rattle.dsn_lane.specs.Step.{opened};
 
@@ -72,7 +72,7 @@ impl<T> Lesson<T, LaneKnowledge<T>> for Adds {
 /// A receive, which takes the item at the front.
 pub struct Removes;
 
-impl<T: LaneItem> Outcome<T, LaneKnowledge<T>> for Removes {
+impl<T: Carried> Outcome<T, LaneKnowledge<T>> for Removes {
     ghost use Rattle.std.specs.Prelude.{◌≡◌};
     ghost use Rattle.dsn_lane.specs.Step.{after_take, IsNext};
 
@@ -89,7 +89,7 @@ impl<T> Lesson<T, LaneKnowledge<T>> for Removes {
 /// A look at what waits, once the halves have come back.
 pub struct ReadsOff;
 
-impl<T: LaneItem> Lesson<T, LaneKnowledge<T>> for ReadsOff {
+impl<T: Carried> Lesson<T, LaneKnowledge<T>> for ReadsOff {
     ghost use Rattle.dsn_lane.specs.Step.{IsSettled};
 
     ghost fact = { IsSettled T.agent T.number };

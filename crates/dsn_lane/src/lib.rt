@@ -23,5 +23,5 @@ pub use lane_left::LaneLeft;
 pub use lane_lists::LaneLists;
 pub use lane_out::LaneOut;
 pub use lane_shut::LaneShut;
-pub use lost_item::LostItem;
+pub use lost_item::Lost;
 pub use open::open_lane;

@@ -7,14 +7,14 @@ use dsn_text::fault_code;
 
 /// The receiving half of the lane is gone: the item is handed back. A lane alone makes it.
 #[derive(Drop)]
-pub struct LostItem<T> {
+pub struct Lost<T> {
     /// The item that was not sent.
     pub item: T,
     /// That the receiving half is gone.
     pub gone: LaneGone,
 }
 
-impl<T> LostItem<T> {
+impl<T> Lost<T> {
     /// The number of the fault, 41.
     pub fn code(&self) -> u32
         ensures { result ≡ lane_lost_code }

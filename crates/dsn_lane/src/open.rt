@@ -11,7 +11,7 @@ use crate::lane_knowledge::LaneKnowledge;
 use crate::lane_out::LaneOut;
 use crate::lane_rule::{CountRoom, LaneRule, SplitOff, TakeBack};
 use crossbeam_channel::{Pass, RuledSender, bounded_with};
-use dsn_outcome::{LaneItem, NoMemory};
+use dsn_outcome::{Carried, NoMemory};
 use std::alloc::Global;
 use std::sync::Wait;
 
@@ -19,7 +19,7 @@ use std::sync::Wait;
 /// `first` on, in their order, and the receiving half. `NoMemory` comes only where memory was
 /// refused.
 #[tactic(auto, using(crate::proofs::HalfLemmas::halves_pushed, crate::proofs::RuleLemmas::opens))]
-pub fn open_lane<T: LaneItem>(
+pub fn open_lane<T: Carried>(
     _rt: &impl Wait,
     alloc: Global,
     first: u32,
@@ -54,7 +54,7 @@ pub fn open_lane<T: LaneItem>(
 
 /// Counts the lane's room: the rule begins with none, and has room for one item more in each turn.
 #[tactic(auto, using(crate::proofs::HalfLemmas::room_more, crate::proofs::RuleLemmas::rooms))]
-fn count_room<T: LaneItem>(
+fn count_room<T: Carried>(
     sender: &RuledSender<T, LaneKnowledge<T>, LaneRule>,
     pass: &mut Pass<T, LaneKnowledge<T>>,
     capacity: u32,
@@ -71,7 +71,7 @@ fn count_room<T: LaneItem>(
 
 /// Passes over the agents below the first: a pass is split off for each, and joined again unused.
 #[tactic(auto, using(crate::proofs::HalfLemmas::passed_more, crate::proofs::RuleLemmas::joins, crate::proofs::RuleLemmas::splits))]
-fn pass_over<T: LaneItem>(
+fn pass_over<T: Carried>(
     sender: &RuledSender<T, LaneKnowledge<T>, LaneRule>,
     pass: &mut Pass<T, LaneKnowledge<T>>,
     first: u32,

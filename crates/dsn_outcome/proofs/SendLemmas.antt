@@ -4,7 +4,7 @@ use denote.Param.Send.{IsSend, sendable}
 use Rattle.std.proofs.Crossing.{crosses}
 use Rattle.std.proofs.option.Option.TheSendSync as option
 use Rattle.dsn_outcome.proofs.letter_cell.LetterCell.TheLaws.TheKnot as cells
-use Rattle.dsn_outcome.proofs.outcome_node.OutcomeNode.TheLaws.TheKnot as nodes
+use Rattle.dsn_outcome.proofs.outcome_node.Node.TheLaws.TheKnot as nodes
 use Rattle.dsn_outcome.specs.contracts.letter_cell.LetterCell as LetterCell
 use Rattle.dsn_outcome.specs.contracts.letter_cell.Sealed as Sealed
 use Rattle.dsn_outcome.specs.contracts.letter_cell.Terms as Terms
@@ -12,7 +12,7 @@ use Rattle.dsn_text.specs.contracts.key.Key as Key
 use Rattle.dsn_outcome.specs.contracts.letter.Letter as Letter
 use Rattle.dsn_outcome.specs.contracts.letters.Letters as Letters
 use Rattle.dsn_outcome.specs.contracts.outcome_links.OutcomeLinks as OutcomeLinks
-use Rattle.dsn_outcome.specs.contracts.outcome_node.OutcomeNode as OutcomeNode
+use Rattle.dsn_outcome.specs.contracts.outcome_node.Node as Node
 use Rattle.dsn_outcome.specs.contracts.outcome.Outcome as Outcome
 use Rattle.dsn_text.specs.contracts.queue_id.QueueId as QueueId
 use Rattle.dsn_outcome.specs.contracts.request.Request as Request
@@ -26,10 +26,10 @@ key_field = search sendable depth 20
 outcome : IsSend Outcome.the_row
 outcome = search (crosses, sendable) depth 20
 
-node_field : IsSend (OutcomeNode.the_field).row
+node_field : IsSend (Node.the_field).row
 node_field = search (crosses, option.the_send, option.the_field_send, outcome, nodes.crosses, sendable) depth 20
 
-node : IsSend OutcomeNode.the_row
+node : IsSend Node.the_row
 node = search (node_field, sendable) depth 20
 
 links : IsSend OutcomeLinks.the_row

@@ -9,7 +9,7 @@ pub mod LetterCell
 pub mod LinkedOutcome
 pub mod Outcome
 pub mod OutcomeFault
-pub mod OutcomeNode
+pub mod Node
 pub mod OutcomeParts
 pub mod OutcomeTexts
 pub mod Outcomes

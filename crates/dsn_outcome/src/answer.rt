@@ -1,5 +1,5 @@
 //! What the daemon answers a delivery agent.
-use crate::lane_item::LaneItem;
+use crate::lane_item::Carried;
 
 /// What became of a request. A number is how many outcomes the log held before it.
 #[derive(Clone, Copy, Debug, PartialEq, Eq)]
@@ -39,7 +39,7 @@ pub struct Answer {
     pub reply: Reply,
 }
 
-impl LaneItem for Answer {
+impl Carried for Answer {
     ghost agent = { λ answer. answer.agent };
 
     ghost number = { λ answer. answer.number };

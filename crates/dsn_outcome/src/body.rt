@@ -2,14 +2,14 @@
 use crate::draft::Draft;
 use crate::letter_cell::Terms;
 use crate::outcome::Outcome;
-use crate::outcome_node::OutcomeNode;
+use crate::outcome_node::Node;
 use dsn_text::{Key, QueueId};
 
 /// What a delivery agent asks.
 #[derive(Drop)]
 pub enum Body {
     /// Log this outcome of the message. The service is the outcome's.
-    Append(QueueId, Box<OutcomeNode>),
+    Append(QueueId, Box<Node>),
     /// Seal this log and make a notice of it.
     Flush(Key, Draft),
     /// Drop this log.

@@ -2,7 +2,7 @@
 ghost use Rattle.std.specs.Prelude.{◌≡◌, ℕ};
 
 /// An item that says which agent sends it, and how many items of that agent were sent before it.
-pub trait LaneItem: Drop {
+pub trait Carried: Drop {
     // The agent.
     ghost agent: { Self → ℕ };
 

@@ -34,7 +34,7 @@ pub use dsn_text::{
     MtaName, NoMemory, QueueId, RawHeader, SHORT_ROOM, Service, ShortText, Stamp, Status,
     TextFault, keys_are_ordered,
 };
-pub use lane_item::LaneItem;
+pub use lane_item::Carried;
 pub use laws::{
     closed_keys_alone_are_forgotten, closed_logs_stay_closed, histories_answer_each_request,
     letters_are_numbered,
@@ -45,6 +45,6 @@ pub use letters::Letters;
 pub use outcome::Outcome;
 pub use outcome_fault::OutcomeFault;
 pub use outcome_links::Outcomes;
-pub use outcome_node::OutcomeNode;
+pub use outcome_node::Node;
 pub use outcome_parts::Parts;
 pub use request::Request;

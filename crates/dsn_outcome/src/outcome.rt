@@ -4,7 +4,7 @@ ghost use Rattle.dsn_text.specs.Action.{action_of_byte};
 
 use crate::optional_texts::{is_optional_address, is_optional_mta_name, unless_empty};
 use crate::outcome_fault::OutcomeFault;
-use crate::outcome_node::OutcomeNode;
+use crate::outcome_node::Node;
 use crate::outcome_parts::Parts;
 use crate::outcome_texts::OutcomeTexts;
 use dsn_text::{Action, Address, Clean, KeptStamp, Service, Stamp, Status};
@@ -47,11 +47,7 @@ impl Outcome {
     /// log. The fields are tested, in the order of `OutcomeFault`'s variants, before memory is
     /// taken.
     #[tactic(auto, using(crate::proofs::OutcomeLemmas::short_none))]
-    pub fn new(
-        alloc: Global,
-        service: Service,
-        parts: Parts<'_>,
-    ) -> Result<Box<OutcomeNode>, OutcomeFault>
+    pub fn new(alloc: Global, service: Service, parts: Parts<'_>) -> Result<Box<Node>, OutcomeFault>
         ensures kept { IfOk result
             (λ node. IsOutcomeOf service (fields_of parts.entry) node.value.outcome) }
         ensures accepted { IfOk result
@@ -181,14 +177,14 @@ ghost use Rattle.dsn_outcome.specs.Outcome.{IsLegalOutcome, IsOutcomeOf, first_o
 ghost use Rattle.dsn_outcome.specs.OutcomeParts.{fields_of};
 
 /// An outcome in a node of its own, linked to nothing.
-fn linked(alloc: Global, outcome: Outcome) -> Result<Box<OutcomeNode>, OutcomeFault>
+fn linked(alloc: Global, outcome: Outcome) -> Result<Box<Node>, OutcomeFault>
     requires { IsLegalOutcome outcome }
     ensures kept { IfOk result (λ node. node.value.outcome ≡ outcome) }
     ensures legal { IfOk result (λ node. IsLegalOutcome node.value.outcome) }
     ensures unlinked { IfOk result (λ node. node.value.linked ≡ []) }
     ensures memory { IfErr result (λ fault. fault ≡ OutcomeFault.NoMemory) }
 {
-    let node = OutcomeNode {
+    let node = Node {
         outcome,
         next: None,
     };

@@ -1,6 +1,6 @@
 //! A delivery agent's request.
 use crate::body::Body;
-use crate::lane_item::LaneItem;
+use crate::lane_item::Carried;
 use std::marker::Model;
 
 /// What one agent asks, with its place among the agent's requests.
@@ -23,7 +23,7 @@ impl Model for Request {
     ghost view = { λ r. record { agent = r.agent; number = r.number; body = body_of r.body } };
 }
 
-impl LaneItem for Request {
+impl Carried for Request {
     ghost agent = { λ request. request.agent };
 
     ghost number = { λ request. request.number };

@@ -20,14 +20,14 @@ use Rattle.dsn_report.specs.contracts.site.Site as Site
 use Rattle.dsn_post.specs.contracts.letter_source.LetterSource as LetterSource
 use Rattle.dsn_post.specs.contracts.letters_end.LettersEnd as LettersEnd
 use Rattle.dsn_post.specs.contracts.parcel.Parcel as Parcel
-use Rattle.dsn_post.specs.contracts.parcel.ParcelLaneItem.TheImpl as ParcelLaneItem
+use Rattle.dsn_post.specs.contracts.parcel.ParcelCarried.TheImpl as ParcelCarried
 use Rattle.dsn_post.specs.contracts.posting.Posting as Posting
 
 parcel_send : IsSend Parcel.the_row
 parcel_send = search (letter_send, option.the_field_send, sendable) depth 20
 
-parcels_out_send : IsSend (LaneOut.the_row Parcel.the_row ParcelLaneItem.ghosts)
-parcels_out_send = lane_out.the_send Parcel.the_row ParcelLaneItem.ghosts parcel_send
+parcels_out_send : IsSend (LaneOut.the_row Parcel.the_row ParcelCarried.ghosts)
+parcels_out_send = lane_out.the_send Parcel.the_row ParcelCarried.ghosts parcel_send
 
 count_send : IsSend (as_row u32-field)
 count_send = search sendable depth 20

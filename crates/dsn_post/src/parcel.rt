@@ -1,5 +1,5 @@
 //! What the lane of letters carries.
-use dsn_outcome::{LaneItem, Letter};
+use dsn_outcome::{Carried, Letter};
 use std::marker::Model;
 
 /// A letter on its way to the poster with its place among the letters, from 0; or, with no letter,
@@ -24,7 +24,7 @@ impl Model for Parcel {
     ghost invariant = { λ p. IsSome p.letter → p.number < most_sent };
 }
 
-impl LaneItem for Parcel {
+impl Carried for Parcel {
     ghost agent = { λ parcel. 0 };
 
     ghost number = { λ parcel. parcel.number };

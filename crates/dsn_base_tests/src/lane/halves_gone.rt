@@ -3,13 +3,13 @@ ghost use Rattle.std.specs.Prelude.{◌≡◌};
 
 use crate::assert_same::same;
 use crate::lane::item::Item;
-use dsn_lane::{LaneEnd, LostItem, open_lane};
+use dsn_lane::{LaneEnd, Lost, open_lane};
 use std::alloc::Global;
 use std::sync::Wait;
 use std::test::Fail;
 
 /// What a send answers once the receiving half has left.
-fn send_after_leave(rt: &impl Wait, alloc: Global, item: Item) -> Option<Result<(), LostItem<Item>>>
+fn send_after_leave(rt: &impl Wait, alloc: Global, item: Item) -> Option<Result<(), Lost<Item>>>
     requires { (item.agent ≡ 0) × (item.number ≡ 0) }
 {
     let (mut halves, out) = open_lane::<Item>(rt, alloc, 0, 1, 1).ok()?;

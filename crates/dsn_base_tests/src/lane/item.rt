@@ -2,7 +2,7 @@
 ghost use Rattle.std.specs.Prelude.{◌≡◌};
 
 use dsn_lane::{LaneIn, LaneOut};
-use dsn_outcome::LaneItem;
+use dsn_outcome::Carried;
 use std::alloc::AllocError;
 use std::sync::Wait;
 
@@ -13,7 +13,7 @@ pub struct Item {
     pub number: u32,
 }
 
-impl LaneItem for Item {
+impl Carried for Item {
     ghost agent = { λ item. item.agent };
 
     ghost number = { λ item. item.number };

@@ -3,7 +3,7 @@ ghost use Rattle.std.specs.Prelude.{◌≡◌, length};
 
 use crate::assert_same::same;
 use dsn_lane::open_lane;
-use dsn_outcome::{Answer, Body, LaneItem, Outcome, Parts, QueueId, Reply, Request, Service};
+use dsn_outcome::{Answer, Body, Carried, Outcome, Parts, QueueId, Reply, Request, Service};
 use std::alloc::Global;
 use std::sync::Wait;
 use std::test::Fail;
@@ -11,11 +11,7 @@ use std::thread;
 use std::thread::Threads;
 
 /// Sends the first item of agent 0 to another thread, and gives what arrives there.
-fn carried<T: LaneItem + Send, R: Threads + Wait + Sync>(
-    rt: &R,
-    alloc: Global,
-    item: T,
-) -> Option<T>
+fn carried<T: Carried + Send, R: Threads + Wait + Sync>(rt: &R, alloc: Global, item: T) -> Option<T>
     requires { (T.agent item ≡ 0) × (T.number item ≡ 0) }
 {
     let (mut halves, mut out) = open_lane::<T>(rt, alloc, 0, 1, 1).ok()?;

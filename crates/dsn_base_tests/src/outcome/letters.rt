@@ -4,15 +4,15 @@ ghost use Rattle.std.specs.Prelude.{All, IfOk, IsSome, [], ◌≡◌, ◌≢◌}
 use super::outcomes::PARTS;
 use crate::assert_same::same;
 use dsn_outcome::{
-    Address, Chain, Draft, EnvelopeId, Key, Letter, Letters, MOST_OUTCOMES, Outcome, OutcomeNode,
-    QueueId, RawHeader, Service, Stamp,
+    Address, Chain, Draft, EnvelopeId, Key, Letter, Letters, MOST_OUTCOMES, Node, Outcome, QueueId,
+    RawHeader, Service, Stamp,
 };
 use std::alloc::Global;
 use std::process::Abort;
 use std::test::Fail;
 
 /// An outcome of a bounce's log.
-fn bounced(alloc: Global, recipient: &[u8]) -> Result<Box<OutcomeNode>, Fail>
+fn bounced(alloc: Global, recipient: &[u8]) -> Result<Box<Node>, Fail>
     ensures { IfOk result (λ node. node.value.outcome.service ≡ Service.Bounce) }
 {
     let mut parts = PARTS;

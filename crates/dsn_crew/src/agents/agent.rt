@@ -5,7 +5,7 @@ ghost use Rattle.dsn_outcome.specs.Request.{Bye};
 ghost use Rattle.dsn_crew.specs.agents.Agent.{IsAgent, IsAsk, IsFinished, IsGoodbye, IsLeave, most_requests};
 
 use crate::agents::ask_fault::AskFault;
-use crate::agents::finished_agent::FinishedAgent;
+use crate::agents::finished_agent::Finished;
 use crate::agents::lane_halves::LaneHalves;
 use crate::agents::unanswered::Unanswered;
 use crate::agents::unheard::{Unheard, say_bye};
@@ -101,7 +101,7 @@ impl Agent {
     /// Says goodbye, which is allowed at the limit too, and waits until the collector has heard it.
     /// `Lost` (41) comes where a lane was lost before or is lost now; the agent's halves are dropped.
     #[tactic(auto, using(crate::proofs::agents::AgentLemmas::goodbye_fault))]
-    pub fn bye(self, rt: &impl Wait) -> Result<FinishedAgent, AskFault>
+    pub fn bye(self, rt: &impl Wait) -> Result<Finished, AskFault>
         ensures bye { IsGoodbye self result }
         ensures finished { IfOk result IsFinished }
     {
@@ -112,7 +112,7 @@ impl Agent {
     }
 
     /// Says goodbye, as [`Agent::bye`] does, and says why it was not heard where it wasn't.
-    pub(crate) fn leave(self, rt: &impl Wait) -> Result<FinishedAgent, Unheard>
+    pub(crate) fn leave(self, rt: &impl Wait) -> Result<Finished, Unheard>
         ensures leave { IsLeave self result }
         ensures finished { IfOk result IsFinished }
     {

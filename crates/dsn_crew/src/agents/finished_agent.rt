@@ -9,11 +9,11 @@ use std::marker::Model;
 
 /// An agent that has said goodbye and was heard: its halves, which wait for the crew's close.
 #[derive(Drop)]
-pub struct FinishedAgent {
+pub struct Finished {
     halves: LaneHalves,
 }
 
-impl Model for FinishedAgent {
+impl Model for Finished {
     ghost use Rattle.dsn_crew.specs.agents.Agent.{LaneHalves, IsFinished};
 
     ghost Value = { LaneHalves };
@@ -23,12 +23,12 @@ impl Model for FinishedAgent {
     ghost invariant = { λ f. IsFinished f.halves };
 }
 
-impl FinishedAgent {
-    pub(crate) fn new(halves: LaneHalves) -> FinishedAgent
+impl Finished {
+    pub(crate) fn new(halves: LaneHalves) -> Finished
         requires { IsFinished halves }
         ensures { result ≡ halves }
     {
-        FinishedAgent { halves }
+        Finished { halves }
     }
 
     /// How many requests the agent made, its goodbye not counted.
@@ -46,7 +46,7 @@ impl FinishedAgent {
         ensures own { AreHalves self }
         ensures finished { IsFinished self }
     {
-        let FinishedAgent { halves } = self;
+        let Finished { halves } = self;
         halves.into_parts()
     }
 }

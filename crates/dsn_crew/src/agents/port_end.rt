@@ -2,7 +2,7 @@
 ghost use Rattle.std.specs.Prelude.{◌≡◌, None, Some};
 
 use crate::agents::agent_line::AgentLine;
-use crate::agents::finished_agent::FinishedAgent;
+use crate::agents::finished_agent::Finished;
 use crate::agents::unheard::Unheard;
 use std::marker::Model;
 
@@ -12,7 +12,7 @@ pub struct PortEnd {
     /// What the agent did, up to its goodbye.
     pub line: AgentLine,
     /// The agent, once it said goodbye and was heard; none where a lane was lost.
-    pub finished: Option<FinishedAgent>,
+    pub finished: Option<Finished>,
     /// Why its goodbye was not heard.
     unheard: Option<Unheard>,
 }
@@ -32,7 +32,7 @@ impl PortEnd {
     ghost use Rattle.std.specs.Result.{result_ok};
 
     /// The end of an agent whose goodbye was heard.
-    pub(crate) fn heard(line: AgentLine, finished: FinishedAgent) -> PortEnd
+    pub(crate) fn heard(line: AgentLine, finished: Finished) -> PortEnd
         ensures { result ≡ record { line = line; finished = Some finished } }
     {
         PortEnd {
@@ -54,7 +54,7 @@ impl PortEnd {
     }
 
     /// What the agent did, and the agent, or why it was not heard.
-    pub(crate) fn into_parts(self) -> (AgentLine, Result<FinishedAgent, Unheard>)
+    pub(crate) fn into_parts(self) -> (AgentLine, Result<Finished, Unheard>)
         ensures line { result.0 ≡ self.line }
         ensures finished { result_ok result.1 ≡ self.finished }
     {

@@ -6,7 +6,7 @@ ghost use Rattle.dsn_outcome.specs.Request.{Bye};
 ghost use Rattle.dsn_crew.specs.agents.Agent.{IsFaultOf, IsFinished, Stays, after_reply, was_unsent};
 
 use crate::agents::ask_fault::AskFault;
-use crate::agents::finished_agent::FinishedAgent;
+use crate::agents::finished_agent::Finished;
 use crate::agents::lane_halves::LaneHalves;
 use crate::agents::unanswered::Unanswered;
 use dsn_lane::LaneGone;
@@ -54,7 +54,7 @@ impl Unheard {
 }
 
 /// Says the goodbye of an agent with these halves, and waits until the collector has heard it.
-pub(crate) fn say_bye(rt: &impl Wait, halves: LaneHalves) -> Result<FinishedAgent, Unheard>
+pub(crate) fn say_bye(rt: &impl Wait, halves: LaneHalves) -> Result<Finished, Unheard>
     requires answered { length halves.answers.taken ≡ length halves.requests.sent }
     requires room { length halves.requests.sent < most_sent }
     requires stays { Stays halves.requests.sent }
@@ -63,7 +63,7 @@ pub(crate) fn say_bye(rt: &impl Wait, halves: LaneHalves) -> Result<FinishedAgen
 {
     let mut halves = halves;
     match halves.exchange(rt, Body::Bye) {
-        Ok(answer) if answer.reply == Reply::Gone => Ok(FinishedAgent::new(halves)),
+        Ok(answer) if answer.reply == Reply::Gone => Ok(Finished::new(halves)),
         Ok(_) => Err(Unheard {
             cause: Cause::Answered,
         }),

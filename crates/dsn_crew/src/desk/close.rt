@@ -6,7 +6,7 @@ ghost use Rattle.dsn_crew.specs.agents.Agent.{IsFinished};
 ghost use Rattle.dsn_crew.specs.desk.Close.{AreCrew, AreOf, IsHeard};
 ghost use Rattle.dsn_crew.specs.desk.Desk.{all_gone, history};
 
-use crate::agents::FinishedAgent;
+use crate::agents::Finished;
 use crate::desk::answer_lane::AnswerLane;
 use crate::desk::crew_shut::CrewShut;
 use crate::desk::desk::Desk;
@@ -20,7 +20,7 @@ use std::sync::Wait;
 /// goodbye and the collector has not failed (`Desk::all_gone`); an agent that never started has no
 /// half to give back, so its crew is dropped instead.
 #[tactic(auto, using(crate::proofs::desk::Rules::closing))]
-pub fn close_crew(rt: &impl Wait, crew: Vec<FinishedAgent>, desk: Desk) -> CrewShut
+pub fn close_crew(rt: &impl Wait, crew: Vec<Finished>, desk: Desk) -> CrewShut
     requires crew { AreCrew crew.items desk }
     requires gone { all_gone desk ≡ true }
     ensures heard { All (IsHeard desk) crew.items }
@@ -50,7 +50,7 @@ pub fn close_crew(rt: &impl Wait, crew: Vec<FinishedAgent>, desk: Desk) -> CrewS
 }
 
 /// Closes an agent's answer lane, and gives the half by which the agent asked.
-fn close_answers(rt: &impl Wait, finished: FinishedAgent, line: AnswerLane) -> LaneIn<Request>
+fn close_answers(rt: &impl Wait, finished: Finished, line: AnswerLane) -> LaneIn<Request>
     requires lane { (line.lane ≡ finished.answers.lane) × (line.agent ≡ finished.requests.agent) }
     ensures half { result ≡ finished.requests }
     ensures got { IsPrefix finished.answers.taken line.sent }

@@ -1,7 +1,7 @@
 //! What is left of a crew that was closed.
 ghost use Rattle.std.specs.Prelude.{◌≡◌};
 
-use crate::agents::FinishedAgent;
+use crate::agents::Finished;
 use crate::desk::desk::Desk;
 use dsn_book::Book;
 use std::marker::Model;
@@ -14,7 +14,7 @@ use std::snapshot::Snapshot;
 pub struct CrewShut {
     /// The book of the collector.
     pub book: Book,
-    crew: Snapshot<Vec<FinishedAgent>>,
+    crew: Snapshot<Vec<Finished>>,
     desk: Snapshot<Desk>,
 }
 
@@ -28,11 +28,7 @@ impl Model for CrewShut {
 
 impl CrewShut {
     /// What is left of these agents and this collector.
-    pub(crate) fn new(
-        book: Book,
-        crew: Snapshot<Vec<FinishedAgent>>,
-        desk: Snapshot<Desk>,
-    ) -> CrewShut
+    pub(crate) fn new(book: Book, crew: Snapshot<Vec<Finished>>, desk: Snapshot<Desk>) -> CrewShut
         ensures { result ≡ record { book = book; crew = crew.value.items; desk = desk.value } }
     {
         CrewShut { book, crew, desk }

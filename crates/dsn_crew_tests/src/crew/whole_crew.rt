@@ -2,7 +2,7 @@
 use super::memory_port::{MemoryPort, Text};
 use super::outbox::Outbox;
 use dsn_book::{Limits, OpenLine};
-use dsn_crew::{AgentLine, CrewAccount, CrewFault, Gate, NoGate, run_crew};
+use dsn_crew::{Account, AgentLine, CrewFault, Gate, NoGate, run_crew};
 use dsn_device::{Drain, Plain};
 use dsn_outcome::{Key, Letters, QueueId, Service};
 use dsn_report::Site;
@@ -48,8 +48,8 @@ fn ids_of(alloc: Global, mut letters: Letters) -> Result<Vec<u8>, Fail> {
     Ok(ids)
 }
 
-fn seen_of_account<W: Drop>(alloc: Global, account: CrewAccount<W>) -> Result<Seen<W>, Fail> {
-    let CrewAccount {
+fn seen_of_account<W: Drop>(alloc: Global, account: Account<W>) -> Result<Seen<W>, Fail> {
+    let Account {
         agents,
         letters,
         unsent,

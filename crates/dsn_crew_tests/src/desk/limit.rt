@@ -10,7 +10,7 @@ use super::bodies::append;
 use super::collect::collect;
 use crate::assert_same::same;
 use dsn_book::{Book, Limits};
-use dsn_crew::{Agent, AskFault, Desk, FinishedAgent, close_crew, open_crew};
+use dsn_crew::{Agent, AskFault, Desk, Finished, close_crew, open_crew};
 use dsn_outcome::{Body, Reply};
 use std::alloc::Global;
 use std::sync::Wait;
@@ -23,8 +23,8 @@ use std::thread::Threads;
 struct Seen {
     /// The reply to the first one's request. Its second one was handed back as one too many.
     reply: Reply,
-    first: FinishedAgent,
-    second: FinishedAgent,
+    first: Finished,
+    second: Finished,
 }
 
 /// The reply to an append.

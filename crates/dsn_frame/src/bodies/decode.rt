@@ -16,7 +16,7 @@ use crate::bodies::body_parts::{
     BodyParts, FlushParts, HeadParts, NO_MOMENT, RecipientParts, RetryParts,
 };
 use crate::bodies::{SECOND_VERSION, VERSION, read_fields};
-use dsn_outcome::{Body, Draft, Key, Outcome, OutcomeNode, Parts, QueueId, Service, Stamp};
+use dsn_outcome::{Body, Draft, Key, Node, Outcome, Parts, QueueId, Service, Stamp};
 use std::alloc::Global;
 
 /// The request that a body stands for, with its number on the connection. It is never a goodbye.
@@ -116,7 +116,7 @@ fn outcome_from(
     fields: RecipientParts<'_>,
     last_attempt: Option<Stamp>,
     retry_until: Option<Stamp>,
-) -> Result<Box<OutcomeNode>, BodyFault>
+) -> Result<Box<Node>, BodyFault>
     ensures kept { IfOk result
         (λ node. IsOutcomeOf service
         (outcome_fields (recipient_fields_in fields.entry) last_attempt retry_until)

@@ -5,7 +5,7 @@ use Rattle.std.proofs.lemmas.List.Elements.{All-cons, All-head, All-nil, All-tai
 use Rattle.std.specs.Prelude.{None}
 use Rattle.dsn_crew.specs.agents.Agent.{LaneHalves}
 use Rattle.dsn_crew.specs.agents.Port.{AreOverPort, Given, all_given}
-use Rattle.dsn_crew.specs.Crew.{CrewAccount, AreAgentAccounts, IsAccount, IsAgentAccount, most_ports}
+use Rattle.dsn_crew.specs.Crew.{Account, AreAgentAccounts, IsAccount, IsAgentAccount, most_ports}
 use Rattle.dsn_crew.specs.declared.crew_cause.CrewCause.TheVariants.{PortCount}
 use Rattle.dsn_crew.specs.declared.agents.agent_line.AgentLine.{AgentLine}
 use Rattle.dsn_crew.specs.declared.agents.port.Port.{Ghosts as Port}
@@ -53,7 +53,7 @@ module _ {P S : Type 0} (port : Port P S) (untold : (one : P) → port.conns one
     )
 
   module _ {W N : Type 0} (drain : Drain W) (notes_device : Drain N) (host : List ℕ) (limits : Limits) (ports : List P) (fit : All Fits ports) (start : W) (notes later : N) (end : ServeEnd W) where
-    account-uses : (account : CrewAccount W) → IsAccount port drain host limits ports start account → IsAccount (socket_port may_end) drain host limits (replicate (length ports) uses) start account
+    account-uses : (account : Account W) → IsAccount port drain host limits ports start account → IsAccount (socket_port may_end) drain host limits (replicate (length ports) uses) start account
     account-uses account is = record {
       agents = agents-uses limits account.taken 0 ports account.agents account.halves fit is.agents;
       only = rw (length-replicate (length ports)) is.only;

@@ -11,7 +11,7 @@ use crate::daemon::agent_lines::agent_line;
 use crate::daemon::serve_end::ServeEnd;
 use crate::notes::write_last_lines;
 use dsn_book::OpenLine;
-use dsn_crew::{AgentLine, CrewAccount, CrewCause};
+use dsn_crew::{Account, AgentLine, CrewCause};
 use dsn_device::{Drain, UntilFailure};
 use dsn_outcome::Letters;
 use dsn_text::fault_code;
@@ -20,13 +20,13 @@ use std::alloc::Global;
 /// Writes what each agent did, and how the run ended.
 pub(crate) fn write_account<W: Drop, N: Drain>(
     alloc: Global,
-    account: CrewAccount<W>,
+    account: Account<W>,
     notes: &mut N,
 ) -> ServeEnd<W>
     ensures { (history : List Exchange) → Represents account.book history
         → WritesAccount N.Drain history account notes.old notes.new result }
 {
-    let CrewAccount {
+    let Account {
         agents,
         unsent,
         whole,

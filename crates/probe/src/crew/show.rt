@@ -1,6 +1,6 @@
 //! What came of a run, on standard output.
 use crate::crew::outbox::Outbox;
-use dsn_crew::{AgentLine, CrewAccount, CrewFault};
+use dsn_crew::{Account, AgentLine, CrewFault};
 use dsn_device::Plain;
 use std::io;
 use std::io::Write;
@@ -8,7 +8,7 @@ use std::io::Write;
 /// Shows a run that ended well.
 pub(crate) fn show_account(
     rt: &impl Print,
-    account: CrewAccount<Plain<Outbox<'_>>>,
+    account: Account<Plain<Outbox<'_>>>,
     answered: u64,
 ) -> Option<()> {
     println!(rt; "ok\nanswered {answered}").ok()?;

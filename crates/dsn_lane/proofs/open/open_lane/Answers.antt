@@ -5,7 +5,7 @@ use Rattle.dsn_lane.specs.Halves.{Out, lane_of}
 use Rattle.dsn_lane.proofs.open.open_lane.Goals as goal
 
 pub new-requires-clause-kept : goal.new-requires-clause-kept
-new-requires-clause-kept g c = (new_receiving g.T.LaneItem.agent g.T.LaneItem.number _ _ _ _ (search rules) (search rules) c.loop.invariant.1).1
+new-requires-clause-kept g c = (new_receiving g.T.Carried.agent g.T.Carried.number _ _ _ _ (search rules) (search rules) c.loop.invariant.1).1
 
 pub returns-clause-out : goal.returns-clause-out
 returns-clause-out g c =

@@ -15,11 +15,11 @@ send_as-requires-clause-rule g c =
 pub invariant_of-self : goal.invariant_of-self
 invariant_of-self g c =
     let is = sym c.self.view_is in
-    let kept = keeps_sending g.T.LaneItem.agent g.T.LaneItem.number _ _ _ _ _ c.self.invariant.1 c.in-Ok.ensures.rule (c.requires.agent ∙ ap (λ (e : Half g.row.T.Denot). e.agent) is) (c.requires.number ∙ ap (λ (e : Half g.row.T.Denot). length e.sent) is) c.self.invariant.2 in
+    let kept = keeps_sending g.T.Carried.agent g.T.Carried.number _ _ _ _ _ c.self.invariant.1 c.in-Ok.ensures.rule (c.requires.agent ∙ ap (λ (e : Half g.row.T.Denot). e.agent) is) (c.requires.number ∙ ap (λ (e : Half g.row.T.Denot). length e.sent) is) c.self.invariant.2 in
     (search rules, kept.0, kept.1)
 
 pub returns-in-Ok-clause-numbered : goal.returns-in-Ok-clause-numbered
 returns-in-Ok-clause-numbered g c =
     let is = sym c.self.view_is in
-    let kept = keeps_sending g.T.LaneItem.agent g.T.LaneItem.number _ _ _ _ _ c.self.invariant.1 c.in-Ok.ensures.rule (c.requires.agent ∙ ap (λ (e : Half g.row.T.Denot). e.agent) is) (c.requires.number ∙ ap (λ (e : Half g.row.T.Denot). length e.sent) is) c.self.invariant.2 in
+    let kept = keeps_sending g.T.Carried.agent g.T.Carried.number _ _ _ _ _ c.self.invariant.1 c.in-Ok.ensures.rule (c.requires.agent ∙ ap (λ (e : Half g.row.T.Denot). e.agent) is) (c.requires.number ∙ ap (λ (e : Half g.row.T.Denot). length e.sent) is) c.self.invariant.2 in
     (kept.1.mine, kept.1.numbered)

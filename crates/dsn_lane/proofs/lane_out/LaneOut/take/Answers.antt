@@ -8,5 +8,5 @@ recv_as-requires-clause-rule g c = (takes _ _ _ _ _ _ c.self.invariant.1, λ _ _
 
 pub returns-in-Ok-clause-numbered : goal.returns-in-Ok-clause-numbered
 returns-in-Ok-clause-numbered g c =
-    let kept = keeps_receiving g.T.LaneItem.agent g.T.LaneItem.number _ _ _ _ _ c.self.invariant.1 c.in-Ok.ensures.rule.0 c.in-Ok.ensures.rule.1 c.self.invariant.2 in
+    let kept = keeps_receiving g.T.Carried.agent g.T.Carried.number _ _ _ _ _ c.self.invariant.1 c.in-Ok.ensures.rule.0 c.in-Ok.ensures.rule.1 c.self.invariant.2 in
     kept.1.numbered

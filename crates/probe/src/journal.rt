@@ -6,7 +6,7 @@ mod taking;
 use asking::Asking;
 use dsn_book::{Limits, Step};
 use dsn_frame::{Spoken, encode_answer};
-use dsn_journal::{FileDisk, Journal, Ledger, Opened, Replaceable, create_file, open};
+use dsn_journal::{FileDisk, Replaceable, create_file, open};
 use std::alloc::Global;
 use std::io::Write;
 use std::{fs, io};
@@ -36,29 +36,16 @@ pub(crate) fn keep(rt: &HostRuntime, keeping: &Keeping, given: &[u8]) -> Option<
             return None;
         }
     };
-    let opened = match open(rt.alloc(), &mut disk, keeping.limits, u64::MAX) {
+    let opened = match open(rt.alloc(), &mut disk, keeping.limits, 0) {
         Ok(opened) => opened,
         Err(error) => {
             println!(rt; "not opened: {error}").ok()?;
             return None;
         }
     };
-    let Opened {
-        book,
-        base,
-        letters: _,
-        used,
-    } = opened;
-    println!(rt; "opened {used}").ok()?;
-    let journal = Journal { disk, used };
-    let taking = Taking {
-        ledger: Ledger {
-            journal,
-            book,
-            base,
-        },
-    };
-    answer_all(rt, rt.alloc(), taking, given, keeping.group)
+    println!(rt; "opened {}", opened.used).ok()?;
+    let (ledger, _letters) = opened.into_ledger(disk);
+    answer_all(rt, rt.alloc(), Taking { ledger }, given, keeping.group)
 }
 
 /// Opens the file, which is made first where it is to be and isn't there.

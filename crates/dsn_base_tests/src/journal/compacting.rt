@@ -8,7 +8,7 @@ use crate::assert_same::same;
 use crate::book::books::histories::generated;
 use crate::book::books::plain::{Ask, PlainBook};
 use dsn_book::Limits;
-use dsn_journal::{Journal, Ledger, MemoryDisk, Opened, open};
+use dsn_journal::{MemoryDisk, Opened, open};
 use dsn_outcome::{Key, Letter, Request};
 use std::alloc::Global;
 use std::process::Abort;
@@ -62,20 +62,11 @@ fn compacted(
     mark: u64,
 ) -> Result<(MemoryDisk, usize), Fail> {
     let mut disk = MemoryDisk::new(alloc, vec![in alloc; 0; SIZE]?);
-    let Opened {
-        book,
-        base,
-        mut letters,
-        used,
-    } = open(alloc, &mut disk, limits, 0)?;
-    if base > 0 || book.sealed() > 0 || group.len() > 100 {
+    let opened = open(alloc, &mut disk, limits, 0)?;
+    if opened.base > 0 || opened.book.sealed() > 0 || group.len() > 100 {
         return Err(Fail::from("not a new disk"));
     }
-    let mut ledger = Ledger {
-        journal: Journal { disk, used },
-        book,
-        base,
-    };
+    let (mut ledger, mut letters) = opened.into_ledger(disk);
     for step in ledger.apply_all(alloc, &mut group)? {
         if let Some(letter) = step.letter {
             if letter.serial() >= mark {
@@ -89,13 +80,7 @@ fn compacted(
     }
     let began = ledger.journal.disk.moment();
     ledger.compact(alloc, &letters)?;
-    let Ledger {
-        journal,
-        book: _,
-        base: _,
-    } = ledger;
-    let Journal { disk, used: _ } = journal;
-    Ok((disk, began))
+    Ok((ledger.journal.disk, began))
 }
 
 /// Opens what a crash leaves: the letters that come again, the open logs, and what is answered from
@@ -136,7 +121,9 @@ fn each_moment_of_many_compactions(rt: HostRuntime) -> Result<(), Fail> {
     for seed in 0..300u32 {
         let limits = Limits::new(1 + seed % 18, 1 + seed % 4, 100).ok_or("not limits")?;
         let asks = generated(alloc, seed, 30)?;
-        let mark = u64::from(seed % 3);
+        let mut plain = PlainBook::new(alloc, limits);
+        let sealed = plain_told(alloc, &mut plain, &asks, 0)?.len();
+        let mark = u64::from(seed % 3).min(sealed as u64);
         let (disk, began) = compacted(alloc, limits, make_group(alloc, &asks)?, mark)?;
         for moment in began..=disk.moment() {
             for lost in [0, u64::MAX, 0x6996_9669_a5c3_3c5a] {

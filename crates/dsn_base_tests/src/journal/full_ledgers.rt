@@ -1,7 +1,7 @@
 //! A ledger without room for a group: nothing is asked of its disk, and a smaller group is kept.
 use crate::assert_same::same;
 use dsn_book::Limits;
-use dsn_journal::{Journal, JournalError, Ledger, MemoryDisk, Opened, open};
+use dsn_journal::{JournalError, MemoryDisk, open};
 use dsn_outcome::{Body, Request};
 use std::alloc::Global;
 use std::test::Fail;
@@ -30,32 +30,18 @@ fn keep(
     mut group: Vec<Request>,
 ) -> Result<(MemoryDisk, bool), Fail> {
     let limits = Limits::new(10, 10, 100).ok_or("not limits")?;
-    let Opened {
-        book,
-        base,
-        letters: _,
-        used,
-    } = open(alloc, &mut disk, limits, 0)?;
-    if base > 0 || book.sealed() > 1_000 || group.len() > 100 {
+    let opened = open(alloc, &mut disk, limits, 0)?;
+    if opened.base > 0 || opened.book.sealed() > 1_000 || group.len() > 100 {
         return Err(Fail::from("too many"));
     }
-    let mut ledger = Ledger {
-        journal: Journal { disk, used },
-        book,
-        base,
-    };
+    let (mut ledger, _letters) = opened.into_ledger(disk);
     let before = ledger.journal.disk.moment();
     let kept = match ledger.apply_all(alloc, &mut group) {
         Ok(_) => true,
         Err(JournalError::Full) => false,
         Err(_) => return Err(Fail::from("another error")),
     };
-    let Ledger {
-        journal,
-        book: _,
-        base: _,
-    } = ledger;
-    let Journal { disk, used: _ } = journal;
+    let disk = ledger.journal.disk;
     if !kept && disk.moment() != before {
         return Err(Fail::from("a full disk was changed"));
     }

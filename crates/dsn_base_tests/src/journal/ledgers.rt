@@ -9,9 +9,7 @@ use crate::assert_same::same;
 use crate::book::books::histories::{body_of, generated};
 use crate::book::books::plain::{Ask, PlainBook};
 use dsn_book::{Book, Limits};
-use dsn_journal::{
-    Disk, Journal, JournalError, Ledger, LedgerError, MemoryDisk, Opened, open, recover,
-};
+use dsn_journal::{Disk, JournalError, LedgerError, MemoryDisk, open, recover};
 use dsn_outcome::{Reply, Request};
 use std::alloc::Global;
 use std::process::Abort;
@@ -40,31 +38,16 @@ pub(super) fn carry_out(
     limits: Limits,
     mut group: Vec<Request>,
 ) -> Result<(MemoryDisk, Vec<Reply>), Fail> {
-    let Opened {
-        book,
-        base,
-        letters: _,
-        used,
-    } = open(alloc, &mut disk, limits, 0)?;
-    if base > 0 || book.sealed() > 1_000 || group.len() > 100 {
+    let opened = open(alloc, &mut disk, limits, 0)?;
+    if opened.base > 0 || opened.book.sealed() > 1_000 || group.len() > 100 {
         return Err(Fail::from("too many"));
     }
-    let mut ledger = Ledger {
-        journal: Journal { disk, used },
-        book,
-        base,
-    };
+    let (mut ledger, _letters) = opened.into_ledger(disk);
     let mut replies = Vec::new(alloc);
     for step in ledger.apply_all(alloc, &mut group)? {
         replies.push(step.answer.reply)?;
     }
-    let Ledger {
-        journal,
-        book: _,
-        base: _,
-    } = ledger;
-    let Journal { disk, used: _ } = journal;
-    Ok((disk, replies))
+    Ok((ledger.journal.disk, replies))
 }
 
 /// A history: the disk, what was asked, and what each group came to.

@@ -8,7 +8,7 @@ use crate::book::books::histories::generated;
 use dsn_book::Limits;
 use dsn_device::Broken;
 use dsn_journal::{
-    DeliveryError, Journal, JournalError, Ledger, Marks, MemoryDisk, Opened, Outlet, Recovered,
+    DeliveryError, Disk, Journal, JournalError, LedgerError, Marks, MemoryDisk, Outlet, Recovered,
     deliver, mark_in, open, recover,
 };
 use dsn_outcome::Letter;
@@ -91,28 +91,17 @@ fn a_last_record_of_another_length_is_no_mark(rt: HostRuntime) -> Result<(), Fai
     Ok(())
 }
 
-/// The letters that some requests seal.
-fn some_letters(alloc: Global) -> Result<Vec<Letter>, Fail> {
-    let limits = Limits::new(6, 4, 100).ok_or("not limits")?;
+/// A disk with some requests that seal three letters.
+fn disk_of_three(alloc: Global, limits: Limits) -> Result<MemoryDisk, Fail> {
     let mut disk = MemoryDisk::new(alloc, vec![in alloc; 0; 4_000]?);
-    let Opened {
-        book,
-        base,
-        letters: _,
-        used,
-    } = open(alloc, &mut disk, limits, 0)?;
+    let opened = open(alloc, &mut disk, limits, 0)?;
     let mut group = make_group(alloc, &generated(alloc, 1, 40)?)?;
-    if base > 0 || book.sealed() > 0 || group.len() > 100 {
+    if opened.base > 0 || opened.book.sealed() > 0 || group.len() > 100 {
         return Err(Fail::from("not a new disk"));
     }
-    let mut ledger = Ledger {
-        journal: Journal { disk, used },
-        book,
-        base,
-    };
+    let (mut ledger, _letters) = opened.into_ledger(disk);
     ledger.apply_all(alloc, &mut group)?;
-    let mut disk = ledger.journal.disk;
-    Ok(open(alloc, &mut disk, limits, 0)?.letters)
+    Ok(ledger.journal.disk)
 }
 
 /// Opens a disk of marks, and delivers a letter. The disk comes back, with what came of it.
@@ -138,7 +127,9 @@ fn deliver_one(
 #[test]
 fn a_letter_is_marked_in_its_turn_and_once_it_was_taken(rt: HostRuntime) -> Result<(), Fail> {
     let alloc = rt.alloc();
-    let letters = some_letters(alloc)?;
+    let limits = Limits::new(6, 4, 100).ok_or("not limits")?;
+    let mut disk = disk_of_three(alloc, limits)?;
+    let letters = open(alloc, &mut disk, limits, 0)?.letters;
     let [first, second, third] = letters.as_slice() else {
         return Err(Fail::from("not three letters"));
     };
@@ -166,5 +157,27 @@ fn a_letter_is_marked_in_its_turn_and_once_it_was_taken(rt: HostRuntime) -> Resu
         disk = then;
     }
     same(&rt, outlet.taken.len(), 2);
+    Ok(())
+}
+
+#[test]
+fn a_mark_of_more_letters_is_refused(rt: HostRuntime) -> Result<(), Fail> {
+    let alloc = rt.alloc();
+    let limits = Limits::new(6, 4, 100).ok_or("not limits")?;
+    let ahead = Some(LedgerError::MarkAhead);
+    let mut disk = MemoryDisk::new(alloc, vec![in alloc; 0; 4_000]?);
+    same(&rt, open(alloc, &mut disk, limits, 1).err(), ahead);
+    // Nothing was written.
+    let mut bytes = vec![in alloc; 1; 4_000]?;
+    disk.read(&mut bytes)?;
+    same(&rt, bytes.contains(&1), false);
+    same(&rt, bytes.contains(&74), false);
+    let mut disk = disk_of_three(alloc, limits)?;
+    for (mark, left) in [(0, 3), (2, 1), (3, 0)] {
+        let letters = open(alloc, &mut disk, limits, mark)?.letters;
+        same(&rt, letters.len(), left);
+    }
+    same(&rt, open(alloc, &mut disk, limits, 4).err(), ahead);
+    same(&rt, open(alloc, &mut disk, limits, u64::MAX).err(), ahead);
     Ok(())
 }

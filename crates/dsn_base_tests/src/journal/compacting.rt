@@ -3,7 +3,7 @@
 ghost use Rattle.std.specs.Prelude.{◌≤◌};
 ghost use Rattle.dsn_journal.specs.MemoryDisk.{memory_moment};
 
-use super::ledgers::{book_replies, make_group, plain_replies};
+use super::ledgers::{expect_plain, make_group};
 use crate::assert_same::same;
 use crate::book::books::histories::generated;
 use crate::book::books::plain::{Ask, PlainBook};
@@ -83,6 +83,21 @@ fn compacted(
     Ok((ledger.journal.disk, began))
 }
 
+/// Letters tell what those of the plain book tell that are not below a mark, once it has carried out
+/// what is asked.
+fn expect_letters(
+    rt: &impl Abort,
+    alloc: Global,
+    letters: &[Letter],
+    plain: &mut PlainBook,
+    asks: &[Ask],
+    mark: u64,
+) -> Result<(), Fail> {
+    let wanted = plain_told(alloc, plain, asks, mark)?;
+    same(rt, told(alloc, letters)?.as_slice(), wanted.as_slice());
+    Ok(())
+}
+
 /// Opens what a crash leaves: the letters that come again, the open logs, and what is answered from
 /// then on are the plain book's.
 fn stop_at(
@@ -100,19 +115,12 @@ fn stop_at(
     let mut left = MemoryDisk::new(alloc, disk.crashed(moment, lost)?);
     let Opened {
         mut book,
-        base: _,
         letters,
-        used: _,
+        ..
     } = open(alloc, &mut left, limits, mark)?;
     let mut plain = PlainBook::new(alloc, limits);
-    let wanted = plain_told(alloc, &mut plain, asks, mark)?;
-    same(rt, told(alloc, &letters)?.as_slice(), wanted.as_slice());
-    let lines = plain.open_lines()?;
-    same(rt, book.open_lines(alloc)?.as_slice(), lines.as_slice());
-    let replies = book_replies(rt, alloc, &mut book, asks)?;
-    let wanted = plain_replies(alloc, &mut plain, asks)?;
-    same(rt, replies.as_slice(), wanted.as_slice());
-    Ok(())
+    expect_letters(rt, alloc, &letters, &mut plain, asks, mark)?;
+    expect_plain(rt, alloc, &mut book, &mut plain, asks)
 }
 
 #[test]

@@ -116,6 +116,30 @@ pub(super) fn book_replies(
     Ok(replies)
 }
 
+/// A book has the open logs of the plain one, and answers requests as that does.
+pub(super) fn expect_plain(
+    rt: &impl Abort,
+    alloc: Global,
+    book: &mut Book,
+    plain: &mut PlainBook,
+    asks: &[Ask],
+) -> Result<(), Fail> {
+    let lines = plain.open_lines()?;
+    same(rt, book.open_lines(alloc)?.as_slice(), lines.as_slice());
+    let wanted = plain_replies(alloc, plain, asks)?;
+    let replies = book_replies(rt, alloc, book, asks)?;
+    same(rt, replies.as_slice(), wanted.as_slice());
+    Ok(())
+}
+
+/// Opens a file: its book, and how many requests it keeps.
+fn opened(alloc: Global, limits: Limits, file: Vec<u8>) -> Result<(Book, usize), Fail> {
+    let mut disk = MemoryDisk::new(alloc, file);
+    let book = open(alloc, &mut disk, limits, 0)?.book;
+    let records = recover(alloc, &mut disk)?.records.len();
+    Ok((book, records.saturating_sub(1)))
+}
+
 /// Stops the machine at a moment, with some bytes lost, and opens what is left.
 fn stop_at(
     rt: &impl Abort,
@@ -127,26 +151,13 @@ fn stop_at(
 ) -> Result<(), Fail>
     requires { moment ≤ memory_moment history.now.disk }
 {
-    let mut disk = MemoryDisk::new(alloc, history.disk.crashed(moment, lost)?);
-    let mut book = open(alloc, &mut disk, limits, 0)?.book;
-    let kept = recover(alloc, &mut disk)?.records.len().saturating_sub(1);
+    let (mut book, kept) = opened(alloc, limits, history.disk.crashed(moment, lost)?)?;
     let (least, most) = bounds(&history.answered, moment);
     same(rt, kept >= least && kept <= most, true);
     let asks = history.asks.as_slice();
     let mut plain = PlainBook::new(alloc, limits);
     plain_replies(alloc, &mut plain, &asks[..kept.min(asks.len())])?;
-    same(
-        rt,
-        book.open_lines(alloc)?.as_slice(),
-        plain.open_lines()?.as_slice(),
-    );
-    let later = book_replies(rt, alloc, &mut book, asks)?;
-    same(
-        rt,
-        later.as_slice(),
-        plain_replies(alloc, &mut plain, asks)?.as_slice(),
-    );
-    Ok(())
+    expect_plain(rt, alloc, &mut book, &mut plain, asks)
 }
 
 #[test]

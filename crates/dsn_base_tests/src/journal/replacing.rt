@@ -3,6 +3,7 @@
 use crate::assert_same::same;
 use dsn_journal::{Disk, Journal, JournalError, MemoryDisk, recover};
 use std::alloc::Global;
+use std::process::Abort;
 use std::test::Fail;
 
 /// A disk with the records `A` and `BC`, and room for one more byte.
@@ -19,29 +20,36 @@ fn replaced(alloc: Global, records: &[Vec<u8>]) -> Result<Vec<u8>, JournalError>
     Ok(left)
 }
 
+/// The same after one record was put in their place.
+fn replaced_by(alloc: Global, record: &[u8]) -> Result<Vec<u8>, JournalError> {
+    let records = vec![in alloc; record.to_vec(alloc)?]?;
+    replaced(alloc, &records)
+}
+
 #[test]
 fn new_records_fill_the_disk(rt: HostRuntime) -> Result<(), Fail> {
     let alloc = rt.alloc();
     let none = Vec::new(alloc);
     same(&rt, replaced(alloc, &none)?.as_slice(), [0; 6].as_slice());
-    let one = vec![in alloc; b"D".to_vec(alloc)?]?;
-    same(
-        &rt,
-        replaced(alloc, &one)?.as_slice(),
-        [68, 2, 0, 0, 0, 0].as_slice(),
-    );
-    let long = vec![in alloc; b"DEFGH".to_vec(alloc)?]?;
-    same(
-        &rt,
-        replaced(alloc, &long)?.as_slice(),
-        [68, 69, 70, 71, 72, 2].as_slice(),
-    );
-    let longer = vec![in alloc; b"DEFGHI".to_vec(alloc)?]?;
-    same(
-        &rt,
-        replaced(alloc, &longer).err(),
-        Some(JournalError::Full),
-    );
+    for (record, file) in [
+        (b"D".as_slice(), [68, 2, 0, 0, 0, 0]),
+        (b"DEFGH".as_slice(), [68, 69, 70, 71, 72, 2]),
+    ] {
+        same(&rt, replaced_by(alloc, record)?.as_slice(), file.as_slice());
+    }
+    let refusal = replaced_by(alloc, b"DEFGHI").err();
+    same(&rt, refusal, Some(JournalError::Full));
+    Ok(())
+}
+
+/// The first record of a file is this one.
+fn expect_first(rt: &impl Abort, alloc: Global, file: Vec<u8>, wanted: &[u8]) -> Result<(), Fail> {
+    let mut disk = MemoryDisk::new(alloc, file);
+    let found = recover(alloc, &mut disk)?.records;
+    let Some(first) = found.first() else {
+        return Err(Fail::from("no record is left"));
+    };
+    same(rt, first.as_slice(), wanted);
     Ok(())
 }
 
@@ -59,13 +67,8 @@ fn each_moment_of_a_replacement(rt: HostRuntime) -> Result<(), Fail> {
     for moment in began..=journal.disk.moment() {
         for lost in [0, u64::MAX, 21] {
             let left = journal.disk.crashed(moment, lost)?;
-            let mut disk = MemoryDisk::new(alloc, left);
-            let found = recover(alloc, &mut disk)?.records;
-            let Some(first) = found.first() else {
-                return Err(Fail::from("no record is left"));
-            };
             let wanted = if moment < ended { b"A" } else { b"D" };
-            same(&rt, first.as_slice(), wanted.as_slice());
+            expect_first(&rt, alloc, left, wanted)?;
         }
     }
     Ok(())

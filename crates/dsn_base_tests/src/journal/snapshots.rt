@@ -4,7 +4,7 @@ use super::ledgers::{carry_out, make_group};
 use crate::assert_same::same;
 use crate::book::books::histories::{generated, scripted};
 use crate::book::books::plain::Ask;
-use dsn_book::{Book, Limits, OpenLine};
+use dsn_book::{Book, Limits};
 use dsn_journal::{Journal, MemoryDisk, open, recover, write_snapshot};
 use dsn_outcome::{Letter, Reply};
 use std::alloc::Global;
@@ -88,17 +88,56 @@ fn expect_alike(
     expect_same(rt, alloc, &after_long, &after_short, base)
 }
 
-/// A flush of each of these logs.
-fn flushes_of(alloc: Global, lines: &[OpenLine]) -> Result<Vec<Ask>, Fail> {
+/// A flush of each open log of a book.
+fn flushes_of(alloc: Global, book: &Book) -> Result<Vec<Ask>, Fail> {
     let mut asks = Vec::new(alloc);
-    for line in lines {
+    for line in book.open_lines(alloc)? {
         asks.push(Ask::Flush(line.key, true))?;
     }
     Ok(asks)
 }
 
-/// The book over a snapshot of what came of requests lists the same open logs, goes on as the old
-/// one does, and has the same in its logs then. Of the letters so many were posted.
+/// Both books list the same open logs.
+fn expect_same_logs(rt: &impl Abort, alloc: Global, long: &Book, short: &Book) -> Result<(), Fail> {
+    let wanted = long.open_lines(alloc)?;
+    same(rt, short.open_lines(alloc)?.as_slice(), wanted.as_slice());
+    Ok(())
+}
+
+/// A book lists the same open logs as an older one that had sealed so many letters more, goes on as
+/// that does, and has the same in its logs then.
+fn expect_to_go_on(
+    rt: &impl Abort,
+    alloc: Global,
+    long: &mut Book,
+    short: &mut Book,
+    asks: &[Ask],
+    base: u64,
+) -> Result<(), Fail> {
+    same(rt, short.sealed().saturating_add(base), long.sealed());
+    expect_same_logs(rt, alloc, long, short)?;
+    expect_alike(rt, alloc, long, short, asks, base)?;
+    let flushes = flushes_of(alloc, long)?;
+    expect_alike(rt, alloc, long, short, &flushes, base)
+}
+
+/// Carries out what is asked: the records of a snapshot where so many of the letters, or all, were
+/// posted, and how many were.
+fn snapshot_after(
+    rt: &impl Abort,
+    alloc: Global,
+    book: &mut Book,
+    asks: &[Ask],
+    posted: usize,
+) -> Result<(Vec<Vec<u8>>, u64), Fail> {
+    let letters = apply_asks(rt, alloc, book, asks)?.letters;
+    let posted = posted.min(letters.len());
+    let records = write_snapshot(alloc, &letters[posted..], book)?;
+    Ok((records, posted as u64))
+}
+
+/// The book over a snapshot of what came of requests goes on as the old one does, where so many of
+/// the letters were posted.
 fn expect_in_place(
     rt: &impl Abort,
     alloc: Global,
@@ -107,17 +146,9 @@ fn expect_in_place(
     posted: usize,
 ) -> Result<(), Fail> {
     let mut long = Book::new(alloc, limits)?;
-    let letters = apply_asks(rt, alloc, &mut long, asks)?.letters;
-    let posted = posted.min(letters.len());
-    let records = write_snapshot(alloc, &letters[posted..], &long)?;
+    let (records, base) = snapshot_after(rt, alloc, &mut long, asks, posted)?;
     let mut short = opened_over(alloc, limits, &records)?;
-    let base = posted as u64;
-    same(rt, short.sealed().saturating_add(base), long.sealed());
-    let (lines, wanted) = (short.open_lines(alloc)?, long.open_lines(alloc)?);
-    same(rt, lines.as_slice(), wanted.as_slice());
-    expect_alike(rt, alloc, &mut long, &mut short, asks, base)?;
-    let flushes = flushes_of(alloc, &long.open_lines(alloc)?)?;
-    expect_alike(rt, alloc, &mut long, &mut short, &flushes, base)
+    expect_to_go_on(rt, alloc, &mut long, &mut short, asks, base)
 }
 
 #[test]
@@ -133,6 +164,13 @@ fn books_over_snapshots_go_on(rt: HostRuntime) -> Result<(), Fail> {
     Ok(())
 }
 
+/// The records of a disk on which what is asked was kept.
+fn records_after(alloc: Global, limits: Limits, asks: &[Ask]) -> Result<Vec<Vec<u8>>, Fail> {
+    let disk = MemoryDisk::new(alloc, vec![in alloc; 0; SIZE]?);
+    let (mut disk, _replies) = carry_out(alloc, disk, limits, make_group(alloc, asks)?)?;
+    Ok(recover(alloc, &mut disk)?.records)
+}
+
 /// A letter of two outcomes whose key was forgotten, an open log of two outcomes, and a closed key:
 /// a snapshot has the records of just the requests that led there.
 #[test]
@@ -140,13 +178,11 @@ fn a_snapshot_has_the_records_of_requests(rt: HostRuntime) -> Result<(), Fail> {
     let alloc = rt.alloc();
     let limits = Limits::new(10, 10, 100).ok_or("not limits")?;
     let asks = scripted(alloc, b"aBaBfBgBa2a2d3")?;
-    let disk = MemoryDisk::new(alloc, vec![in alloc; 0; SIZE]?);
-    let (mut disk, _replies) = carry_out(alloc, disk, limits, make_group(alloc, &asks)?)?;
-    let kept = recover(alloc, &mut disk)?.records;
+    let kept = records_after(alloc, limits, &asks)?;
     let mut book = Book::new(alloc, limits)?;
-    let letters = apply_asks(&rt, alloc, &mut book, &asks)?.letters;
-    let records = write_snapshot(alloc, &letters, &book)?;
-    same(&rt, (letters.len(), kept.len(), records.len()), (1, 8, 7));
+    let (records, _) = snapshot_after(&rt, alloc, &mut book, &asks, 0)?;
+    let counts = (book.sealed(), kept.len(), records.len());
+    same(&rt, counts, (1, 8, 7));
     same(&rt, kept.ends_with(&records), true);
     Ok(())
 }

@@ -8,7 +8,7 @@ use crate::book::books::histories::generated;
 use dsn_book::Limits;
 use dsn_device::Broken;
 use dsn_journal::{
-    DeliveryError, Disk, Journal, JournalError, LedgerError, Marks, MemoryDisk, Outlet, Recovered,
+    DeliveryError, Journal, JournalError, LedgerError, Marks, MemoryDisk, Outlet, Recovered,
     deliver, mark_in, open, recover,
 };
 use dsn_outcome::Letter;
@@ -167,11 +167,9 @@ fn a_mark_of_more_letters_is_refused(rt: HostRuntime) -> Result<(), Fail> {
     let ahead = Some(LedgerError::MarkAhead);
     let mut disk = MemoryDisk::new(alloc, vec![in alloc; 0; 4_000]?);
     same(&rt, open(alloc, &mut disk, limits, 1).err(), ahead);
-    // Nothing was written.
-    let mut bytes = vec![in alloc; 1; 4_000]?;
-    disk.read(&mut bytes)?;
-    same(&rt, bytes.contains(&1), false);
-    same(&rt, bytes.contains(&74), false);
+    // It was synced, and no header was written.
+    let left = disk.crashed(disk.moment(), 0)?;
+    same(&rt, (disk.moment(), left.contains(&74)), (1, false));
     let mut disk = disk_of_three(alloc, limits)?;
     for (mark, left) in [(0, 3), (2, 1), (3, 0)] {
         let letters = open(alloc, &mut disk, limits, mark)?.letters;

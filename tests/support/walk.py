@@ -18,7 +18,7 @@ ELSEWHERE = set("flush discard forget bye goodbye letter letters seal sealed pos
 FUNCTION = re.compile(r"^( *)(?:pub(?:\([a-z]+\))? )?(?:const )?fn (\w+)")
 IMPL = re.compile(r"^(?:impl|pub trait|trait)\b(?:<[^{]*?>)?\s+(?:[\w:]+(?:<[^{]*?>)?\s+for\s+)?(?:&\S* )?(\w+)")
 CALL = re.compile(r"(?:(\w+)::)?(?:<[^<>()]*>::)?(?:(\.)|\b)(\w+)(?:::<[^<>]*>)?\(")
-NOT_READ = ("tests", "laws", "fakes")
+NOT_READ = ("tests", "laws", "fake_devices")
 
 
 @dataclass(frozen=True)

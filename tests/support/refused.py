@@ -34,7 +34,7 @@ from pathlib import Path
 sys.path.insert(0, str(Path(__file__).parent))
 import kit  # noqa: E402
 from wrong_edits import crates, item_with  # noqa: E402
-from jobs import EACH, available, jobs  # noqa: E402
+from jobs import has_room, processors  # noqa: E402
 from running import ROOT  # noqa: E402
 
 POLL = 2  # seconds between two looks at what was built
@@ -331,14 +331,14 @@ class Built:
 
 def most(libraries) -> int:
     """How many checks may run at once: half as many as the processors allow while libraries are proved beside them."""
-    return jobs() if libraries.has_ended() else max(1, jobs() // 2)
+    return processors() if libraries.has_ended() else max(1, processors() // 2)
 
 
 def try_all(trials: list, libraries):
     """Tries the wrong edits of these crates, each once the libraries below it are built, and gives each crate's trial once it has
     ended. What comes last is done first: a crate's proof, the edits of the highest crate, and one that must be tried alone."""
     waiting, ready, running, left = list(trials), [], {}, Counter()
-    with ThreadPoolExecutor(jobs()) as pool:
+    with ThreadPoolExecutor(processors()) as pool:
         while waiting or ready or running:
             ended = libraries.has_ended()
             begun = [it for it in waiting if not libraries.lacking(it.crate)]
@@ -347,7 +347,8 @@ def try_all(trials: list, libraries):
             waiting = [it for it in waiting if it not in begun]
             ready = [(it, it.prove) for it in begun] + ready
             left.update(begun)
-            while ready and len(running) < most(libraries) and (not running or available() >= EACH):
+            # (one a turn, so that the memory of the last one shows)
+            if ready and len(running) < most(libraries) and (not running or has_room()):
                 trial, call = ready.pop(0)
                 running[pool.submit(call)] = trial
             for it in wait(running, timeout=POLL, return_when=FIRST_COMPLETED).done if running else ():

@@ -85,8 +85,8 @@ def main():
                 used = len(path.read_bytes().rstrip(b"\0"))
                 records, syncs, seconds = subprocess.run([plain, path, room / "plain", str(group)], stdout=subprocess.PIPE, check=True).stdout.split()
                 theirs.append(float(seconds))
-                if int(records) != count:
-                    raise RuntimeError(f"{int(records)} records of {count}")
+                if int(records) != 1 + count:  # the header, and a record a request
+                    raise RuntimeError(f"{int(records)} records of a header and {count}")
             print(f"groups of {group}: {count} requests, {int(syncs)} syncs, {used / count:.0f} bytes a request")
             show("  the ledger", count, ours)
             show("  write and fdatasync of the same bytes in C", count, theirs)

@@ -1,0 +1,2 @@
+mod AttributeExamples
+mod RequestExamples

@@ -1,0 +1,75 @@
+-- Attributes: lists of names and values, as Postfix's programs send them to one another.
+use Rattle.std.specs.Prelude.{ℕ, zero, suc, ◌<◌, ◌==◌, Bool, not, ◌&&◌, nat_lt, List, [], ◌∷◌, ◌++◌, length, decimal, Option, Some, None, IsTrue, if◌then◌else◌}
+use Rattle.std.specs.Option.{option_map}
+use Rattle.std.specs.List.{flat_map, list_all}
+use Rattle.std.specs.Str.{bytes_eq}
+use Rattle.std.specs.Str.Parse.{digits_value}
+
+-- a name and its value
+pub record Attribute : Type 0 where
+  pub name : List ℕ
+  pub value : List ℕ
+
+-- no byte of a text is 0, which ends it
+abbrev pub is_not_zero : ℕ → Bool
+is_not_zero byte = not (byte == 0)
+
+abbrev pub is_zero_free : List ℕ → Bool
+is_zero_free = list_all is_not_zero
+
+abbrev pub IsZeroFree : List ℕ → Type 0
+IsZeroFree text = IsTrue (is_zero_free text)
+
+-- what an attribute can be: an empty name ends a list
+pub record IsAttribute (attribute : Attribute) : Type 0 where
+  pub named : 0 < length attribute.name
+  pub name_ends : IsZeroFree attribute.name
+  pub value_ends : IsZeroFree attribute.value
+
+-- ---- how a list is written
+
+-- a text as it stands in a list
+abbrev pub zero_ended : List ℕ → List ℕ
+zero_ended text = text ++ 0 ∷ []
+
+unfoldable pub attribute_bytes : Attribute → List ℕ
+attribute_bytes attribute = zero_ended attribute.name ++ zero_ended attribute.value
+
+-- a list is its attributes, one after another, and an empty name
+abbrev pub list_bytes : List Attribute → List ℕ
+list_bytes attributes = flat_map attribute_bytes attributes ++ 0 ∷ []
+
+-- attributes whose values are a text and a number; a number is written in decimal, without a zero in front
+abbrev pub text_attribute : List ℕ → List ℕ → Attribute
+text_attribute name value = record { name = name; value = value }
+
+abbrev pub number_attribute : List ℕ → ℕ → Attribute
+number_attribute name number = record { name = name; value = decimal number }
+
+-- ---- how a list is read
+
+-- a text in front of the first 0, and what follows that
+abbrev pub zero_ended_at : List ℕ → Option (List ℕ × List ℕ)
+zero_ended_at [] = None
+zero_ended_at (zero ∷ rest) = Some ([], rest)
+zero_ended_at (suc byte ∷ rest) = option_map (λ read. (suc byte ∷ read.0, read.1)) (zero_ended_at rest)
+
+-- the number below a limit that a text writes
+unfoldable pub number_in : ℕ → List ℕ → Option ℕ
+number_in limit text =
+    if nat_lt (digits_value 10 text) limit && bytes_eq (decimal (digits_value 10 text)) text
+    then Some (digits_value 10 text)
+    else None
+
+-- the list that some bytes begin with, and what follows it. The name of an attribute whose value is read, if there is
+-- one, and the front of a text, stand before the bytes
+abbrev pub attributes_after : Option (List ℕ) → List ℕ → List ℕ → Option (List Attribute × List ℕ)
+attributes_after within front [] = None
+attributes_after None [] (zero ∷ rest) = Some ([], rest)
+attributes_after None (byte ∷ front) (zero ∷ rest) = attributes_after (Some (byte ∷ front)) [] rest
+attributes_after (Some name) front (zero ∷ rest) =
+    option_map (λ read. (text_attribute name front ∷ read.0, read.1)) (attributes_after None [] rest)
+attributes_after within front (suc byte ∷ rest) = attributes_after within (front ++ suc byte ∷ []) rest
+
+abbrev pub attributes_at : List ℕ → Option (List Attribute × List ℕ)
+attributes_at bytes = attributes_after None [] bytes

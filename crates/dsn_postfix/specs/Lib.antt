@@ -1,0 +1,4 @@
+pub mod Attribute
+pub mod AttributeValues
+pub mod PostfixRequest
+pub mod RequestReading

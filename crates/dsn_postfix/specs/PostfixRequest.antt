@@ -1,0 +1,136 @@
+-- What Postfix's programs ask of bounce(8), and the attributes that ask it, for each version whose layouts are known.
+use Rattle.std.specs.Prelude.{ℕ, ◌<◌, ◌^◌, List, [], ◌∷◌, ◌++◌, codes}
+use Rattle.dsn_text.specs.Text.{IsQueueId}
+use Rattle.dsn_postfix.specs.Attribute.{Attribute, IsZeroFree, list_bytes, number_attribute, text_attribute}
+use Rattle.dsn_postfix.specs.AttributeValues.{AreDelimiters, IsQueueName}
+use Rattle.dsn_postfix.specs.declared.postfix_version.PostfixVersion.{PostfixVersion}
+use Rattle.dsn_postfix.specs.declared.postfix_version.PostfixVersion.TheVariants.{V3_7}
+use Rattle.dsn_postfix.specs.declared.postfix_request.AppendRequest.{AppendRequest}
+use Rattle.dsn_postfix.specs.declared.postfix_request.DeliveryReport.{DeliveryReport}
+use Rattle.dsn_postfix.specs.declared.postfix_request.NoticeRequest.{NoticeRequest}
+use Rattle.dsn_postfix.specs.declared.postfix_request.PostfixRequest.{PostfixRequest}
+use Rattle.dsn_postfix.specs.declared.postfix_request.PostfixRequest.TheVariants.{Append, Flush, Warn, Verp, One, Trace}
+use Rattle.dsn_postfix.specs.declared.postfix_request.ReportedRecipient.{ReportedRecipient}
+
+-- a number has 32 bits, and an offset 64
+abbrev pub number_limit : ℕ
+number_limit = 2 ^ 32
+
+abbrev pub offset_limit : ℕ
+offset_limit = 2 ^ 64
+
+-- ---- the table of layouts
+
+-- the name of the attribute that says whether a message needs SMTPUTF8
+abbrev pub smtputf8_name : PostfixVersion → List ℕ
+smtputf8_name V3_7 = codes "smtputf8"
+
+abbrev pub recipient_attributes : ReportedRecipient → List Attribute
+recipient_attributes recipient =
+    text_attribute (codes "original_recipient") recipient.original
+    ∷ text_attribute (codes "recipient") recipient.address
+    ∷ number_attribute (codes "offset") recipient.offset
+    ∷ text_attribute (codes "dsn_orig_rcpt") recipient.dsn_original
+    ∷ number_attribute (codes "notify_flags") recipient.notify
+    ∷ []
+
+abbrev pub report_attributes : DeliveryReport → List Attribute
+report_attributes report =
+    text_attribute (codes "status") report.status
+    ∷ text_attribute (codes "diag_type") report.diagnostic_type
+    ∷ text_attribute (codes "diag_text") report.diagnostic
+    ∷ text_attribute (codes "mta_type") report.mta_type
+    ∷ text_attribute (codes "mta_mname") report.mta
+    ∷ text_attribute (codes "action") report.action
+    ∷ text_attribute (codes "reason") report.reason
+    ∷ []
+
+abbrev pub append_attributes : AppendRequest → List Attribute
+append_attributes request =
+    number_attribute (codes "flags") request.flags
+    ∷ text_attribute (codes "queue_id") request.queue_id
+    ∷ (recipient_attributes request.recipient ++ report_attributes request.report)
+
+abbrev pub notice_attributes : PostfixVersion → NoticeRequest → List Attribute
+notice_attributes version request =
+    number_attribute (codes "flags") request.flags
+    ∷ text_attribute (codes "queue_name") request.queue_name
+    ∷ text_attribute (codes "queue_id") request.queue_id
+    ∷ text_attribute (codes "encoding") request.encoding
+    ∷ number_attribute (smtputf8_name version) request.smtputf8
+    ∷ text_attribute (codes "sender") request.sender
+    ∷ text_attribute (codes "envelope_id") request.envelope_id
+    ∷ number_attribute (codes "ret_flags") request.returns
+    ∷ []
+
+-- the number of what is asked
+abbrev pub command_number : PostfixRequest → ℕ
+command_number (Append request) = 0
+command_number (Flush request) = 1
+command_number (Warn request) = 2
+command_number (Verp request delimiters) = 3
+command_number (One request recipient report) = 4
+command_number (Trace request) = 5
+
+-- what follows that number
+abbrev pub own_attributes : PostfixVersion → PostfixRequest → List Attribute
+own_attributes version (Append request) = append_attributes request
+own_attributes version (Flush request) = notice_attributes version request
+own_attributes version (Warn request) = notice_attributes version request
+own_attributes version (Verp request delimiters) =
+    notice_attributes version request ++ text_attribute (codes "verp_delimiters") delimiters ∷ []
+own_attributes version (One request recipient report) =
+    notice_attributes version request ++ (recipient_attributes recipient ++ report_attributes report)
+own_attributes version (Trace request) = notice_attributes version request
+
+abbrev pub request_attributes : PostfixVersion → PostfixRequest → List Attribute
+request_attributes version request =
+    number_attribute (codes "nrequest") (command_number request) ∷ own_attributes version request
+
+-- the bytes of a request
+unfoldable pub postfix_request_bytes : PostfixVersion → PostfixRequest → List ℕ
+postfix_request_bytes version request = list_bytes (request_attributes version request)
+
+-- ---- which requests can be written
+
+pub record FitsRecipient (recipient : ReportedRecipient) : Type 0 where
+  pub original : IsZeroFree recipient.original
+  pub address : IsZeroFree recipient.address
+  pub offset : recipient.offset < offset_limit
+  pub dsn_original : IsZeroFree recipient.dsn_original
+  pub notify : recipient.notify < number_limit
+
+pub record FitsReport (report : DeliveryReport) : Type 0 where
+  pub status : IsZeroFree report.status
+  pub diagnostic_type : IsZeroFree report.diagnostic_type
+  pub diagnostic : IsZeroFree report.diagnostic
+  pub mta_type : IsZeroFree report.mta_type
+  pub mta : IsZeroFree report.mta
+  pub action : IsZeroFree report.action
+  pub reason : IsZeroFree report.reason
+
+pub record FitsAppendRequest (request : AppendRequest) : Type 0 where
+  pub flags : request.flags < number_limit
+  pub queue_id : IsQueueId request.queue_id
+  pub recipient : FitsRecipient request.recipient
+  pub report : FitsReport request.report
+
+pub record FitsNotice (request : NoticeRequest) : Type 0 where
+  pub flags : request.flags < number_limit
+  pub queue_name : IsQueueName request.queue_name
+  pub queue_id : IsQueueId request.queue_id
+  pub encoding : IsZeroFree request.encoding
+  pub smtputf8 : request.smtputf8 < number_limit
+  pub sender : IsZeroFree request.sender
+  pub envelope_id : IsZeroFree request.envelope_id
+  pub returns : request.returns < number_limit
+
+-- what every request keeps
+unfoldable pub IsPostfixRequest : PostfixRequest → Type 0
+IsPostfixRequest (Append request) = FitsAppendRequest request
+IsPostfixRequest (Flush request) = FitsNotice request
+IsPostfixRequest (Warn request) = FitsNotice request
+IsPostfixRequest (Verp request delimiters) = FitsNotice request × AreDelimiters delimiters
+IsPostfixRequest (One request recipient report) =
+    FitsNotice request × (FitsRecipient recipient × FitsReport report)
+IsPostfixRequest (Trace request) = FitsNotice request

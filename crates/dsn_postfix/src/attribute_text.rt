@@ -1,0 +1,54 @@
+//! The texts that attributes have as values: any, the name of a queue, and delimiters.
+ghost use Rattle.std.specs.Prelude.{◌≡◌, ◌↔◌, IsSome, IfSome};
+ghost use Rattle.dsn_postfix.specs.Attribute.{IsZeroFree, is_zero_free};
+
+use std::marker::Model;
+
+/// The value of an attribute: any bytes but zero, lent.
+#[derive(Debug, Drop)]
+pub struct AttributeText<'a> {
+    bytes: &'a [u8],
+}
+
+impl<'a> Model for AttributeText<'a> {
+    ghost use Rattle.std.specs.Prelude.{ℕ, List};
+    ghost use Rattle.dsn_postfix.specs.Attribute.{IsZeroFree};
+
+    ghost Value = { List ℕ };
+
+    ghost view = { λ t. t.bytes.now };
+
+    ghost invariant = { λ t. IsZeroFree t.bytes.now };
+}
+
+impl<'a> AttributeText<'a> {
+    /// The text that some bytes are, if none of them is zero.
+    pub fn new(bytes: &'a [u8]) -> Option<AttributeText<'a>>
+        ensures some { IsSome result ↔ IsZeroFree bytes.now }
+        ensures kept { IfSome result (λ text. text ≡ bytes.now) }
+    {
+        if !is_zero_free(bytes) {
+            return None;
+        }
+        Some(AttributeText { bytes })
+    }
+
+    /// The text.
+    pub fn bytes(&self) -> &'a [u8]
+        ensures same { result.now ≡ self.now }
+        ensures legal { IsZeroFree self.now }
+    {
+        self.bytes
+    }
+}
+
+/// Whether no byte is zero.
+pub(crate) fn is_zero_free(bytes: &[u8]) -> bool
+    ensures { result ≡ is_zero_free bytes.now }
+{
+    let mut all = true;
+    for byte in bytes {
+        all &= *byte != 0;
+    }
+    all
+}

@@ -1,0 +1,18 @@
+//! What Postfix's programs say to its bounce service: lists of attributes, and the requests that they make.
+#![tactic(auto)]
+
+mod attribute_text;
+mod postfix_request;
+mod postfix_version;
+mod queue_name;
+mod request_fault;
+mod verp_delimiters;
+
+pub use attribute_text::AttributeText;
+pub use postfix_request::{
+    AppendRequest, DeliveryReport, NoticeRequest, PostfixRequest, ReportedRecipient,
+};
+pub use postfix_version::PostfixVersion;
+pub use queue_name::{LONGEST_QUEUE_NAME, QueueName};
+pub use request_fault::RequestFault;
+pub use verp_delimiters::VerpDelimiters;

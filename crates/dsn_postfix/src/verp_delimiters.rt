@@ -1,0 +1,45 @@
+//! The delimiters of a return path that has the recipient in it.
+ghost use Rattle.std.specs.Prelude.{◌≡◌, ◌↔◌, IsSome, IfSome};
+ghost use Rattle.dsn_postfix.specs.AttributeValues.{AreDelimiters};
+
+use crate::attribute_text::is_zero_free;
+use std::marker::Model;
+
+/// Two bytes, none of them zero, lent: the first stands before the recipient in a return path, the second in place of
+/// the recipient's `@`.
+#[derive(Debug, Drop)]
+pub struct VerpDelimiters<'a> {
+    bytes: &'a [u8],
+}
+
+impl<'a> Model for VerpDelimiters<'a> {
+    ghost use Rattle.std.specs.Prelude.{ℕ, List};
+    ghost use Rattle.dsn_postfix.specs.AttributeValues.{AreDelimiters};
+
+    ghost Value = { List ℕ };
+
+    ghost view = { λ d. d.bytes.now };
+
+    ghost invariant = { λ d. AreDelimiters d.bytes.now };
+}
+
+impl<'a> VerpDelimiters<'a> {
+    /// The delimiters that some bytes are, if they are two and neither is zero.
+    pub fn new(bytes: &'a [u8]) -> Option<VerpDelimiters<'a>>
+        ensures some { IsSome result ↔ AreDelimiters bytes.now }
+        ensures kept { IfSome result (λ delimiters. delimiters ≡ bytes.now) }
+    {
+        if bytes.len() != 2 || !is_zero_free(bytes) {
+            return None;
+        }
+        Some(VerpDelimiters { bytes })
+    }
+
+    /// The two bytes.
+    pub fn bytes(&self) -> &'a [u8]
+        ensures same { result.now ≡ self.now }
+        ensures legal { AreDelimiters self.now }
+    {
+        self.bytes
+    }
+}

@@ -1,2 +1,4 @@
 mod AttributeExamples
+pub mod AttributeLemmas
+pub mod NumberLemmas
 mod RequestExamples

@@ -1,8 +1,8 @@
 -- Attributes: lists of names and values, as Postfix's programs send them to one another.
-use Rattle.std.specs.Prelude.{ℕ, zero, suc, ◌<◌, ◌==◌, Bool, not, ◌&&◌, nat_lt, List, [], ◌∷◌, ◌++◌, length, decimal, Option, Some, None, IsTrue, if◌then◌else◌}
+use Rattle.std.specs.Prelude.{ℕ, zero, suc, ◌<◌, ◌^◌, ◌==◌, Bool, not, ◌&&◌, nat_lt, List, [], ◌∷◌, ◌++◌, length, decimal, Option, Some, None, IsTrue, if◌then◌else◌}
 use Rattle.std.specs.Option.{option_map}
 use Rattle.std.specs.List.{flat_map, list_all}
-use Rattle.std.specs.Str.{bytes_eq}
+use Rattle.std.specs.Cmp.Lexicographic.{pointwise}
 use Rattle.std.specs.Str.Parse.{digits_value}
 
 -- a name and its value
@@ -54,10 +54,17 @@ zero_ended_at [] = None
 zero_ended_at (zero ∷ rest) = Some ([], rest)
 zero_ended_at (suc byte ∷ rest) = option_map (λ read. (suc byte ∷ read.0, read.1)) (zero_ended_at rest)
 
+-- a number has 32 bits, and an offset 64
+abbrev pub number_limit : ℕ
+number_limit = 2 ^ 32
+
+abbrev pub offset_limit : ℕ
+offset_limit = 2 ^ 64
+
 -- the number below a limit that a text writes
 unfoldable pub number_in : ℕ → List ℕ → Option ℕ
 number_in limit text =
-    if nat_lt (digits_value 10 text) limit && bytes_eq (decimal (digits_value 10 text)) text
+    if nat_lt (digits_value 10 text) limit && pointwise ◌==◌ (decimal (digits_value 10 text)) text
     then Some (digits_value 10 text)
     else None
 

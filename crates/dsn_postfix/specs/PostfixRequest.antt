@@ -1,7 +1,7 @@
 -- What Postfix's programs ask of bounce(8), and the attributes that ask it, for each version whose layouts are known.
-use Rattle.std.specs.Prelude.{ℕ, ◌<◌, ◌^◌, List, [], ◌∷◌, ◌++◌, codes}
+use Rattle.std.specs.Prelude.{ℕ, ◌<◌, List, [], ◌∷◌, ◌++◌, codes}
 use Rattle.dsn_text.specs.Text.{IsQueueId}
-use Rattle.dsn_postfix.specs.Attribute.{Attribute, IsZeroFree, list_bytes, number_attribute, text_attribute}
+use Rattle.dsn_postfix.specs.Attribute.{Attribute, IsZeroFree, list_bytes, number_attribute, number_limit, offset_limit, text_attribute}
 use Rattle.dsn_postfix.specs.AttributeValues.{AreDelimiters, IsQueueName}
 use Rattle.dsn_postfix.specs.declared.postfix_version.PostfixVersion.{PostfixVersion}
 use Rattle.dsn_postfix.specs.declared.postfix_version.PostfixVersion.TheVariants.{V3_7}
@@ -11,13 +11,6 @@ use Rattle.dsn_postfix.specs.declared.postfix_request.NoticeRequest.{NoticeReque
 use Rattle.dsn_postfix.specs.declared.postfix_request.PostfixRequest.{PostfixRequest}
 use Rattle.dsn_postfix.specs.declared.postfix_request.PostfixRequest.TheVariants.{Append, Flush, Warn, Verp, One, Trace}
 use Rattle.dsn_postfix.specs.declared.postfix_request.ReportedRecipient.{ReportedRecipient}
-
--- a number has 32 bits, and an offset 64
-abbrev pub number_limit : ℕ
-number_limit = 2 ^ 32
-
-abbrev pub offset_limit : ℕ
-offset_limit = 2 ^ 64
 
 -- ---- the table of layouts
 

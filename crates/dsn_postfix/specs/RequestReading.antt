@@ -1,10 +1,10 @@
 -- Reading a request from left to right: the request that some bytes are, or the first fault that is met.
-use Rattle.std.specs.Prelude.{◌≡◌, ℕ, zero, suc, Bool, true, List, [], ◌∷◌, codes, Option, Some, None, Result, Ok, Err, if◌then◌else◌, MatchResult}
-use Rattle.std.specs.Str.{bytes_eq}
+use Rattle.std.specs.Prelude.{◌≡◌, ℕ, zero, suc, ◌==◌, Bool, true, List, [], ◌∷◌, codes, Option, Some, None, Result, Ok, Err, if◌then◌else◌, MatchResult}
+use Rattle.std.specs.Cmp.Lexicographic.{pointwise}
 use Rattle.dsn_text.specs.Text.{is_queue_id}
-use Rattle.dsn_postfix.specs.Attribute.{number_in, zero_ended_at}
+use Rattle.dsn_postfix.specs.Attribute.{number_in, number_limit, offset_limit, zero_ended_at}
 use Rattle.dsn_postfix.specs.AttributeValues.{are_delimiters, is_queue_name}
-use Rattle.dsn_postfix.specs.PostfixRequest.{number_limit, offset_limit, smtputf8_name}
+use Rattle.dsn_postfix.specs.PostfixRequest.{smtputf8_name}
 use Rattle.dsn_postfix.specs.declared.postfix_version.PostfixVersion.{PostfixVersion}
 use Rattle.dsn_postfix.specs.declared.postfix_request.AppendRequest.{AppendRequest}
 use Rattle.dsn_postfix.specs.declared.postfix_request.DeliveryReport.{DeliveryReport}
@@ -39,7 +39,7 @@ tested test fault value = if test value then Ok value else Err fault
 -- a name is the one that the layout has: an empty one ends the list too early
 abbrev pub named : List ℕ → List ℕ → Result Bool RequestFault
 named name [] = Err Missing
-named name (byte ∷ text) = if bytes_eq (byte ∷ text) name then Ok true else Err Name
+named name (byte ∷ text) = if pointwise ◌==◌ (byte ∷ text) name then Ok true else Err Name
 
 -- the value of the attribute with this name
 unfoldable pub value_at : List ℕ → List ℕ → Result (List ℕ × List ℕ) RequestFault

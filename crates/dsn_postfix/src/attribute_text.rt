@@ -1,7 +1,8 @@
 //! The texts that attributes have as values: any, the name of a queue, and delimiters.
-ghost use Rattle.std.specs.Prelude.{◌≡◌, ◌↔◌, IsSome, IfSome};
-ghost use Rattle.dsn_postfix.specs.Attribute.{IsZeroFree, is_zero_free};
+ghost use Rattle.std.specs.Prelude.{◌≡◌, ◌↔◌, ◌+◌, ◌<◌, drop, length, IsSome, IfSome, MatchOption};
+ghost use Rattle.dsn_postfix.specs.Attribute.{IsZeroFree, is_zero_free, zero_ended_at};
 
+use memchr::memchr;
 use std::marker::Model;
 
 /// The value of an attribute: any bytes but zero, lent.
@@ -31,6 +32,20 @@ impl<'a> AttributeText<'a> {
             return None;
         }
         Some(AttributeText { bytes })
+    }
+
+    /// The text in front of the first zero, if there is a zero.
+    pub(crate) fn before_zero(bytes: &'a [u8]) -> Option<AttributeText<'a>>
+        ensures text { MatchOption result (zero_ended_at bytes.now ≡ None)
+            (λ text. zero_ended_at bytes.now ≡ Some (text, drop (length text + 1) bytes.now)) }
+        ensures within { IfSome result (λ text. length text < length bytes.now) }
+    {
+        match memchr(0, bytes) {
+            Some(end) => Some(AttributeText {
+                bytes: &bytes[..end],
+            }),
+            None => None,
+        }
     }
 
     /// The text.

@@ -1,14 +1,19 @@
 //! What Postfix's programs say to its bounce service: lists of attributes, and the requests that they make.
 #![tactic(auto)]
 
+mod attribute_reader;
 mod attribute_text;
+mod decode;
+mod number;
 mod postfix_request;
 mod postfix_version;
 mod queue_name;
 mod request_fault;
+mod request_reading;
 mod verp_delimiters;
 
 pub use attribute_text::AttributeText;
+pub use decode::decode_postfix_request;
 pub use postfix_request::{
     AppendRequest, DeliveryReport, NoticeRequest, PostfixRequest, ReportedRecipient,
 };

@@ -1,0 +1,145 @@
+//! Reads attributes from the front of some bytes, one after another.
+ghost use Rattle.std.specs.Prelude.{◌≡◌, true, codes, IfOk, IfErr, OnOk};
+ghost use Rattle.dsn_text.specs.Text.{is_queue_id};
+ghost use Rattle.dsn_postfix.specs.Attribute.{number_limit, offset_limit, zero_ended_at};
+ghost use Rattle.dsn_postfix.specs.AttributeValues.{are_delimiters, is_queue_name};
+ghost use Rattle.dsn_postfix.specs.RequestReading.{end_at, tested_at, value_at, value_number_at};
+
+use crate::attribute_text::AttributeText;
+use crate::number::{number_in, short_number_in};
+use crate::queue_name::QueueName;
+use crate::request_fault::RequestFault;
+use crate::verp_delimiters::VerpDelimiters;
+use dsn_text::QueueId;
+use std::marker::Model;
+
+/// The bytes after the attributes that were read. After a fault it is to be used no further.
+#[derive(Drop)]
+pub(crate) struct AttributeReader<'a> {
+    rest: &'a [u8],
+}
+
+impl<'a> Model for AttributeReader<'a> {
+    ghost use Rattle.std.specs.Prelude.{ℕ, List};
+
+    ghost Value = { List ℕ };
+
+    ghost view = { λ r. r.rest.now };
+}
+
+impl<'a> AttributeReader<'a> {
+    /// A reader of these bytes.
+    pub(crate) fn new(bytes: &'a [u8]) -> AttributeReader<'a>
+        ensures { result ≡ bytes.now }
+    {
+        AttributeReader { rest: bytes }
+    }
+
+    /// The text in front of the next zero.
+    fn zero_ended(&mut self) -> Result<AttributeText<'a>, RequestFault>
+        ensures read { IfOk result (λ text. zero_ended_at self.old ≡ Some (text, self.new)) }
+        ensures refused { IfErr result
+            (λ fault. (fault ≡ RequestFault.Unended) × (zero_ended_at self.old ≡ None)) }
+    {
+        let Some(text) = AttributeText::before_zero(self.rest) else {
+            return Err(RequestFault::Unended);
+        };
+        self.rest = &self.rest[text.bytes().len() + 1..];
+        Ok(text)
+    }
+
+    /// The value of the next attribute, which must have this name.
+    #[tactic(auto, unfolding(crate::specs::RequestReading::value_at))]
+    pub(crate) fn text(&mut self, name: &[u8]) -> Result<AttributeText<'a>, RequestFault>
+        ensures read { IfOk result (λ text. value_at name.now self.old ≡ Ok (text, self.new)) }
+        ensures refused { IfErr result (λ fault. value_at name.now self.old ≡ Err fault) }
+    {
+        let found = self.zero_ended()?;
+        if found.bytes().is_empty() {
+            return Err(RequestFault::Missing);
+        }
+        if found.bytes() != name {
+            return Err(RequestFault::Name);
+        }
+        self.zero_ended()
+    }
+
+    /// The number of 32 bits that is the value of the next attribute, which must have this name.
+    #[tactic(auto, unfolding(crate::specs::RequestReading::value_number_at))]
+    pub(crate) fn number(&mut self, name: &[u8]) -> Result<u32, RequestFault>
+        ensures read { IfOk result
+            (λ number. value_number_at number_limit name.now self.old ≡ Ok (number, self.new)) }
+        ensures refused { IfErr result
+            (λ fault. value_number_at number_limit name.now self.old ≡ Err fault) }
+    {
+        let value = self.text(name)?;
+        short_number_in(value.bytes()).ok_or(RequestFault::Number)
+    }
+
+    /// The number of 64 bits that is the value of the next attribute, which must have this name.
+    #[tactic(auto, unfolding(crate::specs::RequestReading::value_number_at))]
+    pub(crate) fn offset(&mut self, name: &[u8]) -> Result<u64, RequestFault>
+        ensures read { IfOk result
+            (λ number. value_number_at offset_limit name.now self.old ≡ Ok (number, self.new)) }
+        ensures refused { IfErr result
+            (λ fault. value_number_at offset_limit name.now self.old ≡ Err fault) }
+    {
+        let value = self.text(name)?;
+        number_in(value.bytes()).ok_or(RequestFault::Number)
+    }
+
+    /// The queue id that is the value of the next attribute.
+    #[tactic(auto, unfolding(crate::specs::RequestReading::tested_at))]
+    pub(crate) fn queue_id(&mut self) -> Result<QueueId, RequestFault>
+        ensures read { IfOk result
+            (λ id. tested_at is_queue_id RequestFault.QueueId (codes "queue_id") self.old
+            ≡ Ok (id, self.new)) }
+        ensures refused { IfErr result
+            (λ fault. tested_at is_queue_id RequestFault.QueueId (codes "queue_id") self.old
+            ≡ Err fault) }
+    {
+        let value = self.text(b"queue_id")?;
+        QueueId::new(value.bytes()).ok_or(RequestFault::QueueId)
+    }
+
+    /// The name of a queue that is the value of the next attribute.
+    #[tactic(auto, unfolding(crate::specs::RequestReading::tested_at))]
+    pub(crate) fn queue_name(&mut self) -> Result<QueueName<'a>, RequestFault>
+        ensures read { IfOk result
+            (λ name. tested_at is_queue_name RequestFault.QueueName (codes "queue_name") self.old
+            ≡ Ok (name, self.new)) }
+        ensures refused { IfErr result
+            (λ fault. tested_at is_queue_name RequestFault.QueueName (codes "queue_name") self.old
+            ≡ Err fault) }
+    {
+        let value = self.text(b"queue_name")?;
+        QueueName::new(value.bytes()).ok_or(RequestFault::QueueName)
+    }
+
+    /// The delimiters that are the value of the next attribute.
+    #[tactic(auto, unfolding(crate::specs::RequestReading::tested_at))]
+    pub(crate) fn delimiters(&mut self) -> Result<VerpDelimiters<'a>, RequestFault>
+        ensures read { IfOk result
+            (λ text. tested_at are_delimiters RequestFault.Delimiters (codes "verp_delimiters") self.old
+            ≡ Ok (text, self.new)) }
+        ensures refused { IfErr result
+            (λ fault. tested_at are_delimiters RequestFault.Delimiters (codes "verp_delimiters") self.old
+            ≡ Err fault) }
+    {
+        let value = self.text(b"verp_delimiters")?;
+        VerpDelimiters::new(value.bytes()).ok_or(RequestFault::Delimiters)
+    }
+
+    /// The end of the list, which must be that of the bytes.
+    pub(crate) fn end(&self) -> Result<(), RequestFault>
+        ensures ended { OnOk result (end_at self.now ≡ Ok true) }
+        ensures refused { IfErr result (λ fault. end_at self.now ≡ Err fault) }
+    {
+        match self.rest {
+            [] => Err(RequestFault::Unended),
+            [0] => Ok(()),
+            [0, ..] => Err(RequestFault::Trailing),
+            _ => Err(RequestFault::Extra),
+        }
+    }
+}

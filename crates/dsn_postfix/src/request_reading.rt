@@ -1,0 +1,164 @@
+//! The attributes of requests, read one after another in the order that their layouts have.
+ghost use Rattle.std.specs.Prelude.{◌≡◌, IfOk, IfErr};
+ghost use Rattle.dsn_postfix.specs.PostfixRequest.{smtputf8_name};
+ghost use Rattle.dsn_postfix.specs.RequestReading.{append_request_at, notice_request_at, own_request_at, recipient_at, report_at, verp_at, one_at};
+
+use crate::attribute_reader::AttributeReader;
+use crate::postfix_request::{
+    AppendRequest, DeliveryReport, NoticeRequest, PostfixRequest, ReportedRecipient,
+};
+use crate::postfix_version::PostfixVersion;
+use crate::request_fault::RequestFault;
+
+/// The name of the attribute that says whether a message needs SMTPUTF8.
+pub(crate) fn smtputf8_name(version: PostfixVersion) -> &'static [u8]
+    ensures { result.now ≡ smtputf8_name version }
+{
+    match version {
+        PostfixVersion::V3_7 => b"smtputf8",
+    }
+}
+
+/// A recipient.
+#[tactic(auto, unfolding(crate::specs::RequestReading::recipient_at))]
+fn recipient_of<'a>(reader: &mut AttributeReader<'a>) -> Result<ReportedRecipient<'a>, RequestFault>
+    ensures read { IfOk result
+        (λ recipient. recipient_at reader.old ≡ Ok (recipient, reader.new)) }
+    ensures refused { IfErr result (λ fault. recipient_at reader.old ≡ Err fault) }
+{
+    let original = reader.text(b"original_recipient")?;
+    let address = reader.text(b"recipient")?;
+    let offset = reader.offset(b"offset")?;
+    let dsn_original = reader.text(b"dsn_orig_rcpt")?;
+    let notify = reader.number(b"notify_flags")?;
+    Ok(ReportedRecipient {
+        original,
+        address,
+        offset,
+        dsn_original,
+        notify,
+    })
+}
+
+/// What became of a recipient.
+#[tactic(auto, unfolding(crate::specs::RequestReading::report_at))]
+fn report_of<'a>(reader: &mut AttributeReader<'a>) -> Result<DeliveryReport<'a>, RequestFault>
+    ensures read { IfOk result (λ report. report_at reader.old ≡ Ok (report, reader.new)) }
+    ensures refused { IfErr result (λ fault. report_at reader.old ≡ Err fault) }
+{
+    let status = reader.text(b"status")?;
+    let diagnostic_type = reader.text(b"diag_type")?;
+    let diagnostic = reader.text(b"diag_text")?;
+    let mta_type = reader.text(b"mta_type")?;
+    let mta = reader.text(b"mta_mname")?;
+    let action = reader.text(b"action")?;
+    let reason = reader.text(b"reason")?;
+    Ok(DeliveryReport {
+        status,
+        diagnostic_type,
+        diagnostic,
+        mta_type,
+        mta,
+        action,
+        reason,
+    })
+}
+
+/// What an append says.
+#[tactic(auto, unfolding(crate::specs::RequestReading::append_request_at))]
+fn append_of<'a>(reader: &mut AttributeReader<'a>) -> Result<AppendRequest<'a>, RequestFault>
+    ensures read { IfOk result (λ request. append_request_at reader.old ≡ Ok (request, reader.new)) }
+    ensures refused { IfErr result (λ fault. append_request_at reader.old ≡ Err fault) }
+{
+    let flags = reader.number(b"flags")?;
+    let queue_id = reader.queue_id()?;
+    let recipient = recipient_of(reader)?;
+    let report = report_of(reader)?;
+    Ok(AppendRequest {
+        flags,
+        queue_id,
+        recipient,
+        report,
+    })
+}
+
+/// What a request for a notice says.
+#[tactic(auto, unfolding(crate::specs::RequestReading::notice_request_at))]
+fn notice_of<'a>(
+    version: PostfixVersion,
+    reader: &mut AttributeReader<'a>,
+) -> Result<NoticeRequest<'a>, RequestFault>
+    ensures read { IfOk result
+        (λ request. notice_request_at version reader.old ≡ Ok (request, reader.new)) }
+    ensures refused { IfErr result (λ fault. notice_request_at version reader.old ≡ Err fault) }
+{
+    let flags = reader.number(b"flags")?;
+    let queue_name = reader.queue_name()?;
+    let queue_id = reader.queue_id()?;
+    let encoding = reader.text(b"encoding")?;
+    let smtputf8 = reader.number(smtputf8_name(version))?;
+    let sender = reader.text(b"sender")?;
+    let envelope_id = reader.text(b"envelope_id")?;
+    let returns = reader.number(b"ret_flags")?;
+    Ok(NoticeRequest {
+        flags,
+        queue_name,
+        queue_id,
+        encoding,
+        smtputf8,
+        sender,
+        envelope_id,
+        returns,
+    })
+}
+
+/// What follows the number of what is asked.
+#[tactic(auto, unfolding(crate::specs::RequestReading::own_request_at, crate::specs::RequestReading::append_only_at, crate::specs::RequestReading::notice_at, crate::specs::RequestReading::verp_at, crate::specs::RequestReading::one_at))]
+pub(crate) fn request_of<'a>(
+    version: PostfixVersion,
+    command: u32,
+    reader: &mut AttributeReader<'a>,
+) -> Result<PostfixRequest<'a>, RequestFault>
+    ensures read { IfOk result
+        (λ request. own_request_at version command reader.old ≡ Ok (request, reader.new)) }
+    ensures refused { IfErr result (λ fault. own_request_at version command reader.old ≡ Err fault) }
+{
+    match command {
+        0 => Ok(PostfixRequest::Append(append_of(reader)?)),
+        1 => Ok(PostfixRequest::Flush(notice_of(version, reader)?)),
+        2 => Ok(PostfixRequest::Warn(notice_of(version, reader)?)),
+        3 => verp_of(version, reader),
+        4 => one_of(version, reader),
+        5 => Ok(PostfixRequest::Trace(notice_of(version, reader)?)),
+        _ => Err(RequestFault::Command),
+    }
+}
+
+/// A request for notices whose return paths have the recipients in them.
+#[tactic(auto, unfolding(crate::specs::RequestReading::verp_at))]
+fn verp_of<'a>(
+    version: PostfixVersion,
+    reader: &mut AttributeReader<'a>,
+) -> Result<PostfixRequest<'a>, RequestFault>
+    ensures read { IfOk result (λ request. verp_at version reader.old ≡ Ok (request, reader.new)) }
+    ensures refused { IfErr result (λ fault. verp_at version reader.old ≡ Err fault) }
+{
+    let request = notice_of(version, reader)?;
+    let delimiters = reader.delimiters()?;
+    Ok(PostfixRequest::Verp(request, delimiters))
+}
+
+/// A request for a notice of one recipient.
+#[tactic(auto, unfolding(crate::specs::RequestReading::one_at))]
+fn one_of<'a>(
+    version: PostfixVersion,
+    reader: &mut AttributeReader<'a>,
+) -> Result<PostfixRequest<'a>, RequestFault>
+    ensures read { IfOk result (λ request. one_at version reader.old ≡ Ok (request, reader.new)) }
+    ensures refused { IfErr result (λ fault. one_at version reader.old ≡ Err fault) }
+{
+    let request = notice_of(version, reader)?;
+    let recipient = recipient_of(reader)?;
+    let report = report_of(reader)?;
+    Ok(PostfixRequest::One(request, recipient, report))
+}

@@ -1,4 +1,8 @@
 mod AttributeExamples
+pub mod AttributeLaws
 pub mod AttributeLemmas
+pub mod FieldReadings
 pub mod NumberLemmas
 mod RequestExamples
+pub mod RequestLaws
+pub mod Writing

@@ -1,12 +1,13 @@
 -- The number that a text writes is the one whose decimal text it is.
-use Rattle.std.proofs.Common.{◌≡◌, ℕ, ◌==◌, ◌<◌, ◌≤◌, ◌^◌, Bool, true, false, cond, ltb, ◌&&◌, List, decimal, Option, Some, None, refl, sym, ap, subst, ◌∙◌, arith}
+use Rattle.std.proofs.Common.{◌≡◌, ℕ, zero, suc, ◌==◌, ◌<◌, ◌≤◌, ◌^◌, Bool, true, false, cond, ltb, ◌&&◌, List, [], ◌∷◌, decimal, Option, Some, None, refl, sym, ap, subst, ◌∙◌, arith}
 use Rattle.std.specs.Cmp.{unsigned_Decides}
 use Rattle.std.specs.Cmp.Lexicographic.{pointwise}
-use Rattle.std.specs.Str.Parse.{digits_value}
+use Rattle.std.specs.Str.Parse.{AllDigits, digits_value}
+use Rattle.std.proofs.Math.Dec.{eqb-suc-zero}
 use Rattle.std.proofs.lemmas.Bool.{ltb-true, lt-ltb}
 use Rattle.std.proofs.lemmas.Fmt.{decimal_is_IsNumeral}
 use Rattle.std.proofs.lemmas.Slice.Eq.{slice_eq-Decides}
-use Rattle.dsn_postfix.specs.Attribute.{number_in}
+use Rattle.dsn_postfix.specs.Attribute.{IsZeroFree, number_in}
 
 -- texts that are compared byte for byte
 pub same_bytes : (xs ys : List ℕ) → pointwise ◌==◌ xs ys ≡ true → xs ≡ ys
@@ -56,3 +57,12 @@ there n = Some n
 
 pub the_same : {m n : ℕ} → there m ≡ there n → m ≡ n
 the_same e = cc
+
+-- no byte of a number's text is zero
+no_zero_digit : (text : List ℕ) → AllDigits 10 text → IsZeroFree text
+no_zero_digit [] digits = refl
+no_zero_digit (zero ∷ text) digits = absurd (omega (arith, digits.0))
+no_zero_digit (suc byte ∷ text) digits = rw (eqb-suc-zero byte) (no_zero_digit text digits.1)
+
+pub decimal_free : (n : ℕ) → n < 2 ^ 64 → IsZeroFree (decimal n)
+decimal_free n low = no_zero_digit (decimal n) (decimal_is_IsNumeral n low).0.1

@@ -1,5 +1,5 @@
 -- What Postfix's programs ask of bounce(8), and the attributes that ask it, for each version whose layouts are known.
-use Rattle.std.specs.Prelude.{ℕ, ◌<◌, List, [], ◌∷◌, ◌++◌, codes}
+use Rattle.std.specs.Prelude.{◌≡◌, ℕ, ◌<◌, List, [], ◌∷◌, ◌++◌, codes}
 use Rattle.dsn_text.specs.Text.{IsQueueId}
 use Rattle.dsn_postfix.specs.Attribute.{Attribute, IsZeroFree, list_bytes, number_attribute, number_limit, offset_limit, text_attribute}
 use Rattle.dsn_postfix.specs.AttributeValues.{AreDelimiters, IsQueueName}
@@ -127,3 +127,8 @@ IsPostfixRequest (Verp request delimiters) = FitsNotice request × AreDelimiters
 IsPostfixRequest (One request recipient report) =
     FitsNotice request × (FitsRecipient recipient × FitsReport report)
 IsPostfixRequest (Trace request) = FitsNotice request
+
+-- bytes that are those of a request in the layout of a version
+pub record IsRequestIn (version : PostfixVersion) (bytes : List ℕ) (request : PostfixRequest) : Type 0 where
+  pub bytes_are : bytes ≡ postfix_request_bytes version request
+  pub fits : IsPostfixRequest request

@@ -3,7 +3,9 @@
 
 mod attribute_reader;
 mod attribute_text;
+mod attribute_writer;
 mod decode;
+mod encode;
 mod number;
 mod postfix_request;
 mod postfix_version;
@@ -14,6 +16,7 @@ mod verp_delimiters;
 
 pub use attribute_text::AttributeText;
 pub use decode::decode_postfix_request;
+pub use encode::encode_postfix_request;
 pub use postfix_request::{
     AppendRequest, DeliveryReport, NoticeRequest, PostfixRequest, ReportedRecipient,
 };

@@ -2,6 +2,7 @@ mod AttributeExamples
 pub mod AttributeLaws
 pub mod AttributeLemmas
 pub mod FieldReadings
+pub mod ListLaws
 pub mod NumberLemmas
 mod RequestExamples
 pub mod RequestLaws

@@ -1,7 +1,7 @@
 -- Attributes: lists of names and values, as Postfix's programs send them to one another.
-use Rattle.std.specs.Prelude.{ℕ, zero, suc, ◌<◌, ◌^◌, ◌==◌, Bool, not, ◌&&◌, nat_lt, List, [], ◌∷◌, ◌++◌, length, decimal, Option, Some, None, IsTrue, if◌then◌else◌}
+use Rattle.std.specs.Prelude.{◌≡◌, ℕ, zero, suc, ◌<◌, ◌^◌, ◌==◌, Bool, not, ◌&&◌, nat_lt, List, [], ◌∷◌, ◌++◌, length, decimal, Option, Some, None, IsTrue, if◌then◌else◌}
 use Rattle.std.specs.Option.{option_map}
-use Rattle.std.specs.List.{flat_map, list_all}
+use Rattle.std.specs.List.{AllByRecursion, flat_map, list_all}
 use Rattle.std.specs.Cmp.Lexicographic.{pointwise}
 use Rattle.std.specs.Str.Parse.{digits_value}
 
@@ -69,14 +69,19 @@ number_in limit text =
     else None
 
 -- the list that some bytes begin with, and what follows it. The name of an attribute whose value is read, if there is
--- one, and the front of a text, stand before the bytes
-abbrev pub attributes_after : Option (List ℕ) → List ℕ → List ℕ → Option (List Attribute × List ℕ)
-attributes_after within front [] = None
-attributes_after None [] (zero ∷ rest) = Some ([], rest)
-attributes_after None (byte ∷ front) (zero ∷ rest) = attributes_after (Some (byte ∷ front)) [] rest
-attributes_after (Some name) front (zero ∷ rest) =
-    option_map (λ read. (text_attribute name front ∷ read.0, read.1)) (attributes_after None [] rest)
-attributes_after within front (suc byte ∷ rest) = attributes_after within (front ++ suc byte ∷ []) rest
+-- one, and the front of a text, were read before these bytes
+abbrev pub attributes_after : List ℕ → Option (List ℕ) → List ℕ → Option (List Attribute × List ℕ)
+attributes_after [] within front = None
+attributes_after (zero ∷ rest) None [] = Some ([], rest)
+attributes_after (zero ∷ rest) None (byte ∷ front) = attributes_after rest (Some (byte ∷ front)) []
+attributes_after (zero ∷ rest) (Some name) front =
+    option_map (λ read. (text_attribute name front ∷ read.0, read.1)) (attributes_after rest None [])
+attributes_after (suc byte ∷ rest) within front = attributes_after rest within (front ++ suc byte ∷ [])
 
 abbrev pub attributes_at : List ℕ → Option (List Attribute × List ℕ)
-attributes_at bytes = attributes_after None [] bytes
+attributes_at bytes = attributes_after bytes None []
+
+-- bytes that begin with a list, and go on with the rest
+pub record BeginsWithList (bytes : List ℕ) (attributes : List Attribute) (rest : List ℕ) : Type 0 where
+  pub parts : bytes ≡ list_bytes attributes ++ rest
+  pub each : AllByRecursion IsAttribute attributes

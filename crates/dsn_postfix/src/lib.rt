@@ -6,6 +6,7 @@ mod attribute_text;
 mod attribute_writer;
 mod decode;
 mod encode;
+mod laws;
 mod number;
 mod postfix_request;
 mod postfix_version;
@@ -17,6 +18,7 @@ mod verp_delimiters;
 pub use attribute_text::AttributeText;
 pub use decode::decode_postfix_request;
 pub use encode::encode_postfix_request;
+pub use laws::lists_are_read_as_written;
 pub use postfix_request::{
     AppendRequest, DeliveryReport, NoticeRequest, PostfixRequest, ReportedRecipient,
 };

@@ -4,7 +4,7 @@ use Rattle.std.specs.Cmp.Lexicographic.{pointwise}
 use Rattle.std.specs.Option.{option_map}
 use Rattle.std.proofs.Math.Dec.{eqb-suc-zero}
 use Rattle.dsn_postfix.specs.Attribute.{IsZeroFree, attribute_bytes, number_attribute, number_in, text_attribute, zero_ended_at}
-use Rattle.dsn_postfix.specs.RequestReading.{◌>>>◌, named, or_fault, tested, tested_at, value_at, value_number_at}
+use Rattle.dsn_postfix.specs.RequestReading.{◌>>>◌, named, or_fault, tested, tested_at, attribute_at, value_number_at}
 use Rattle.dsn_postfix.specs.declared.request_fault.RequestFault.{RequestFault}
 use Rattle.dsn_postfix.specs.declared.request_fault.RequestFault.TheVariants.{Unended, Name, Number}
 use Rattle.dsn_postfix.proofs.NumberLemmas.{compared_same, decimal_free, number_again, number_takes, same_bytes}
@@ -66,8 +66,8 @@ named_is name (byte ∷ text) x e = tested_name (pointwise ◌==◌ (byte ∷ te
     tested_name true is f = same_bytes (byte ∷ text) name is
     tested_name false is f = absurd cc
 
-pub value_takes : (name bytes value rest : List ℕ) → value_at name bytes ≡ Ok (value, rest) → (bytes ≡ attribute_bytes (text_attribute name value) ++ rest) × IsZeroFree value
-unfolding value_at attribute_bytes
+pub value_takes : (name bytes value rest : List ℕ) → attribute_at name bytes ≡ Ok (value, rest) → (bytes ≡ attribute_bytes (text_attribute name value) ++ rest) × IsZeroFree value
+unfolding attribute_at attribute_bytes
 value_takes name bytes value rest e =
     let found = bind_ok (or_fault Unended (zero_ended_at bytes)) _ (value, rest) e in
     let same = bind_ok (named name found.0.0) _ (value, rest) found.2 in
@@ -88,8 +88,8 @@ pub record IsName (name : List ℕ) : Type 0 where
   pub some : 0 < length name
   pub free : IsZeroFree name
 
-pub value_again : (name value rest : List ℕ) → IsName name → IsZeroFree value → value_at name (attribute_bytes (text_attribute name value) ++ rest) ≡ Ok (value, rest)
-unfolding value_at attribute_bytes
+pub value_again : (name value rest : List ℕ) → IsName name → IsZeroFree value → attribute_at name (attribute_bytes (text_attribute name value) ++ rest) ≡ Ok (value, rest)
+unfolding attribute_at attribute_bytes
 value_again name value rest is free =
     rw (regrouped, text_again name (value ++ 0 ∷ rest) is.free, named_again name is.some, text_again value rest free) refl
   where
@@ -101,7 +101,7 @@ value_again name value rest is free =
 pub number_takes_attribute : (limit : ℕ) (name bytes : List ℕ) (n : ℕ) (rest : List ℕ) → value_number_at limit name bytes ≡ Ok (n, rest) → (bytes ≡ attribute_bytes (number_attribute name n) ++ rest) × (n < limit)
 unfolding value_number_at
 number_takes_attribute limit name bytes n rest e =
-    let value = bind_ok (value_at name bytes) _ (n, rest) e in
+    let value = bind_ok (attribute_at name bytes) _ (n, rest) e in
     let number = bind_ok (or_fault Number (number_in limit value.0.0)) _ (n, rest) value.2 in
     let text = number_takes limit value.0.0 number.0 (there_ok Number (number_in limit value.0.0) number.0 number.1) in
     let parts = (value_takes name bytes value.0.0 value.0.1 value.1).0 in
@@ -125,7 +125,7 @@ tested_is test fault value text e = passed (test value) refl e
 pub tested_takes : (test : List ℕ → Bool) (fault : RequestFault) (name bytes text rest : List ℕ) → tested_at test fault name bytes ≡ Ok (text, rest) → (bytes ≡ attribute_bytes (text_attribute name text) ++ rest) × (test text ≡ true)
 unfolding tested_at
 tested_takes test fault name bytes text rest e =
-    let value = bind_ok (value_at name bytes) _ (text, rest) e in
+    let value = bind_ok (attribute_at name bytes) _ (text, rest) e in
     let passes = bind_ok (tested test fault value.0.0) _ (text, rest) value.2 in
     let is = tested_is test fault value.0.0 passes.0 passes.1 in
     let parts = (value_takes name bytes value.0.0 value.0.1 value.1).0 in

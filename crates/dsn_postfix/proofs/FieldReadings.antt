@@ -7,7 +7,7 @@ use Rattle.dsn_text.specs.Text.{is_letter_or_digit, is_queue_id, is_text}
 use Rattle.dsn_postfix.specs.Attribute.{Attribute, IsZeroFree, attribute_bytes, number_attribute, number_limit, offset_limit, text_attribute}
 use Rattle.dsn_postfix.specs.AttributeValues.{is_queue_name}
 use Rattle.dsn_postfix.specs.PostfixRequest.{FitsNotice, FitsRecipient, FitsReport, notice_attributes, recipient_attributes, report_attributes, smtputf8_name}
-use Rattle.dsn_postfix.specs.RequestReading.{◌>>>◌, notice_request_at, recipient_at, report_at, tested_at, value_at, value_number_at}
+use Rattle.dsn_postfix.specs.RequestReading.{◌>>>◌, notice_request_at, recipient_at, report_at, tested_at, attribute_at, value_number_at}
 use Rattle.dsn_postfix.specs.declared.postfix_request.DeliveryReport.{DeliveryReport}
 use Rattle.dsn_postfix.specs.declared.postfix_request.NoticeRequest.{NoticeRequest}
 use Rattle.dsn_postfix.specs.declared.postfix_request.ReportedRecipient.{ReportedRecipient}
@@ -32,9 +32,9 @@ listed_both (a ∷ front) back rest =
     append_assoc (attribute_bytes a) (flat_map attribute_bytes (front ++ back)) rest ∙ ap (λ (w : List ℕ). attribute_bytes a ++ w) (listed_both front back rest)
     ∙ sym (append_assoc (attribute_bytes a) (flat_map attribute_bytes front) (listed back rest))
 
-pub value_listed : (name value : List ℕ) (attributes : List Attribute) (rest : List ℕ) → IsName name → IsZeroFree value → value_at name (listed (text_attribute name value ∷ attributes) rest) ≡ Ok (value, listed attributes rest)
+pub value_listed : (name value : List ℕ) (attributes : List Attribute) (rest : List ℕ) → IsName name → IsZeroFree value → attribute_at name (listed (text_attribute name value ∷ attributes) rest) ≡ Ok (value, listed attributes rest)
 value_listed name value attributes rest is free =
-    ap (value_at name) (append_assoc (attribute_bytes (text_attribute name value)) (flat_map attribute_bytes attributes) rest) ∙ value_again name value (listed attributes rest) is free
+    ap (attribute_at name) (append_assoc (attribute_bytes (text_attribute name value)) (flat_map attribute_bytes attributes) rest) ∙ value_again name value (listed attributes rest) is free
 
 pub number_listed : (limit : ℕ) (name : List ℕ) (n : ℕ) (attributes : List Attribute) (rest : List ℕ) → IsName name → n < limit → limit ≤ 2 ^ 64 → value_number_at limit name (listed (number_attribute name n ∷ attributes) rest) ≡ Ok (n, listed attributes rest)
 number_listed limit name n attributes rest is low few =
@@ -66,13 +66,13 @@ smtputf8_is_name V3_7 = record { some = omega arith; free = refl }
 pub recipient_takes : (bytes : List ℕ) (recipient : ReportedRecipient) (rest : List ℕ) → recipient_at bytes ≡ Ok (recipient, rest) → (bytes ≡ listed (recipient_attributes recipient) rest) × FitsRecipient recipient
 unfolding recipient_at
 recipient_takes bytes recipient rest e =
-    let original = bind_ok (value_at (codes "original_recipient") bytes) _ (recipient, rest) e in
+    let original = bind_ok (attribute_at (codes "original_recipient") bytes) _ (recipient, rest) e in
     let original_part = value_takes (codes "original_recipient") bytes original.0.0 original.0.1 original.1 in
-    let address = bind_ok (value_at (codes "recipient") original.0.1) _ (recipient, rest) original.2 in
+    let address = bind_ok (attribute_at (codes "recipient") original.0.1) _ (recipient, rest) original.2 in
     let address_part = value_takes (codes "recipient") original.0.1 address.0.0 address.0.1 address.1 in
     let offset = bind_ok (value_number_at offset_limit (codes "offset") address.0.1) _ (recipient, rest) address.2 in
     let offset_part = number_takes_attribute offset_limit (codes "offset") address.0.1 offset.0.0 offset.0.1 offset.1 in
-    let dsn_original = bind_ok (value_at (codes "dsn_orig_rcpt") offset.0.1) _ (recipient, rest) offset.2 in
+    let dsn_original = bind_ok (attribute_at (codes "dsn_orig_rcpt") offset.0.1) _ (recipient, rest) offset.2 in
     let dsn_original_part = value_takes (codes "dsn_orig_rcpt") offset.0.1 dsn_original.0.0 dsn_original.0.1 dsn_original.1 in
     let notify = bind_ok (value_number_at number_limit (codes "notify_flags") dsn_original.0.1) _ (recipient, rest) dsn_original.2 in
     let notify_part = number_takes_attribute number_limit (codes "notify_flags") dsn_original.0.1 notify.0.0 notify.0.1 notify.1 in
@@ -95,19 +95,19 @@ recipient_again recipient rest fits =
 pub report_takes : (bytes : List ℕ) (report : DeliveryReport) (rest : List ℕ) → report_at bytes ≡ Ok (report, rest) → (bytes ≡ listed (report_attributes report) rest) × FitsReport report
 unfolding report_at
 report_takes bytes report rest e =
-    let status = bind_ok (value_at (codes "status") bytes) _ (report, rest) e in
+    let status = bind_ok (attribute_at (codes "status") bytes) _ (report, rest) e in
     let status_part = value_takes (codes "status") bytes status.0.0 status.0.1 status.1 in
-    let diagnostic_type = bind_ok (value_at (codes "diag_type") status.0.1) _ (report, rest) status.2 in
+    let diagnostic_type = bind_ok (attribute_at (codes "diag_type") status.0.1) _ (report, rest) status.2 in
     let diagnostic_type_part = value_takes (codes "diag_type") status.0.1 diagnostic_type.0.0 diagnostic_type.0.1 diagnostic_type.1 in
-    let diagnostic = bind_ok (value_at (codes "diag_text") diagnostic_type.0.1) _ (report, rest) diagnostic_type.2 in
+    let diagnostic = bind_ok (attribute_at (codes "diag_text") diagnostic_type.0.1) _ (report, rest) diagnostic_type.2 in
     let diagnostic_part = value_takes (codes "diag_text") diagnostic_type.0.1 diagnostic.0.0 diagnostic.0.1 diagnostic.1 in
-    let mta_type = bind_ok (value_at (codes "mta_type") diagnostic.0.1) _ (report, rest) diagnostic.2 in
+    let mta_type = bind_ok (attribute_at (codes "mta_type") diagnostic.0.1) _ (report, rest) diagnostic.2 in
     let mta_type_part = value_takes (codes "mta_type") diagnostic.0.1 mta_type.0.0 mta_type.0.1 mta_type.1 in
-    let mta = bind_ok (value_at (codes "mta_mname") mta_type.0.1) _ (report, rest) mta_type.2 in
+    let mta = bind_ok (attribute_at (codes "mta_mname") mta_type.0.1) _ (report, rest) mta_type.2 in
     let mta_part = value_takes (codes "mta_mname") mta_type.0.1 mta.0.0 mta.0.1 mta.1 in
-    let action = bind_ok (value_at (codes "action") mta.0.1) _ (report, rest) mta.2 in
+    let action = bind_ok (attribute_at (codes "action") mta.0.1) _ (report, rest) mta.2 in
     let action_part = value_takes (codes "action") mta.0.1 action.0.0 action.0.1 action.1 in
-    let reason = bind_ok (value_at (codes "reason") action.0.1) _ (report, rest) action.2 in
+    let reason = bind_ok (attribute_at (codes "reason") action.0.1) _ (report, rest) action.2 in
     let reason_part = value_takes (codes "reason") action.0.1 reason.0.0 reason.0.1 reason.1 in
     let read : DeliveryReport = record { status = status.0.0; diagnostic_type = diagnostic_type.0.0; diagnostic = diagnostic.0.0; mta_type = mta_type.0.0; mta = mta.0.0; action = action.0.0; reason = reason.0.0 } in
     let fits : FitsReport read = record { status = status_part.1; diagnostic_type = diagnostic_type_part.1; diagnostic = diagnostic_part.1; mta_type = mta_type_part.1; mta = mta_part.1; action = action_part.1; reason = reason_part.1 } in
@@ -162,10 +162,10 @@ notice_takes version bytes notice rest e =
     with_read (value_number_at number_limit (codes "flags") bytes) _ (notice, rest) e (λ flags flags_is after_flags.
     with_read (tested_at is_queue_name QueueName (codes "queue_name") flags.1) _ (notice, rest) after_flags (λ queue_name queue_name_is after_queue_name.
     with_read (tested_at is_queue_id QueueId (codes "queue_id") queue_name.1) _ (notice, rest) after_queue_name (λ queue_id queue_id_is after_queue_id.
-    with_read (value_at (codes "encoding") queue_id.1) _ (notice, rest) after_queue_id (λ encoding encoding_is after_encoding.
+    with_read (attribute_at (codes "encoding") queue_id.1) _ (notice, rest) after_queue_id (λ encoding encoding_is after_encoding.
     with_read (value_number_at number_limit (smtputf8_name version) encoding.1) _ (notice, rest) after_encoding (λ smtputf8 smtputf8_is after_smtputf8.
-    with_read (value_at (codes "sender") smtputf8.1) _ (notice, rest) after_smtputf8 (λ sender sender_is after_sender.
-    with_read (value_at (codes "envelope_id") sender.1) _ (notice, rest) after_sender (λ envelope_id envelope_id_is after_envelope_id.
+    with_read (attribute_at (codes "sender") smtputf8.1) _ (notice, rest) after_smtputf8 (λ sender sender_is after_sender.
+    with_read (attribute_at (codes "envelope_id") sender.1) _ (notice, rest) after_sender (λ envelope_id envelope_id_is after_envelope_id.
     with_read (value_number_at number_limit (codes "ret_flags") envelope_id.1) _ (notice, rest) after_envelope_id (λ returns returns_is after_returns.
     same_notice version bytes (record { flags = flags.0; queue_name = queue_name.0; queue_id = queue_id.0; encoding = encoding.0; smtputf8 = smtputf8.0; sender = sender.0; envelope_id = envelope_id.0; returns = returns.0 }) notice returns.1 rest (ok_is _ _ after_returns)
     (notice_listed version _ bytes flags.1 queue_name.1 queue_id.1 encoding.1 smtputf8.1 sender.1 envelope_id.1 returns.1

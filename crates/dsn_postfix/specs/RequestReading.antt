@@ -1,5 +1,5 @@
 -- Reading a request from left to right: the request that some bytes are, or the first fault that is met.
-use Rattle.std.specs.Prelude.{◌≡◌, ℕ, zero, suc, ◌==◌, Bool, true, List, [], ◌∷◌, codes, Option, Some, None, Result, Ok, Err, if◌then◌else◌, MatchResult}
+use Rattle.std.specs.Prelude.{ℕ, zero, suc, ◌==◌, Bool, true, List, [], ◌∷◌, codes, Option, Some, None, Result, Ok, Err, if◌then◌else◌}
 use Rattle.std.specs.Cmp.Lexicographic.{pointwise}
 use Rattle.dsn_text.specs.Text.{is_queue_id}
 use Rattle.dsn_postfix.specs.Attribute.{number_in, number_limit, offset_limit, zero_ended_at}
@@ -21,10 +21,6 @@ abbrev pub ◌>>>◌ : {A B : Type 0} → Result A RequestFault → (A → Resul
 (Ok read) >>> next = next read
 (Err fault) >>> next = Err fault
 
--- what a function answered, seen by a view, is what reading gives
-abbrev pub GivesRead : {X Y : Type 0} → (X → Y) → Result X RequestFault → Result Y RequestFault → Type 0
-GivesRead view result read = MatchResult result (λ value. read ≡ Ok (view value)) (λ fault. read ≡ Err fault)
-
 -- a value that is there
 abbrev pub or_fault : {A : Type 0} → RequestFault → Option A → Result A RequestFault
 or_fault fault (Some value) = Ok value
@@ -42,22 +38,22 @@ named name [] = Err Missing
 named name (byte ∷ text) = if pointwise ◌==◌ (byte ∷ text) name then Ok true else Err Name
 
 -- the value of the attribute with this name
-unfoldable pub value_at : List ℕ → List ℕ → Result (List ℕ × List ℕ) RequestFault
-value_at name bytes =
+unfoldable pub attribute_at : List ℕ → List ℕ → Result (List ℕ × List ℕ) RequestFault
+attribute_at name bytes =
     or_fault Unended (zero_ended_at bytes) >>> λ found.
     named name found.0 >>> λ same.
     or_fault Unended (zero_ended_at found.1)
 
 unfoldable pub value_number_at : ℕ → List ℕ → List ℕ → Result (ℕ × List ℕ) RequestFault
 value_number_at limit name bytes =
-    value_at name bytes >>> λ value.
+    attribute_at name bytes >>> λ value.
     or_fault Number (number_in limit value.0) >>> λ number.
     Ok (number, value.1)
 
 -- the value of the attribute with this name, which has to pass a test
 unfoldable pub tested_at : (List ℕ → Bool) → RequestFault → List ℕ → List ℕ → Result (List ℕ × List ℕ) RequestFault
 tested_at test fault name bytes =
-    value_at name bytes >>> λ value.
+    attribute_at name bytes >>> λ value.
     tested test fault value.0 >>> λ text.
     Ok (text, value.1)
 
@@ -72,22 +68,22 @@ end_at (suc byte ∷ rest) = Err Extra
 
 unfoldable pub recipient_at : List ℕ → Result (ReportedRecipient × List ℕ) RequestFault
 recipient_at bytes =
-    value_at (codes "original_recipient") bytes >>> λ original.
-    value_at (codes "recipient") original.1 >>> λ address.
+    attribute_at (codes "original_recipient") bytes >>> λ original.
+    attribute_at (codes "recipient") original.1 >>> λ address.
     value_number_at offset_limit (codes "offset") address.1 >>> λ offset.
-    value_at (codes "dsn_orig_rcpt") offset.1 >>> λ dsn_original.
+    attribute_at (codes "dsn_orig_rcpt") offset.1 >>> λ dsn_original.
     value_number_at number_limit (codes "notify_flags") dsn_original.1 >>> λ notify.
     Ok (record { original = original.0; address = address.0; offset = offset.0; dsn_original = dsn_original.0; notify = notify.0 }, notify.1)
 
 unfoldable pub report_at : List ℕ → Result (DeliveryReport × List ℕ) RequestFault
 report_at bytes =
-    value_at (codes "status") bytes >>> λ status.
-    value_at (codes "diag_type") status.1 >>> λ diagnostic_type.
-    value_at (codes "diag_text") diagnostic_type.1 >>> λ diagnostic.
-    value_at (codes "mta_type") diagnostic.1 >>> λ mta_type.
-    value_at (codes "mta_mname") mta_type.1 >>> λ mta.
-    value_at (codes "action") mta.1 >>> λ action.
-    value_at (codes "reason") action.1 >>> λ reason.
+    attribute_at (codes "status") bytes >>> λ status.
+    attribute_at (codes "diag_type") status.1 >>> λ diagnostic_type.
+    attribute_at (codes "diag_text") diagnostic_type.1 >>> λ diagnostic.
+    attribute_at (codes "mta_type") diagnostic.1 >>> λ mta_type.
+    attribute_at (codes "mta_mname") mta_type.1 >>> λ mta.
+    attribute_at (codes "action") mta.1 >>> λ action.
+    attribute_at (codes "reason") action.1 >>> λ reason.
     Ok (record { status = status.0; diagnostic_type = diagnostic_type.0; diagnostic = diagnostic.0; mta_type = mta_type.0; mta = mta.0; action = action.0; reason = reason.0 }, reason.1)
 
 unfoldable pub append_request_at : List ℕ → Result (AppendRequest × List ℕ) RequestFault
@@ -103,10 +99,10 @@ notice_request_at version bytes =
     value_number_at number_limit (codes "flags") bytes >>> λ flags.
     tested_at is_queue_name QueueName (codes "queue_name") flags.1 >>> λ queue.
     tested_at is_queue_id QueueId (codes "queue_id") queue.1 >>> λ id.
-    value_at (codes "encoding") id.1 >>> λ encoding.
+    attribute_at (codes "encoding") id.1 >>> λ encoding.
     value_number_at number_limit (smtputf8_name version) encoding.1 >>> λ smtputf8.
-    value_at (codes "sender") smtputf8.1 >>> λ sender.
-    value_at (codes "envelope_id") sender.1 >>> λ envelope_id.
+    attribute_at (codes "sender") smtputf8.1 >>> λ sender.
+    attribute_at (codes "envelope_id") sender.1 >>> λ envelope_id.
     value_number_at number_limit (codes "ret_flags") envelope_id.1 >>> λ returns.
     Ok (record { flags = flags.0; queue_name = queue.0; queue_id = id.0; encoding = encoding.0; smtputf8 = smtputf8.0; sender = sender.0; envelope_id = envelope_id.0; returns = returns.0 }, returns.1)
 

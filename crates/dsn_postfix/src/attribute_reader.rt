@@ -3,7 +3,7 @@ ghost use Rattle.std.specs.Prelude.{◌≡◌, true, codes, IfOk, IfErr, OnOk};
 ghost use Rattle.dsn_text.specs.Text.{is_queue_id};
 ghost use Rattle.dsn_postfix.specs.Attribute.{number_limit, offset_limit, zero_ended_at};
 ghost use Rattle.dsn_postfix.specs.AttributeValues.{are_delimiters, is_queue_name};
-ghost use Rattle.dsn_postfix.specs.RequestReading.{end_at, tested_at, value_at, value_number_at};
+ghost use Rattle.dsn_postfix.specs.RequestReading.{end_at, tested_at, attribute_at, value_number_at};
 
 use crate::attribute_text::AttributeText;
 use crate::number::{number_in, short_number_in};
@@ -49,10 +49,10 @@ impl<'a> AttributeReader<'a> {
     }
 
     /// The value of the next attribute, which must have this name.
-    #[tactic(auto, unfolding(crate::specs::RequestReading::value_at))]
+    #[tactic(auto, unfolding(crate::specs::RequestReading::attribute_at))]
     pub(crate) fn text(&mut self, name: &[u8]) -> Result<AttributeText<'a>, RequestFault>
-        ensures read { IfOk result (λ text. value_at name.now self.old ≡ Ok (text, self.new)) }
-        ensures refused { IfErr result (λ fault. value_at name.now self.old ≡ Err fault) }
+        ensures read { IfOk result (λ text. attribute_at name.now self.old ≡ Ok (text, self.new)) }
+        ensures refused { IfErr result (λ fault. attribute_at name.now self.old ≡ Err fault) }
     {
         let found = self.zero_ended()?;
         if found.bytes().is_empty() {

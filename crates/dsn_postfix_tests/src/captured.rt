@@ -1,0 +1,134 @@
+//! Requests that programs of Postfix 3.7.11 sent (tests/postfix/) are decoded, and written again as they were.
+use crate::assert_same::same;
+use dsn_postfix::{
+    PostfixRequest, PostfixVersion, RequestFault, decode_postfix_request, encode_postfix_request,
+};
+use std::test::Fail;
+
+/// `append-bounce.bin`.
+const APPEND_BOUNCE: &[u8] =
+    b"nrequest\00\0flags\00\0queue_id\06BB87A7E6A1\0original_recipient\0no.bob@example.org\0recipient\0no.bob@example.org\0offset\0727\0dsn_orig_rcpt\0rfc822;bob@example.org\0notify_flags\012\0status\05.1.1\0diag_type\0smtp\0diag_text\0550 5.1.1 <no.bob>: no such user here\0mta_type\0dns\0mta_mname\0127.0.0.1\0action\0failed\0reason\0host 127.0.0.1[127.0.0.1] said: 550 5.1.1 <no.bob>: no such user here (in reply to RCPT TO command)\0\0";
+
+/// `append-defer.bin`.
+const APPEND_DEFER: &[u8] =
+    b"nrequest\00\0flags\00\0queue_id\06FF65A7E6C1\0original_recipient\0later.fay@example.org\0recipient\0later.fay@example.org\0offset\0684\0dsn_orig_rcpt\0rfc822;later.fay@example.org\0notify_flags\00\0status\04.2.1\0diag_type\0smtp\0diag_text\0450 4.2.1 mailbox busy, try later\0mta_type\0dns\0mta_mname\0127.0.0.1\0action\0delayed\0reason\0host 127.0.0.1[127.0.0.1] said: 450 4.2.1 mailbox busy, try later (in reply to RCPT TO command)\0\0";
+
+/// `append-long.bin`.
+const APPEND_LONG: &[u8] =
+    b"nrequest\00\0flags\00\0queue_id\0717F3A7E6D1\0original_recipient\0long.gus@example.org\0recipient\0long.gus@example.org\0offset\0650\0dsn_orig_rcpt\0rfc822;long.gus@example.org\0notify_flags\00\0status\05.7.1\0diag_type\0smtp\0diag_text\0550-5.7.1 very long words very long words very long words very long words very long words very long words very long words very long words very long words very long words very long words very long words very long words very long words very long words very long words very long words very long words very long words very long words  550 5.7.1 and more of them\0mta_type\0dns\0mta_mname\0127.0.0.1\0action\0failed\0reason\0host 127.0.0.1[127.0.0.1] said: 550-5.7.1 very long words very long words very long words very long words very long words very long words very long words very long words very long words very long words very long words very long words very long words very long words very long words very long words very long words very long words very long words very long words  550 5.7.1 and more of them (in reply to RCPT TO command)\0\0";
+
+/// `append-trace.bin`.
+const APPEND_TRACE: &[u8] =
+    b"nrequest\00\0flags\01024\0queue_id\00B7ADA7F57D\0original_recipient\0no.hal@example.org\0recipient\0no.hal@example.org\0offset\0281\0dsn_orig_rcpt\0rfc822;no.hal@example.org\0notify_flags\00\0status\05.1.1\0diag_type\0smtp\0diag_text\0550 5.1.1 <no.hal>: no such user here\0mta_type\0dns\0mta_mname\0127.0.0.1\0action\0failed\0reason\0delivery via 127.0.0.1[127.0.0.1]:2626: host 127.0.0.1[127.0.0.1] said: 550 5.1.1 <no.hal>: no such user here (in reply to RCPT TO command)\0\0";
+
+/// `append-utf8.bin`.
+const APPEND_UTF8: &[u8] =
+    b"nrequest\00\0flags\00\0queue_id\073D45A7E6E1\0original_recipient\0no.\xc3\xbcrs@example.org\0recipient\0no.\xc3\xbcrs@example.org\0offset\0681\0dsn_orig_rcpt\0rfc822;no.\xc3\xbcrs@example.org\0notify_flags\00\0status\05.1.1\0diag_type\0smtp\0diag_text\0550 5.1.1 <no.\xc3\xa3\xc2\xbcrs>: no such user here\0mta_type\0dns\0mta_mname\0127.0.0.1\0action\0failed\0reason\0host 127.0.0.1[127.0.0.1] said: 550 5.1.1 <no.\xc3\xa3\xc2\xbcrs>: no such user here (in reply to RCPT TO command)\0\0";
+
+/// `append-verify.bin`.
+const APPEND_VERIFY: &[u8] =
+    b"nrequest\00\0flags\0512\0queue_id\018980A7F57D\0original_recipient\0eve@example.org\0recipient\0eve@example.org\0offset\0274\0dsn_orig_rcpt\0rfc822;eve@example.org\0notify_flags\00\0status\02.1.5\0diag_type\0smtp\0diag_text\0250 2.1.5 ok\0mta_type\0dns\0mta_mname\0127.0.0.1\0action\0deliverable\0reason\0delivery via 127.0.0.1[127.0.0.1]:2626: 250 2.1.5 ok\0\0";
+
+/// `flush-bounce.bin`.
+const FLUSH_BOUNCE: &[u8] =
+    b"nrequest\01\0flags\00\0queue_name\0active\0queue_id\06BB87A7E6A1\0encoding\0\0smtputf8\00\0sender\0ann@example.com\0envelope_id\0QQ314159\0ret_flags\02\0\0";
+
+/// `flush-clean.bin`.
+const FLUSH_CLEAN: &[u8] =
+    b"nrequest\01\0flags\01\0queue_name\0incoming\0queue_id\06C7FDA7F585\0encoding\0\0smtputf8\00\0sender\0ann@example.com\0envelope_id\0\0ret_flags\00\0\0";
+
+/// `flush-defer.bin`.
+const FLUSH_DEFER: &[u8] =
+    b"nrequest\01\0flags\02\0queue_name\0active\0queue_id\06FF65A7E6C1\0encoding\0\0smtputf8\00\0sender\0ann@example.com\0envelope_id\0\0ret_flags\00\0\0";
+
+/// `flush-null.bin`.
+const FLUSH_NULL: &[u8] =
+    b"nrequest\01\0flags\00\0queue_name\0active\0queue_id\0717F3A7E6D1\0encoding\0\0smtputf8\00\0sender\0\0envelope_id\0\0ret_flags\00\0\0";
+
+/// `flush-utf8.bin`.
+const FLUSH_UTF8: &[u8] =
+    b"nrequest\01\0flags\00\0queue_name\0active\0queue_id\073D45A7E6E1\0encoding\0\0smtputf8\07\0sender\0\xc3\xa4nn@example.com\0envelope_id\0\0ret_flags\00\0\0";
+
+/// `warn.bin`.
+const WARN: &[u8] =
+    b"nrequest\02\0flags\00\0queue_name\0active\0queue_id\06FF65A7E6C1\0encoding\0\0smtputf8\00\0sender\0ann@example.com\0envelope_id\0\0ret_flags\00\0\0";
+
+/// `verp.bin`.
+const VERP: &[u8] =
+    b"nrequest\03\0flags\00\0queue_name\0active\0queue_id\06CE9CA7E022\0encoding\0\0smtputf8\00\0sender\0list@example.com\0envelope_id\0\0ret_flags\00\0verp_delimiters\0+=\0\0";
+
+/// `trace.bin`.
+const TRACE: &[u8] =
+    b"nrequest\05\0flags\00\0queue_name\0active\0queue_id\06E0BEA7E6B1\0encoding\0\0smtputf8\00\0sender\0ann@example.com\0envelope_id\0\0ret_flags\01\0\0";
+
+/// What is asked, as a word.
+fn asked(request: &PostfixRequest<'_>) -> &'static str {
+    match request {
+        PostfixRequest::Append(_) => "append",
+        PostfixRequest::Flush(_) => "flush",
+        PostfixRequest::Warn(_) => "warn",
+        PostfixRequest::Verp(..) => "verp",
+        PostfixRequest::One(..) => "one",
+        PostfixRequest::Trace(_) => "trace",
+    }
+}
+
+#[test]
+fn what_postfix_sent_is_read_and_written_again(rt: HostRuntime) -> Result<(), Fail> {
+    for (bytes, want) in [
+        (APPEND_BOUNCE, "append"),
+        (APPEND_DEFER, "append"),
+        (APPEND_LONG, "append"),
+        (APPEND_TRACE, "append"),
+        (APPEND_UTF8, "append"),
+        (APPEND_VERIFY, "append"),
+        (FLUSH_BOUNCE, "flush"),
+        (FLUSH_CLEAN, "flush"),
+        (FLUSH_DEFER, "flush"),
+        (FLUSH_NULL, "flush"),
+        (FLUSH_UTF8, "flush"),
+        (WARN, "warn"),
+        (VERP, "verp"),
+        (TRACE, "trace"),
+    ] {
+        let request = decode_postfix_request(PostfixVersion::V3_7, bytes).map_err(|_| "a request")?;
+        same(&rt, asked(&request), want);
+        let written = encode_postfix_request(rt.alloc(), PostfixVersion::V3_7, &request).map_err(
+            |_| "memory",
+        )?;
+        same(&rt, written.as_slice(), bytes);
+    }
+    Ok(())
+}
+
+/// Why bytes are refused, if they are.
+fn refused(bytes: &[u8]) -> Option<RequestFault> {
+    decode_postfix_request(PostfixVersion::V3_7, bytes).err()
+}
+
+#[test]
+fn what_is_no_request_is_refused(rt: HostRuntime) {
+    for (bytes, want) in [
+        (b"".as_slice(), RequestFault::Unended),
+        (b"\0".as_slice(), RequestFault::Missing),
+        (b"nrequest\0".as_slice(), RequestFault::Unended),
+        (b"request\x001\0\0".as_slice(), RequestFault::Name),
+        (b"nrequest\0-1\0\0".as_slice(), RequestFault::Number),
+        (b"nrequest\x006\0\0".as_slice(), RequestFault::Command),
+        (
+            b"nrequest\x001\0flags\x004294967296\0\0".as_slice(),
+            RequestFault::Number,
+        ),
+        (
+            b"nrequest\x001\0flags\x000\0queue_name\0a/b\0\0".as_slice(),
+            RequestFault::QueueName,
+        ),
+        (
+            b"nrequest\x000\0flags\x000\0queue_id\0..\0\0".as_slice(),
+            RequestFault::QueueId,
+        ),
+        (&WARN[..WARN.len() - 1], RequestFault::Unended),
+    ] {
+        same(&rt, refused(bytes), Some(want));
+    }
+}

@@ -2,7 +2,8 @@
 use Rattle.std.proofs.Common.{◌≡◌, ℕ, List, [], ◌∷◌, ◌++◌, Some, None, refl}
 use Rattle.std.specs.Prelude.{codes}
 use Rattle.std.specs.Fmt.{digits}
-use Rattle.dsn_postfix.specs.Attribute.{Attribute, attribute_bytes, attributes_at, list_bytes, number_attribute, number_in, text_attribute}
+use Rattle.dsn_postfix.specs.Attribute.{Attribute, attribute_bytes, attributes_at, number_in, text_attribute}
+use Rattle.dsn_postfix.specs.PostfixAnswer.{announcement_bytes, status_bytes}
 
 abbrev announcement : List ℕ
 announcement = codes "protocol" ++ (0 ∷ codes "delivery_status_protocol") ++ (0 ∷ 0 ∷ [])
@@ -13,12 +14,12 @@ answer = codes "status" ++ (0 ∷ codes "4294967295") ++ (0 ∷ 0 ∷ [])
 abbrev announced : Attribute
 announced = text_attribute (codes "protocol") (codes "delivery_status_protocol")
 
-announcement_is_written : list_bytes (announced ∷ []) ≡ announcement
-unfolding attribute_bytes
+announcement_is_written : announcement_bytes ≡ announcement
+unfolding announcement_bytes attribute_bytes
 announcement_is_written = refl
 
-answer_is_written : list_bytes (number_attribute (codes "status") 4294967295 ∷ []) ≡ answer
-unfolding attribute_bytes digits
+answer_is_written : status_bytes 4294967295 ≡ answer
+unfolding status_bytes attribute_bytes digits
 answer_is_written = refl
 
 -- two lists, one after the other

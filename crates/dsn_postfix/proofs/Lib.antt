@@ -6,4 +6,5 @@ pub mod ListLaws
 pub mod NumberLemmas
 mod RequestExamples
 pub mod RequestLaws
+pub mod StatusLaws
 pub mod Writing

@@ -141,7 +141,7 @@ own_again version (Trace notice) rest fits = rw (notice_again version notice res
 
 -- ---- a whole request
 
-ended : (rest : List ℕ) (x : Bool) → end_at rest ≡ Ok x → rest ≡ 0 ∷ []
+pub ended : (rest : List ℕ) (x : Bool) → end_at rest ≡ Ok x → rest ≡ 0 ∷ []
 ended [] x e = absurd cc
 ended (zero ∷ []) x e = refl
 ended (zero ∷ (byte ∷ rest)) x e = absurd cc

@@ -1,4 +1,5 @@
 pub mod Attribute
 pub mod AttributeValues
+pub mod PostfixAnswer
 pub mod PostfixRequest
 pub mod RequestReading

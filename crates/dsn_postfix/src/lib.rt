@@ -8,6 +8,7 @@ mod decode;
 mod encode;
 mod laws;
 mod number;
+mod postfix_answer;
 mod postfix_request;
 mod postfix_version;
 mod queue_name;
@@ -19,6 +20,7 @@ pub use attribute_text::AttributeText;
 pub use decode::decode_postfix_request;
 pub use encode::encode_postfix_request;
 pub use laws::lists_are_read_as_written;
+pub use postfix_answer::{decode_status, encode_announcement, encode_status};
 pub use postfix_request::{
     AppendRequest, DeliveryReport, NoticeRequest, PostfixRequest, ReportedRecipient,
 };

@@ -1,0 +1,9 @@
+mod LogExamples
+mod LogFileLemmas
+mod LogLineLemmas
+mod LogPicked
+mod LogReadBack
+mod LogRecordLemmas
+mod LogRoundTrip
+mod LogSpaces
+mod LogWritten

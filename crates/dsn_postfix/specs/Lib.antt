@@ -1,0 +1,3 @@
+pub mod LogFile
+pub mod LogLine
+pub mod LogRecord

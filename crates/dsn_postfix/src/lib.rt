@@ -1,0 +1,16 @@
+//! What Postfix keeps of a message, as bytes: the log files that bounce(8) writes, read and
+//! written.
+#![tactic(auto)]
+
+mod laws;
+mod log_field;
+mod log_line;
+mod log_reader;
+mod log_record;
+mod log_write_error;
+mod log_writer;
+
+pub use laws::written_logs_are_read_back;
+pub use log_reader::LogReader;
+pub use log_record::LogRecord;
+pub use log_write_error::LogWriteError;

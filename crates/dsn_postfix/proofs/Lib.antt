@@ -7,3 +7,5 @@ mod LogRecordLemmas
 mod LogRoundTrip
 mod LogSpaces
 mod LogWritten
+mod QueueExamples
+mod QueueWalkLemmas

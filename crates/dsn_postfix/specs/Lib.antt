@@ -1,3 +1,5 @@
 pub mod LogFile
 pub mod LogLine
 pub mod LogRecord
+pub mod QueueRecord
+pub mod QueueWalk

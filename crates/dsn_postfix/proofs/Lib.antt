@@ -1,10 +1,21 @@
 mod AttributeExamples
+mod LogExamples
+mod LogFileLemmas
+mod LogLineLemmas
+mod LogPicked
+mod LogReadBack
+mod LogRecordLemmas
+mod LogRoundTrip
+mod LogSpaces
+mod LogWritten
+mod QueueExamples
+mod QueueWalkLemmas
+mod RequestExamples
 pub mod AttributeLaws
 pub mod AttributeLemmas
 pub mod FieldReadings
 pub mod ListLaws
 pub mod NumberLemmas
-mod RequestExamples
 pub mod RequestLaws
 pub mod StatusLaws
 pub mod Writing

@@ -1,5 +1,10 @@
 pub mod Attribute
 pub mod AttributeValues
+pub mod LogFile
+pub mod LogLine
+pub mod LogRecord
 pub mod PostfixAnswer
 pub mod PostfixRequest
+pub mod QueueRecord
+pub mod QueueWalk
 pub mod RequestReading

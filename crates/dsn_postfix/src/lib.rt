@@ -1,4 +1,5 @@
-//! What Postfix's programs say to its bounce service: lists of attributes, and the requests that they make.
+//! What Postfix's programs say to its bounce service, and what they keep of a message, as bytes: lists of
+//! attributes and the requests that they make, log files, and the records of queue files.
 #![tactic(auto)]
 
 mod attribute_reader;
@@ -7,11 +8,21 @@ mod attribute_writer;
 mod decode;
 mod encode;
 mod laws;
+mod log_field;
+mod log_line;
+mod log_reader;
+mod log_record;
+mod log_write_error;
+mod log_writer;
 mod number;
 mod postfix_answer;
 mod postfix_request;
 mod postfix_version;
+mod queue_broken;
 mod queue_name;
+mod queue_reader;
+mod queue_record;
+mod queue_step;
 mod request_fault;
 mod request_reading;
 mod verp_delimiters;
@@ -20,11 +31,18 @@ pub use attribute_text::AttributeText;
 pub use decode::decode_postfix_request;
 pub use encode::encode_postfix_request;
 pub use laws::lists_are_read_as_written;
+pub use laws::written_logs_are_read_back;
+pub use log_reader::LogReader;
+pub use log_record::LogRecord;
+pub use log_write_error::LogWriteError;
 pub use postfix_answer::{decode_status, encode_announcement, encode_status};
 pub use postfix_request::{
     AppendRequest, DeliveryReport, NoticeRequest, PostfixRequest, ReportedRecipient,
 };
 pub use postfix_version::PostfixVersion;
+pub use queue_broken::QueueBroken;
 pub use queue_name::{LONGEST_QUEUE_NAME, QueueName};
+pub use queue_reader::QueueReader;
+pub use queue_record::QueueRecord;
 pub use request_fault::RequestFault;
 pub use verp_delimiters::VerpDelimiters;

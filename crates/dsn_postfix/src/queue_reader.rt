@@ -1,0 +1,93 @@
+//! Reads a queue file, a record at a time.
+ghost use Rattle.std.specs.Prelude.{◌≡◌, ◌≤◌, length, MatchOption, MatchResult};
+ghost use Rattle.dsn_postfix.specs.QueueRecord.{queued_bytes_in};
+ghost use Rattle.dsn_postfix.specs.QueueWalk.{BrokenThere, EndThere, IsNextStep, RecordThere, StepsTo, most_jumps, step_in};
+
+use crate::queue_broken::QueueBroken;
+use crate::queue_record::QueueRecord;
+use crate::queue_step::{QueueStep, step_at};
+use std::marker::Model;
+
+/// How many pointers back a file may have, as Postfix has it.
+const MOST_JUMPS: u32 = 10_000;
+
+/// Reads the records of a queue file in the order in which they count. Pointers are followed and
+/// not given: each goes forward, or is one of at most 10,000 that go back, so that the reading ends.
+#[derive(Drop)]
+pub struct QueueReader<'a> {
+    file: &'a [u8],
+    rest: &'a [u8],
+    jumps: u32,
+}
+
+impl<'a> Model for QueueReader<'a> {
+    ghost use Rattle.std.specs.Prelude.{length, ◌≤◌};
+    ghost use Rattle.dsn_postfix.specs.QueueWalk.{QueueReading};
+
+    ghost Value = { QueueReading };
+
+    ghost view = { λ reader. record {
+      file = reader.file.now;
+      place = record { rest = reader.rest.now; jumps = reader.jumps };
+    } };
+
+    ghost invariant = { λ reader. length reader.rest.now ≤ length reader.file.now };
+}
+
+impl<'a> QueueReader<'a> {
+    /// A reader of a queue file, from all bytes of it.
+    pub fn new(file: &'a [u8]) -> QueueReader<'a>
+        ensures { result ≡ record {
+          file = file.now;
+          place = record { rest = file.now; jumps = most_jumps };
+        } }
+    {
+        QueueReader {
+            file,
+            rest: file,
+            jumps: MOST_JUMPS,
+        }
+    }
+
+    /// The next record, or none where the file's last record comes; then, and after a fault, another
+    /// call answers the same.
+    pub fn next_record(&mut self) -> Result<Option<QueueRecord<'a>>, QueueBroken>
+        ensures file { self.new.file ≡ self.old.file }
+        ensures found { MatchResult result
+            (λ found. MatchOption found
+            ((self.new ≡ self.old) × StepsTo self.old.file self.old.place EndThere)
+            (λ queue_record. StepsTo self.old.file self.old.place
+            (RecordThere (queued_bytes_in queue_record) self.new.place)))
+            (λ _. (self.new ≡ self.old) × StepsTo self.old.file self.old.place BrokenThere) }
+    {
+        match next_step(self.file, self.rest, self.jumps) {
+            QueueStep::Record(found, after, jumps) => {
+                self.rest = after;
+                self.jumps = jumps;
+                Ok(Some(found))
+            }
+            QueueStep::End => Ok(None),
+            QueueStep::Broken => Err(QueueBroken),
+            QueueStep::Pointer(_, _) => unreachable!(),
+        }
+    }
+}
+
+/// The next step that is no pointer.
+fn next_step<'a>(file: &'a [u8], rest: &'a [u8], jumps: u32) -> QueueStep<'a>
+    requires { length rest.now ≤ length file.now }
+    ensures steps { StepsTo file.now (record { rest = rest.now; jumps = jumps }) (step_in result) }
+    ensures next { IsNextStep file.now (step_in result) }
+{
+    let mut here = rest;
+    let mut left = jumps;
+    loop {
+        match step_at(file, here, left) {
+            QueueStep::Pointer(there, fewer) => {
+                here = there;
+                left = fewer;
+            }
+            step => return step,
+        }
+    }
+}

@@ -18,6 +18,10 @@
 //! `SIZE` bytes, where it isn't there; with 0 it has to be. Standard output has `opened` and where
 //! the next record goes, then the answers' frames, and a line where a group found no room.
 //!
+//! `probe postfix KIND` reads a file that Postfix keeps from standard input: with `bounce`, `defer`
+//! or `trace` a log file of bounce(8), whose records it writes to standard output again; with
+//! `queue` a queue file, of which it writes each record that counts as a line.
+//!
 //! `probe channel MESSAGES` exchanges so many messages between two threads over channels alone, for
 //! comparison.
 #![tactic(auto)]
@@ -26,6 +30,7 @@ mod calls;
 mod channel;
 mod crew;
 mod journal;
+mod postfix;
 mod task;
 
 use std::io::Read;
@@ -45,6 +50,10 @@ fn main(rt: HostRuntime) -> ExitCode {
         },
         Some(Task::Journal(keeping)) => match sent(&rt) {
             Some(sent) => journal::keep(&rt, &keeping, &sent),
+            None => None,
+        },
+        Some(Task::Postfix(kind)) => match sent(&rt) {
+            Some(sent) => postfix::show(&rt, kind, &sent),
             None => None,
         },
         Some(Task::Channel(messages)) => channel::exchange(&rt, rt.alloc(), messages),

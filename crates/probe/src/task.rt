@@ -1,7 +1,9 @@
 //! What the arguments ask for.
 use crate::crew::{Call, Failing, Failure};
 use crate::journal::Keeping;
+use crate::postfix::PostfixFile;
 use dsn_book::Limits;
+use dsn_text::Service;
 use std::env;
 use std::env::Args;
 
@@ -18,6 +20,8 @@ pub(crate) enum Task {
     Given(usize, Failing),
     /// Keeps requests in a journal.
     Journal(Keeping),
+    /// Reads a file of this kind.
+    Postfix(PostfixFile),
 }
 
 /// What the arguments ask for; none where they are wrong, or memory was refused.
@@ -31,6 +35,7 @@ pub(crate) fn asked_for(rt: &HostRuntime) -> Option<Task> {
         "given" => given(words),
         "channel" => Some(Task::Channel(number(&mut words)?)),
         "journal" => journal(words),
+        "postfix" => Some(Task::Postfix(file_of(words.next()?.as_str())?)),
         _ => None,
     }
 }
@@ -63,6 +68,17 @@ fn journal(mut words: Args) -> Option<Task> {
         limits,
         group,
     }))
+}
+
+/// The kind of file that a word names.
+fn file_of(word: &str) -> Option<PostfixFile> {
+    match word {
+        "bounce" => Some(PostfixFile::Log(Service::Bounce)),
+        "defer" => Some(PostfixFile::Log(Service::Defer)),
+        "trace" => Some(PostfixFile::Log(Service::Trace)),
+        "queue" => Some(PostfixFile::Queue),
+        _ => None,
+    }
 }
 
 /// The call that a word names.

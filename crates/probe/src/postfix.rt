@@ -1,0 +1,52 @@
+//! Reads files that Postfix keeps, for scripts that compare what is found with what Postfix finds.
+use dsn_postfix::{LogReader, QueueReader};
+use dsn_text::Service;
+use std::io::Write;
+
+/// A kind of file that Postfix keeps.
+#[derive(Clone, Copy, Drop)]
+pub(crate) enum PostfixFile {
+    /// A log file of bounce(8).
+    Log(Service),
+    /// A queue file.
+    Queue,
+}
+
+/// Writes what is found in a file to standard output.
+pub(crate) fn show(rt: &HostRuntime, kind: PostfixFile, file: &[u8]) -> Option<()> {
+    let found = match kind {
+        PostfixFile::Log(service) => copied(rt, service, file)?,
+        PostfixFile::Queue => listed(rt, file)?,
+    };
+    rt.stdout().write_all(&found).ok()
+}
+
+/// The records of a log file, written again.
+fn copied(rt: &HostRuntime, service: Service, file: &[u8]) -> Option<Vec<u8>> {
+    let mut reader = LogReader::new(service, file);
+    let mut copy = Vec::new(rt.alloc());
+    for _ in 0..file.len() {
+        let Some(found) = reader.next_record() else {
+            break;
+        };
+        let bytes = found.log_bytes(rt.alloc()).ok()?;
+        copy.extend_from_slice(&bytes).ok()?;
+    }
+    Some(copy)
+}
+
+/// The records of a queue file that count, in their order, each as a line: its type's letter and
+/// its bytes.
+fn listed(rt: &HostRuntime, file: &[u8]) -> Option<Vec<u8>> {
+    let mut reader = QueueReader::new(file);
+    let mut lines = Vec::new(rt.alloc());
+    for _ in 0..file.len() {
+        let Some(found) = reader.next_record().ok()? else {
+            break;
+        };
+        lines.push(found.kind).ok()?;
+        lines.extend_from_slice(found.bytes).ok()?;
+        lines.push(b'\n').ok()?;
+    }
+    Some(lines)
+}

@@ -40,7 +40,7 @@ def request(number: int) -> bytes:
 
 def timed(path: Path, given: bytes, group: int) -> float:
     """The seconds of a run that keeps what is given."""
-    words = [PROBE, "journal", path, SIZE, 4096, 1000, 1_000_000, group]
+    words = [PROBE, "journal", path, SIZE, 4096, 1000, 1_000_000, group, 0]
     began = time.monotonic()
     ended = subprocess.run(list(map(str, words)), input=given, stdout=subprocess.PIPE, check=True)
     seconds = time.monotonic() - began

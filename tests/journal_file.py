@@ -59,10 +59,12 @@ class Ran:
     status: int = 0
 
 
-def keep(path: Path, asked: list, size: int = SIZE, group: int = GROUP, limits: Limits = LIMITS, environment=None) -> Ran:
-    """Runs a ledger over a file."""
+def keep(path: Path, asked: list, size: int = SIZE, group: int = GROUP, limits: Limits = LIMITS, environment=None, mark=None) -> Ran:
+    """Runs a ledger over a file; under the mark that counts what was posted when it was made, unless another is given."""
     given = b"".join(frame(number, it) for number, it in enumerate(asked))
-    words = [path, size, limits.logs, limits.entries, limits.requests, group]
+    if mark is None:
+        mark = journal.base_of(path.read_bytes()) & 0xFFFFFFFF if path.exists() else 0
+    words = [path, size, limits.logs, limits.entries, limits.requests, group, mark]
     ended = subprocess.run([PROBE, "journal", *map(str, words)], input=given, capture_output=True, timeout=PATIENCE, check=False, env=environment)
     ran, rest = Ran(status=ended.returncode), ended.stdout
     if ended.stderr:
@@ -142,7 +144,7 @@ def check_full(checks: Checks, room: Path):
 def check_opening(checks: Checks, room: Path):
     """What isn't opened."""
     damaged, other = b"a record of the journal is damaged", b"the journal is of another version, or was kept under other limits"
-    header = journal.header(LIMITS)
+    foreign, header = b"the file isn't a journal's", journal.header(LIMITS)
     for about, kept, why in (
         ("a record that keeps no body", [header, b"A"], damaged),
         ("a header among the records", [header, header], damaged),
@@ -162,6 +164,28 @@ def check_opening(checks: Checks, room: Path):
         ran = keep(path, [])
         checks.equal(about, (ran.lines, ran.status), ([b"not opened: " + why], 1))
         checks.equal(f"{about}: the file stays", path.read_bytes(), file)
+    begun, of_others = journal.at_rest([header], SIZE), journal.at_rest([journal.header(Limits(4, 3, 100))], SIZE)
+    end = begun.index(b"\2\0")
+    for about, file in (
+        ("a file of text", b"A file of text, and no journal.\n".ljust(SIZE, b"\0")),
+        ("a file of text without an end", b"A" * SIZE),
+        ("one byte among zeros", bytes(SIZE - 1) + b"A"),
+        ("a journal whose first byte was lost", b"\0" + journal.at_rest([header, frame(0, ("discard", KEYS[0]))[4:]], SIZE)[1:]),
+        ("a header of other limits in part", of_others[: end - 1].ljust(SIZE, b"\0")),
+        ("a header and a byte after its part", begun[: end - 1] + bytes(9) + b"\2" + bytes(SIZE - end - 9)),
+    ):
+        path.write_bytes(file)
+        ran = keep(path, [])
+        checks.equal(about, (ran.lines, ran.status), ([b"not opened: " + foreign], 1))
+        checks.equal(f"{about}: the file stays", path.read_bytes(), file)
+    for about, file in (("a header in part", begun[: end - 1].ljust(SIZE, b"\0")), ("a header with a hole", b"\0" + begun[1:5] + b"\0" + begun[6:])):
+        path.write_bytes(file)
+        checks.equal(about, (keep(path, []).status, path.read_bytes()), (0, begun))
+    two = journal.header(LIMITS, 2)
+    for mark, why in ((1, b"the mark counts fewer letters than the journal's base"), (3, b"the mark counts more letters than the journal sealed")):
+        path.write_bytes(journal.at_rest([two], SIZE))
+        ran = keep(path, [], mark=mark)
+        checks.equal(f"a mark of {mark} over a base of 2", (ran.lines, ran.status, path.read_bytes()), ([b"not opened: " + why], 1, journal.at_rest([two], SIZE)))
     ran = keep(room / "none", [], size=0)
     checks.true("a file that isn't there", (len(ran.lines), ran.lines[0][:8], ran.status) == (1, b"no file:", 1))
 
@@ -291,7 +315,7 @@ def check_crashes_of_an_opening(checks: Checks, room: Path, library: Path):
     """The machine stops within a group, and again within each call of the opening after it."""
     path, asked = room / "opening", any_requests(20, 7)
     for kept in ("first", *range(4)):
-        disturbed(library, path, asked, CRASH_AT=12, KEEP=kept)
+        disturbed(library, path, asked, CRASH_AT=10, KEEP=kept)
         left, count = path.read_bytes(), len(found(path))
         for number in range(1, 5):
             for again in ("none", "all", *range(4)):

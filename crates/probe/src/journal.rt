@@ -1,5 +1,6 @@
 //! A ledger over a file: what standard input asks is kept in groups, and then answered. Its letters
-//! count as posted; where there is no room, the journal is put away for a shorter one.
+//! count as posted; where there is no room, the journal is put away for a shorter one. It keeps no
+//! marks: who runs it says the mark, which is the base of a file that was put away.
 mod asking;
 mod taking;
 
@@ -23,6 +24,8 @@ pub(crate) struct Keeping {
     pub(crate) limits: Limits,
     /// How many requests are kept at once.
     pub(crate) group: u32,
+    /// The mark, as a file of marks would have it.
+    pub(crate) mark: u64,
 }
 
 /// Opens a ledger, and has what is given, frame by frame, kept and answered. Standard output gets a
@@ -36,7 +39,7 @@ pub(crate) fn keep(rt: &HostRuntime, keeping: &Keeping, given: &[u8]) -> Option<
             return None;
         }
     };
-    let opened = match open(rt.alloc(), &mut disk, keeping.limits, 0) {
+    let opened = match open(rt.alloc(), &mut disk, keeping.limits, keeping.mark) {
         Ok(opened) => opened,
         Err(error) => {
             println!(rt; "not opened: {error}").ok()?;

@@ -13,10 +13,11 @@
 //! (`error`, `interruption`, `nothing`). Standard output has `conn` for each connection and the
 //! bytes of its answers before the rest.
 //!
-//! `probe journal FILE SIZE LOGS ENTRIES REQUESTS GROUP` opens the ledger of a file under these limits,
-//! and keeps and answers the frames that standard input gives, so many at once. The file is made, of
-//! `SIZE` bytes, where it isn't there; with 0 it has to be. Standard output has `opened` and where
-//! the next record goes, then the answers' frames, and a line where a group found no room.
+//! `probe journal FILE SIZE LOGS ENTRIES REQUESTS GROUP MARK` opens the ledger of a file under these
+//! limits and a mark, and keeps and answers the frames that standard input gives, so many at once. The
+//! file is made, of `SIZE` bytes, where it isn't there; with 0 it has to be. Standard output has
+//! `opened` and where the next record goes, then the answers' frames, and a line where a group found no
+//! room.
 //!
 //! `probe postfix KIND` reads a file that Postfix keeps from standard input: with `bounce`, `defer`
 //! or `trace` a log file of bounce(8), whose records it writes to standard output again; with

@@ -54,7 +54,7 @@ fn given(mut words: Args) -> Option<Task> {
     Some(Task::Given(most as usize, Failing::new(call, u64::from(at), failure)))
 }
 
-/// The arguments `FILE SIZE LOGS ENTRIES REQUESTS GROUP` of a journal.
+/// The arguments `FILE SIZE LOGS ENTRIES REQUESTS GROUP MARK` of a journal.
 fn journal(mut words: Args) -> Option<Task> {
     let path = words.next()?;
     let size = number(&mut words)?;
@@ -62,11 +62,13 @@ fn journal(mut words: Args) -> Option<Task> {
     let entries = number(&mut words)?;
     let limits = Limits::new(logs, entries, number(&mut words)?)?;
     let group = number(&mut words)?;
+    let mark = u64::from(number(&mut words)?);
     Some(Task::Journal(Keeping {
         path,
         size,
         limits,
         group,
+        mark,
     }))
 }
 

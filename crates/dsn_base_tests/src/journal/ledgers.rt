@@ -231,6 +231,8 @@ fn a_disk_without_the_header_of_its_limits_is_refused(rt: HostRuntime) -> Result
     let alloc = rt.alloc();
     let other = Some(LedgerError::OtherHeader);
     let full = Some(LedgerError::Journal(JournalError::Full));
+    let foreign = Some(LedgerError::Foreign);
+    let behind = Some(LedgerError::MarkBehind);
     for (bytes, refusal) in [
         (HEADER.as_slice(), None),
         ([2].as_slice(), other),
@@ -239,11 +241,39 @@ fn a_disk_without_the_header_of_its_limits_is_refused(rt: HostRuntime) -> Result
         ([0; 40].as_slice(), full),
         // What isn't ended is no header.
         (&HEADER[..40], full),
+        // Bytes of no journal, and a first record whose end was lost.
+        (
+            b"A text, and no journal that was begun here.".as_slice(),
+            foreign,
+        ),
+        ([65].as_slice(), foreign),
         // A base of 2^63, and the greatest one.
         (with_base(alloc, 128)?.as_slice(), other),
-        (with_base(alloc, 127)?.as_slice(), None),
+        (with_base(alloc, 127)?.as_slice(), behind),
     ] {
         same(&rt, refusal_of(alloc, bytes, &[])?, refusal);
+    }
+    Ok(())
+}
+
+#[test]
+fn a_disk_is_new_where_a_header_was_begun(rt: HostRuntime) -> Result<(), Fail> {
+    let alloc = rt.alloc();
+    for (place, byte, refusal) in [
+        // A byte that a crash took away, at the beginning, within and at the end.
+        (0usize, 0, None),
+        (9, 0, None),
+        (40, 0, None),
+        // One that no header has there, where the end is missing.
+        (39, 65, Some(LedgerError::Foreign)),
+        (41, 65, Some(LedgerError::Foreign)),
+    ] {
+        let mut header = HEADER[..40].to_vec(alloc)?;
+        header.resize(42, 0)?;
+        if let Some(at) = header.get_mut(place) {
+            *at = byte;
+        }
+        same(&rt, refusal_of(alloc, &header, &[0])?, refusal);
     }
     Ok(())
 }

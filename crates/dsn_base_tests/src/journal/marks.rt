@@ -24,13 +24,17 @@ const SIZE: usize = 40;
 struct Few {
     left: u32,
     taken: Vec<Snapshot<Letter>>,
+    failures: u64,
 }
 
 impl Outlet for Few {
     ghost taken = { λ f. map (λ one. one.value) f.taken.items };
 
+    ghost failures = { λ f. f.failures };
+
     fn take(&mut self, letter: &Letter) -> Result<(), Broken> {
         if self.left == 0 || self.taken.push(Snapshot::of(letter)).is_err() {
+            self.failures = self.failures.saturating_add(1);
             return Err(Broken);
         }
         self.left -= 1;
@@ -136,6 +140,7 @@ fn a_letter_is_marked_in_its_turn_and_once_it_was_taken(rt: HostRuntime) -> Resu
     let mut outlet = Few {
         left: 2,
         taken: Vec::new(alloc),
+        failures: 0,
     };
     let mut disk = MemoryDisk::new(alloc, vec![in alloc; 0; SIZE]?);
     let (late, refused) = (Err(DeliveryError::OutOfTurn), Err(DeliveryError::Outlet));

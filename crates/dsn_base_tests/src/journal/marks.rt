@@ -126,11 +126,14 @@ fn disk_of_three(alloc: Global, limits: Limits) -> Result<MemoryDisk, Fail> {
 
 /// Opens a disk of marks.
 fn open_marks<D: Replaceable + Drop>(alloc: Global, disk: D) -> Result<Marks<D>, Fail> {
-    match Marks::open(alloc, disk) {
-        Ok(marks) if marks.mark() < 100 => Ok(marks),
-        Ok(_) => Err(Fail::from("a late mark")),
-        Err(_) => Err(Fail::from("no marks")),
+    let marks = match Marks::open(alloc, disk) {
+        Ok(marks) => marks,
+        Err(_left) => return Err(Fail::from("no marks")),
+    };
+    if marks.mark() > 100 {
+        return Err(Fail::from("a late mark"));
     }
+    Ok(marks)
 }
 
 /// Delivers a letter over marks whose mark is low: what came of it, and the mark then.

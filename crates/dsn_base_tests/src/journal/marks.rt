@@ -8,29 +8,49 @@ use crate::book::books::histories::generated;
 use dsn_book::Limits;
 use dsn_device::Broken;
 use dsn_journal::{
-    DeliveryError, Journal, JournalError, LedgerError, Marks, MemoryDisk, Outlet, Recovered,
-    deliver, mark_in, open, recover,
+    DeliveryError, FileDisk, Journal, JournalError, LedgerError, Marks, MarksError, MemoryDisk,
+    Outlet, Replaceable, create_file, deliver, mark_in, open, recover,
 };
 use dsn_outcome::Letter;
 use std::alloc::Global;
+use std::fs;
 use std::snapshot::Snapshot;
 use std::test::Fail;
 
 /// How many bytes the disk of marks has: room for two of them, of 16 bytes each.
 const SIZE: usize = 40;
 
+/// A folder of its own, and the file of marks in it.
+const FOLDER: &str = "dsn_journal_marks";
+
+const PATH: &str = "dsn_journal_marks/marks";
+
 /// Takes so many letters, and fails then.
 #[derive(Drop)]
 struct Few {
     left: u32,
     taken: Vec<Snapshot<Letter>>,
+    failures: u64,
+}
+
+impl Few {
+    fn new(alloc: Global, left: u32) -> Few {
+        Few {
+            left,
+            taken: Vec::new(alloc),
+            failures: 0,
+        }
+    }
 }
 
 impl Outlet for Few {
     ghost taken = { λ f. map (λ one. one.value) f.taken.items };
 
+    ghost failures = { λ f. f.failures };
+
     fn take(&mut self, letter: &Letter) -> Result<(), Broken> {
         if self.left == 0 || self.taken.push(Snapshot::of(letter)).is_err() {
+            self.failures = self.failures.saturating_add(1);
             return Err(Broken);
         }
         self.left -= 1;
@@ -104,40 +124,49 @@ fn disk_of_three(alloc: Global, limits: Limits) -> Result<MemoryDisk, Fail> {
     Ok(ledger.journal.disk)
 }
 
-/// Opens a disk of marks, and delivers a letter. The disk comes back, with what came of it.
-fn deliver_one(
-    alloc: Global,
-    mut disk: MemoryDisk,
-    letter: &Letter,
-    outlet: &mut Few,
-) -> Result<(MemoryDisk, Result<(), DeliveryError>), Fail> {
-    let Recovered { records, used } = recover(alloc, &mut disk)?;
-    let mark = mark_in(&records).ok_or("no mark")?;
-    if mark > 100 {
+/// Opens a disk of marks.
+fn open_marks<D: Replaceable + Drop>(alloc: Global, disk: D) -> Result<Marks<D>, Fail> {
+    let marks = match Marks::open(alloc, disk) {
+        Ok(marks) => marks,
+        Err(_left) => return Err(Fail::from("no marks")),
+    };
+    if marks.mark() > 100 {
         return Err(Fail::from("a late mark"));
     }
-    let mut marks = Marks {
-        journal: Journal { disk, used },
-        mark,
-    };
-    let delivered = deliver(alloc, letter, outlet, &mut marks);
-    Ok((marks.journal.disk, delivered))
+    Ok(marks)
+}
+
+/// Delivers a letter over marks whose mark is low: what came of it, and the mark then.
+fn deliver_one<D: Replaceable>(
+    alloc: Global,
+    letter: &Letter,
+    outlet: &mut Few,
+    marks: &mut Marks<D>,
+) -> Result<(Result<(), DeliveryError>, u64), Fail> {
+    if marks.mark() > 100 {
+        return Err(Fail::from("a late mark"));
+    }
+    let delivered = deliver(alloc, letter, outlet, marks);
+    Ok((delivered, marks.mark()))
+}
+
+/// The letters of a journal that sealed three.
+fn three_letters(alloc: Global) -> Result<Vec<Letter>, Fail> {
+    let limits = Limits::new(6, 4, 100).ok_or("not limits")?;
+    let mut disk = disk_of_three(alloc, limits)?;
+    Ok(open(alloc, &mut disk, limits, 0)?.letters)
 }
 
 #[test]
 fn a_letter_is_marked_in_its_turn_and_once_it_was_taken(rt: HostRuntime) -> Result<(), Fail> {
     let alloc = rt.alloc();
-    let limits = Limits::new(6, 4, 100).ok_or("not limits")?;
-    let mut disk = disk_of_three(alloc, limits)?;
-    let letters = open(alloc, &mut disk, limits, 0)?.letters;
+    let letters = three_letters(alloc)?;
     let [first, second, third] = letters.as_slice() else {
         return Err(Fail::from("not three letters"));
     };
-    let mut outlet = Few {
-        left: 2,
-        taken: Vec::new(alloc),
-    };
-    let mut disk = MemoryDisk::new(alloc, vec![in alloc; 0; SIZE]?);
+    let mut outlet = Few::new(alloc, 2);
+    let disk = MemoryDisk::new(alloc, vec![in alloc; 0; SIZE]?);
+    let mut marks = open_marks(alloc, disk)?;
     let (late, refused) = (Err(DeliveryError::OutOfTurn), Err(DeliveryError::Outlet));
     for (letter, wanted, mark) in [
         (second, late, 0),
@@ -145,18 +174,119 @@ fn a_letter_is_marked_in_its_turn_and_once_it_was_taken(rt: HostRuntime) -> Resu
         (first, late, 1),
         (third, late, 1),
         (second, Ok(()), 2),
+        (second, late, 2),
         (third, refused, 2),
     ] {
-        let (mut then, delivered) = deliver_one(alloc, disk, letter, &mut outlet)?;
-        same(&rt, delivered, wanted);
         same(
             &rt,
-            mark_in(&recover(alloc, &mut then)?.records),
-            Some(mark),
+            deliver_one(alloc, letter, &mut outlet, &mut marks)?,
+            (wanted, mark),
         );
-        disk = then;
+        // The next run finds the same mark.
+        marks = open_marks(alloc, marks.into_disk())?;
+        same(&rt, (marks.mark(), marks.is_settled()), (mark, true));
+    }
+    same(&rt, (outlet.taken.len(), outlet.failures), (2, 1));
+    Ok(())
+}
+
+#[test]
+fn an_outlet_that_fails_is_asked_only_for_the_next_letter(rt: HostRuntime) -> Result<(), Fail> {
+    let alloc = rt.alloc();
+    let letters = three_letters(alloc)?;
+    let mut outlet = Few::new(alloc, 0);
+    let disk = MemoryDisk::new(alloc, vec![in alloc; 0; SIZE]?);
+    let mut marks = open_marks(alloc, disk)?;
+    let (late, refused) = (Err(DeliveryError::OutOfTurn), Err(DeliveryError::Outlet));
+    for (place, wanted, failures) in [
+        (1, late, 0),
+        (0, refused, 1),
+        (2, late, 1),
+        (0, refused, 2),
+    ] {
+        let letter = letters.get(place).ok_or("no letter")?;
+        same(
+            &rt,
+            deliver_one(alloc, letter, &mut outlet, &mut marks)?,
+            (wanted, 0),
+        );
+        same(&rt, outlet.failures, failures);
+    }
+    same(&rt, outlet.taken.len(), 0);
+    Ok(())
+}
+
+#[test]
+fn a_letter_whose_mark_has_no_room_was_taken(rt: HostRuntime) -> Result<(), Fail> {
+    let alloc = rt.alloc();
+    let letters = three_letters(alloc)?;
+    let first = letters.first().ok_or("no letter")?;
+    let mut outlet = Few::new(alloc, 2);
+    let full = Err(DeliveryError::Marks(JournalError::Full));
+    // The mark 1 has seventeen bytes there: each of its eight is written as two, and then its end.
+    for (size, wanted, mark) in [(16, full, 0), (17, Ok(()), 1)] {
+        let disk = MemoryDisk::new(alloc, vec![in alloc; 0; size]?);
+        let mut marks = open_marks(alloc, disk)?;
+        let delivered = deliver_one(alloc, first, &mut outlet, &mut marks)?;
+        same(&rt, (delivered, marks.is_settled()), ((wanted, mark), true));
     }
     same(&rt, outlet.taken.len(), 2);
+    Ok(())
+}
+
+#[test]
+fn marks_whose_last_record_is_none_are_not_opened(rt: HostRuntime) -> Result<(), Fail> {
+    let alloc = rt.alloc();
+    // A record, and what a crash left of another one.
+    let bytes = b"1234567\x02rest\0\0\0\0".to_vec(alloc)?;
+    let disk = MemoryDisk::new(alloc, bytes);
+    let Err(left) = Marks::open(alloc, disk) else {
+        return Err(Fail::from("opened"));
+    };
+    same(&rt, left.cause, MarksError::Damaged);
+    // It was synced, and nothing was written.
+    let moment = left.disk.moment();
+    let bytes = left.disk.crashed(moment, 0)?;
+    let wanted = b"1234567\x02rest\0\0\0\0".as_slice();
+    same(&rt, (moment, bytes.as_slice() == wanted), (1, true));
+    Ok(())
+}
+
+#[test]
+fn marks_whose_disk_failed_are_opened_anew(rt: HostRuntime) -> Result<(), Fail> {
+    let alloc = rt.alloc();
+    let _ = fs::remove_dir_all(&rt, FOLDER);
+    fs::create_dir(&rt, FOLDER)?;
+    create_file(&rt, PATH, 17)?;
+    let letters = three_letters(alloc)?;
+    let [first, second, _] = letters.as_slice() else {
+        return Err(Fail::from("not three letters"));
+    };
+    let mut outlet = Few::new(alloc, 3);
+    let mut marks = open_marks(alloc, FileDisk::open(&rt, PATH)?)?;
+    let failed = Err(DeliveryError::Marks(JournalError::Failed));
+    let unsettled = Err(DeliveryError::Unsettled);
+    for (letter, wanted, mark, taken) in [
+        (first, Ok(()), 1, 1),
+        (second, failed, 1, 2),
+        (second, unsettled, 1, 2),
+        (first, unsettled, 1, 2),
+    ] {
+        same(
+            &rt,
+            deliver_one(alloc, letter, &mut outlet, &mut marks)?,
+            (wanted, mark),
+        );
+        same(&rt, outlet.taken.len(), taken);
+        // The next mark would take the place of this one, by a file that can't be made any more.
+        let _ = fs::create_dir(&rt, "dsn_journal_marks/marks.next");
+    }
+    drop(marks.into_disk());
+    fs::remove_dir(&rt, "dsn_journal_marks/marks.next")?;
+    let mut marks = open_marks(alloc, FileDisk::open(&rt, PATH)?)?;
+    let delivered = deliver_one(alloc, second, &mut outlet, &mut marks)?;
+    same(&rt, delivered, (Ok(()), 2));
+    fs::remove_dir_all(&rt, FOLDER)?;
     Ok(())
 }
 

@@ -9,7 +9,7 @@ use crate::postfix_version::PostfixVersion;
 use crate::request_fault::RequestFault;
 use crate::request_reading::request_of;
 
-/// The request that bytes are, all of them, in the layout of a version. It takes no memory, and looks at each byte once.
+/// The request that bytes are, all of them, in the layout of a version. It takes no memory.
 /// What isn't a request is refused for the first attribute, from the left, that isn't as the layout has it; its end comes
 /// last.
 pub fn decode_postfix_request<'a>(

@@ -2,6 +2,7 @@ pub mod Book
 pub mod Entry
 pub mod Held
 pub mod Index
+pub mod Keeper
 pub mod Limits
 pub mod OpenLine
 pub mod Step

@@ -5,13 +5,17 @@
 mod book;
 mod entry;
 mod index;
+mod keeper;
 mod limits;
+mod not_kept;
 mod open_line;
 mod step;
 mod table;
 
 pub use book::Book;
 pub use entry::Entry;
+pub use keeper::Keeper;
 pub use limits::{Limits, MOST_ENTRIES, MOST_LOGS, MOST_REQUESTS};
+pub use not_kept::NotKept;
 pub use open_line::OpenLine;
 pub use step::Step;

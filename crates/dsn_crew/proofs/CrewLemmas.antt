@@ -1,5 +1,5 @@
 -- Crews: what each agent's thread, the collector and the poster came to, put together.
-use Rattle.std.proofs.Common.{◌≡◌, ◌≢◌, ℕ, suc, ◌+◌, ◌<◌, ◌≤◌, inr, Bool, true, false, All, List, [], ◌∷◌, ◌++◌, length, map, refl, ap, sym, ◌∙◌, subst, append_assoc, length-append, arith}
+use Rattle.std.proofs.Common.{◌≡◌, ◌≢◌, ℕ, suc, ◌+◌, ◌<◌, ◌≤◌, inl, inr, Bool, true, false, All, List, [], ◌∷◌, ◌++◌, length, map, refl, ap, sym, ◌∙◌, subst, append_assoc, length-append, arith}
 use Rattle.std.specs.Prelude.{IfErr, IfOk, IfSome, Option, Some, Result, Ok, Err, is_none, not}
 use Rattle.std.specs.declared.thread.PromisedHandle.{PromisedHandle}
 use Rattle.std.specs.List.{AllZip, flat_map, slice_index_or}
@@ -7,19 +7,21 @@ use Rattle.std.proofs.lemmas.List.{append-nil, length-map}
 use Rattle.std.proofs.lemmas.List.Elements.{All-head, All-tail}
 use Rattle.std.proofs.lemmas.List.Filters.{length-filter_both}
 use Rattle.std.proofs.lemmas.Slice.Zip.{AllZip-long}
-use Rattle.dsn_book.specs.Book.{Represents}
+use Rattle.dsn_book.specs.Book.{Book}
+use Rattle.dsn_book.specs.Keeper.{book_keeper}
+use Rattle.dsn_book.specs.declared.keeper.Keeper.{Ghosts as Keeper}
 use Rattle.dsn_book.specs.Step.{letters_in}
 use Rattle.dsn_device.specs.declared.drain.Drain.{Ghosts as Drain}
 use Rattle.dsn_frame.specs.bodies.Spoken.{reply_of}
 use Rattle.dsn_lane.specs.Halves.{Half, Identity}
 use Rattle.dsn_outcome.specs.Agents.{from_agent}
-use Rattle.dsn_outcome.specs.History.{Limits, answers_to, history_after, history_of, letters_after, sealed_letters}
+use Rattle.dsn_outcome.specs.History.{Limits, Exchange, answers_to, history_after, letters_after, sealed_letters}
 use Rattle.dsn_outcome.specs.Letter.{Letter}
 use Rattle.dsn_outcome.specs.Request.{Request, Bye}
 use Rattle.dsn_outcome.specs.declared.answer.Answer.{Answer}
 use Rattle.dsn_outcome.specs.declared.answer.Reply.TheVariants.{Gone}
 use Rattle.dsn_post.specs.LetterSink.{LetterSink, TakesLetter}
-use Rattle.dsn_post.specs.Posting.{IsPosted}
+use Rattle.dsn_post.specs.Posting.{IsPosted, IsUntouched}
 use Rattle.dsn_post.specs.declared.posted.Posted.{Posted}
 use Rattle.dsn_post.proofs.LetterSinkLemmas.{handed_letters}
 use Rattle.dsn_post.proofs.ParcelLemmas.{option_few}
@@ -28,8 +30,8 @@ use Rattle.dsn_crew.specs.agents.Agent.{Agent, LaneHalves, after_reply}
 use Rattle.dsn_crew.specs.desk.Close.{IsHeard}
 use Rattle.dsn_crew.specs.CollectorResult.{IsCollectorResult}
 use Rattle.dsn_crew.specs.Conclude.{Concludes, MayClose, account_of, fault_of, missing_cause}
-use Rattle.dsn_crew.specs.Crew.{Account, AreAgentAccounts, CrewFault, IsAccount, IsAgentAccount, IsBrokenOff, IsCrewFault}
-use Rattle.dsn_crew.specs.desk.Desk.{Desk, IsDesk, IsRun, goodbyes, history, letter_kept, missing as missing_more, places_of}
+use Rattle.dsn_crew.specs.Crew.{Account, AreAgentAccounts, AreSealedAfter, CrewFault, HasAccount, HasFault, IsAccount, IsAccountAfter, IsAgentAccount, IsBrokenOff, IsCrewFault, IsFaultWith}
+use Rattle.dsn_crew.specs.desk.Desk.{BeginsWith, Desk, IsDesk, IsRun, goodbyes, history, letter_kept, missing as missing_more, places_of}
 use Rattle.dsn_crew.specs.AgentsResult.{AreEnded, IsAgentsResult}
 use Rattle.dsn_crew.specs.desk.Open.{IsOpened, opened_agent}
 use Rattle.dsn_crew.specs.agents.Place.{place_at, place_of}
@@ -75,12 +77,12 @@ module _ (limits : Limits) (lane : Identity Request) (half : Half Answer) (conns
   last_number = ap (λ (agent : Agent). length agent.halves.requests.sent) (sym is.served.asked.agent_is) ∙ sym is.served.requests
 
   -- where it was heard to its end, this is its account
-  pub agent_account : (desk : Desk) (agent : ℕ) → desk.book.limits ≡ limits → half.agent ≡ agent → IsHeard desk halves → IsAgentAccount conns may_give limits desk.requests.taken agent line halves
-  agent_account desk agent limits_are number heard =
+  pub agent_account : {B : Type 0} (keeper : Keeper B) (before : List Exchange) (desk : Desk B) (agent : ℕ) → keeper.limits desk.start ≡ limits → half.agent ≡ agent → IsHeard keeper before desk halves → IsAgentAccount conns may_give limits before desk.requests.taken agent line halves
+  agent_account keeper before desk agent limits_are number heard =
       let here : halves.requests.agent ≡ agent = ap (λ (e : LaneHalves). e.requests.agent) halves_are ∙ number in record {
         number = here;
         taken_all = ap (λ (a : ℕ). from_agent (λ (request : Request). request.agent) a desk.requests.taken) (sym here) ∙ heard.taken;
-        answered = heard.got ∙ (λ i. answers_to (here i) (history_of (limits_are i) desk.requests.taken));
+        answered = heard.got ∙ (λ i. answers_to (here i) (history_after (limits_are i) before desk.requests.taken));
         sessions = sessions;
         follow = is.served.follow;
         over = subst (λ (lost : Bool). AreOverPort conns sessions lost line.port_failed) is.goodbye.0 is.served.over;
@@ -128,49 +130,48 @@ module _ {P S : Type 0} (port : Port P S) (limits : Limits) (lane : Identity Req
       λ i. same_place limits lane answer (port.conns one) (port.may_give one) line agent here i ∷ same_places answers ports ends lines crew served.1 ended.1 i
 
   -- and where each was heard to its end, these are their accounts
-  pub agent_accounts : (desk : Desk) → desk.book.limits ≡ limits → (agent : ℕ) (answers : List (Half Answer)) (ports : List P) (ends : List (Option PortEnd)) (lines : List AgentLine) (crew : List LaneHalves) → AreFrom agent answers → Serve answers ports ends → AreEnded ends lines crew → All (IsHeard desk) crew → AreAgentAccounts port limits desk.requests.taken agent ports lines crew
-  agent_accounts desk is agent [] [] [] [] [] from served ended heard = tt
-  agent_accounts desk is agent [] [] [] [] (one ∷ crew) from served ended heard = absurd ended
-  agent_accounts desk is agent [] [] [] (line ∷ lines) crew from served ended heard = absurd ended
-  agent_accounts desk is agent [] [] (end ∷ ends) lines crew from served ended heard = absurd served
-  agent_accounts desk is agent [] (one ∷ ports) ends lines crew from served ended heard = absurd served
-  agent_accounts desk is agent (answer ∷ answers) [] ends lines crew from served ended heard = absurd served
-  agent_accounts desk is agent (answer ∷ answers) (one ∷ ports) [] lines crew from served ended heard = absurd served
-  agent_accounts desk is agent (answer ∷ answers) (one ∷ ports) (end ∷ ends) [] crew from served ended heard = absurd ended
-  agent_accounts desk is agent (answer ∷ answers) (one ∷ ports) (end ∷ ends) (line ∷ lines) [] from served ended heard = absurd ended
-  agent_accounts desk is agent (answer ∷ answers) (one ∷ ports) (end ∷ ends) (line ∷ lines) (last ∷ crew) from served ended heard =
+  pub agent_accounts : {B : Type 0} (keeper : Keeper B) (before : List Exchange) (desk : Desk B) → keeper.limits desk.start ≡ limits → (agent : ℕ) (answers : List (Half Answer)) (ports : List P) (ends : List (Option PortEnd)) (lines : List AgentLine) (crew : List LaneHalves) → AreFrom agent answers → Serve answers ports ends → AreEnded ends lines crew → All (IsHeard keeper before desk) crew → AreAgentAccounts port limits before desk.requests.taken agent ports lines crew
+  agent_accounts keeper before desk is agent [] [] [] [] [] from served ended heard = tt
+  agent_accounts keeper before desk is agent [] [] [] [] (one ∷ crew) from served ended heard = absurd ended
+  agent_accounts keeper before desk is agent [] [] [] (line ∷ lines) crew from served ended heard = absurd ended
+  agent_accounts keeper before desk is agent [] [] (end ∷ ends) lines crew from served ended heard = absurd served
+  agent_accounts keeper before desk is agent [] (one ∷ ports) ends lines crew from served ended heard = absurd served
+  agent_accounts keeper before desk is agent (answer ∷ answers) [] ends lines crew from served ended heard = absurd served
+  agent_accounts keeper before desk is agent (answer ∷ answers) (one ∷ ports) [] lines crew from served ended heard = absurd served
+  agent_accounts keeper before desk is agent (answer ∷ answers) (one ∷ ports) (end ∷ ends) [] crew from served ended heard = absurd ended
+  agent_accounts keeper before desk is agent (answer ∷ answers) (one ∷ ports) (end ∷ ends) (line ∷ lines) [] from served ended heard = absurd ended
+  agent_accounts keeper before desk is agent (answer ∷ answers) (one ∷ ports) (end ∷ ends) (line ∷ lines) (last ∷ crew) from served ended heard =
       let here = subst (λ (e : Option PortEnd). IfSome e (IsPortServed (port.conns one) (port.may_give one) (opened_agent limits.requests lane answer))) ended.0 served.0 in (
-        agent_account limits lane answer (port.conns one) (port.may_give one) line last here desk agent is from.0 (All-head (IsHeard desk) last crew heard),
-        agent_accounts desk is (suc agent) answers ports ends lines crew from.1 served.1 ended.1 (All-tail (IsHeard desk) last crew heard),
+        agent_account limits lane answer (port.conns one) (port.may_give one) line last here keeper before desk agent is from.0 (All-head (IsHeard keeper before desk) last crew heard),
+        agent_accounts keeper before desk is (suc agent) answers ports ends lines crew from.1 served.1 ended.1 (All-tail (IsHeard keeper before desk) last crew heard),
       )
 
 -- ---- the letters
 
-no_letters : (limits : Limits) (requests : List Request) → requests ≡ [] → sealed_letters (history_of limits requests) ≡ []
-unfolding history_after letters_after
-no_letters limits requests none = ap (λ (q : List Request). sealed_letters (history_of limits q)) none
+none_taken : (limits : Limits) (before : List Exchange) (requests : List Request) → requests ≡ [] → sealed_letters (history_after limits before requests) ≡ sealed_letters before
+unfolding history_after
+none_taken limits before requests none = ap (λ (q : List Request). sealed_letters (history_after limits before q)) none
 
--- the letters of the history are those that the sink took, and then the one that the collector held
-pub run_letters : (old new : Desk) (sink after : LetterSink) (result : Result (Unit {0}) DeskFault) → IsRun TakesLetter old new sink after result → old.requests.taken ≡ [] → sink.letters ≡ [] → (sealed_letters (history new) ≡ after.letters ++ letter_kept result) × (after.lane ≡ sink.lane)
-run_letters old new sink after result run none no_sent =
+-- the letters of the run are those that the sink took, and then the one that the collector held
+pub run_letters : {B : Type 0} (keeper : Keeper B) (before : List Exchange) (old new : Desk B) (sink after : LetterSink) (result : Result (Unit {0}) DeskFault) → IsRun keeper before TakesLetter old new sink after result → old.requests.taken ≡ [] → sink.letters ≡ []
+    → (sealed_letters (history keeper before new) ≡ sealed_letters before ++ (after.letters ++ letter_kept result)) × (after.lane ≡ sink.lane)
+run_letters keeper before old new sink after result run none no_sent =
     let took = handed_letters sink after run.handed run.sink_is in
     let letters : after.letters ≡ run.handed = took.0 ∙ ap (λ (ls : List Letter). ls ++ run.handed) no_sent in (
-      run.letters ∙ ((λ i. no_letters old.book.limits old.requests.taken none i ++ (run.handed ++ letter_kept result)) ∙ ap (λ (ls : List Letter). ls ++ letter_kept result) (sym letters)),
+      run.letters ∙ (λ i. none_taken (keeper.limits old.start) before old.requests.taken none i ++ (sym letters i ++ letter_kept result)),
       took.1,
     )
 
-module _ {W : Type 0} (drain : Drain W) (host : List ℕ) (limits : Limits) (start : W) (sent : List Letter) (posted : Posted W) (is : IsPosted drain host start 16 sent posted) (desk : Desk) (limits_are : desk.book.limits ≡ limits) (kept : IsDesk desk) (agents : ℕ) (lines : length desk.answers ≡ agents) where
-  -- what is left of a run whose letters were these
-  abbrev broken_off : (cause : CrewCause) (held : List Letter) → length held ≤ 1 → sealed_letters (history desk) ≡ sent ++ held → IsBrokenOff drain host limits agents start (fault_of cause held desk posted)
-  broken_off cause held one sealed = record {
+module _ {B W : Type 0} (keeper : Keeper B) (drain : Drain W) (host : List ℕ) (start : W) (sent : List Letter) (posted : Posted W) (is : IsPosted drain host start 16 sent posted) (desk : Desk B) (kept : IsDesk keeper desk) (agents : ℕ) (lines : length desk.answers ≡ agents) where
+  -- what is left of a run in which these letters were sealed
+  abbrev broken_off : (cause : CrewCause) (held : List Letter) → length held ≤ 1 → (sealed : List Letter) → sealed ≡ sent ++ held → IsBrokenOff drain host sealed agents start (fault_of cause held desk posted)
+  broken_off cause held one sealed sealed_is = record {
     only = subst (λ (k : ℕ). All (λ (request : Request). request.agent < k) desk.requests.taken) lines kept.mine;
     numbered = kept.numbered;
     letters = is.letters;
     between = is.came.0;
     held = held;
-    sealed =
-        ap (λ (l : Limits). sealed_letters (history_of l desk.requests.taken)) (sym limits_are)
-        ∙ (sealed ∙ (ap (λ (ls : List Letter). ls ++ held) (sym is.came.1) ∙ append_assoc is.letters is.came.0 held));
+    sealed_are = sealed_is ∙ (ap (λ (ls : List Letter). ls ++ held) (sym is.came.1) ∙ append_assoc is.letters is.came.0 held);
     few = (let few = is.few in let split = sym (ap length is.came.1) ∙ length-append is.letters is.came.0 in omega arith);
     one = one;
     whole = posted.whole;
@@ -179,41 +180,77 @@ module _ {W : Type 0} (drain : Drain W) (host : List ℕ) (limits : Limits) (sta
     outbox = is.outbox;
   }
 
-  pub failed_fault : (fault : CrewFault W) (held : Option Letter) → fault ≡ fault_of causes.Lost (letters_in held) desk posted → sealed_letters (history desk) ≡ sent ++ letters_in held → IsCrewFault drain host limits agents start fault fault.cause
-  failed_fault fault held fault_is sealed =
-      subst (λ (it : CrewFault W). IsCrewFault drain host limits agents start it it.cause) (sym fault_is) (broken_off causes.Lost (letters_in held) (option_few held) sealed)
+  pub failed_fault : (fault : CrewFault W) (held : Option Letter) → fault ≡ fault_of causes.Lost (letters_in held) desk posted → IsFaultWith drain host (sent ++ letters_in held) agents start fault fault.cause
+  failed_fault fault held fault_is =
+      subst (λ (it : CrewFault W). IsFaultWith drain host (sent ++ letters_in held) agents start it it.cause) (sym fault_is) (broken_off causes.Lost (letters_in held) (option_few held) (sent ++ letters_in held) refl)
 
-  module _ (sealed : sealed_letters (history desk) ≡ sent) where
-    pub lost_fault : (fault : CrewFault W) → fault ≡ fault_of causes.Lost [] desk posted → IsCrewFault drain host limits agents start fault fault.cause
-    lost_fault fault fault_is =
-        subst (λ (it : CrewFault W). IsCrewFault drain host limits agents start it it.cause) (sym fault_is) (broken_off causes.Lost [] (omega arith) (sealed ∙ sym (append-nil sent)))
+  pub lost_fault : (fault : CrewFault W) → fault ≡ fault_of causes.Lost [] desk posted → IsFaultWith drain host sent agents start fault fault.cause
+  lost_fault fault fault_is =
+      subst (λ (it : CrewFault W). IsFaultWith drain host sent agents start it it.cause) (sym fault_is) (broken_off causes.Lost [] (omega arith) sent (sym (append-nil sent)))
 
-    missing_is : (all : Bool) → posted.all ≡ all → IsCrewFault drain host limits agents start (fault_of (missing_cause all) [] desk posted) (missing_cause all)
-    missing_is true all = inr (
-      broken_off causes.Refused [] (omega arith) (sealed ∙ sym (append-nil sent)),
-      (is.whole.0 all).1 ∙ (sym sealed ∙ ap (λ (l : Limits). sealed_letters (history_of l desk.requests.taken)) limits_are),
-    )
-    missing_is false all = broken_off causes.Lost [] (omega arith) (sealed ∙ sym (append-nil sent))
+  missing_is : (all : Bool) → posted.all ≡ all → IsFaultWith drain host sent agents start (fault_of (missing_cause all) [] desk posted) (missing_cause all)
+  missing_is true all = inr (broken_off causes.Refused [] (omega arith) sent (sym (append-nil sent)), (is.whole.0 all).1)
+  missing_is false all = broken_off causes.Lost [] (omega arith) sent (sym (append-nil sent))
 
-    pub missing_fault : (fault : CrewFault W) → fault ≡ fault_of (missing_cause posted.all) [] desk posted → IsCrewFault drain host limits agents start fault fault.cause
-    missing_fault fault fault_is =
-        subst (λ (it : CrewFault W). IsCrewFault drain host limits agents start it it.cause) (sym fault_is) (missing_is posted.all refl)
+  pub missing_fault : (fault : CrewFault W) → fault ≡ fault_of (missing_cause posted.all) [] desk posted → IsFaultWith drain host sent agents start fault fault.cause
+  missing_fault fault fault_is =
+      subst (λ (it : CrewFault W). IsFaultWith drain host sent agents start it it.cause) (sym fault_is) (missing_is posted.all refl)
+
+-- a run that never began sealed nothing
+sealed_none : {W : Type 0} (drain : Drain W) (host : List ℕ) (limits : Limits) (before : List Exchange) (agents : ℕ) (start : W) (fault : CrewFault W) → fault.taken ≡ [] → IsFaultWith drain host [] agents start fault fault.cause → HasFault drain host limits before agents start fault
+sealed_none drain host limits before agents start fault none is = record {
+  sealed = [];
+  are = record { are = none_taken limits before fault.taken none ∙ sym (append-nil (sealed_letters before)) };
+  is = is;
+}
+
+pub never_counted : {W : Type 0} (drain : Drain W) (host : List ℕ) (limits : Limits) (before : List Exchange) (agents : ℕ) (start : W) (fault : CrewFault W) → fault ≡ record { cause = causes.PortCount; outbox = start; unsent = []; taken = [] } → HasFault drain host limits before agents start fault
+never_counted drain host limits before agents start fault is =
+    sealed_none drain host limits before agents start fault (ap (λ (it : CrewFault _). it.taken) is) (subst (λ (it : CrewFault _). IsFaultWith drain host [] agents start it it.cause) (sym is) (refl, refl, refl))
+
+pub never_begun : {W : Type 0} (drain : Drain W) (host : List ℕ) (limits : Limits) (before : List Exchange) (agents : ℕ) (start outbox : W) (fault : CrewFault W) → fault ≡ record { cause = causes.Refused; outbox = outbox; unsent = []; taken = [] } → IsUntouched drain start outbox → HasFault drain host limits before agents start fault
+never_begun drain host limits before agents start outbox fault is untouched =
+    sealed_none drain host limits before agents start fault (ap (λ (it : CrewFault _). it.taken) is)
+    (subst (λ (it : CrewFault _). IsFaultWith drain host [] agents start it it.cause) (sym is) (inl (record { taken = refl; unsent = refl; outbox = untouched })))
+
+-- ---- a book alone
+
+-- all letters of a history are those that were sealed after none
+all_of_none : (history : List Exchange) (letters : List Letter) → AreSealedAfter [] history letters → letters ≡ sealed_letters history
+unfolding letters_after
+all_of_none history letters sealed = sym sealed.are
+
+pub book_account : {P S W : Type 0} (port : Port P S) (drain : Drain W) (host : List ℕ) (limits of_book : Limits) (ports : List P) (start : W) (result : Result (Account W Book) (CrewFault W)) → of_book ≡ limits → IfOk result (HasAccount book_keeper port drain host of_book [] ports start) → IfOk result (IsAccount port drain host limits ports start)
+book_account port drain host limits of_book ports start (Err fault) same has = tt
+book_account port drain host limits of_book ports start (Ok account) same has =
+    subst (λ (l : Limits). IsAccount port drain host l ports start account) same
+    (subst (λ (letters : List Letter). IsAccountAfter book_keeper port drain host of_book [] letters ports start account) (all_of_none _ _ has.sealed) has.is)
+
+pub book_fault : {W : Type 0} (drain : Drain W) (host : List ℕ) (limits of_book : Limits) (agents : ℕ) (start : W) (result : Result (Account W Book) (CrewFault W)) → of_book ≡ limits → IfErr result (HasFault drain host of_book [] agents start)
+    → IfErr result (λ fault. IsCrewFault drain host limits agents start fault fault.cause)
+book_fault drain host limits of_book agents start (Ok account) same has = tt
+book_fault drain host limits of_book agents start (Err fault) same has =
+    subst (λ (l : Limits). IsCrewFault drain host l agents start fault fault.cause) same
+    (subst (λ (letters : List Letter). IsFaultWith drain host letters agents start fault fault.cause) (all_of_none _ _ has.are) has.is)
 
 -- no crew that began is refused since its ports are too few or too many
 missing≢count : (all : Bool) → missing_cause all ≢ causes.PortCount
 missing≢count true same = let never : causes.Refused ≡ causes.PortCount = same in cc
 missing≢count false same = let never : causes.Lost ≡ causes.PortCount = same in cc
 
-pub no_count : {W : Type 0} (collected : CollectorResult) (all : AgentsResult) (posted : Posted W) (result : Result (Account W) (CrewFault W)) → Concludes collected all posted result → IfErr result (λ fault. fault.cause ≢ causes.PortCount)
-no_count collected all posted (Ok account) ends_so = tt
-no_count (Whole new) (gathered.All lines crew) posted (Err fault) faulted = λ same. missing≢count false (sym (ap (λ it. it.cause) faulted.1) ∙ same)
-no_count (Whole new) gathered.Missing posted (Err fault) faulted = λ same. missing≢count posted.all (sym (ap (λ it. it.cause) faulted) ∙ same)
-no_count (Whole new) (gathered.Lost unheard) posted (Err fault) faulted = λ same. missing≢count false (sym (ap (λ it. it.cause) faulted) ∙ same)
-no_count (Failed stop held new) all posted (Err fault) faulted = λ same. missing≢count false (sym (ap (λ it. it.cause) faulted) ∙ same)
+pub no_count : {B W : Type 0} (keeper : Keeper B) (collected : CollectorResult B) (all : AgentsResult) (posted : Posted W) (result : Result (Account W B) (CrewFault W)) → Concludes keeper collected all posted result → IfErr result (λ fault. fault.cause ≢ causes.PortCount)
+no_count keeper collected all posted (Ok account) ends_so = tt
+no_count keeper (Whole new) (gathered.All lines crew) posted (Err fault) faulted = λ same. missing≢count false (sym (ap (λ it. it.cause) faulted.1) ∙ same)
+no_count keeper (Whole new) gathered.Missing posted (Err fault) faulted = λ same. missing≢count posted.all (sym (ap (λ it. it.cause) faulted) ∙ same)
+no_count keeper (Whole new) (gathered.Lost unheard) posted (Err fault) faulted = λ same. missing≢count false (sym (ap (λ it. it.cause) faulted) ∙ same)
+no_count keeper (Failed stop held new) all posted (Err fault) faulted = λ same. missing≢count false (sym (ap (λ it. it.cause) faulted) ∙ same)
 
 -- ---- the whole
 
-module _ {P S W : Type 0} (port : Port P S) (drain : Drain W) (host : List ℕ) (limits : Limits) (ports : List P) (start : W) (count : ℕ) (agents : List Agent) (desk : Desk) (opened : IsOpened limits count agents desk) (count_is : count ≡ length ports) (handles : List (Option (PromisedHandle PortEnd (Serves P)))) (started : AreStarted agents ports handles) where
+module _ {B P S W : Type 0} (keeper : Keeper B) (port : Port P S) (drain : Drain W) (host : List ℕ) (book : B) (ports : List P) (start : W) (count : ℕ) (agents : List Agent) (desk : Desk B) (opened : IsOpened keeper book count agents desk) (count_is : count ≡ length ports) (handles : List (Option (PromisedHandle PortEnd (Serves P)))) (started : AreStarted agents ports handles) where
+  abbrev limits : Limits
+  limits = keeper.limits book
+
   pub handles_length : length handles ≡ count
   handles_length = starts-length agents ports handles started ∙ (ap length opened.crew_is ∙ (length-map desk.answers (opened_agent limits.requests desk.requests.lane) ∙ opened.count))
 
@@ -235,71 +272,100 @@ module _ {P S W : Type 0} (port : Port P S) (drain : Drain W) (host : List ℕ) 
     served : AreServed port (map (opened_agent limits.requests desk.requests.lane) desk.answers) ports ends
     served = subst (λ (crew : List Agent). AreServed port crew ports ends) opened.crew_is (are-served port agents ports handles ends started joined)
 
-    module _ (missed : ℕ) (begun : Desk) (begun_is : begun ≡ missing_more desk missed) (sink after : LetterSink) (fresh : sink.letters ≡ []) where
-      pub collected_lane : (collected : CollectorResult) → IsCollectorResult begun sink after collected → after.lane ≡ sink.lane
-      collected_lane (Whole new) has = (run_letters begun new sink after (Ok tt) has.0 (ap (λ (d : Desk). d.requests.taken) begun_is ∙ opened.taken) fresh).1
-      collected_lane (Failed stop held new) has = (run_letters begun new.value sink after (Err has.0) has.1 (ap (λ (d : Desk). d.requests.taken) begun_is ∙ opened.taken) fresh).1
+    module _ (missed : ℕ) (begun : Desk B) (begun_is : begun ≡ missing_more desk missed) where
+      -- the collector began with what it was given
+      start_is : begun.start ≡ book
+      start_is = ap (λ (d : Desk B). d.start) begun_is ∙ opened.start_is
 
-      pub may_close : (collected : CollectorResult) (all : AgentsResult) → IsCollectorResult begun sink after collected → IsAgentsResult ends all → MayClose collected all
-      may_close (Whole new) (gathered.All lines crew) has is = (
-        same_places port limits desk.requests.lane desk.answers ports ends lines.items crew.items served is
-            ∙ (sym (ap places_of begun_is) ∙ sym has.0.places),
-        has.1,
-      )
-      may_close (Whole new) gathered.Missing has is = tt
-      may_close (Whole new) (gathered.Lost unheard) has is = tt
-      may_close (Failed stop held new) all has is = has.4
+      pub begins : (before : List Exchange) → BeginsWith keeper book before → BeginsWith keeper begun.start before
+      begins before is = subst (λ (b : B). BeginsWith keeper b before) (sym start_is) is
 
-      module _ (posted : Posted W) (post : IsPosted drain host start 16 after.letters posted) where
-        module _ (new : Desk) {result : Result (Unit {0}) DeskFault} (run : IsRun TakesLetter begun new sink after result) where
-          limits_are : new.book.limits ≡ limits
-          limits_are = run.limits ∙ (ap (λ (d : Desk). d.book.limits) begun_is ∙ opened.limits_are)
+      module _ (sink after : LetterSink) (fresh : sink.letters ≡ []) (before : List Exchange) where
+        pub collected_lane : (collected : CollectorResult B) → IsCollectorResult keeper before begun sink after collected → after.lane ≡ sink.lane
+        collected_lane (Whole new) has = (run_letters keeper before begun new sink after (Ok tt) has.0 (ap (λ (d : Desk B). d.requests.taken) begun_is ∙ opened.taken) fresh).1
+        collected_lane (Failed stop held new) has = (run_letters keeper before begun new.value sink after (Err has.0) has.1 (ap (λ (d : Desk B). d.requests.taken) begun_is ∙ opened.taken) fresh).1
 
-          letters_are : sealed_letters (history new) ≡ after.letters ++ letter_kept result
-          letters_are = (run_letters begun new sink after result run (ap (λ (d : Desk). d.requests.taken) begun_is ∙ opened.taken) fresh).0
+        pub may_close : (collected : CollectorResult B) (all : AgentsResult) → IsCollectorResult keeper before begun sink after collected → IsAgentsResult ends all → MayClose keeper collected all
+        may_close (Whole new) (gathered.All lines crew) has is = (
+          same_places port limits desk.requests.lane desk.answers ports ends lines.items crew.items served is
+              ∙ (sym (ap places_of begun_is) ∙ sym has.0.places),
+          has.1,
+        )
+        may_close (Whole new) gathered.Missing has is = tt
+        may_close (Whole new) (gathered.Lost unheard) has is = tt
+        may_close (Failed stop held new) all has is = has.4
 
-          lines_length : length new.answers ≡ length ports
-          lines_length =
-              sym (length-map new.answers (place_at new.requests.lane))
-              ∙ (ap length (run.places ∙ ap places_of begun_is)
-              ∙ (length-map desk.answers (place_at desk.requests.lane) ∙ (opened.count ∙ count_is)))
+        module _ (posted : Posted W) (post : IsPosted drain host start 16 after.letters posted) where
+          module _ (new : Desk B) {result : Result (Unit {0}) DeskFault} (run : IsRun keeper before TakesLetter begun new sink after result) where
+            limits_are : keeper.limits new.start ≡ limits
+            limits_are = ap keeper.limits (run.start ∙ start_is)
 
-        account_at : (new : Desk) (lines : List AgentLine) (crew : List LaneHalves) → IsRun TakesLetter begun new sink after (Ok tt) → IsDesk new → AreEnded ends lines crew → posted.all ≡ true → All (IsHeard new) crew → Represents new.book (history new) → IsAccount port drain host limits ports start (account_of lines crew new posted)
-        account_at new lines crew run kept ended all heard stands =
-            let limited = limits_are new run in
-            let sealed = (post.whole.0 all).1 ∙ (sym (append-nil after.letters) ∙ (sym (letters_are new run) ∙ ap (λ (l : Limits). sealed_letters (history_of l new.requests.taken)) limited)) in record {
-              agents = agent_accounts port limits desk.requests.lane new limited 0 desk.answers ports ends lines crew (are_from 0 desk.answers (λ a d inside. (opened.lines a d inside).agent_is ∙ (let same : a ≡ 0 + a = omega arith in same))) served ended heard;
-              only = subst (λ (k : ℕ). All (λ (request : Request). request.agent < k) new.requests.taken) (lines_length new run) kept.mine;
-              book_limits = limited;
-              book = subst (λ (l : Limits). Represents new.book (history_of l new.requests.taken)) limited stands;
-              count = post.count ∙ ap length sealed;
-              outbox = subst (IsOutbox drain host start posted.outbox posted.whole posted.unsent) sealed post.outbox;
+            sealed_are : AreSealedAfter before (history_after limits before new.requests.taken) (after.letters ++ letter_kept result)
+            sealed_are = record {
+              are =
+                  ap (λ (l : Limits). sealed_letters (history_after l before new.requests.taken)) (sym limits_are)
+                  ∙ (run_letters keeper before begun new sink after result run (ap (λ (d : Desk B). d.requests.taken) begun_is ∙ opened.taken) fresh).0;
             }
 
-        pub account_is : (collected : CollectorResult) (all : AgentsResult) (result : Result (Account W) (CrewFault W)) → IsCollectorResult begun sink after collected → IsAgentsResult ends all → Concludes collected all posted result → IfOk result (IsAccount port drain host limits ports start)
-        account_is collected all (Err fault) has is ends_so = tt
-        account_is (Whole new) (gathered.All lines crew) (Ok account) has is closed =
-            subst (IsAccount port drain host limits ports start) (sym closed.account_is)
-            (account_at new lines.items crew.items has.0 has.2 is closed.all closed.heard (subst (λ (it : Account W). Represents it.book (history new)) closed.account_is closed.stands))
-        account_is (Whole new) gathered.Missing (Ok account) has is closed = absurd closed
-        account_is (Whole new) (gathered.Lost unheard) (Ok account) has is closed = absurd closed
-        account_is (Failed stop held new) all (Ok account) has is closed = absurd closed
+            lines_length : length new.answers ≡ length ports
+            lines_length =
+                sym (length-map new.answers (place_at new.requests.lane))
+                ∙ (ap length (run.places ∙ ap places_of begun_is)
+                ∙ (length-map desk.answers (place_at desk.requests.lane) ∙ (opened.count ∙ count_is)))
 
-        module _ (new : Desk) (fault : CrewFault W) (run : IsRun TakesLetter begun new sink after (Ok tt)) (kept : IsDesk new) where
-          sealed_are : sealed_letters (history new) ≡ after.letters
-          sealed_are = letters_are new run ∙ append-nil after.letters
+          -- where the run ended well the sink took them all
+          all_sealed : (new : Desk B) → IsRun keeper before TakesLetter begun new sink after (Ok tt) → AreSealedAfter before (history_after limits before new.requests.taken) after.letters
+          all_sealed new run = subst (AreSealedAfter before (history_after limits before new.requests.taken)) (append-nil after.letters) (sealed_are new run)
 
-          lost_at : fault ≡ fault_of causes.Lost [] new posted → IsCrewFault drain host limits (length ports) start fault fault.cause
-          lost_at = lost_fault drain host limits start after.letters posted post new (limits_are new run) kept (length ports) (lines_length new run) sealed_are fault
+          account_at : (new : Desk B) (lines : List AgentLine) (crew : List LaneHalves) → IsRun keeper before TakesLetter begun new sink after (Ok tt) → IsDesk keeper new → AreEnded ends lines crew → posted.all ≡ true → All (IsHeard keeper before new) crew → keeper.stands new.book (history keeper before new)
+              → HasAccount keeper port drain host limits before ports start (account_of lines crew new posted)
+          account_at new lines crew run kept ended all heard stands =
+              let limited = limits_are new run in record {
+                letters = after.letters;
+                sealed = all_sealed new run;
+                is = record {
+                  agents = agent_accounts port limits desk.requests.lane keeper before new limited 0 desk.answers ports ends lines crew (are_from 0 desk.answers (λ a d inside. (opened.lines a d inside).agent_is ∙ (let same : a ≡ 0 + a = omega arith in same))) served ended heard;
+                  only = subst (λ (k : ℕ). All (λ (request : Request). request.agent < k) new.requests.taken) (lines_length new run) kept.mine;
+                  book_limits = kept.limits ∙ limited;
+                  book = subst (λ (l : Limits). keeper.stands new.book (history_after l before new.requests.taken)) limited stands;
+                  count = post.count ∙ ap length (post.whole.0 all).1;
+                  outbox = subst (IsOutbox drain host start posted.outbox posted.whole posted.unsent) (post.whole.0 all).1 post.outbox;
+                };
+              }
 
-          missing_at : fault ≡ fault_of (missing_cause posted.all) [] new posted → IsCrewFault drain host limits (length ports) start fault fault.cause
-          missing_at = missing_fault drain host limits start after.letters posted post new (limits_are new run) kept (length ports) (lines_length new run) sealed_are fault
+          new_begins : (new : Desk B) → IsRun keeper before TakesLetter begun new sink after (Ok tt) → BeginsWith keeper book before → BeginsWith keeper new.start before
+          new_begins new run is = subst (λ (b : B). BeginsWith keeper b before) (sym (run.start ∙ start_is)) is
 
-        pub fault_is : (collected : CollectorResult) (all : AgentsResult) (result : Result (Account W) (CrewFault W)) → IsCollectorResult begun sink after collected → Concludes collected all posted result → IfErr result (λ fault. IsCrewFault drain host limits (length ports) start fault fault.cause)
-        fault_is collected all (Ok account) has ends_so = tt
-        fault_is (Whole new) (gathered.All lines crew) (Err fault) has faulted = lost_at new fault has.0 has.2 faulted.1
-        fault_is (Whole new) gathered.Missing (Err fault) has faulted = missing_at new fault has.0 has.2 faulted
-        fault_is (Whole new) (gathered.Lost unheard) (Err fault) has faulted = lost_at new fault has.0 has.2 faulted
-        fault_is (Failed stop held new) all (Err fault) has faulted =
-            failed_fault drain host limits start after.letters posted post new.value (limits_are new.value has.1) has.3 (length ports) (lines_length new.value has.1) fault held faulted
-            (letters_are new.value has.1 ∙ ap (λ (ls : List Letter). after.letters ++ ls) (sym has.2))
+          pub account_is : BeginsWith keeper book before → (collected : CollectorResult B) (all : AgentsResult) (result : Result (Account W B) (CrewFault W)) → IsCollectorResult keeper before begun sink after collected → IsAgentsResult ends all → Concludes keeper collected all posted result → IfOk result (HasAccount keeper port drain host limits before ports start)
+          account_is with_it collected all (Err fault) has is ends_so = tt
+          account_is with_it (Whole new) (gathered.All lines crew) (Ok account) has is closed =
+              subst (HasAccount keeper port drain host limits before ports start) (sym closed.account_is)
+              (account_at new lines.items crew.items has.0 has.2 is closed.all (closed.heard before (new_begins new has.0 with_it)) (subst (λ (it : Account W B). keeper.stands it.book (history keeper before new)) closed.account_is (closed.stands before (new_begins new has.0 with_it))))
+          account_is with_it (Whole new) gathered.Missing (Ok account) has is closed = absurd closed
+          account_is with_it (Whole new) (gathered.Lost unheard) (Ok account) has is closed = absurd closed
+          account_is with_it (Failed stop held new) all (Ok account) has is closed = absurd closed
+
+          -- a fault whose requests are those of the collector
+          has_fault : (new : Desk B) (fault : CrewFault W) (letters : List Letter) → fault.taken ≡ new.requests.taken → AreSealedAfter before (history_after limits before new.requests.taken) letters → IsFaultWith drain host letters (length ports) start fault fault.cause → HasFault drain host limits before (length ports) start fault
+          has_fault new fault letters taken sealed is = record {
+            sealed = letters;
+            are = subst (λ (q : List Request). AreSealedAfter before (history_after limits before q) letters) (sym taken) sealed;
+            is = is;
+          }
+
+          module _ (new : Desk B) (fault : CrewFault W) (run : IsRun keeper before TakesLetter begun new sink after (Ok tt)) (kept : IsDesk keeper new) where
+            lost_at : fault ≡ fault_of causes.Lost [] new posted → HasFault drain host limits before (length ports) start fault
+            lost_at is = has_fault new fault after.letters (ap (λ it. it.taken) is) (all_sealed new run) (lost_fault keeper drain host start after.letters posted post new kept (length ports) (lines_length new run) fault is)
+
+            missing_at : fault ≡ fault_of (missing_cause posted.all) [] new posted → HasFault drain host limits before (length ports) start fault
+            missing_at is = has_fault new fault after.letters (ap (λ it. it.taken) is) (all_sealed new run) (missing_fault keeper drain host start after.letters posted post new kept (length ports) (lines_length new run) fault is)
+
+          pub fault_is : (collected : CollectorResult B) (all : AgentsResult) (result : Result (Account W B) (CrewFault W)) → IsCollectorResult keeper before begun sink after collected → Concludes keeper collected all posted result → IfErr result (HasFault drain host limits before (length ports) start)
+          fault_is collected all (Ok account) has ends_so = tt
+          fault_is (Whole new) (gathered.All lines crew) (Err fault) has faulted = lost_at new fault has.0 has.2 faulted.1
+          fault_is (Whole new) gathered.Missing (Err fault) has faulted = missing_at new fault has.0 has.2 faulted
+          fault_is (Whole new) (gathered.Lost unheard) (Err fault) has faulted = lost_at new fault has.0 has.2 faulted
+          fault_is (Failed stop held new) all (Err fault) has faulted =
+              has_fault new.value fault (after.letters ++ letters_in held) (ap (λ it. it.taken) faulted)
+              (subst (λ (ls : List Letter). AreSealedAfter before (history_after limits before new.value.requests.taken) (after.letters ++ ls)) (sym has.2) (sealed_are new.value has.1))
+              (failed_fault keeper drain host start after.letters posted post new.value has.3 (length ports) (lines_length new.value has.1) fault held faulted)

@@ -1,4 +1,5 @@
 pub mod AgentsResultLemmas
+pub mod CrewExamples
 pub mod CrewLemmas
 pub mod OpenLemmas
 pub mod SendLemmas

@@ -1,38 +1,49 @@
 -- Openings: a collector that has taken nothing, and the agents one after another.
-use Rattle.std.proofs.Common.{◌≡◌, ℕ, zero, suc, ◌+◌, ◌-◌, ◌<◌, ◌≤◌, All, List, [], ◌∷◌, ◌++◌, length, map, false, refl, ap, sym, ◌∙◌, subst, length-append, arith}
+use Rattle.std.proofs.Common.{◌≡◌, ℕ, zero, suc, ◌+◌, ◌-◌, ◌^◌, ◌<◌, ◌≤◌, All, List, [], ◌∷◌, ◌++◌, length, map, false, refl, ap, sym, ◌∙◌, subst, length-append, arith}
 use Rattle.std.specs.List.{slice_index_or}
 use Rattle.std.proofs.lemmas.List.{append-nil, map-append}
 use Rattle.std.proofs.lemmas.List.Elements.{All-nil}
 use native.Mathlib.Decide.{ℕ_discrete}
-use Rattle.dsn_book.specs.Book.{Book, Represents}
+use Rattle.dsn_book.specs.declared.keeper.Keeper.{Ghosts as Keeper}
 use Rattle.dsn_lane.specs.Halves.{Half, Identity, Out, fresh_halves}
 use Rattle.dsn_lane.specs.Lane.{IsNumbered}
 use Rattle.dsn_lane.proofs.AgentLemmas.{numbered_none}
 use Rattle.dsn_outcome.specs.Agents.{from_agent}
-use Rattle.dsn_outcome.specs.History.{Limits, answers_to, history_after, history_of}
+use Rattle.dsn_outcome.specs.History.{answers_to, history_after}
 use Rattle.dsn_outcome.specs.Request.{Request}
 use Rattle.dsn_outcome.specs.declared.answer.Answer.{Answer}
 use Rattle.dsn_crew.specs.agents.Agent.{Agent}
-use Rattle.dsn_crew.specs.desk.Desk.{AreAnswered, Desk, IsDesk}
+use Rattle.dsn_crew.specs.desk.Desk.{Desk, IsDesk, desk_of}
 use Rattle.dsn_crew.specs.desk.Close.{AreCrew}
 use Rattle.dsn_crew.specs.desk.Open.{AreLines, IsLine, IsOpened, opened_agent}
 use Rattle.dsn_crew.specs.agents.Place.{place_at, place_of}
 
 -- a collector that has taken nothing
-pub new_desk : (book : Book) (requests : Out Request) (halves : List (Half Answer)) → Represents book [] → requests.first ≡ 0 → requests.past ≡ length halves → requests.taken ≡ [] → AreLines halves → length halves ≤ 16 → IsDesk (record { book = book; requests = requests; answers = halves; missed = 0; failed = false })
-unfolding answers_to history_after
-new_desk book requests halves none first past taken lines few =
-    let all_answered : AreAnswered halves (history_of book.limits requests.taken) = λ a d inside. (lines a d inside).unused ∙ ap (λ (q : List Request). answers_to a (history_of book.limits q)) (sym taken) in record {
-      first = first;
-      past = past;
-      few = few;
-      mine = subst (All (λ (request : Request). request.agent < length halves)) (sym taken) (All-nil (λ (request : Request). request.agent < length halves));
-      numbered = λ agent. subst (λ (q : List Request). IsNumbered (λ (request : Request). request.number) (from_agent (λ (request : Request). request.agent) agent q)) (sym taken) (numbered_none (λ (request : Request). request.number));
-      lines = λ a d inside. (lines a d inside).agent_is;
-      book = subst (λ (q : List Request). Represents book (history_of book.limits q)) (sym taken) none;
-      sent = λ a d inside. ([], append-nil (slice_index_or halves a d).sent ∙ all_answered a d inside);
-      answered = λ _. all_answered;
-    }
+pub new_desk : {B : Type 0} (keeper : Keeper B) (book : B) (requests : Out Request) (halves : List (Half Answer)) → keeper.awaits book [] → keeper.sealed book < 2 ^ 63 → requests.first ≡ 0 → requests.past ≡ length halves → requests.taken ≡ [] → AreLines halves → length halves ≤ 16 → IsDesk keeper (desk_of book book requests halves 0 false)
+unfolding history_after
+new_desk keeper book requests halves awaits small first past taken lines few = record {
+  first = first;
+  past = past;
+  few = few;
+  mine = subst (All (λ (request : Request). request.agent < length halves)) (sym taken) (All-nil (λ (request : Request). request.agent < length halves));
+  numbered = λ agent. subst (λ (q : List Request). IsNumbered (λ (request : Request). request.number) (from_agent (λ (request : Request). request.agent) agent q)) (sym taken) (numbered_none (λ (request : Request). request.number));
+  lines = λ a d inside. (lines a d inside).agent_is;
+  limits = refl;
+  room = small;
+  sealed = omega arith;
+  refuses = λ may. may;
+  awaits = λ _. awaits;
+  counted = λ _ a d inside. ap length (lines a d inside).unused ∙ ap (λ (q : List Request). length (from_agent (λ (request : Request). request.agent) a q)) (sym taken);
+  stands = λ before begins.
+      let none : (a : ℕ) (d : Half Answer) → a < length halves → (slice_index_or halves a d).sent ≡ answers_to a (history_after (keeper.limits book) before requests.taken) =
+      λ a d inside.
+      (lines a d inside).unused
+      ∙ (sym (begins.1 a (omega (arith, inside))) ∙ ap (λ (q : List Request). answers_to a (history_after (keeper.limits book) before q)) (sym taken)) in record {
+        book = subst (λ (q : List Request). keeper.stands book (history_after (keeper.limits book) before q)) (sym taken) begins.0;
+        sent = λ a d inside. ([], append-nil (slice_index_or halves a d).sent ∙ none a d inside);
+        answered = λ _. none;
+      };
+}
 
 -- the first of the halves that are left
 pub next_half : (lane : Identity Request) (first agents : ℕ) (left rest : List (Half Request)) (half : Half Request) → first < agents → left ≡ fresh_halves lane first (agents - first) → left ≡ half ∷ rest → (half ≡ record { lane = lane; agent = first; sent = [] }) × (rest ≡ fresh_halves lane (first + 1) (agents - (first + 1)))
@@ -86,7 +97,7 @@ two_at limit lane (one ∷ other ∷ []) count = (opened_agent limit lane one, o
 two_at limit lane (one ∷ other ∷ third ∷ rest) count = absurd (omega arith)
 
 -- of two agents
-pub opened_two : (limits : Limits) (crew : List Agent) (desk : Desk) → IsOpened limits 2 crew desk → (first : Agent) × (second : Agent) × (crew ≡ first ∷ second ∷ []) × AreCrew (first.halves ∷ second.halves ∷ []) desk
-opened_two limits crew desk opened =
-    let pair = two_at limits.requests desk.requests.lane desk.answers opened.count in
+pub opened_two : {B : Type 0} (keeper : Keeper B) (start : B) (crew : List Agent) (desk : Desk B) → IsOpened keeper start 2 crew desk → (first : Agent) × (second : Agent) × (crew ≡ first ∷ second ∷ []) × AreCrew (first.halves ∷ second.halves ∷ []) desk
+opened_two keeper start crew desk opened =
+    let pair = two_at (keeper.limits start).requests desk.requests.lane desk.answers opened.count in
     (pair.0, pair.1, opened.crew_is ∙ pair.2, pair.3)

@@ -1,4 +1,6 @@
 pub mod CloseLemmas
 pub mod DeskLemmas
+pub mod EarlierLemmas
 pub mod Rules
 pub mod RunLemmas
+pub mod TakeLemmas

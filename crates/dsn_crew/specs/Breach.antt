@@ -14,10 +14,11 @@ cause_of (Lost loss) = causes.Lost
 cause_of Refused = causes.Refused
 cause_of PortCount = causes.PortCount
 
--- of a run whose collector took these requests: one that is named as full took all that it may
-abbrev pub IsShown : List Request → Breach → Type 0
-IsShown taken (Lost (Poster gone)) = Unit {0}
-IsShown taken (Lost (Agent unheard)) = Unit {0}
-IsShown taken (Lost (Collector stop)) = IsStopped taken stop
-IsShown taken Refused = Unit {0}
-IsShown taken PortCount = Unit {0}
+-- of a run whose collector took these requests: one that is named as full took all that it may, and
+-- one in which a request was not kept is one in which requests may be refused
+abbrev pub IsShown : Type 0 → List Request → Breach → Type 0
+IsShown refuses taken (Lost (Poster gone)) = Unit {0}
+IsShown refuses taken (Lost (Agent unheard)) = Unit {0}
+IsShown refuses taken (Lost (Collector stop)) = IsStopped refuses taken stop
+IsShown refuses taken Refused = Unit {0}
+IsShown refuses taken PortCount = Unit {0}

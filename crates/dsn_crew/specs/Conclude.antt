@@ -2,14 +2,15 @@
 -- what was posted.
 use Rattle.std.specs.Prelude
 use Rattle.std.specs.Prelude.{◌≡◌, Bool, true, false, List, [], ◌++◌, Result, Ok, Err}
-use Rattle.dsn_book.specs.Book.{Represents}
+use Rattle.dsn_book.specs.declared.keeper.Keeper.{Ghosts as Keeper}
 use Rattle.dsn_book.specs.Step.{letters_in}
+use Rattle.dsn_outcome.specs.History.{Exchange}
 use Rattle.dsn_outcome.specs.Letter.{Letter}
 use Rattle.dsn_post.specs.declared.posted.Posted.{Posted}
 use Rattle.dsn_crew.specs.agents.Agent.{LaneHalves, IsFinished}
 use Rattle.dsn_crew.specs.desk.Close.{AreCrew, AreOf, IsHeard}
 use Rattle.dsn_crew.specs.Crew.{Account, CrewFault}
-use Rattle.dsn_crew.specs.desk.Desk.{Desk, IsStopped, all_gone, history}
+use Rattle.dsn_crew.specs.desk.Desk.{BeginsWith, Desk, IsStopped, all_gone, history}
 use Rattle.dsn_crew.specs.declared.agents.agent_line.AgentLine.{AgentLine}
 use Rattle.dsn_crew.specs.declared.collector_result.CollectorResult.{CollectorResult}
 use Rattle.dsn_crew.specs.declared.collector_result.CollectorResult.TheVariants.{Whole, Failed}
@@ -20,14 +21,17 @@ use Rattle.dsn_crew.specs.declared.agents_result.AgentsResult.TheVariants.{All, 
 
 -- where all went well, the agents are those of the collector, and all of them are gone; a collector
 -- that has failed did so for this reason
-abbrev pub MayClose : CollectorResult → AgentsResult → Type 0
-MayClose (Whole desk) (All lines agents) = AreCrew agents.items desk × (all_gone desk ≡ true)
-MayClose (Whole desk) Missing = Unit {0}
-MayClose (Whole desk) (Lost unheard) = Unit {0}
-MayClose (Failed stop held desk) gathered = IsStopped desk.value.requests.taken stop
+abbrev pub MayClose : {B : Type 0} → Keeper B → CollectorResult B → AgentsResult → Type 0
+MayClose keeper (Whole desk) (All lines agents) =
+    AreCrew agents.items desk × (all_gone desk ≡ true)
+MayClose keeper (Whole desk) Missing = Unit {0}
+MayClose keeper (Whole desk) (Lost unheard) = Unit {0}
+MayClose keeper (Failed stop held desk) gathered =
+    IsStopped (keeper.may_refuse desk.value.start) desk.value.requests.taken stop
 
 -- what a closed crew comes to, with its outbox
-abbrev pub account_of : {W : Type 0} → List AgentLine → List LaneHalves → Desk → Posted W → Account W
+abbrev pub account_of :
+    {B W : Type 0} → List AgentLine → List LaneHalves → Desk B → Posted W → Account W B
 account_of lines agents desk posted = record {
   agents = lines;
   letters = posted.posted;
@@ -40,7 +44,8 @@ account_of lines agents desk posted = record {
 }
 
 -- what is left of one that isn't, with the letter that the collector held
-abbrev pub fault_of : {W : Type 0} → CrewCause → List Letter → Desk → Posted W → CrewFault W
+abbrev pub fault_of :
+    {B W : Type 0} → CrewCause → List Letter → Desk B → Posted W → CrewFault W
 fault_of cause held desk posted =
     record {
       cause = cause;
@@ -50,15 +55,17 @@ fault_of cause held desk posted =
     }
 
 -- a crew that was closed
-pub record HasClosed {W : Type 0} (lines : List AgentLine) (agents : List LaneHalves) (desk : Desk)
-    (posted : Posted W)
-    (account : Account W) : Type 0 where
+pub record HasClosed {B W : Type 0} (keeper : Keeper B) (lines : List AgentLine)
+    (agents : List LaneHalves) (desk : Desk B) (posted : Posted W)
+    (account : Account W B) : Type 0 where
   pub all : posted.all ≡ true
   pub account_is : account ≡ account_of lines agents desk posted
-  pub heard : Prelude.All (IsHeard desk) agents
+  pub heard : (before : List Exchange) → BeginsWith keeper desk.start before
+      → Prelude.All (IsHeard keeper before desk) agents
   pub finished : Prelude.All IsFinished agents
   pub only : AreOf agents desk.requests.taken
-  pub stands : Represents account.book (history desk)
+  pub stands : (before : List Exchange) → BeginsWith keeper desk.start before
+      → keeper.stands account.book (history keeper before desk)
 
 -- the cause of one in which an agent was not started, by whether all letters came to the poster
 abbrev pub missing_cause : Bool → CrewCause
@@ -66,18 +73,19 @@ missing_cause true = causes.Refused
 missing_cause false = causes.Lost
 
 -- where all went well the crew is closed; else this is its fault
-abbrev pub Concludes : {W : Type 0} → CollectorResult → AgentsResult → Posted W
-    → Result (Account W) (CrewFault W) → Type 0
-Concludes (Whole desk) (All lines agents) posted (Ok account) =
-    HasClosed lines.items agents.items desk posted account
-Concludes (Whole desk) (All lines agents) posted (Err fault) =
+abbrev pub Concludes :
+    {B W : Type 0} → Keeper B → CollectorResult B → AgentsResult → Posted W
+    → Result (Account W B) (CrewFault W) → Type 0
+Concludes keeper (Whole desk) (All lines agents) posted (Ok account) =
+    HasClosed keeper lines.items agents.items desk posted account
+Concludes keeper (Whole desk) (All lines agents) posted (Err fault) =
     (posted.all ≡ false) × (fault ≡ fault_of causes.Lost [] desk posted)
-Concludes (Whole desk) Missing posted (Ok account) = ⊥
-Concludes (Whole desk) Missing posted (Err fault) =
+Concludes keeper (Whole desk) Missing posted (Ok account) = ⊥
+Concludes keeper (Whole desk) Missing posted (Err fault) =
     fault ≡ fault_of (missing_cause posted.all) [] desk posted
-Concludes (Whole desk) (Lost unheard) posted (Ok account) = ⊥
-Concludes (Whole desk) (Lost unheard) posted (Err fault) =
+Concludes keeper (Whole desk) (Lost unheard) posted (Ok account) = ⊥
+Concludes keeper (Whole desk) (Lost unheard) posted (Err fault) =
     fault ≡ fault_of causes.Lost [] desk posted
-Concludes (Failed stop held desk) gathered posted (Ok account) = ⊥
-Concludes (Failed stop held desk) gathered posted (Err fault) =
+Concludes keeper (Failed stop held desk) gathered posted (Ok account) = ⊥
+Concludes keeper (Failed stop held desk) gathered posted (Err fault) =
     fault ≡ fault_of causes.Lost (letters_in held) desk.value posted

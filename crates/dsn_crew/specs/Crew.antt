@@ -1,13 +1,15 @@
 -- Crews: what a run of a whole crew comes to, and what its fault says.
 use Rattle.std.specs.Prelude.{◌≡◌, ◌≢◌, ℕ, suc, ◌+◌, ◌<◌, ◌≤◌, ◌⊎◌, Bool, false, List, [], ◌∷◌, ◌++◌, All, length, Option, Some}
 use Rattle.std.specs.List.{flat_map}
-use Rattle.dsn_book.specs.Book.{Book, Represents}
+use Rattle.dsn_book.specs.Book.{Book}
+use Rattle.dsn_book.specs.Keeper.{book_keeper}
+use Rattle.dsn_book.specs.declared.keeper.Keeper.{Ghosts as Keeper}
 use Rattle.dsn_device.specs.declared.drain.Drain.{Ghosts as Drain}
 use Rattle.dsn_text.specs.FaultCode.{agent_count_code, crew_refused_code, lane_lost_code}
 use Rattle.dsn_frame.specs.bodies.Spoken.{reply_of}
 use Rattle.dsn_lane.specs.Lane.{IsNumbered, most_agents}
 use Rattle.dsn_outcome.specs.Agents.{from_agent}
-use Rattle.dsn_outcome.specs.History.{Limits, answers_to, history_of, sealed_letters}
+use Rattle.dsn_outcome.specs.History.{Limits, Exchange, answers_to, history_after, history_of, sealed_letters}
 use Rattle.dsn_outcome.specs.Letter.{Letter}
 use Rattle.dsn_outcome.specs.Request.{Request, Bye}
 use Rattle.dsn_outcome.specs.declared.answer.Reply.TheVariants.{Gone}
@@ -32,32 +34,33 @@ crew_cause_code Refused = crew_refused_code
 crew_cause_code PortCount = agent_count_code
 
 -- a run that ended well: what each agent did; how many letters were posted, and those that were
--- not, in order; the outbox, and whether nothing failed in it; the book at the end; the requests
--- that the collector took, in order; and each agent's two halves, with all that it sent and got
-pub record Account (W : Type 0) : Type 0 where
+-- not, in order; the outbox, and whether nothing failed in it; what carried the requests out, as it is
+-- at the end; the requests that the collector took, in order; and each agent's two halves, with all
+-- that it sent and got
+pub record Account (W B : Type 0) : Type 0 where
   pub agents : List AgentLine
   pub letters : ℕ
   pub unsent : List Letter
   pub whole : Bool
   pub outbox : W
-  pub book : Book
+  pub book : B
   pub taken : List Request
   pub halves : List LaneHalves
 
 -- what is true of one agent whose port told these connections, and may give so much, where the
--- collector took these requests. All that the agent sent was taken, in that order, and what it got
--- are the answers of the history. What it sent is what the sessions over its connections ask, one
+-- collector took these requests, after this history. All that the agent sent was taken, in that
+-- order, and what it got are the answers of the history. What it sent is what the sessions over its connections ask, one
 -- after another, and then its only goodbye; what it got are their replies, and then Gone. Its line
 -- counts its requests, its connections, and the sessions among them that ended with a fault, none
 -- of them for a lost lane. Its port gave as many connections, and then was done or failed, as the
 -- line says
 pub record IsAgentAccount (conns : Option (List Conn)) (may_give : List Given → Type 0)
-    (limits : Limits) (taken : List Request)
+    (limits : Limits) (before : List Exchange) (taken : List Request)
     (agent : ℕ)
     (line : AgentLine) (halves : LaneHalves) : Type 0 where
   pub number : halves.requests.agent ≡ agent
   pub taken_all : from_agent (λ (request : Request). request.agent) agent taken ≡ halves.requests.sent
-  pub answered : halves.answers.taken ≡ answers_to agent (history_of limits taken)
+  pub answered : halves.answers.taken ≡ answers_to agent (history_after limits before taken)
   pub sessions : List Session
   pub follow : AreSessions limits.requests 0 sessions
   pub over : AreOverPort conns sessions false line.port_failed
@@ -78,29 +81,47 @@ pub record IsAgentAccount (conns : Option (List Conn)) (may_give : List Given �
 
 -- what is true of each agent, from one on, with the port in its place
 abbrev pub AreAgentAccounts :
-    {P S : Type 0} → Port P S → Limits → List Request → ℕ → List P → List AgentLine → List LaneHalves
-    → Type 0
-AreAgentAccounts port limits taken agent [] [] [] = Unit {0}
-AreAgentAccounts port limits taken agent (one ∷ ports) (line ∷ lines) (halves ∷ crew) =
-    IsAgentAccount (port.conns one) (port.may_give one) limits taken agent line halves
-    × AreAgentAccounts port limits taken (suc agent) ports lines crew
-AreAgentAccounts port limits taken agent ports lines crew = ⊥
+    {P S : Type 0} → Port P S → Limits → List Exchange → List Request → ℕ → List P → List AgentLine
+    → List LaneHalves → Type 0
+AreAgentAccounts port limits before taken agent [] [] [] = Unit {0}
+AreAgentAccounts port limits before taken agent (one ∷ ports) (line ∷ lines) (halves ∷ crew) =
+    IsAgentAccount (port.conns one) (port.may_give one) limits before taken agent line halves
+    × AreAgentAccounts port limits before taken (suc agent) ports lines crew
+AreAgentAccounts port limits before taken agent ports lines crew = ⊥
 
--- what a run that ended well comes to: each agent's part; nothing else was taken; the book stands
--- for the history of what was taken, and the outbox is that of the letters which this history
--- sealed, in order, each of them posted or unsent
-pub record IsAccount {P S W : Type 0} (port : Port P S) (drain : Drain W) (host : List ℕ)
-    (limits : Limits)
-    (ports : List P) (start : W) (account : Account W) : Type 0 where
-  pub agents : AreAgentAccounts port limits account.taken 0 ports account.agents account.halves
+-- what a run after a history that ended well comes to: each agent's part; nothing else was taken; the
+-- book stands for the history with what was taken, and the outbox is that of these letters, in order,
+-- each of them posted or unsent
+pub record IsAccountAfter {B P S W : Type 0} (keeper : Keeper B) (port : Port P S) (drain : Drain W)
+    (host : List ℕ) (limits : Limits) (before : List Exchange) (letters : List Letter)
+    (ports : List P) (start : W) (account : Account W B) : Type 0 where
+  pub agents : AreAgentAccounts port limits before account.taken 0 ports account.agents account.halves
   pub only : All (λ (request : Request). request.agent < length ports) account.taken
-  pub book_limits : account.book.limits ≡ limits
-  pub book : Represents account.book (history_of limits account.taken)
-  pub count : account.letters + length account.unsent
-      ≡ length (sealed_letters (history_of limits account.taken))
+  pub book_limits : keeper.limits account.book ≡ limits
+  pub book : keeper.stands account.book (history_after limits before account.taken)
+  pub count : account.letters + length account.unsent ≡ length letters
   pub outbox :
-      IsOutbox drain host start account.outbox account.whole account.unsent
-      (sealed_letters (history_of limits account.taken))
+      IsOutbox drain host start account.outbox account.whole account.unsent letters
+
+-- and so one over a book that begins empty, whose letters are those that the history of what was taken
+-- sealed
+abbrev pub IsAccount :
+    {P S W : Type 0} → Port P S → Drain W → List ℕ → Limits → List P → W → Account W Book → Type 0
+IsAccount port drain host limits ports start account =
+    IsAccountAfter book_keeper port drain host limits []
+    (sealed_letters (history_of limits account.taken)) ports start account
+
+-- the letters that a history sealed after one before it
+pub record AreSealedAfter (before history : List Exchange) (letters : List Letter) : Type 0 where
+  pub are : sealed_letters history ≡ sealed_letters before ++ letters
+
+-- what a run after any history comes to: its letters are those that were sealed in it
+pub record HasAccount {B P S W : Type 0} (keeper : Keeper B) (port : Port P S) (drain : Drain W)
+    (host : List ℕ) (limits : Limits) (before : List Exchange) (ports : List P) (start : W)
+    (account : Account W B) : Type 0 where
+  pub letters : List Letter
+  pub sealed : AreSealedAfter before (history_after limits before account.taken) letters
+  pub is : IsAccountAfter keeper port drain host limits before letters ports start account
 
 -- a run that ended with a fault: its cause, the outbox, the letters that are not in it, and the
 -- requests that were taken
@@ -116,13 +137,13 @@ pub record IsUnbegun {W : Type 0} (drain : Drain W) (start : W) (fault : CrewFau
   pub unsent : fault.unsent ≡ []
   pub outbox : IsUntouched drain start fault.outbox
 
--- what is left of a run of so many agents that was broken off. The requests taken are of these
--- agents, and numbered from 0 agent by agent. The letters that came to the poster are the first of
--- those which their history sealed; those that are not in the outbox are unsent, in order. At
+-- what is left of a run of so many agents, in which these letters were sealed, that was broken off. The
+-- requests taken are of these agents, and numbered from 0 agent by agent. The letters that came to the
+-- poster are the first of those which were sealed; those that are not in the outbox are unsent, in order. At
 -- most `letters_waiting` later ones waited for the poster, and are dropped. After them comes at most
 -- one more, which the collector still held
-pub record IsBrokenOff {W : Type 0} (drain : Drain W) (host : List ℕ) (limits : Limits) (agents : ℕ)
-    (start : W) (fault : CrewFault W) : Type 0 where
+pub record IsBrokenOff {W : Type 0} (drain : Drain W) (host : List ℕ) (sealed : List Letter)
+    (agents : ℕ) (start : W) (fault : CrewFault W) : Type 0 where
   pub only : All (λ (request : Request). request.agent < agents) fault.taken
   pub numbered :
       (agent : ℕ)
@@ -131,7 +152,7 @@ pub record IsBrokenOff {W : Type 0} (drain : Drain W) (host : List ℕ) (limits 
   pub letters : List Letter
   pub between : List Letter
   pub held : List Letter
-  pub sealed : sealed_letters (history_of limits fault.taken) ≡ letters ++ (between ++ held)
+  pub sealed_are : sealed ≡ letters ++ (between ++ held)
   pub few : length between ≤ letters_waiting
   pub one : length held ≤ 1
   pub whole : Bool
@@ -139,16 +160,28 @@ pub record IsBrokenOff {W : Type 0} (drain : Drain W) (host : List ℕ) (limits 
   pub unsent_are : fault.unsent ≡ unsent ++ held
   pub outbox : IsOutbox drain host start fault.outbox whole unsent letters
 
--- what a run for so many agents that ended with a fault comes to. 43: there are not 1 to 16 ports,
+-- what a run for so many agents that ended with a fault comes to, where these letters were sealed. 43: there are not 1 to 16 ports,
 -- and the outbox comes back as it was. 42: it never began; or the thread of an agent could not be
 -- made, and all letters came to the poster. 41: a lane was lost
-abbrev pub IsCrewFault : {W : Type 0} → Drain W → List ℕ → Limits → ℕ → W → CrewFault W → CrewCause
-    → Type 0
-IsCrewFault drain host limits agents start fault PortCount =
+abbrev pub IsFaultWith :
+    {W : Type 0} → Drain W → List ℕ → List Letter → ℕ → W → CrewFault W → CrewCause → Type 0
+IsFaultWith drain host sealed agents start fault PortCount =
     (fault.outbox ≡ start) × (fault.unsent ≡ []) × (fault.taken ≡ [])
-IsCrewFault drain host limits agents start fault Refused =
+IsFaultWith drain host sealed agents start fault Refused =
     IsUnbegun drain start fault
-    ⊎ ((broken : IsBrokenOff drain host limits agents start fault)
-    × (broken.letters ≡ sealed_letters (history_of limits fault.taken)))
-IsCrewFault drain host limits agents start fault Lost =
-    IsBrokenOff drain host limits agents start fault
+    ⊎ ((broken : IsBrokenOff drain host sealed agents start fault) × (broken.letters ≡ sealed))
+IsFaultWith drain host sealed agents start fault Lost =
+    IsBrokenOff drain host sealed agents start fault
+
+-- and so of one over a book that begins empty
+abbrev pub IsCrewFault :
+    {W : Type 0} → Drain W → List ℕ → Limits → ℕ → W → CrewFault W → CrewCause → Type 0
+IsCrewFault drain host limits agents start fault cause =
+    IsFaultWith drain host (sealed_letters (history_of limits fault.taken)) agents start fault cause
+
+-- and of one after any history
+pub record HasFault {W : Type 0} (drain : Drain W) (host : List ℕ) (limits : Limits)
+    (before : List Exchange) (agents : ℕ) (start : W) (fault : CrewFault W) : Type 0 where
+  pub sealed : List Letter
+  pub are : AreSealedAfter before (history_after limits before fault.taken) sealed
+  pub is : IsFaultWith drain host sealed agents start fault fault.cause

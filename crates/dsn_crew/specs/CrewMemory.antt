@@ -1,6 +1,6 @@
 -- Rooms: what a run of a crew has before its first thread is started.
 use Rattle.std.specs.Prelude.{◌≡◌, ℕ, ◌≤◌, false, [], vec_capacity}
-use Rattle.dsn_outcome.specs.History.{Limits}
+use Rattle.dsn_book.specs.declared.keeper.Keeper.{Ghosts as Keeper}
 use Rattle.dsn_post.specs.LetterSink.{letters_waiting}
 use Rattle.dsn_crew.specs.desk.Open.{IsOpened}
 use Rattle.dsn_crew.specs.declared.crew_memory.CrewMemory.{CrewMemory}
@@ -15,8 +15,9 @@ pub record AreSlots {P S : Type 0} (agents : ℕ) (slots : AgentMemory P S) : Ty
 
 -- a crew of so many agents, the two halves of a lane over which no letter was sent, and room for each
 -- agent
-pub record IsRoom {P S : Type 0} (limits : Limits) (agents : ℕ) (room : CrewMemory P S) : Type 0 where
-  pub opened : IsOpened limits agents room.agents.items room.desk
+pub record IsRoom {B P S : Type 0} (keeper : Keeper B) (start : B) (agents : ℕ)
+    (room : CrewMemory P B S) : Type 0 where
+  pub opened : IsOpened keeper start agents room.agents.items room.desk
   pub source : room.source ≡ record { lane = room.sink.lane; letters = []; marked = false }
   pub sink : room.sink.letters ≡ []
   pub waiting : room.sink.lane.capacity ≡ letters_waiting

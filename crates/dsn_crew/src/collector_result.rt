@@ -1,7 +1,11 @@
 //! How the collector's part of a run ended.
+ghost use Rattle.std.specs.Prelude.{List};
+ghost use Rattle.dsn_outcome.specs.History.{Exchange};
 ghost use Rattle.dsn_crew.specs.CollectorResult.{IsCollectorResult};
+ghost use Rattle.dsn_crew.specs.desk.Desk.{BeginsWith};
 
 use crate::desk::{Desk, StopCause};
+use dsn_book::Keeper;
 use dsn_outcome::Letter;
 use dsn_post::LetterSink;
 use std::snapshot::Snapshot;
@@ -9,18 +13,19 @@ use std::sync::Wait;
 
 /// How the collector's part of a run ended.
 #[derive(Drop)]
-pub(crate) enum CollectorResult {
+pub(crate) enum CollectorResult<B: Keeper> {
     /// All agents are gone.
-    Whole(Desk),
+    Whole(Desk<B>),
     /// The collector has failed, and its halves are given up, so that no agent waits for them: why it
     /// has, the letter that it still held, and the collector as it was, for contracts.
-    Failed(StopCause, Option<Letter>, Snapshot<Desk>),
+    Failed(StopCause, Option<Letter>, Snapshot<Desk<B>>),
 }
 
-impl CollectorResult {
+impl<B: Keeper + Drop> CollectorResult<B> {
     /// Takes the agents' requests until all agents are gone, or the collector fails.
-    pub(crate) fn by(rt: &impl Wait, desk: Desk, sink: &mut LetterSink) -> CollectorResult
-        ensures { IsCollectorResult desk sink.old sink.new result }
+    pub(crate) fn by(rt: &impl Wait, desk: Desk<B>, sink: &mut LetterSink) -> CollectorResult<B>
+        ensures { (before : List Exchange) → BeginsWith B.Keeper desk.start before
+            → IsCollectorResult B.Keeper before desk sink.old sink.new result }
     {
         let mut desk = desk;
         match desk.run(rt, sink) {

@@ -8,20 +8,21 @@ use crate::collector_result::CollectorResult;
 use crate::crew_account::Account;
 use crate::crew_fault::CrewFault;
 use crate::desk::close_crew;
+use dsn_book::Keeper;
 use dsn_post::Posted;
 use std::snapshot::Snapshot;
 use std::sync::Wait;
 
 /// Closes the crew where all went well; else says what is left of it.
-pub(crate) fn conclude<W>(
+pub(crate) fn conclude<W, B: Keeper + Drop>(
     rt: &impl Wait,
-    collected: CollectorResult,
+    collected: CollectorResult<B>,
     gathered: AgentsResult,
     posted: Posted<W>,
-) -> Result<Account<W>, CrewFault<W>>
-    requires close { MayClose collected gathered }
+) -> Result<Account<W, B>, CrewFault<W, B>>
+    requires close { MayClose B.Keeper collected gathered }
     requires unlost { (posted.all ≡ true) ↔ (posted.lost ≡ None) }
-    ensures { Concludes collected gathered posted result }
+    ensures { Concludes B.Keeper collected gathered posted result }
 {
     let Posted {
         outbox,

@@ -3,7 +3,7 @@ ghost use Rattle.std.specs.Prelude.{◌≡◌};
 
 use crate::agents::AgentLine;
 use crate::desk::CrewShut;
-use dsn_book::Book;
+use dsn_book::{Book, Keeper};
 use dsn_outcome::Letters;
 use std::marker::Model;
 use std::snapshot::Snapshot;
@@ -11,7 +11,7 @@ use std::snapshot::Snapshot;
 /// A crew's run that ended well. Contracts see, beside its fields, the requests that the collector
 /// took, and what each agent sent and got; that takes no bytes.
 #[derive(Drop)]
-pub struct Account<W> {
+pub struct Account<W, B: Keeper = Book> {
     /// What each agent did, from agent 0 on.
     pub agents: Vec<AgentLine>,
     /// How many letters were posted.
@@ -23,14 +23,14 @@ pub struct Account<W> {
     /// The outbox.
     pub outbox: W,
     /// The book of the collector, with the logs that are still open.
-    pub book: Book,
-    shut: Snapshot<CrewShut>,
+    pub book: B,
+    shut: Snapshot<CrewShut<B>>,
 }
 
-impl<W> Model for Account<W> {
+impl<W, B: Keeper> Model for Account<W, B> {
     ghost use Rattle.dsn_crew.specs.Crew.{Account};
 
-    ghost Value = { Account W };
+    ghost Value = { Account W B };
 
     ghost view = { λ a. record {
       agents = a.agents.items;
@@ -44,16 +44,16 @@ impl<W> Model for Account<W> {
     } };
 }
 
-impl<W> Account<W> {
+impl<W, B: Keeper> Account<W, B> {
     /// The account of a crew that was closed so, with its outbox.
     pub(crate) fn new(
-        shut: CrewShut,
+        shut: CrewShut<B>,
         agents: Vec<AgentLine>,
         outbox: W,
         whole: bool,
         unsent: Letters,
         letters: u32,
-    ) -> Account<W>
+    ) -> Account<W, B>
         ensures { result ≡ record {
           agents = agents.items;
           letters = letters;

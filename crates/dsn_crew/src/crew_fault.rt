@@ -7,6 +7,7 @@ ghost use Rattle.dsn_crew.specs.Crew.{crew_cause_code};
 use crate::breach::Breach;
 use crate::crew_cause::CrewCause;
 use crate::desk::Desk;
+use dsn_book::{Book, Keeper};
 use dsn_outcome::{Letter, Letters};
 use std::marker::Model;
 use std::snapshot::Snapshot;
@@ -14,7 +15,7 @@ use std::snapshot::Snapshot;
 /// A crew's run that ended with a fault. It says that a lane was lost only with what shows it.
 /// Contracts see, beside its fields, the requests that the collector took; that takes no bytes.
 #[derive(Drop)]
-pub struct CrewFault<W> {
+pub struct CrewFault<W, B: Keeper = Book> {
     /// Why.
     pub cause: CrewCause,
     /// The outbox.
@@ -22,16 +23,16 @@ pub struct CrewFault<W> {
     /// The letters that came to the poster and could not be written, in order, and then the one
     /// that the collector still held.
     pub unsent: Letters,
-    desk: Option<Snapshot<Desk>>,
+    desk: Option<Snapshot<Desk<B>>>,
     /// Why, with what shows that a lane was lost where it was.
     breach: Breach,
 }
 
-impl<W> Model for CrewFault<W> {
+impl<W, B: Keeper> Model for CrewFault<W, B> {
     ghost use Rattle.std.specs.Prelude.{◌≡◌};
     ghost use Rattle.dsn_crew.specs.Breach.{cause_of, IsShown};
     ghost use Rattle.dsn_crew.specs.Crew.{CrewFault};
-    ghost use Rattle.dsn_crew.specs.TakenBy.{taken_by};
+    ghost use Rattle.dsn_crew.specs.TakenBy.{refused_by, taken_by};
 
     ghost Value = { CrewFault W };
 
@@ -42,10 +43,11 @@ impl<W> Model for CrewFault<W> {
       taken = taken_by f.desk;
     } };
 
-    ghost invariant = { λ f. (f.cause ≡ cause_of f.breach) × IsShown (taken_by f.desk) f.breach };
+    ghost invariant = { λ f. (f.cause ≡ cause_of f.breach)
+        × IsShown (refused_by B.Keeper f.desk) (taken_by f.desk) f.breach };
 }
 
-impl<W> CrewFault<W> {
+impl<W, B: Keeper> CrewFault<W, B> {
     /// The number of the fault: 41, 42 or 43.
     pub fn code(&self) -> u32
         ensures { result ≡ crew_cause_code self.now.cause }
@@ -54,8 +56,8 @@ impl<W> CrewFault<W> {
     }
 
     /// The fault of a run that never began.
-    pub(crate) fn unbegun(breach: Breach, outbox: W) -> CrewFault<W>
-        requires shown { IsShown [] breach }
+    pub(crate) fn unbegun(breach: Breach, outbox: W) -> CrewFault<W, B>
+        requires shown { IsShown ⊥ [] breach }
         ensures { result ≡ record {
           cause = cause_of breach;
           outbox = outbox;
@@ -79,9 +81,9 @@ impl<W> CrewFault<W> {
         outbox: W,
         unsent: Letters,
         held: Option<Letter>,
-        desk: Snapshot<Desk>,
-    ) -> CrewFault<W>
-        requires shown { IsShown desk.value.requests.taken breach }
+        desk: Snapshot<Desk<B>>,
+    ) -> CrewFault<W, B>
+        requires shown { IsShown (B.may_refuse desk.value.start) desk.value.requests.taken breach }
         ensures { result ≡ record {
           cause = cause_of breach;
           outbox = outbox;

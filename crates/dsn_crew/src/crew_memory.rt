@@ -1,12 +1,12 @@
 //! What a run of a crew needs memory for.
-ghost use Rattle.std.specs.Prelude.{◌≤◌, IfOk};
+ghost use Rattle.std.specs.Prelude.{◌^◌, ◌<◌, ◌≤◌, [], IfOk};
 ghost use Rattle.dsn_lane.specs.Lane.{most_agents};
 ghost use Rattle.dsn_crew.specs.CrewMemory.{IsRoom};
 
 use crate::agent_memory::AgentMemory;
 use crate::agents::{Agent, Port};
-use crate::desk::{Desk, open_crew};
-use dsn_book::Limits;
+use crate::desk::{Desk, open_crew_over};
+use dsn_book::Keeper;
 use dsn_outcome::NoMemory;
 use dsn_post::{LetterSink, LetterSource, open_post};
 use std::alloc::Global;
@@ -15,26 +15,28 @@ use std::sync::Wait;
 /// All that a run needs memory for, but for what the system takes to start a thread: so once the
 /// first is started no growth of the run's own is refused.
 #[derive(Drop)]
-pub(crate) struct CrewMemory<P: Port> {
+pub(crate) struct CrewMemory<P: Port, B: Keeper> {
     pub(crate) agents: Vec<Agent>,
-    pub(crate) desk: Desk,
+    pub(crate) desk: Desk<B>,
     pub(crate) sink: LetterSink,
     pub(crate) source: LetterSource,
     pub(crate) slots: AgentMemory<P>,
 }
 
-impl<P: Port> CrewMemory<P> {
+impl<P: Port, B: Keeper + Drop> CrewMemory<P, B> {
     /// The room of a run with so many agents. `NoMemory` comes only where memory was refused.
     pub(crate) fn take(
         rt: &impl Wait,
         alloc: Global,
-        limits: Limits,
+        book: B,
         agents: u32,
-    ) -> Result<CrewMemory<P>, NoMemory>
-        requires { (1 ≤ agents) × (agents ≤ most_agents) }
-        ensures { IfOk result (IsRoom limits agents) }
+    ) -> Result<CrewMemory<P, B>, NoMemory>
+        requires count { (1 ≤ agents) × (agents ≤ most_agents) }
+        requires awaits { B.awaits book [] }
+        requires few { B.sealed book < 2 ^ 63 }
+        ensures { IfOk result (IsRoom B.Keeper book agents) }
     {
-        let Ok((crew, desk)) = open_crew(rt, alloc, limits, agents) else {
+        let Ok((crew, desk)) = open_crew_over(rt, alloc, book, agents) else {
             return Err(NoMemory);
         };
         let (sink, source) = open_post(rt, alloc)?;

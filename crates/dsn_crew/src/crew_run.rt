@@ -1,6 +1,9 @@
 //! A whole crew, from its first thread to its last.
-ghost use Rattle.std.specs.Prelude.{◌≡◌, ◌≢◌, ◌≤◌, ◌<◌, ◌↔◌, ◌⊎◌, All, length, IfErr, IfOk};
-ghost use Rattle.dsn_crew.specs.Crew.{IsAccount, IsCrewFault, most_ports};
+ghost use Rattle.std.specs.Prelude.{◌≡◌, ◌≢◌, ◌≤◌, ◌<◌, ◌^◌, ◌↔◌, ◌⊎◌, List, [], All, length, IfErr, IfOk};
+ghost use Rattle.dsn_book.specs.Book.{Represents};
+ghost use Rattle.dsn_outcome.specs.History.{Exchange};
+ghost use Rattle.dsn_crew.specs.Crew.{HasAccount, HasFault, IsAccount, IsCrewFault, most_ports};
+ghost use Rattle.dsn_crew.specs.desk.Desk.{BeginsWith};
 
 use crate::agent_memory::AgentMemory;
 use crate::agents::{Gate, Port};
@@ -13,7 +16,7 @@ use crate::crew_cause::CrewCause;
 use crate::crew_fault::CrewFault;
 use crate::crew_memory::CrewMemory;
 use crate::start_serving::{count_missing, join_all, start_all};
-use dsn_book::Limits;
+use dsn_book::{Book, Keeper, Limits};
 use dsn_device::Drain;
 use dsn_post::{end_posting, start_posting};
 use dsn_report::Site;
@@ -60,6 +63,64 @@ pub fn run_crew<
         (λ fault. (fault.cause ≡ CrewCause.PortCount)
         ↔ ((length ports.items ≡ 0) ⊎ (most_ports < length ports.items))) }
 {
+    match empty_book(alloc, limits, ports.len()) {
+        Ok(book) => run_crew_over(rt, alloc, site, book, ports, outbox, gate),
+        Err(breach) => Err(CrewFault::unbegun(breach, outbox)),
+    }
+}
+
+/// A book that is empty, for a crew of so many ports; else why there can be none.
+fn empty_book(alloc: Global, limits: Limits, ports: usize) -> Result<Book, Breach>
+    ensures limits { IfOk result (λ book. book.limits ≡ limits) }
+    ensures empty { IfOk result (λ book. (Represents book []) × (book.sealed ≡ 0)) }
+    ensures count { IfOk result (λ _. (1 ≤ ports) × (ports ≤ most_ports)) }
+    ensures refused { IfErr result (λ breach. ((breach ≡ Breach.PortCount)
+        × ((ports ≡ 0) ⊎ (most_ports < ports))) ⊎ ((breach ≡ Breach.Refused)
+        × (1 ≤ ports) × (ports ≤ most_ports))) }
+{
+    if !(1..=MOST_PORTS).contains(&ports) {
+        return Err(Breach::PortCount);
+    }
+    match Book::new(alloc, limits) {
+        Ok(book) => Ok(book),
+        Err(_) => Err(Breach::Refused),
+    }
+}
+
+/// Runs a crew as [`run_crew`] does, over what keeps its requests and carries them out.
+///
+/// Beside what it says there, `Lost` (41) comes where a request was not kept; neither that request nor a
+/// later one is carried out or answered then. It asks that no request is awaited, that fewer than 2^63
+/// letters were sealed before, and that there is a history to begin with.
+pub fn run_crew_over<
+    R: Threads + Wait + Sync,
+    B: Keeper + Drop,
+    P: Port + Drop + Send,
+    W: Drain + Drop + Send,
+    G: Gate + Sync,
+>(
+    rt: &R,
+    alloc: Global,
+    site: Site,
+    book: B,
+    ports: Vec<P>,
+    outbox: W,
+    gate: &G,
+) -> Result<Account<W, B>, CrewFault<W, B>>
+    requires asked { All P.may_be_asked ports.items }
+    requires awaits { B.awaits book [] }
+    requires few { B.sealed book < 2 ^ 63 }
+    requires begins { (before : List Exchange) × BeginsWith B.Keeper book before }
+    ensures account { (before : List Exchange) → BeginsWith B.Keeper book before → IfOk result
+        (HasAccount B.Keeper P.Port W.Drain site (B.limits book) before ports.items outbox) }
+    ensures count { IfOk result
+        (λ _. (1 ≤ length ports.items) × (length ports.items ≤ most_ports)) }
+    ensures fault { (before : List Exchange) → BeginsWith B.Keeper book before → IfErr result
+        (HasFault W.Drain site (B.limits book) before (length ports.items) outbox) }
+    ensures refused { IfErr result
+        (λ fault. (fault.cause ≡ CrewCause.PortCount)
+        ↔ ((length ports.items ≡ 0) ⊎ (most_ports < length ports.items))) }
+{
     let agents = ports.len();
     if agents == 0 || agents > MOST_PORTS {
         return Err(CrewFault::unbegun(Breach::PortCount, outbox));
@@ -67,10 +128,11 @@ pub fn run_crew<
     thread::scope(
         thread::scope_env(),
         rt,
-        move |scope| -> Result<Account<W>, CrewFault<W>>
+        move |scope| -> Result<Account<W, B>, CrewFault<W, B>>
             requires { (1 ≤ length ports.items) × (length ports.items ≤ most_ports)
-                × All P.may_be_asked ports.items }
-        { run_in(scope, rt, alloc, site, limits, ports, outbox, gate) },
+                × All P.may_be_asked ports.items × B.awaits book [] × (B.sealed book < 2 ^ 63)
+                × ((before : List Exchange) × BeginsWith B.Keeper book before) }
+        { run_in(scope, rt, alloc, site, book, ports, outbox, gate) },
     )
 }
 
@@ -79,6 +141,7 @@ fn run_in<
     's,
     E: 's,
     R: Threads + Wait + Sync,
+    B: Keeper + Drop,
     P: Port + Drop + Send + 's,
     W: Drain + Drop + Send + 's,
     G: Gate + Sync,
@@ -87,19 +150,23 @@ fn run_in<
     rt: &'s R,
     alloc: Global,
     site: Site,
-    limits: Limits,
+    book: B,
     ports: Vec<P>,
     outbox: W,
     gate: &'s G,
-) -> Result<Account<W>, CrewFault<W>>
+) -> Result<Account<W, B>, CrewFault<W, B>>
     requires few { (1 ≤ length ports.items) × (length ports.items ≤ most_ports) }
     requires asked { All P.may_be_asked ports.items }
-    ensures account { IfOk result (IsAccount P.Port W.Drain site limits ports.items outbox) }
-    ensures fault { IfErr result
-        (λ fault. IsCrewFault W.Drain site limits (length ports.items) outbox fault fault.cause) }
+    requires awaits { B.awaits book [] }
+    requires room { B.sealed book < 2 ^ 63 }
+    requires begins { (before : List Exchange) × BeginsWith B.Keeper book before }
+    ensures account { (before : List Exchange) → BeginsWith B.Keeper book before → IfOk result
+        (HasAccount B.Keeper P.Port W.Drain site (B.limits book) before ports.items outbox) }
+    ensures fault { (before : List Exchange) → BeginsWith B.Keeper book before → IfErr result
+        (HasFault W.Drain site (B.limits book) before (length ports.items) outbox) }
     ensures counted { IfErr result (λ fault. fault.cause ≢ CrewCause.PortCount) }
 {
-    let Ok(room) = CrewMemory::take(rt, alloc, limits, ports.len() as u32) else {
+    let Ok(room) = CrewMemory::take(rt, alloc, book, ports.len() as u32) else {
         return Err(CrewFault::unbegun(Breach::Refused, outbox));
     };
     let CrewMemory {

@@ -15,5 +15,5 @@ pub use crew_open_fault::CrewOpenFault;
 pub use crew_shut::CrewShut;
 pub use desk::Desk;
 pub use desk_fault::DeskFault;
-pub use open::open_crew;
+pub use open::{open_crew, open_crew_over};
 pub(crate) use stop_cause::StopCause;

@@ -23,6 +23,6 @@ pub use agents::{
 pub use crew_account::Account;
 pub use crew_cause::CrewCause;
 pub use crew_fault::CrewFault;
-pub use crew_run::run_crew;
-pub use desk::{CrewOpenFault, CrewShut, Desk, DeskFault, close_crew, open_crew};
+pub use crew_run::{run_crew, run_crew_over};
+pub use desk::{CrewOpenFault, CrewShut, Desk, DeskFault, close_crew, open_crew, open_crew_over};
 pub use dsn_post::Sink;

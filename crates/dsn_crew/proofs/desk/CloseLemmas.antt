@@ -6,16 +6,18 @@ use Rattle.std.proofs.lemmas.List.Elements.{All-cons, All-head, All-nil, All-tai
 use Rattle.std.proofs.lemmas.Simd.{map-map}
 use Rattle.std.specs.List.{slice_index_or}
 use mathlib.Core.List.{IsPrefix}
+use Rattle.dsn_book.specs.declared.keeper.Keeper.{Ghosts as Keeper}
 use Rattle.dsn_lane.specs.Halves.{Half, Identity}
+use Rattle.dsn_lane.specs.Lane.{most_agents}
 use Rattle.dsn_outcome.specs.Agents.{from_agent}
 use Rattle.dsn_outcome.specs.History.{Exchange, answers_to}
 use Rattle.dsn_outcome.specs.Request.{Request}
 use Rattle.dsn_outcome.specs.declared.answer.Answer.{Answer}
-use Rattle.dsn_outcome.proofs.HistoryLaws.{answers_length}
 use Rattle.dsn_crew.specs.agents.Agent.{LaneHalves, IsFinished}
 use Rattle.dsn_crew.specs.desk.Close.{AreCrew, AreOf, IsHeard}
-use Rattle.dsn_crew.specs.desk.Desk.{Desk, IsDesk, all_gone, history}
+use Rattle.dsn_crew.specs.desk.Desk.{Desk, IsDesk, IsEarlier, StandsAfter, all_gone, history}
 use Rattle.dsn_crew.specs.agents.Place.{Place, place_at, place_of}
+use Rattle.dsn_crew.proofs.desk.EarlierLemmas.{answers_after}
 use Rattle.dsn_crew.proofs.desk.DeskLemmas.{first_half}
 
 -- ---- prefixes and lists
@@ -54,10 +56,10 @@ pub record IsAnswered (exchanges : List Exchange) (halves : LaneHalves) : Type 0
   pub got : IsPrefix halves.answers.taken (answers_to halves.requests.agent exchanges)
 
 -- where what was taken of it is the first of what it sent, then it is all of that: it has an answer to each request
-heard : (desk : Desk) (halves : LaneHalves) → IsAnswered (history desk) halves → IsPrefix (from_agent (λ (request : Request). request.agent) halves.requests.agent desk.requests.taken) halves.requests.sent → IsHeard desk halves
-heard desk halves answered taken =
+heard : {B : Type 0} (keeper : Keeper B) (before : List Exchange) (desk : Desk B) (halves : LaneHalves) → IsEarlier before → halves.requests.agent < most_agents → IsAnswered (history keeper before desk) halves → IsPrefix (from_agent (λ (request : Request). request.agent) halves.requests.agent desk.requests.taken) halves.requests.sent → IsHeard keeper before desk halves
+heard keeper before desk halves earlier small answered taken =
     let each = answered.finished.answered in
-    let as_many = answers_length desk.book.limits halves.requests.agent desk.requests.taken in
+    let as_many = answers_after (keeper.limits desk.start) before halves.requests.agent desk.requests.taken earlier small in
     let less = prefix-length _ _ answered.got in
     let few = prefix-length _ _ taken in
     record {
@@ -78,12 +80,11 @@ pub as_many : (lane : Identity Request) (crew : List LaneHalves) (lines : List (
 as_many lane crew lines same = sym (length-map crew place_of) ∙ (ap length same ∙ length-map lines (place_at lane))
 
 -- one agent more is closed
-pub closed_more : (exchanges : List Exchange) (crew rest all : List LaneHalves) (one : LaneHalves) → crew ≡ one ∷ rest → IsAnswered exchanges one → (All (IsAnswered exchanges) crew → All (IsAnswered exchanges) all) → All (IsAnswered exchanges) rest → All (IsAnswered exchanges) all
-closed_more exchanges crew rest all one crew_is closed before left =
-    before (subst (All (IsAnswered exchanges)) (sym crew_is) (All-cons (IsAnswered exchanges) one rest closed left))
+pub closed_more : (P : LaneHalves → Type 0) (crew rest all : List LaneHalves) (one : LaneHalves) → crew ≡ one ∷ rest → P one → (All P crew → All P all) → All P rest → All P all
+closed_more P crew rest all one crew_is closed before left = before (subst (All P) (sym crew_is) (All-cons P one rest closed left))
 
-pub none_answered : (exchanges : List Exchange) (crew : List LaneHalves) → length crew ≡ 0 → All (IsAnswered exchanges) crew
-none_answered exchanges crew none = λ k d inside. absurd (let nothing = none in omega arith)
+pub none_left : (P : LaneHalves → Type 0) (crew : List LaneHalves) → length crew ≡ 0 → All P crew
+none_left P crew none = λ k d inside. absurd (let nothing = none in omega arith)
 
 -- and its half is kept for the close of the request lane
 pub kept_more : (room more : List (Half Request)) (half : Half Request) (crew rest all : List LaneHalves) (one : LaneHalves) → crew ≡ one ∷ rest → half ≡ one.requests → more ≡ room ++ half ∷ [] → room ++ map (λ (halves : LaneHalves). halves.requests) crew ≡ map (λ (halves : LaneHalves). halves.requests) all → more ++ map (λ (halves : LaneHalves). halves.requests) rest ≡ map (λ (halves : LaneHalves). halves.requests) all
@@ -102,10 +103,14 @@ not_failed : (failed right : Bool) → (not failed && right) ≡ true → failed
 not_failed true right is = absurd (false≢true is)
 not_failed false right is = refl
 
+-- a collector whose agents are all gone has not failed
+pub going_on : {B : Type 0} (desk : Desk B) → all_gone desk ≡ true → desk.failed ≡ false
+going_on desk gone = not_failed desk.failed _ gone
+
 -- what each agent's half has sent, once all said goodbye
-pub lines_answered : (desk : Desk) → IsDesk desk → all_gone desk ≡ true → All (λ (half : Half Answer). half.sent ≡ answers_to half.agent (history desk)) desk.answers
-lines_answered desk kept gone k d inside =
-    kept.answered (not_failed desk.failed _ gone) k d inside ∙ ap (λ (a : ℕ). answers_to a (history desk)) (sym (kept.lines k d inside))
+pub lines_answered : {B : Type 0} (keeper : Keeper B) (before : List Exchange) (desk : Desk B) → IsDesk keeper desk → StandsAfter keeper before desk → all_gone desk ≡ true → All (λ (half : Half Answer). half.sent ≡ answers_to half.agent (history keeper before desk)) desk.answers
+lines_answered keeper before desk kept stands gone k d inside =
+    stands.answered (not_failed desk.failed _ gone) k d inside ∙ ap (λ (a : ℕ). answers_to a (history keeper before desk)) (sym (kept.lines k d inside))
 
 -- all halves are of the request lane
 pub of_one_lane : (lane : Identity Request) (crew : List LaneHalves) (lines : List (Half Answer)) → map place_of crew ≡ map (place_at lane) lines → All (λ (halves : LaneHalves). halves.requests.lane ≡ lane) crew
@@ -119,19 +124,31 @@ pub room_of_one_lane : (lane : Identity Request) (crew : List LaneHalves) (lines
 room_of_one_lane lane crew lines room same room_is =
     subst (All (λ (half : Half Request). half.lane ≡ lane)) (sym room_is) (to_map (λ (half : Half Request). half.lane ≡ lane) (λ (halves : LaneHalves). halves.requests) crew (of_one_lane lane crew lines same))
 
--- each agent was heard
-pub all_heard : (desk : Desk) (crew : List LaneHalves) (room : List (Half Request)) → All (IsAnswered (history desk)) crew → room ≡ map (λ (halves : LaneHalves). halves.requests) crew
-    → All (λ (half : Half Request). IsPrefix (from_agent (λ (request : Request). request.agent) half.agent desk.requests.taken) half.sent) room → All (IsHeard desk) crew
-all_heard desk crew room closed room_is taken k d inside =
-    heard desk _ (closed k d inside) (from_map (λ (half : Half Request). IsPrefix (from_agent (λ (request : Request). request.agent) half.agent desk.requests.taken) half.sent) (λ (halves : LaneHalves). halves.requests) crew (subst (All (λ (half : Half Request). IsPrefix (from_agent (λ (request : Request). request.agent) half.agent desk.requests.taken) half.sent)) room_is taken) k d inside)
-
--- what was taken is of agents of the crew
+-- the agents of a crew are those that the collector answers
 same_agents : (lane : Identity Request) (crew : List LaneHalves) (lines : List (Half Answer)) → map place_of crew ≡ map (place_at lane) lines → map (λ (halves : LaneHalves). halves.requests.agent) crew ≡ map (λ (half : Half Answer). half.agent) lines
 same_agents lane crew lines same =
     sym (map-map (λ (place : Place). place.agent) place_of crew) ∙ (ap (map (λ (place : Place). place.agent)) same ∙ map-map (λ (place : Place). place.agent) (place_at lane) lines)
 
-pub all_of_crew : (desk : Desk) (crew : List LaneHalves) → IsDesk desk → AreCrew crew desk → AreOf crew desk.requests.taken
-all_of_crew desk crew kept same =
+-- the agents of a crew are few
+all_small : {B : Type 0} (keeper : Keeper B) (desk : Desk B) (crew : List LaneHalves) → IsDesk keeper desk → AreCrew crew desk → All (λ (halves : LaneHalves). halves.requests.agent < most_agents) crew
+all_small keeper desk crew kept same k d inside =
+    let many = as_many desk.requests.lane crew desk.answers same in
+    let line : Half Answer = first_half desk.answers k (omega (arith, inside)) in
+    let here : (slice_index_or crew k d).requests.agent ≡ k =
+    sym (get_or-map (λ (halves : LaneHalves). halves.requests.agent) crew k d k inside)
+    ∙ (ap (λ (agents : List ℕ). slice_index_or agents k k) (same_agents desk.requests.lane crew desk.answers same)
+    ∙ (get_or-map (λ (half : Half Answer). half.agent) desk.answers k line k (omega (arith, inside)) ∙ kept.lines k line (omega (arith, inside)))) in
+    let few = kept.few in omega (arith, inside, here)
+
+-- each agent was heard
+pub all_heard : {B : Type 0} (keeper : Keeper B) (before : List Exchange) (desk : Desk B) (crew : List LaneHalves) (room : List (Half Request)) → IsEarlier before → IsDesk keeper desk → AreCrew crew desk → All (IsAnswered (history keeper before desk)) crew → room ≡ map (λ (halves : LaneHalves). halves.requests) crew
+    → All (λ (half : Half Request). IsPrefix (from_agent (λ (request : Request). request.agent) half.agent desk.requests.taken) half.sent) room → All (IsHeard keeper before desk) crew
+all_heard keeper before desk crew room earlier kept same closed room_is taken k d inside =
+    heard keeper before desk _ earlier (all_small keeper desk crew kept same k d inside) (closed k d inside) (from_map (λ (half : Half Request). IsPrefix (from_agent (λ (request : Request). request.agent) half.agent desk.requests.taken) half.sent) (λ (halves : LaneHalves). halves.requests) crew (subst (All (λ (half : Half Request). IsPrefix (from_agent (λ (request : Request). request.agent) half.agent desk.requests.taken) half.sent)) room_is taken) k d inside)
+
+-- what was taken is of agents of the crew
+pub all_of_crew : {B : Type 0} (keeper : Keeper B) (desk : Desk B) (crew : List LaneHalves) → IsDesk keeper desk → AreCrew crew desk → AreOf crew desk.requests.taken
+all_of_crew keeper desk crew kept same =
     All-weaker (λ (request : Request). request.agent < length desk.answers) (λ (request : Request). Contains (map (λ (halves : LaneHalves). halves.requests.agent) crew) request.agent)
     (λ request inside. (
       request.agent,

@@ -1,24 +1,25 @@
 -- Desks: what one more request, with its answer sent, leaves.
-use Rattle.std.proofs.Common.{◌≡◌, ◌≢◌, ℕ, zero, suc, ◌+◌, ◌-◌, ◌^◌, ◌<◌, ◌≤◌, ◌==◌, Bool, true, false, cond, All, List, [], ◌∷◌, ◌++◌, length, map, filter, set, refl, ap, sym, ◌∙◌, subst, eq-eqb, ne_eqb, length-append, arith}
+use Rattle.std.proofs.Common.{◌≡◌, ◌≢◌, ℕ, zero, suc, ◌+◌, ◌<◌, ◌≤◌, ◌==◌, Bool, true, false, cond, All, List, [], ◌∷◌, ◌++◌, length, map, filter, set, refl, ap, sym, ◌∙◌, subst, eq-eqb, ne_eqb, length-append, arith}
 use Rattle.std.specs.Prelude.{◌↔◌, IfSome, IsTrue, Option, Some, None, is_some}
 use Rattle.std.specs.List.{slice_index_or}
-use Rattle.std.proofs.lemmas.List.{append-nil, get_or-set_same, get_or-set_other, set-get_or, length-set}
+use Rattle.std.proofs.lemmas.List.{append-nil, get_or-set_same, get_or-set_other, set-get_or, length-set, take_all}
 use Rattle.std.proofs.lemmas.List.Elements.{All-append, All-cons, All-nil, filter-append}
 use Rattle.std.proofs.lemmas.List.Sums.{length-filter, count_by-le-length}
 use Rattle.std.proofs.lemmas.Bool.{false≢true}
 use mathlib.Core.List.{IsPrefix}
 use native.Mathlib.Decide.{ℕ_discrete}
-use Rattle.dsn_book.specs.Book.{Book, Represents}
+use Rattle.dsn_book.specs.declared.keeper.Keeper.{Ghosts as Keeper}
 use Rattle.dsn_lane.specs.Halves.{Half, Out, Identity}
 use Rattle.dsn_lane.specs.Lane.{IsNumbered}
 use Rattle.dsn_outcome.specs.Agents.{from_agent}
-use Rattle.dsn_outcome.specs.History.{answer_of, answers_to, exchange_of, history_of}
+use Rattle.dsn_outcome.specs.History.{Exchange, answer_of, answers_to, exchange_of, history_after}
 use Rattle.dsn_outcome.specs.Request.{Request, Body, Append, Flush, Discard, Forget, Bye}
 use Rattle.dsn_outcome.specs.declared.answer.Answer.{Answer}
-use Rattle.dsn_outcome.proofs.HistoryLaws.{answers_length, answers_mine, answers_more, answers_other, history_more, letters_few}
-use Rattle.dsn_crew.specs.desk.Desk.{Desk, IsDesk, AreAnswered, IsAnswerSent, IsStopped, answered_more, goodbyes, history, is_goodbye, next_exchange, places_of, taken_request}
+use Rattle.dsn_outcome.proofs.HistoryLaws.{answers_mine, answers_more, answers_other}
+use Rattle.dsn_crew.specs.desk.Desk.{BeginsWith, Desk, IsDesk, StandsAfter, AreAnswered, carried_out, desk_of, IsAnswerSent, IsStopped, answered_more, goodbyes, history, is_goodbye, next_exchange, places_of, taken_request}
 use Rattle.dsn_crew.specs.declared.desk.stop_cause.StopCause.{StopCause}
 use Rattle.dsn_crew.specs.agents.Place.{Place, place_at}
+use Rattle.dsn_crew.proofs.desk.EarlierLemmas.{more_after}
 
 -- ---- the halves of the answer lanes
 
@@ -41,7 +42,7 @@ same_place lane true half answer = refl
 same_place lane false half answer = refl
 
 -- the agents keep their places
-pub sent_places : (out : Out Request) (old : Desk) (new : List (Half Answer)) (sent : Bool) (answer : Answer) → (d : Half Answer) → IsAnswerSent sent old.answers answer new → out.lane ≡ old.requests.lane → map (place_at out.lane) new ≡ places_of old
+pub sent_places : {B : Type 0} (out : Out Request) (old : Desk B) (new : List (Half Answer)) (sent : Bool) (answer : Answer) → (d : Half Answer) → IsAnswerSent sent old.answers answer new → out.lane ≡ old.requests.lane → map (place_at out.lane) new ≡ places_of old
 sent_places out old new sent answer d is_sent lane =
     ap (map (place_at out.lane)) (is_sent d)
     ∙ (places_set out.lane old.answers answer.agent d (answered_more sent (slice_index_or old.answers answer.agent d) answer) (same_place out.lane sent (slice_index_or old.answers answer.agent d) answer)
@@ -92,25 +93,27 @@ goodbyes_fit count added taken most flag requests counted long one few =
 -- ---- one more request
 
 -- a request that a collector has taken next, and its answer, which is to be sent
-pub record IsAsked (desk : Desk) (request : Request) (answer : Answer) : Type 0 where
-  pub kept : IsDesk desk
+pub record IsAsked {B : Type 0} (keeper : Keeper B) (desk : Desk B) (request : Request) (answer : Answer) : Type 0 where
+  pub kept : IsDesk keeper desk
   pub going : desk.failed ≡ false
   pub from : request.agent < desk.requests.past
   pub number : request.number ≡ length (from_agent (λ (r : Request). r.agent) request.agent desk.requests.taken)
-  pub answer_is : answer ≡ answer_of (next_exchange desk request)
+  pub agent_is : answer.agent ≡ request.agent
+  pub number_is : answer.number ≡ request.number
 
-module _ (desk : Desk) (request : Request) (answer : Answer) (asked : IsAsked desk request answer) where
-  of_agent : answer.agent ≡ request.agent
-  unfolding answer_of exchange_of
-  of_agent = ap (λ (it : Answer). it.agent) asked.answer_is
+-- how many requests of an agent were taken, with one more
+count_of : (a : ℕ) (requests : List Request) (request : Request) (same : Bool) → (request.agent == a) ≡ same → length (from_agent (λ (r : Request). r.agent) a (requests ++ request ∷ [])) ≡ length (from_agent (λ (r : Request). r.agent) a requests) + cond same 1 0
+count_of a requests request true is =
+    let split = ap length (filter-append (λ (r : Request). r.agent == a) requests (request ∷ [])) ∙ length-append (from_agent (λ (r : Request). r.agent) a requests) (from_agent (λ (r : Request). r.agent) a (request ∷ [])) in
+    let one : length (from_agent (λ (r : Request). r.agent) a (request ∷ [])) ≡ 1 = rw is refl in omega arith
+count_of a requests request false is =
+    let split = ap length (filter-append (λ (r : Request). r.agent == a) requests (request ∷ [])) ∙ length-append (from_agent (λ (r : Request). r.agent) a requests) (from_agent (λ (r : Request). r.agent) a (request ∷ [])) in
+    let none : length (from_agent (λ (r : Request). r.agent) a (request ∷ [])) ≡ 0 = rw is refl in omega arith
 
-  of_number : answer.number ≡ request.number
-  unfolding answer_of exchange_of
-  of_number = ap (λ (it : Answer). it.number) asked.answer_is
-
+module _ {B : Type 0} (keeper : Keeper B) (desk : Desk B) (request : Request) (answer : Answer) (asked : IsAsked keeper desk request answer) where
   -- the agent that asked has an answer lane
   pub within : answer.agent < length desk.answers
-  within = let past = asked.kept.past in let agent = of_agent in let from = asked.from in omega arith
+  within = let past = asked.kept.past in let agent = asked.agent_is in let from = asked.from in omega arith
 
   pub line_agent : (d : Half Answer) → (slice_index_or desk.answers answer.agent d).agent ≡ answer.agent
   line_agent d = asked.kept.lines answer.agent d within
@@ -118,49 +121,19 @@ module _ (desk : Desk) (request : Request) (answer : Answer) (asked : IsAsked de
   -- the answer is the next of its lane
   pub line_number : (d : Half Answer) → length (slice_index_or desk.answers answer.agent d).sent ≡ answer.number
   line_number d =
-      ap length (asked.kept.answered asked.going answer.agent d within)
-      ∙ (answers_length desk.book.limits answer.agent desk.requests.taken
-      ∙ (ap (λ (a : ℕ). length (from_agent (λ (r : Request). r.agent) a desk.requests.taken)) of_agent ∙ (sym asked.number ∙ sym of_number)))
+      asked.kept.counted asked.going answer.agent d within
+      ∙ (ap (λ (a : ℕ). length (from_agent (λ (r : Request). r.agent) a desk.requests.taken)) asked.agent_is ∙ (sym asked.number ∙ sym asked.number_is))
 
   pub small : (most : ℕ) → length desk.requests.taken < most → answer.number < most
   small most few =
-      let number = of_number in
+      let number = asked.number_is in
       let count = length-filter (λ (r : Request). r.agent == request.agent) desk.requests.taken in
       let bound = count_by-le-length (λ (r : Request). r.agent == request.agent) desk.requests.taken in
       omega (arith, asked.number)
 
-  mine : ((next_exchange desk request).request.agent == answer.agent) ≡ true
-  unfolding exchange_of
-  mine = eq-eqb request.agent answer.agent (sym of_agent)
-
-  not_mine : (a : ℕ) → a ≢ answer.agent → ((next_exchange desk request).request.agent == a) ≡ false
-  unfolding exchange_of
-  not_mine a other = ne_eqb request.agent a (λ same. other (sym same ∙ sym of_agent))
-
-  module _ (book : Book) (out : Out Request) (halves : List (Half Answer)) (missed : ℕ) (failed : Bool) (limits : book.limits ≡ desk.book.limits) (taken : out ≡ taken_request desk.requests request) where
-    abbrev new : Desk
-    new = record { book = book; requests = out; answers = halves; missed = missed; failed = failed }
-
-    history_new : history new ≡ history desk ++ next_exchange desk request ∷ []
-    history_new =
-        (λ i. history_of (limits i) (taken i).taken) ∙ history_more desk.book.limits desk.requests.taken request
-
-    sent_at : (is_sent : IsAnswerSent true desk.answers answer halves) (a : ℕ) (d : Half Answer) → a < length desk.answers → (slice_index_or halves a d).sent ≡ answers_to a (history desk ++ next_exchange desk request ∷ [])
-    sent_at is_sent a d inside =
-        elim (ℕ_discrete a answer.agent) [
-          | yes same ↦
-              ap (λ (es : List (Half Answer)). (slice_index_or es a d).sent) (is_sent d)
-              ∙ (ap (λ (k : ℕ). (slice_index_or (set desk.answers answer.agent (answered_more true (slice_index_or desk.answers answer.agent d) answer)) k d).sent) same
-              ∙ (ap (λ (e : Half Answer). e.sent) (get_or-set_same desk.answers answer.agent (answered_more true (slice_index_or desk.answers answer.agent d) answer) d within)
-              ∙ ((λ i. asked.kept.answered asked.going answer.agent d within i ++ asked.answer_is i ∷ [])
-              ∙ (sym (answers_mine answer.agent (history desk) (next_exchange desk request) mine)
-              ∙ ap (λ (k : ℕ). answers_to k (history desk ++ next_exchange desk request ∷ [])) (sym same)))))
-          | no other ↦
-              ap (λ (es : List (Half Answer)). (slice_index_or es a d).sent) (is_sent d)
-              ∙ (ap (λ (e : Half Answer). e.sent) (get_or-set_other desk.answers answer.agent a (answered_more true (slice_index_or desk.answers answer.agent d) answer) d other)
-              ∙ (asked.kept.answered asked.going a d inside
-              ∙ sym (answers_other a (history desk) (next_exchange desk request) (not_mine a other))))
-        ]
+  module _ (book : B) (out : Out Request) (halves : List (Half Answer)) (missed : ℕ) (failed : Bool) (taken : out ≡ taken_request desk.requests request) where
+    abbrev new : Desk B
+    new = desk_of desk.start book out halves missed failed
 
     long : (sent : Bool) (d : Half Answer) → IsAnswerSent sent desk.answers answer halves → length halves ≡ length desk.answers
     long sent d is_sent = ap length (is_sent d) ∙ length-set desk.answers answer.agent (answered_more sent (slice_index_or desk.answers answer.agent d) answer)
@@ -183,24 +156,6 @@ module _ (desk : Desk) (request : Request) (answer : Answer) (asked : IsAsked de
               ∙ (ap (λ (it : Half Answer). it.agent) (get_or-set_other desk.answers answer.agent a e d other) ∙ asked.kept.lines a d inside)
         ]
 
-    -- each agent was sent what the history with the request more answers it
-    answered_new : (d : Half Answer) → IsAnswerSent true desk.answers answer halves → AreAnswered halves (history new)
-    answered_new d is_sent = λ a d' inside. let same = long true d is_sent in sent_at is_sent a d' (omega arith) ∙ ap (answers_to a) (sym history_new)
-
-    -- or, where the answer was lost, the first of it
-    sent_new : (sent : Bool) (d : Half Answer) → IsAnswerSent sent desk.answers answer halves → (a : ℕ) (d' : Half Answer) → a < length halves → IsPrefix (slice_index_or halves a d').sent (answers_to a (history new))
-    sent_new true d is_sent a d' inside = ([], append-nil (slice_index_or halves a d').sent ∙ answered_new d is_sent a d' inside)
-    sent_new false d is_sent a d' inside =
-        let same = sent_none desk.answers halves answer d is_sent in
-        let before : (slice_index_or halves a d').sent ≡ answers_to a (history desk) =
-        ap (λ (es : List (Half Answer)). (slice_index_or es a d').sent) same ∙ asked.kept.answered asked.going a d' (subst (λ (es : List (Half Answer)). a < length es) same inside) in (
-          answers_to a (next_exchange desk request ∷ []),
-          ap (λ (l : List Answer). l ++ answers_to a (next_exchange desk request ∷ [])) before
-              ∙ (sym (answers_more a (history desk) (next_exchange desk request ∷ []))
-              ∙ ap (answers_to a) (sym history_new)),
-        )
-
-    -- the collector stands for one request more
     -- what was taken is of its agents, with the request more
     mine_new : length halves ≡ length desk.answers → All (λ (r : Request). r.agent < length halves) out.taken
     mine_new same =
@@ -211,31 +166,119 @@ module _ (desk : Desk) (request : Request) (answer : Answer) (asked : IsAsked de
         (subst (λ (n : ℕ). All (λ (r : Request). r.agent < n) desk.requests.taken) (sym same) asked.kept.mine)
         (All-cons (λ (r : Request). r.agent < length halves) request [] (omega arith) (All-nil (λ (r : Request). r.agent < length halves))))
 
-    pub keeps : ((a : ℕ) → IsNumbered (λ (r : Request). r.number) (from_agent (λ (r : Request). r.agent) a out.taken)) → (sent : Bool) (d : Half Answer) → IsAnswerSent sent desk.answers answer halves → Represents book (history desk ++ next_exchange desk request ∷ []) → (failed ≡ false → sent ≡ true) → IsDesk new
-    keeps numbered sent d is_sent book_is going_on =
+    -- and so each agent was answered as often as it asked
+    counted_new : IsAnswerSent true desk.answers answer halves → (a : ℕ) (d : Half Answer) → a < length desk.answers → length (slice_index_or halves a d).sent ≡ length (from_agent (λ (r : Request). r.agent) a out.taken)
+    counted_new is_sent a d inside =
+        let e : Half Answer = answered_more true (slice_index_or desk.answers answer.agent d) answer in
+        let all = ap (λ (o : Out Request). length (from_agent (λ (r : Request). r.agent) a o.taken)) taken in
+        elim (ℕ_discrete a answer.agent) [
+          | yes same ↦
+              let here = ap (λ (es : List (Half Answer)). length (slice_index_or es a d).sent) (is_sent d)
+              ∙ (ap (λ (k : ℕ). length (slice_index_or (set desk.answers answer.agent e) k d).sent) same
+              ∙ (ap (λ (it : Half Answer). length it.sent) (get_or-set_same desk.answers answer.agent e d within)
+              ∙ length-append (slice_index_or desk.answers answer.agent d).sent (answer ∷ []))) in
+              let then = asked.kept.counted asked.going answer.agent d within in
+              let k = ap (λ (k : ℕ). length (from_agent (λ (r : Request). r.agent) k desk.requests.taken)) same in
+              let more = count_of a desk.requests.taken request true (eq-eqb request.agent a (sym (same ∙ asked.agent_is))) in
+              omega (arith, here, then, k, more, all)
+          | no other ↦
+              let here = ap (λ (es : List (Half Answer)). length (slice_index_or es a d).sent) (is_sent d)
+              ∙ ap (λ (it : Half Answer). length it.sent) (get_or-set_other desk.answers answer.agent a e d other) in
+              let then = asked.kept.counted asked.going a d inside in
+              let more = count_of a desk.requests.taken request false (ne_eqb request.agent a (λ is. other (sym is ∙ sym asked.agent_is))) in
+              omega (arith, here, then, more, all)
+        ]
+
+    module _ (before : List Exchange) (stands : StandsAfter keeper before desk) (answer_is : answer ≡ answer_of (next_exchange keeper before desk request)) where
+      mine : ((next_exchange keeper before desk request).request.agent == answer.agent) ≡ true
+      unfolding exchange_of
+      mine = eq-eqb request.agent answer.agent (sym asked.agent_is)
+
+      not_mine : (a : ℕ) → a ≢ answer.agent → ((next_exchange keeper before desk request).request.agent == a) ≡ false
+      unfolding exchange_of
+      not_mine a other = ne_eqb request.agent a (λ same. other (sym same ∙ sym asked.agent_is))
+
+      history_new : history keeper before new ≡ history keeper before desk ++ next_exchange keeper before desk request ∷ []
+      history_new =
+          ap (λ (o : Out Request). history_after (keeper.limits desk.start) before o.taken) taken ∙ more_after (keeper.limits desk.start) before desk.requests.taken request
+
+      sent_at : (is_sent : IsAnswerSent true desk.answers answer halves) (a : ℕ) (d : Half Answer) → a < length desk.answers → (slice_index_or halves a d).sent ≡ answers_to a (history keeper before desk ++ next_exchange keeper before desk request ∷ [])
+      sent_at is_sent a d inside =
+          elim (ℕ_discrete a answer.agent) [
+            | yes same ↦
+                ap (λ (es : List (Half Answer)). (slice_index_or es a d).sent) (is_sent d)
+                ∙ (ap (λ (k : ℕ). (slice_index_or (set desk.answers answer.agent (answered_more true (slice_index_or desk.answers answer.agent d) answer)) k d).sent) same
+                ∙ (ap (λ (e : Half Answer). e.sent) (get_or-set_same desk.answers answer.agent (answered_more true (slice_index_or desk.answers answer.agent d) answer) d within)
+                ∙ ((λ i. stands.answered asked.going answer.agent d within i ++ answer_is i ∷ [])
+                ∙ (sym (answers_mine answer.agent (history keeper before desk) (next_exchange keeper before desk request) mine)
+                ∙ ap (λ (k : ℕ). answers_to k (history keeper before desk ++ next_exchange keeper before desk request ∷ [])) (sym same)))))
+            | no other ↦
+                ap (λ (es : List (Half Answer)). (slice_index_or es a d).sent) (is_sent d)
+                ∙ (ap (λ (e : Half Answer). e.sent) (get_or-set_other desk.answers answer.agent a (answered_more true (slice_index_or desk.answers answer.agent d) answer) d other)
+                ∙ (stands.answered asked.going a d inside
+                ∙ sym (answers_other a (history keeper before desk) (next_exchange keeper before desk request) (not_mine a other))))
+          ]
+
+      -- each agent was sent what the history with the request more answers it
+      answered_new : (d : Half Answer) → IsAnswerSent true desk.answers answer halves → AreAnswered halves (history keeper before new)
+      answered_new d is_sent = λ a d' inside. let same = long true d is_sent in sent_at is_sent a d' (omega arith) ∙ ap (answers_to a) (sym history_new)
+
+      -- or, where the answer was lost, the first of it
+      sent_new : (sent : Bool) (d : Half Answer) → IsAnswerSent sent desk.answers answer halves → (a : ℕ) (d' : Half Answer) → a < length halves → IsPrefix (slice_index_or halves a d').sent (answers_to a (history keeper before new))
+      sent_new true d is_sent a d' inside = ([], append-nil (slice_index_or halves a d').sent ∙ answered_new d is_sent a d' inside)
+      sent_new false d is_sent a d' inside =
+          let same = sent_none desk.answers halves answer d is_sent in
+          let sent_then : (slice_index_or halves a d').sent ≡ answers_to a (history keeper before desk) =
+          ap (λ (es : List (Half Answer)). (slice_index_or es a d').sent) same ∙ stands.answered asked.going a d' (subst (λ (es : List (Half Answer)). a < length es) same inside) in (
+            answers_to a (next_exchange keeper before desk request ∷ []),
+            ap (λ (l : List Answer). l ++ answers_to a (next_exchange keeper before desk request ∷ [])) sent_then
+                ∙ (sym (answers_more a (history keeper before desk) (next_exchange keeper before desk request ∷ []))
+                ∙ ap (answers_to a) (sym history_new)),
+          )
+
+      -- the collector stands for one request more, after a history
+      pub stands_on : (sent : Bool) (d : Half Answer) → IsAnswerSent sent desk.answers answer halves → keeper.stands book (history keeper before desk ++ next_exchange keeper before desk request ∷ []) → (failed ≡ false → sent ≡ true) → StandsAfter keeper before new
+      stands_on sent d is_sent book_is going_on = record {
+        book = subst (keeper.stands book) (sym history_new) book_is;
+        sent = sent_new sent d is_sent;
+        answered = λ well. answered_new d (subst (λ (it : Bool). IsAnswerSent it desk.answers answer halves) (going_on well) is_sent);
+      }
+
+    -- it keeps what every collector does
+    pub keeps :
+        ((a : ℕ) → IsNumbered (λ (r : Request). r.number) (from_agent (λ (r : Request). r.agent) a out.taken)) → (sent : Bool) (d : Half Answer) → IsAnswerSent sent desk.answers answer halves → (failed ≡ false → sent ≡ true) → keeper.limits book ≡ keeper.limits desk.start
+        → keeper.sealed book ≤ keeper.sealed desk.book + 1 → (keeper.may_refuse book → keeper.may_refuse desk.start) → keeper.awaits book []
+        → ((before : List Exchange) → BeginsWith keeper desk.start before → (answer ≡ answer_of (next_exchange keeper before desk request)) × keeper.stands book (history keeper before desk ++ next_exchange keeper before desk request ∷ [])) → IsDesk keeper new
+    keeps numbered sent d is_sent going_on limits sealed refuses awaits book_is =
         let same = long sent d is_sent in
         let first = asked.kept.first in
         let past = asked.kept.past in
         let few = asked.kept.few in
         let out_first : out.first ≡ desk.requests.first = ap (λ (o : Out Request). o.first) taken in
         let out_past : out.past ≡ desk.requests.past = ap (λ (o : Out Request). o.past) taken in
-        record {
+        let all = ap (λ (o : Out Request). length o.taken) taken ∙ length-append desk.requests.taken (request ∷ []) in
+        let before_sealed = asked.kept.sealed in record {
           first = omega arith;
           past = omega arith;
           few = omega arith;
           mine = mine_new same;
           numbered = numbered;
           lines = λ a d' inside. lines_new sent is_sent a d' (omega arith);
-          book = subst (Represents book) (sym history_new) book_is;
-          sent = sent_new sent d is_sent;
-          answered = λ well. answered_new d (subst (λ (it : Bool). IsAnswerSent it desk.answers answer halves) (going_on well) is_sent);
+          limits = limits;
+          room = asked.kept.room;
+          sealed = omega arith;
+          refuses = refuses;
+          awaits = λ _. awaits;
+          counted = λ well a d' inside. counted_new (subst (λ (it : Bool). IsAnswerSent it desk.answers answer halves) (going_on well) is_sent) a d' (omega arith);
+          stands = λ before begins. stands_on before (asked.kept.stands before begins) (book_is before begins).0 sent d is_sent (book_is before begins).1 going_on;
         }
 
--- fewer letters were sealed than a number of 64 bits counts
-pub letters_fit : (book : Book) (requests : List Request) (taken : ℕ) → Represents book (history_of book.limits requests) → taken ≡ length requests → taken < 2 ^ 32 → book.sealed < 2 ^ 64 - 1
-letters_fit book requests taken stands counted few = omega (arith, letters_few book.limits requests, stands.sealed, counted, few)
-
 -- a collector that has not failed has no reason for it
-pub none_stopped : (stop : Option StopCause) (taken : List Request) → is_some stop ≡ false → IfSome stop (IsStopped taken)
-none_stopped None taken going = tt
-none_stopped (Some stop) taken going = absurd (false≢true (sym going))
+pub none_stopped : (refuses : Type 0) (stop : Option StopCause) (taken : List Request) → is_some stop ≡ false → IfSome stop (IsStopped refuses taken)
+none_stopped refuses None taken going = tt
+none_stopped refuses (Some stop) taken going = absurd (false≢true (sym going))
+
+-- where all that the lane has taken was carried out, the half is the lane's own
+pub carried_all : (count : ℕ) (out : Out Request) → count ≡ length out.taken → carried_out count out ≡ out
+carried_all count out all =
+    ap (λ (taken : List Request). record { lane = out.lane; first = out.first; past = out.past; taken = taken }) (take_all count out.taken (omega arith))

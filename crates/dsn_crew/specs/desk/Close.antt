@@ -1,24 +1,26 @@
 -- Closes: which agents are those of a collector, and what a crew that is closed came to.
 use Rattle.std.specs.Prelude.{◌≡◌, List, All, Contains, map}
-use Rattle.dsn_book.specs.Book.{Book}
+use Rattle.dsn_book.specs.declared.keeper.Keeper.{Ghosts as Keeper}
 use Rattle.dsn_outcome.specs.Agents.{from_agent}
-use Rattle.dsn_outcome.specs.History.{answers_to}
+use Rattle.dsn_outcome.specs.History.{Exchange, answers_to}
 use Rattle.dsn_outcome.specs.Request.{Request}
 use Rattle.dsn_crew.specs.agents.Agent.{LaneHalves}
 use Rattle.dsn_crew.specs.desk.Desk.{Desk, history, places_of}
 use Rattle.dsn_crew.specs.agents.Place.{place_of}
 
 -- these are all agents of this collector, in their order
-abbrev pub AreCrew : List LaneHalves → Desk → Type 0
+abbrev pub AreCrew : {B : Type 0} → List LaneHalves → Desk B → Type 0
 AreCrew crew desk = map place_of crew ≡ places_of desk
 
 -- all that an agent sent was taken, in that order, and it got just the answers that the history
--- gives it
-pub record IsHeard (desk : Desk) (halves : LaneHalves) : Type 0 where
+-- gives it, after the one that the collector began with
+pub record IsHeard {B : Type 0} (keeper : Keeper B) (before : List Exchange) (desk : Desk B)
+    (halves : LaneHalves) : Type 0 where
   pub taken : from_agent
       (λ (request : Request). request.agent) halves.requests.agent desk.requests.taken
       ≡ halves.requests.sent
-  pub got : halves.answers.taken ≡ answers_to halves.requests.agent (history desk)
+  pub got : halves.answers.taken
+      ≡ answers_to halves.requests.agent (history keeper before desk)
 
 -- these requests are of these agents
 abbrev pub AreOf : List LaneHalves → List Request → Type 0
@@ -27,7 +29,7 @@ AreOf crew requests =
     (map (λ (halves : LaneHalves). halves.requests.agent) crew) request.agent) requests
 
 -- a closed crew: its book, and its agents and its collector as they were at the close
-pub record Shut : Type 0 where
-  pub book : Book
+pub record Shut (B : Type 0) : Type 0 where
+  pub book : B
   pub crew : List LaneHalves
-  pub desk : Desk
+  pub desk : Desk B

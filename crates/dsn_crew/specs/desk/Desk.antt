@@ -1,13 +1,13 @@
 -- Desks: what contracts see of the collector, and what each request that it takes comes to.
-use Rattle.std.specs.Prelude.{◌≡◌, ◌≢◌, ℕ, ◌+◌, ◌<◌, ◌≤◌, Bool, true, false, ◌==◌, ◌&&◌, ◌||◌, not, List, [], ◌∷◌, ◌++◌, length, map, filter, take, slice_set, All, Result, Ok, Err, is_err, Option}
+use Rattle.std.specs.Prelude.{◌≡◌, ◌≢◌, ◌⊎◌, ℕ, ◌+◌, ◌^◌, ◌<◌, ◌≤◌, Bool, true, false, ◌==◌, ◌&&◌, ◌||◌, not, List, [], ◌∷◌, ◌++◌, length, map, filter, take, slice_set, All, Result, Ok, Err, is_err, Option}
 use mathlib.Core.List.{IsPrefix}
 use Rattle.std.specs.List.{slice_index_or}
-use Rattle.dsn_book.specs.Book.{Book, Represents}
+use Rattle.dsn_book.specs.declared.keeper.Keeper.{Ghosts as Keeper}
 use Rattle.dsn_book.specs.Step.{letters_in}
 use Rattle.dsn_lane.specs.Halves.{Half, Out}
 use Rattle.dsn_lane.specs.Lane.{IsNumbered, most_agents}
 use Rattle.dsn_outcome.specs.Agents.{from_agent}
-use Rattle.dsn_outcome.specs.History.{Exchange, answer_of, answers_to, exchange_of, history_of, letter_of, sealed_letters}
+use Rattle.dsn_outcome.specs.History.{Exchange, answer_of, answers_to, exchange_of, history_after, letter_of, sealed_letters}
 use Rattle.dsn_outcome.specs.Letter.{Letter}
 use Rattle.dsn_outcome.specs.Request.{Request, Body, Append, Flush, Discard, Forget, Bye}
 use Rattle.dsn_outcome.specs.declared.answer.Answer.{Answer}
@@ -16,12 +16,14 @@ use Rattle.dsn_crew.specs.agents.Place.{Place, place_at}
 use Rattle.dsn_crew.specs.declared.desk.desk_fault.DeskFault.{DeskFault}
 use Rattle.dsn_crew.specs.declared.desk.desk_fault.DeskFault.TheVariants.{Requests, Answers, Letters}
 use Rattle.dsn_crew.specs.declared.desk.stop_cause.StopCause.{StopCause}
-use Rattle.dsn_crew.specs.declared.desk.stop_cause.StopCause.TheVariants.{Gone, Refused, Full}
+use Rattle.dsn_crew.specs.declared.desk.stop_cause.StopCause.TheVariants.{Gone, Refused, Full, Unkept}
 
--- the collector: its book, the half by which it takes requests, the halves by which it answers, agent
--- by agent, how many agents it has heard of that never start, and whether it failed
-pub record Desk : Type 0 where
-  pub book : Book
+-- the collector: what carried requests out when it began, and what does so now; the half by which it
+-- takes requests, with those that it has carried out; the halves by which it answers, agent by agent;
+-- how many agents it has heard of that never start, and whether it failed
+pub record Desk (B : Type 0) : Type 0 where
+  pub start : B
+  pub book : B
   pub requests : Out Request
   pub answers : List (Half Answer)
   pub missed : ℕ
@@ -39,28 +41,52 @@ abbrev pub goodbyes : List Request → ℕ
 goodbyes requests = length (filter (λ (request : Request). is_goodbye request.body) requests)
 
 -- as many agents said goodbye or never start as there are, and the collector has not failed
-abbrev pub all_gone : Desk → Bool
+abbrev pub all_gone : {B : Type 0} → Desk B → Bool
 all_gone desk =
     not desk.failed && (goodbyes desk.requests.taken + desk.missed == length desk.answers)
 
 -- once it has taken just these requests, not all agents said goodbye or never start
-abbrev pub AreLeft : Desk → List Request → Type 0
+abbrev pub AreLeft : {B : Type 0} → Desk B → List Request → Type 0
 AreLeft desk requests = goodbyes requests + desk.missed ≢ length desk.answers
 
 -- a collector by its parts
-abbrev pub desk_of : Book → Out Request → List (Half Answer) → ℕ → Bool → Desk
-desk_of book requests answers missed failed =
-    record { book = book; requests = requests; answers = answers; missed = missed; failed = failed }
+abbrev pub desk_of :
+    {B : Type 0} → B → B → Out Request → List (Half Answer) → ℕ → Bool → Desk B
+desk_of start book requests answers missed failed = record {
+  start = start;
+  book = book;
+  requests = requests;
+  answers = answers;
+  missed = missed;
+  failed = failed;
+}
 
--- what the requests come to that it took, and so with these requests more
-abbrev pub history : Desk → List Exchange
-history desk = history_of desk.book.limits desk.requests.taken
+-- a history that a run may begin with: nothing in it is answered to an agent of the run
+abbrev pub IsEarlier : List Exchange → Type 0
+IsEarlier before = (agent : ℕ) → agent < most_agents → answers_to agent before ≡ []
 
-abbrev pub history_with : Desk → List Request → List Exchange
-history_with desk more = history_of desk.book.limits (desk.requests.taken ++ more)
+-- what carries requests out stands for such a history
+abbrev pub BeginsWith : {B : Type 0} → Keeper B → B → List Exchange → Type 0
+BeginsWith keeper start before = keeper.stands start before × IsEarlier before
 
-abbrev pub next_exchange : Desk → Request → Exchange
-next_exchange desk request = exchange_of desk.book.limits (history desk) request
+-- the half of which so many requests were carried out, as one that took just these
+abbrev pub carried_out : ℕ → Out Request → Out Request
+carried_out count out =
+    record { lane = out.lane; first = out.first; past = out.past; taken = take count out.taken }
+
+-- what the requests come to that it took, after the history that it began with; and so with these
+-- requests more
+abbrev pub history : {B : Type 0} → Keeper B → List Exchange → Desk B → List Exchange
+history keeper before desk = history_after (keeper.limits desk.start) before desk.requests.taken
+
+abbrev pub history_with :
+    {B : Type 0} → Keeper B → List Exchange → Desk B → List Request → List Exchange
+history_with keeper before desk more =
+    history_after (keeper.limits desk.start) before (desk.requests.taken ++ more)
+
+abbrev pub next_exchange : {B : Type 0} → Keeper B → List Exchange → Desk B → Request → Exchange
+next_exchange keeper before desk request =
+    exchange_of (keeper.limits desk.start) (history keeper before desk) request
 
 -- each agent was sent what a history answers it
 abbrev pub AreAnswered : List (Half Answer) → List Exchange → Type 0
@@ -68,11 +94,20 @@ AreAnswered halves exchanges =
     (a : ℕ) (d : Half Answer) → a < length halves
     → (slice_index_or halves a d).sent ≡ answers_to a exchanges
 
+-- a collector that began with a history: its book stands for what it took; what it sent each agent
+-- are the first of the answers which that history gives the agent, and all of them unless it failed
+pub record StandsAfter {B : Type 0} (keeper : Keeper B) (before : List Exchange)
+    (desk : Desk B) : Type 0 where
+  pub book : keeper.stands desk.book (history keeper before desk)
+  pub sent : (a : ℕ) (d : Half Answer) → a < length desk.answers
+      → IsPrefix (slice_index_or desk.answers a d).sent (answers_to a (history keeper before desk))
+  pub answered : desk.failed ≡ false → AreAnswered desk.answers (history keeper before desk)
+
 -- what every collector keeps: each answer lane is of its agent, and the agents are numbered from 0,
--- up to `most_agents`; what it took is of these agents, and numbered from 0 agent by agent; its
--- book stands for that; what it sent each agent are the first of the answers which that history
--- gives the agent, and all of them unless it failed
-pub record IsDesk (desk : Desk) : Type 0 where
+-- up to `most_agents`; what it took is of these agents, and numbered from 0 agent by agent; it
+-- stands for that, whatever history it began with, under the limits that it began with; unless it
+-- failed it awaits nothing, and each agent was answered as often as it asked
+pub record IsDesk {B : Type 0} (keeper : Keeper B) (desk : Desk B) : Type 0 where
   pub first : desk.requests.first ≡ 0
   pub past : desk.requests.past ≡ length desk.answers
   pub few : length desk.answers ≤ most_agents
@@ -82,10 +117,16 @@ pub record IsDesk (desk : Desk) : Type 0 where
   pub numbered : (agent : ℕ)
       → IsNumbered (λ (request : Request). request.number)
       (from_agent (λ (request : Request). request.agent) agent desk.requests.taken)
-  pub book : Represents desk.book (history desk)
-  pub sent : (a : ℕ) (d : Half Answer) → a < length desk.answers
-      → IsPrefix (slice_index_or desk.answers a d).sent (answers_to a (history desk))
-  pub answered : desk.failed ≡ false → AreAnswered desk.answers (history desk)
+  pub limits : keeper.limits desk.book ≡ keeper.limits desk.start
+  pub room : keeper.sealed desk.start < 2 ^ 63
+  pub sealed : keeper.sealed desk.book ≤ keeper.sealed desk.start + length desk.requests.taken
+  pub refuses : keeper.may_refuse desk.book → keeper.may_refuse desk.start
+  pub awaits : desk.failed ≡ false → keeper.awaits desk.book []
+  pub counted : desk.failed ≡ false → (a : ℕ) (d : Half Answer) → a < length desk.answers
+      → length (slice_index_or desk.answers a d).sent
+      ≡ length (from_agent (λ (request : Request). request.agent) a desk.requests.taken)
+  pub stands : (before : List Exchange) → BeginsWith keeper desk.start before
+      → StandsAfter keeper before desk
 
 -- the counts of what a collector took: the requests, and the goodbyes among them
 abbrev pub AreCounted : List Request → ℕ → ℕ → Type 0
@@ -95,12 +136,13 @@ AreCounted requests taken gone = (taken ≡ length requests) × (gone ≡ goodby
 abbrev pub most_taken : ℕ
 most_taken = 4294967295
 
--- why it has failed: a lane reported that its other side is gone; its sink handed a letter back; or it
--- took all that it may
-abbrev pub IsStopped : List Request → StopCause → Type 0
-IsStopped taken (Gone gone) = Unit {0}
-IsStopped taken (Refused refused) = Unit {0}
-IsStopped taken Full = length taken ≡ most_taken
+-- why it has failed: a lane reported that its other side is gone; its sink handed a letter back; it
+-- took all that it may; or a request was not kept, which can be where requests may be refused
+abbrev pub IsStopped : Type 0 → List Request → StopCause → Type 0
+IsStopped refuses taken (Gone gone) = Unit {0}
+IsStopped refuses taken (Refused refused) = Unit {0}
+IsStopped refuses taken Full = length taken ≡ most_taken
+IsStopped refuses taken (Unkept why) = refuses
 
 -- what holds nothing yet, and has room for a half of each agent
 abbrev pub HasRoom : List (Half Answer) → List (Half Request) → ℕ → Type 0
@@ -129,31 +171,46 @@ taken_request out request =
     }
 
 -- a collector that failed, or not, with nothing else changed
-abbrev pub with_failed : Desk → Bool → Desk
-with_failed desk failed = desk_of desk.book desk.requests desk.answers desk.missed failed
+abbrev pub with_failed : {B : Type 0} → Desk B → Bool → Desk B
+with_failed desk failed =
+    desk_of desk.start desk.book desk.requests desk.answers desk.missed failed
+
+-- and where a request was not kept, so that its book is another one
+abbrev pub with_unkept : {B : Type 0} → Desk B → B → Desk B
+with_unkept desk book = desk_of desk.start book desk.requests desk.answers desk.missed true
+
+-- a collector that failed with nothing else changed, or only its book, by a request that was not kept
+abbrev pub HasStopped : {B : Type 0} → Keeper B → Desk B → Desk B → Type 0
+HasStopped keeper old new =
+    (new ≡ with_failed old true)
+    ⊎ (keeper.may_refuse old.start × (new ≡ with_unkept old new.book))
 
 -- a collector that hears of so many agents more that never start, with nothing else changed
-abbrev pub missing : Desk → ℕ → Desk
+abbrev pub missing : {B : Type 0} → Desk B → ℕ → Desk B
 missing desk agents =
-    desk_of desk.book desk.requests desk.answers (desk.missed + agents) desk.failed
+    desk_of desk.start desk.book desk.requests desk.answers (desk.missed + agents) desk.failed
 
--- what taking one request comes to. Ok: it was answered as the history defines, and the letter is
--- the one that it sealed. `Requests`: nothing was taken. `Answers`: the request was taken, and its
--- answer is lost
-abbrev pub IsRequestTaken : Desk → Desk → Result (Option Letter) DeskFault → Type 0
-IsRequestTaken old new (Ok letter) =
+-- what taking one request comes to, after the history that the collector began with. Ok: it was
+-- answered as the history defines, and the letter is the one that it sealed. `Requests`: nothing was
+-- taken. `Answers`: the request was taken, and its answer is lost
+abbrev pub IsRequestTaken :
+    {B : Type 0} → Keeper B → List Exchange → Desk B → Desk B → Result (Option Letter) DeskFault
+    → Type 0
+IsRequestTaken keeper before old new (Ok letter) =
     (request : Request) × (old.failed ≡ false) × (new.failed ≡ false)
     × (new.requests ≡ taken_request old.requests request)
-    × IsAnswerSent true old.answers (answer_of (next_exchange old request)) new.answers
+    × IsAnswerSent true old.answers (answer_of (next_exchange keeper before old request)) new.answers
     × (new.missed ≡ old.missed)
-    × (letters_in letter ≡ letter_of (history old) (next_exchange old request))
-IsRequestTaken old new (Err Requests) = new ≡ with_failed old true
-IsRequestTaken old new (Err (Answers agent letter)) =
+    × (letters_in letter
+    ≡ letter_of (history keeper before old) (next_exchange keeper before old request))
+IsRequestTaken keeper before old new (Err Requests) = HasStopped keeper old new
+IsRequestTaken keeper before old new (Err (Answers agent letter)) =
     (request : Request) × (old.failed ≡ false) × (new.failed ≡ true)
     × (new.requests ≡ taken_request old.requests request)
     × (agent ≡ request.agent) × (new.answers ≡ old.answers) × (new.missed ≡ old.missed)
-    × (letters_in letter ≡ letter_of (history old) (next_exchange old request))
-IsRequestTaken old new (Err (Letters letter)) = ⊥
+    × (letters_in letter
+    ≡ letter_of (history keeper before old) (next_exchange keeper before old request))
+IsRequestTaken keeper before old new (Err (Letters letter)) = ⊥
 
 abbrev pub taken_requests : Out Request → List Request → Out Request
 taken_requests out more =
@@ -167,51 +224,62 @@ letter_kept (Err (Answers agent letter)) = letters_in letter
 letter_kept (Err (Letters letter)) = letter ∷ []
 
 -- the places of its agents
-abbrev pub places_of : Desk → List Place
+abbrev pub places_of : {B : Type 0} → Desk B → List Place
 places_of desk = map (place_at desk.requests.lane) desk.answers
 
 -- the last of the requests that a collector took, and the letter that it sealed, if it did
-pub record IsLastRequest (desk : Desk) (more : List Request) (last : Request)
-    (letter : List Letter) : Type 0 where
+pub record IsLastRequest {B : Type 0} (keeper : Keeper B) (before : List Exchange) (desk : Desk B)
+    (more : List Request) (last : Request) (letter : List Letter) : Type 0 where
   pub earlier : List Request
   pub more_are : more ≡ earlier ++ last ∷ []
   pub letter_is : letter
-      ≡ letter_of (history_with desk earlier)
-      (exchange_of desk.book.limits (history_with desk earlier) last)
+      ≡ letter_of (history_with keeper before desk earlier)
+      (exchange_of (keeper.limits desk.start) (history_with keeper before desk earlier) last)
 
 -- what a fault that ends a run says of it. `Requests`: all that was taken was answered, and agents
 -- are left. `Answers`: so it was, but for the last request, which was of this agent and sealed this
 -- letter, if any. `Letters`: all was answered, and the last request sealed this letter. A collector
 -- that had failed before answers `Requests`
-abbrev pub EndsBy : Desk → List Request → Desk → Result (Unit {0}) DeskFault → Type 0
-EndsBy old more new (Ok done) = Unit {0}
-EndsBy old more new (Err Requests) =
-    old.failed ≡ false → AreAnswered new.answers (history new) × AreLeft new new.requests.taken
-EndsBy old more new (Err (Answers agent letter)) =
+abbrev pub EndsBy :
+    {B : Type 0} → Keeper B → List Exchange → Desk B → List Request → Desk B
+    → Result (Unit {0}) DeskFault → Type 0
+EndsBy keeper before old more new (Ok done) = Unit {0}
+EndsBy keeper before old more new (Err Requests) =
+    old.failed ≡ false
+    → AreAnswered new.answers (history keeper before new) × AreLeft new new.requests.taken
+EndsBy keeper before old more new (Err (Answers agent letter)) =
     (old.failed ≡ false) × (last : Request) × (agent ≡ last.agent)
-    × (ends : IsLastRequest old more last (letters_in letter))
-    × AreAnswered new.answers (history_with old ends.earlier)
-EndsBy old more new (Err (Letters letter)) =
-    (old.failed ≡ false) × (last : Request) × IsLastRequest old more last (letter ∷ [])
-    × AreAnswered new.answers (history new)
+    × (ends : IsLastRequest keeper before old more last (letters_in letter))
+    × AreAnswered new.answers (history_with keeper before old ends.earlier)
+EndsBy keeper before old more new (Err (Letters letter)) =
+    (old.failed ≡ false) × (last : Request)
+    × IsLastRequest keeper before old more last (letter ∷ [])
+    × AreAnswered new.answers (history keeper before new)
+
+-- a collector after a run that took nothing: as it was, but failed where there is a fault
+abbrev pub IsUnmoved :
+    {B : Type 0} → Keeper B → Desk B → Desk B → Result (Unit {0}) DeskFault → Type 0
+IsUnmoved keeper old new (Ok done) = new ≡ old
+IsUnmoved keeper old new (Err fault) = HasStopped keeper old new
 
 -- what a run of the collector comes to: the requests that it took, each while agents were left, and
 -- none once it had failed; and the letters that it handed on, which are the letters that these
 -- requests sealed, in order, but for the one that the fault holds. A run that took none leaves the
 -- collector as it was, but failed where there is a fault
-pub record IsRun {S : Type 0} (takes : S → Letter → S → Type 0) (old new : Desk) (sink after : S)
+pub record IsRun {B S : Type 0} (keeper : Keeper B) (before : List Exchange)
+    (takes : S → Letter → S → Type 0) (old new : Desk B) (sink after : S)
     (result : Result (Unit {0}) DeskFault) : Type 0 where
   pub more : List Request
   pub requests : new.requests ≡ taken_requests old.requests more
   pub handed : List Letter
   pub sink_is : Handed takes sink handed after
-  pub letters : sealed_letters (history new)
-      ≡ sealed_letters (history old) ++ (handed ++ letter_kept result)
-  pub limits : new.book.limits ≡ old.book.limits
+  pub letters : sealed_letters (history keeper before new)
+      ≡ sealed_letters (history keeper before old) ++ (handed ++ letter_kept result)
+  pub start : new.start ≡ old.start
   pub places : places_of new ≡ places_of old
   pub missed : new.missed ≡ old.missed
   pub failed : new.failed ≡ (old.failed || is_err result)
   pub waiting : (n : ℕ) → n < length more → AreLeft old (old.requests.taken ++ take n more)
   pub idle : old.failed ≡ true → more ≡ []
-  pub unmoved : more ≡ [] → new ≡ with_failed old (old.failed || is_err result)
-  pub ends : EndsBy old more new result
+  pub unmoved : more ≡ [] → IsUnmoved keeper old new result
+  pub ends : EndsBy keeper before old more new result

@@ -1,6 +1,9 @@
 -- Openings: what a crew is before its first request.
 use Rattle.std.specs.Prelude.{◌≡◌, ℕ, ◌<◌, ◌+◌, false, List, [], length, map}
 use Rattle.std.specs.List.{slice_index_or}
+use Rattle.dsn_book.specs.Book.{Book, Represents}
+use Rattle.dsn_book.specs.Keeper.{book_keeper}
+use Rattle.dsn_book.specs.declared.keeper.Keeper.{Ghosts as Keeper}
 use Rattle.dsn_text.specs.FaultCode.{agent_count_code, crew_refused_code}
 use Rattle.dsn_lane.specs.Halves.{Half, Identity}
 use Rattle.dsn_outcome.specs.History.{Limits}
@@ -40,16 +43,26 @@ pub record IsLine (agent : ℕ) (half : Half Answer) : Type 0 where
 abbrev pub AreLines : List (Half Answer) → Type 0
 AreLines halves = (a : ℕ) (d : Half Answer) → a < length halves → IsLine a (slice_index_or halves a d)
 
--- a crew of so many agents, before the first request: each agent has the lane on which it asks, and
+-- a crew of so many agents and of what carries their requests out, before the first request: each agent has the lane on which it asks, and
 -- the one on which the collector answers it; `requests_waiting` requests wait at most, and 1
 -- answer to an agent
-pub record IsOpened (limits : Limits) (agents : ℕ) (crew : List Agent) (desk : Desk) : Type 0 where
-  pub limits_are : desk.book.limits ≡ limits
+pub record IsOpened {B : Type 0} (keeper : Keeper B) (start : B) (agents : ℕ) (crew : List Agent)
+    (desk : Desk B) : Type 0 where
+  pub start_is : desk.start ≡ start
+  pub book_is : desk.book ≡ start
   pub taken : desk.requests.taken ≡ []
   pub capacity : desk.requests.lane.capacity ≡ requests_waiting
   pub count : length desk.answers ≡ agents
   pub lines : AreLines desk.answers
-  pub crew_is : crew ≡ map (opened_agent limits.requests desk.requests.lane) desk.answers
+  pub crew_is : crew
+      ≡ map (opened_agent (keeper.limits start).requests desk.requests.lane) desk.answers
   pub missed : desk.missed ≡ 0
   pub begun : desk.failed ≡ false
-  pub kept : IsDesk desk
+  pub kept : IsDesk keeper desk
+
+-- and so over a book that is empty
+pub record IsOpenedEmpty (limits : Limits) (agents : ℕ) (crew : List Agent)
+    (desk : Desk Book) : Type 0 where
+  pub limits_are : desk.book.limits ≡ limits
+  pub empty : Represents desk.start []
+  pub opened : IsOpened book_keeper desk.start agents crew desk

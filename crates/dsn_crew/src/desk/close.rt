@@ -1,15 +1,16 @@
 //! The close of a crew.
-ghost use Rattle.std.specs.Prelude.{◌≡◌, ◌+◌, true, All};
+ghost use Rattle.std.specs.Prelude.{◌≡◌, ◌+◌, List, true, All};
 ghost use mathlib.Core.List.{IsPrefix};
-ghost use Rattle.dsn_book.specs.Book.{Represents};
+ghost use Rattle.dsn_outcome.specs.History.{Exchange};
 ghost use Rattle.dsn_crew.specs.agents.Agent.{IsFinished};
 ghost use Rattle.dsn_crew.specs.desk.Close.{AreCrew, AreOf, IsHeard};
-ghost use Rattle.dsn_crew.specs.desk.Desk.{all_gone, history};
+ghost use Rattle.dsn_crew.specs.desk.Desk.{BeginsWith, all_gone, history};
 
 use crate::agents::Finished;
 use crate::desk::answer_lane::AnswerLane;
 use crate::desk::crew_shut::CrewShut;
 use crate::desk::desk::Desk;
+use dsn_book::Keeper;
 use dsn_lane::{LaneIn, close_lane};
 use dsn_outcome::Request;
 use std::snapshot::Snapshot;
@@ -20,14 +21,16 @@ use std::sync::Wait;
 /// goodbye and the collector has not failed (`Desk::all_gone`); an agent that never started has no
 /// half to give back, so its crew is dropped instead.
 #[tactic(auto, using(crate::proofs::desk::Rules::closing))]
-pub fn close_crew(rt: &impl Wait, crew: Vec<Finished>, desk: Desk) -> CrewShut
+pub fn close_crew<B: Keeper>(rt: &impl Wait, crew: Vec<Finished>, desk: Desk<B>) -> CrewShut<B>
     requires crew { AreCrew crew.items desk }
     requires gone { all_gone desk ≡ true }
-    ensures heard { All (IsHeard desk) crew.items }
+    ensures heard { (before : List Exchange) → BeginsWith B.Keeper desk.start before
+        → All (IsHeard B.Keeper before desk) crew.items }
     ensures finished { All IsFinished crew.items }
     ensures only { AreOf crew.items desk.requests.taken }
     ensures shut { result ≡ record { book = desk.book; crew = crew.items; desk = desk } }
-    ensures stands { Represents result.book (history desk) }
+    ensures stands { (before : List Exchange) → BeginsWith B.Keeper desk.start before
+        → B.stands result.book (history B.Keeper before desk) }
 {
     let agents = Snapshot::of(&crew);
     let collector = Snapshot::of(&desk);

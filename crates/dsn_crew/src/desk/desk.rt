@@ -1,33 +1,37 @@
 //! The collector of a crew.
-ghost use Rattle.std.specs.Prelude.{◌≡◌, ◌+◌, ◌<◌, ◌≤◌, ℕ, false, true, [], is_ok, length, OnOk, vec_capacity};
+ghost use Rattle.std.specs.Prelude.{◌≡◌, ◌+◌, ◌^◌, ◌<◌, ◌≤◌, ℕ, List, false, true, [], is_ok, length, OnOk, OnErr, vec_capacity};
 ghost use Rattle.std.specs.List.{slice_index_or};
-ghost use Rattle.dsn_book.specs.Book.{Represents};
 ghost use Rattle.dsn_lane.specs.Halves.{Half};
 ghost use Rattle.dsn_lane.specs.Lane.{most_agents, most_sent};
+ghost use Rattle.dsn_outcome.specs.History.{Exchange};
 ghost use Rattle.dsn_outcome.specs.declared.answer.Answer.{Answer};
 ghost use Rattle.dsn_crew.specs.desk.Open.{AreLines};
-ghost use Rattle.dsn_crew.specs.desk.Desk.{IsAnswerSent, HasRoom, IsDesk, IsRun, IsRequestTaken, IsStopped, all_gone, desk_of, goodbyes, missing, most_taken, places_of, with_failed};
+ghost use Rattle.dsn_crew.specs.desk.Desk.{BeginsWith, IsAnswerSent, HasRoom, IsDesk, IsRun, IsRequestTaken, IsStopped, all_gone, desk_of, goodbyes, missing, most_taken, places_of, with_failed};
 
 use crate::desk::answer_lane::AnswerLane;
 use crate::desk::desk_fault::DeskFault;
 use crate::desk::returned_letter::{ReturnedLetter, offer};
 use crate::desk::stop_cause::StopCause;
-use dsn_book::{Book, Step};
+use dsn_book::{Book, Keeper, Step};
 use dsn_lane::{LaneGone, LaneIn, LaneOut};
 use dsn_outcome::{Answer, Letter, Request};
 use dsn_post::Sink;
 use std::marker::Model;
+use std::slice;
+use std::snapshot::Snapshot;
 use std::sync::Wait;
 
-/// The collector of a crew: it takes the agents' requests one after another, and answers each.
-/// Contracts see its book, the requests that it took, what it answered each agent, and whether it
-/// failed.
+/// The collector of a crew: it takes the agents' requests one after another, has each kept and
+/// carried out, and answers it. Contracts see its book, as it was at first and as it is, the requests
+/// that it took and carried out, what it answered each agent, and whether it failed.
 #[derive(Drop)]
-pub struct Desk {
-    pub(crate) book: Book,
+pub struct Desk<B: Keeper = Book> {
+    start: Snapshot<B>,
+    pub(crate) book: B,
     pub(crate) requests: LaneOut<Request>,
     pub(crate) lines: Vec<AnswerLane>,
     pub(crate) room: Vec<LaneIn<Request>>,
+    /// How many requests it has carried out: those that its lane has taken, but for one that wasn't kept.
     taken: u32,
     gone: u32,
     missed: u32,
@@ -35,38 +39,43 @@ pub struct Desk {
     stop: Option<StopCause>,
 }
 
-impl Model for Desk {
-    ghost use Rattle.std.specs.Prelude.{IfSome, is_some, vec_capacity};
-    ghost use Rattle.dsn_crew.specs.desk.Desk.{AreCounted, Desk, HasRoom, IsDesk, IsStopped, desk_of};
+impl<B: Keeper> Model for Desk<B> {
+    ghost use Rattle.std.specs.Prelude.{◌≡◌, false, IfSome, is_some, length, take, vec_capacity};
+    ghost use Rattle.dsn_crew.specs.desk.Desk.{AreCounted, Desk, HasRoom, IsDesk, IsStopped, carried_out, desk_of};
 
-    ghost Value = { Desk };
+    ghost Value = { Desk B };
 
-    ghost view = { λ d. desk_of d.book d.requests d.lines.items d.missed (is_some d.stop) };
+    ghost view = { λ d. desk_of d.start.value d.book (carried_out d.taken d.requests) d.lines.items
+        d.missed (is_some d.stop) };
 
-    ghost invariant = { λ d. IsDesk
-        (desk_of d.book d.requests d.lines.items d.missed (is_some d.stop))
-        × AreCounted d.requests.taken d.taken d.gone
+    ghost invariant = { λ d. IsDesk B.Keeper
+        (desk_of d.start.value d.book (carried_out d.taken d.requests) d.lines.items d.missed
+        (is_some d.stop))
+        × AreCounted (take d.taken d.requests.taken) d.taken d.gone
         × HasRoom d.lines.items d.room.items (vec_capacity d.room)
-        × IfSome d.stop (IsStopped d.requests.taken) };
+        × IfSome d.stop (IsStopped (B.may_refuse d.start.value) (take d.taken d.requests.taken))
+        × (is_some d.stop ≡ false → d.taken ≡ length d.requests.taken) };
 }
 
-impl Desk {
+impl<B: Keeper> Desk<B> {
     /// A collector that has taken nothing.
     pub(crate) fn new(
-        book: Book,
+        book: B,
         requests: LaneOut<Request>,
         lines: Vec<AnswerLane>,
         room: Vec<LaneIn<Request>>,
-    ) -> Desk
-        requires book { Represents book [] }
+    ) -> Desk<B>
+        requires awaits { B.awaits book [] }
+        requires few { B.sealed book < 2 ^ 63 }
         requires requests { (requests.first ≡ 0) × (requests.past ≡ length lines.items)
             × (requests.taken ≡ []) }
         requires lines { AreLines lines.items × (length lines.items ≤ most_agents) }
         requires room { HasRoom lines.items room.items (vec_capacity room) }
-        ensures new { result ≡ desk_of book requests lines.items 0 false }
-        ensures kept { IsDesk result }
+        ensures new { result ≡ desk_of book book requests lines.items 0 false }
+        ensures kept { IsDesk B.Keeper result }
     {
         Desk {
+            start: Snapshot::of(&book),
             book,
             requests,
             lines,
@@ -81,7 +90,7 @@ impl Desk {
     /// Whether all agents have said goodbye or never start; false once the collector has failed.
     pub fn all_gone(&self) -> bool
         ensures all { result ≡ all_gone self.now }
-        ensures kept { IsDesk self.now }
+        ensures kept { IsDesk B.Keeper self.now }
     {
         self.stop.is_none() && self.gone as usize + self.missed as usize == self.lines.len()
     }
@@ -89,7 +98,7 @@ impl Desk {
     /// Why it has failed. It asks that it has.
     pub(crate) fn stopped(&self) -> StopCause
         requires { self.now.failed ≡ true }
-        ensures { IsStopped self.now.requests.taken result }
+        ensures { IsStopped (B.may_refuse self.now.start) self.now.requests.taken result }
     {
         match self.stop {
             Some(stop) => stop,
@@ -103,7 +112,7 @@ impl Desk {
         requires left { goodbyes self.old.requests.taken + self.old.missed + agents ≤ length
             self.old.answers }
         ensures missed { self.new ≡ missing self.old agents }
-        ensures kept { IsDesk self.new }
+        ensures kept { IsDesk B.Keeper self.new }
     {
         self.missed += agents;
     }
@@ -111,15 +120,18 @@ impl Desk {
     /// Takes one request and answers it: the letter that it sealed, if it did.
     ///
     /// It asks that not all agents said goodbye. `Requests` comes where no agent is left to ask,
-    /// once 4,294,967,295 requests were taken, and once the collector has failed; `Answers` where
-    /// the agent that asked is gone. From then on the collector has failed.
+    /// once 4,294,967,295 requests were taken, once the collector has failed, and where the request
+    /// wasn't kept, which then isn't carried out; `Answers` where the agent that asked is gone. From
+    /// then on the collector has failed.
     pub fn take_one(&mut self, rt: &impl Wait) -> Result<Option<Letter>, DeskFault>
         requires some_left { all_gone self.old ≡ false }
-        ensures taken { IsRequestTaken self.old self.new result }
+        ensures taken { (before : List Exchange) → BeginsWith B.Keeper self.old.start before
+            → IsRequestTaken B.Keeper before self.old self.new result }
         ensures full { most_taken ≤ length self.old.requests.taken
             → self.new ≡ with_failed self.old true }
-        ensures limits { self.new.book.limits ≡ self.old.book.limits }
-        ensures kept { IsDesk self.new }
+        ensures start { self.new.start ≡ self.old.start }
+        ensures failed { OnErr result (self.new.failed ≡ true) }
+        ensures kept { IsDesk B.Keeper self.new }
         ensures places { places_of self.new ≡ places_of self.old }
     {
         if self.stop.is_some() {
@@ -136,6 +148,10 @@ impl Desk {
                 return Err(DeskFault::Requests);
             }
         };
+        if let Err(why) = self.book.keep(slice::from_ref(&request)) {
+            self.stop = Some(StopCause::Unkept(why));
+            return Err(DeskFault::Requests);
+        }
         self.taken += 1;
         let agent = request.agent;
         self.gone += u32::from(request.body.is_bye());
@@ -156,9 +172,13 @@ impl Desk {
     /// takes no more. Then the collector has failed.
     #[tactic(auto, using(crate::proofs::desk::Rules::runs))]
     pub fn run<K: Sink>(&mut self, rt: &impl Wait, sink: &mut K) -> Result<(), DeskFault>
-        ensures run { IsRun K.takes self.old self.new sink.old sink.new result }
+        ensures run { (before : List Exchange) → BeginsWith B.Keeper self.old.start before
+            → IsRun B.Keeper before K.takes self.old self.new sink.old sink.new result }
+        ensures start { self.new.start ≡ self.old.start }
+        ensures failed { OnErr result (self.new.failed ≡ true) }
         ensures all { OnOk result (all_gone self.new ≡ true) }
-        ensures kept { IsDesk self.new }
+        ensures kept { IsDesk B.Keeper self.new }
+        ensures places { places_of self.new ≡ places_of self.old }
     {
         for _ in rt.forever() {
             if self.all_gone() {
@@ -176,9 +196,13 @@ impl Desk {
     #[tactic(auto, using(crate::proofs::desk::Rules::takes))]
     fn hand_one<K: Sink>(&mut self, rt: &impl Wait, sink: &mut K) -> Result<(), DeskFault>
         requires some_left { all_gone self.old ≡ false }
-        requires kept { IsDesk self.old }
-        ensures run { IsRun K.takes self.old self.new sink.old sink.new result }
-        ensures kept { IsDesk self.new }
+        requires kept { IsDesk B.Keeper self.old }
+        ensures run { (before : List Exchange) → BeginsWith B.Keeper self.old.start before
+            → IsRun B.Keeper before K.takes self.old self.new sink.old sink.new result }
+        ensures start { self.new.start ≡ self.old.start }
+        ensures failed { OnErr result (self.new.failed ≡ true) }
+        ensures kept { IsDesk B.Keeper self.new }
+        ensures places { places_of self.new ≡ places_of self.old }
     {
         let taken = match self.take_one(rt) {
             Ok(taken) => taken,

@@ -1,13 +1,13 @@
 //! A crew, from its first step on.
-ghost use Rattle.std.specs.Prelude.{◌≡◌, ◌<◌, ◌≤◌, ◌↔◌, ◌⊎◌, [], IfOk, IfErr};
+ghost use Rattle.std.specs.Prelude.{◌≡◌, ◌^◌, ◌<◌, ◌≤◌, ◌↔◌, ◌⊎◌, [], IfOk, IfErr};
 ghost use Rattle.dsn_lane.specs.Lane.{most_agents};
-ghost use Rattle.dsn_crew.specs.desk.Open.{IsLine, IsOpened, opened_agent};
+ghost use Rattle.dsn_crew.specs.desk.Open.{IsLine, IsOpened, IsOpenedEmpty, opened_agent};
 
 use crate::agents::Agent;
 use crate::desk::answer_lane::AnswerLane;
 use crate::desk::crew_open_fault::CrewOpenFault;
 use crate::desk::desk::Desk;
-use dsn_book::{Book, Limits};
+use dsn_book::{Book, Keeper, Limits};
 use dsn_lane::{LaneIn, open_lane};
 use dsn_outcome::{NoMemory, Request};
 use std::alloc::Global;
@@ -16,7 +16,7 @@ use std::sync::Wait;
 /// How many requests wait at most.
 const REQUESTS_WAITING: u32 = 64;
 
-/// A crew of so many agents, from agent 0 on, and its collector.
+/// A crew of so many agents, from agent 0 on, and its collector, over a book that is empty.
 ///
 /// `AgentCount` (43) comes where there are not 1 to 16 agents, before any memory is taken;
 /// `NoMemory` (42) only where memory was refused.
@@ -26,7 +26,34 @@ pub fn open_crew(
     limits: Limits,
     agents: u32,
 ) -> Result<(Vec<Agent>, Desk), CrewOpenFault>
-    ensures opened { IfOk result (λ crew. IsOpened limits agents crew.0.items crew.1) }
+    ensures opened { IfOk result (λ crew. IsOpenedEmpty limits agents crew.0.items crew.1) }
+    ensures count { IfOk result (λ _. (1 ≤ agents) × (agents ≤ most_agents)) }
+    ensures refused { IfErr result
+        (λ fault. (fault ≡ CrewOpenFault.AgentCount) ↔ ((agents ≡ 0) ⊎ (most_agents < agents))) }
+{
+    if !(1..=16).contains(&agents) {
+        return Err(CrewOpenFault::AgentCount);
+    }
+    let Ok(book) = Book::new(alloc, limits) else {
+        return Err(CrewOpenFault::NoMemory);
+    };
+    open_room(rt, alloc, book, agents)
+}
+
+/// A crew of so many agents, from agent 0 on, and its collector, over what carries their requests out.
+/// It asks that this awaits none, and that fewer than 2^63 letters were sealed by it.
+///
+/// `AgentCount` (43) comes where there are not 1 to 16 agents, before any memory is taken;
+/// `NoMemory` (42) only where memory was refused.
+pub fn open_crew_over<B: Keeper + Drop>(
+    rt: &impl Wait,
+    alloc: Global,
+    book: B,
+    agents: u32,
+) -> Result<(Vec<Agent>, Desk<B>), CrewOpenFault>
+    requires awaits { B.awaits book [] }
+    requires few { B.sealed book < 2 ^ 63 }
+    ensures opened { IfOk result (λ crew. IsOpened B.Keeper book agents crew.0.items crew.1) }
     ensures count { IfOk result (λ _. (1 ≤ agents) × (agents ≤ most_agents)) }
     ensures refused { IfErr result
         (λ fault. (fault ≡ CrewOpenFault.AgentCount) ↔ ((agents ≡ 0) ⊎ (most_agents < agents))) }
@@ -34,24 +61,24 @@ pub fn open_crew(
     if agents == 0 || agents > 16 {
         return Err(CrewOpenFault::AgentCount);
     }
-    open_room(rt, alloc, limits, agents)
+    open_room(rt, alloc, book, agents)
 }
 
 /// The crew itself.
 #[tactic(auto, using(crate::proofs::OpenLemmas::length_halves))]
-fn open_room(
+fn open_room<B: Keeper + Drop>(
     rt: &impl Wait,
     alloc: Global,
-    limits: Limits,
+    book: B,
     agents: u32,
-) -> Result<(Vec<Agent>, Desk), CrewOpenFault>
-    requires { (1 ≤ agents) × (agents ≤ most_agents) }
-    ensures opened { IfOk result (λ crew. IsOpened limits agents crew.0.items crew.1) }
+) -> Result<(Vec<Agent>, Desk<B>), CrewOpenFault>
+    requires count { (1 ≤ agents) × (agents ≤ most_agents) }
+    requires awaits { B.awaits book [] }
+    requires few { B.sealed book < 2 ^ 63 }
+    ensures opened { IfOk result (λ crew. IsOpened B.Keeper book agents crew.0.items crew.1) }
     ensures refused { IfErr result (λ fault. fault ≡ CrewOpenFault.NoMemory) }
 {
-    let Ok(book) = Book::new(alloc, limits) else {
-        return Err(CrewOpenFault::NoMemory);
-    };
+    let limits = book.limits();
     let Ok((halves, requests)) = open_lane::<Request>(rt, alloc, 0, agents, REQUESTS_WAITING) else {
         return Err(CrewOpenFault::NoMemory);
     };

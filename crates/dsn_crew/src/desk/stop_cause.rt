@@ -1,5 +1,6 @@
 //! Why a collector has failed, as it keeps it.
 use crate::desk::returned_letter::Refused;
+use dsn_book::NotKept;
 use dsn_lane::LaneGone;
 
 /// Why a collector has failed.
@@ -11,4 +12,6 @@ pub(crate) enum StopCause {
     Refused(Refused),
     /// 4,294,967,295 requests were taken.
     Full,
+    /// A request was not kept, and so not carried out.
+    Unkept(NotKept),
 }

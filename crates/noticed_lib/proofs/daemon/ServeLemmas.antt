@@ -10,7 +10,7 @@ use Rattle.dsn_crew.specs.declared.crew_cause.CrewCause.TheVariants.{PortCount}
 use Rattle.dsn_crew.specs.declared.agents.agent_line.AgentLine.{AgentLine}
 use Rattle.dsn_crew.specs.declared.agents.port.Port.{Ghosts as Port}
 use Rattle.dsn_device.specs.declared.drain.Drain.{Ghosts as Drain}
-use Rattle.dsn_outcome.specs.History.{Limits}
+use Rattle.dsn_outcome.specs.History.{Limits, Exchange}
 use Rattle.dsn_outcome.specs.Request.{Request}
 use Rattle.noticed_lib.specs.daemon.Serve.{IsServe, WritesFault}
 use Rattle.noticed_lib.specs.daemon.SocketUses.{IsWithin, socket_port}
@@ -21,8 +21,8 @@ module _ {P S : Type 0} (port : Port P S) (untold : (one : P) → port.conns one
   abbrev pub Fits : P → Type 0
   Fits one = (given : List Given) → port.may_give one given → IsWithin may_end uses given
 
-  module _ (limits : Limits) (taken : List Request) where
-    agent-uses : (agent : ℕ) (one : P) (line : AgentLine) (ends : LaneHalves) → Fits one → IsAgentAccount (port.conns one) (port.may_give one) limits taken agent line ends → IsAgentAccount None (IsWithin may_end uses) limits taken agent line ends
+  module _ (limits : Limits) (before : List Exchange) (taken : List Request) where
+    agent-uses : (agent : ℕ) (one : P) (line : AgentLine) (ends : LaneHalves) → Fits one → IsAgentAccount (port.conns one) (port.may_give one) limits before taken agent line ends → IsAgentAccount None (IsWithin may_end uses) limits before taken agent line ends
     agent-uses agent one line ends fits is = record {
       number = is.number;
       taken_all = is.taken_all;
@@ -41,7 +41,7 @@ module _ {P S : Type 0} (port : Port P S) (untold : (one : P) → port.conns one
     }
 
     agents-uses : (agent : ℕ) (ports : List P) (lines : List AgentLine) (crew : List LaneHalves) → All Fits ports
-        → AreAgentAccounts port limits taken agent ports lines crew → AreAgentAccounts (socket_port may_end) limits taken agent (replicate (length ports) uses) lines crew
+        → AreAgentAccounts port limits before taken agent ports lines crew → AreAgentAccounts (socket_port may_end) limits before taken agent (replicate (length ports) uses) lines crew
     agents-uses agent [] [] [] fit are = are
     agents-uses agent [] [] (ends ∷ crew) fit are = absurd are
     agents-uses agent [] (line ∷ lines) crew fit are = absurd are
@@ -55,7 +55,7 @@ module _ {P S : Type 0} (port : Port P S) (untold : (one : P) → port.conns one
   module _ {W N : Type 0} (drain : Drain W) (notes_device : Drain N) (host : List ℕ) (limits : Limits) (ports : List P) (fit : All Fits ports) (start : W) (notes later : N) (end : ServeEnd W) where
     account-uses : (account : Account W) → IsAccount port drain host limits ports start account → IsAccount (socket_port may_end) drain host limits (replicate (length ports) uses) start account
     account-uses account is = record {
-      agents = agents-uses limits account.taken 0 ports account.agents account.halves fit is.agents;
+      agents = agents-uses limits [] account.taken 0 ports account.agents account.halves fit is.agents;
       only = rw (length-replicate (length ports)) is.only;
       book_limits = is.book_limits;
       book = is.book;

@@ -1,12 +1,12 @@
 -- Some agents' lanes are closed; those that are left stand beside the halves that answer them.
-use Rattle.std.proofs.Common.{◌≡◌, ◌+◌, ◌≤◌, All, ◌++◌, length, map, vec_capacity}
+use Rattle.std.proofs.Common.{◌≡◌, List, ◌+◌, ◌≤◌, All, ◌++◌, length, map, vec_capacity}
 use Rattle.std.specs.Vec.Iter.{into_iter_items, into_iter_len}
 use Rattle.dsn_lane.specs.Halves.{Half}
-use Rattle.dsn_outcome.specs.History.{answers_to}
+use Rattle.dsn_outcome.specs.History.{Exchange, answers_to}
 use Rattle.dsn_outcome.specs.declared.answer.Answer.{Answer}
-use Rattle.dsn_crew.specs.agents.Agent.{LaneHalves}
+use Rattle.dsn_crew.specs.agents.Agent.{LaneHalves, IsFinished}
 use Rattle.dsn_crew.specs.agents.Place.{place_at, place_of}
-use Rattle.dsn_crew.specs.desk.Desk.{history}
+use Rattle.dsn_crew.specs.desk.Desk.{BeginsWith, history}
 use Rattle.dsn_crew.proofs.desk.CloseLemmas.{IsAnswered}
 use Rattle.dsn_crew.proofs.desk.close.close_crew.Given as goal
 
@@ -15,8 +15,9 @@ invariant-loop-finished g l = record {
   iterator : (goal.iterator-loop-finished g).can_next l.finished-iterator × (goal.iterator-loop-finished g).is_finite l.finished-iterator;
   crew : map place_of (into_iter_items l.finished-iterator) ≡ map (place_at l.fn.desk.requests.lane) (into_iter_items l.lines);
   len : into_iter_len l.lines ≡ length (into_iter_items l.lines);
-  answered : All (λ (half : Half Answer). half.sent ≡ answers_to half.agent (history l.fn.desk)) (into_iter_items l.lines);
+  answered : (before : List Exchange) → BeginsWith g.B.Keeper l.fn.desk.start before → All (λ (half : Half Answer). half.sent ≡ answers_to half.agent (history g.B.Keeper before l.fn.desk)) (into_iter_items l.lines);
   asked : l.room.items ++ map (λ (halves : LaneHalves). halves.requests) (into_iter_items l.finished-iterator) ≡ map (λ (halves : LaneHalves). halves.requests) l.fn.crew.items;
   room : length l.room.items + length (into_iter_items l.finished-iterator) ≤ vec_capacity l.room;
-  closed : All (IsAnswered (history l.fn.desk)) (into_iter_items l.finished-iterator) → All (IsAnswered (history l.fn.desk)) l.fn.crew.items;
+  finished : All IsFinished (into_iter_items l.finished-iterator) → All IsFinished l.fn.crew.items;
+  closed : (before : List Exchange) → BeginsWith g.B.Keeper l.fn.desk.start before → All (IsAnswered (history g.B.Keeper before l.fn.desk)) (into_iter_items l.finished-iterator) → All (IsAnswered (history g.B.Keeper before l.fn.desk)) l.fn.crew.items;
 }

@@ -14,7 +14,7 @@ loop-agent-preserved g c =
       len = let before = c.loop-agent.invariant.len in let one = c.in-Some.ensures.len in let more = c.loop-agent-test.true in omega arith;
       crew =
           crew_push _ _ _ _ _ _ c.in-Ok-open_agent.one c.in-Ok-open_agent.line c.loop-agent.invariant.crew c.push_reserved.ensures.items c.push_reserved-in-loop-agent.ensures.items
-          (c.in-Ok-open_agent.ensures.agent ∙ ap (λ (of : Identity Request). opened_agent c.args.limits.requests of c.in-Ok-open_agent.line) lane);
+          (c.in-Ok-open_agent.ensures.agent ∙ ap (λ (of : Identity Request). opened_agent c.limits-limits.result.requests of c.in-Ok-open_agent.line) lane);
       lines =
           lines_push _ _ c.in-Ok-open_agent.line c.loop-agent.invariant.lines (subst (λ (k : ℕ). IsLine k c.in-Ok-open_agent.line) (sym c.loop-agent.invariant.count.0) c.in-Ok-open_agent.ensures.line) c.push_reserved-in-loop-agent.ensures.items;
       count = (search rules, search rules);

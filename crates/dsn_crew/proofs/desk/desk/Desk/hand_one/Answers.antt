@@ -1,11 +1,26 @@
 -- One request is a run of one.
-use Rattle.std.proofs.Common.{subst}
+use Rattle.std.proofs.Common.{rules, ap, subst, sym, true}
 use Rattle.std.specs.Prelude.{Ok, Option}
 use Rattle.dsn_outcome.specs.Letter.{Letter}
-use Rattle.dsn_crew.proofs.desk.RunLemmas.{took_handed}
-use Rattle.dsn_crew.specs.desk.Desk.{IsRequestTaken}
+use Rattle.dsn_crew.proofs.desk.RunLemmas.{took_fault, took_handed, took_lost, took_none}
+use Rattle.dsn_crew.specs.desk.Desk.{BeginsWith, IsRequestTaken, with_failed}
 use Rattle.dsn_crew.proofs.desk.desk.Desk.hand_one.Goals as goal
+
+pub returns-in-Err-clause-run : goal.returns-in-Err-clause-run
+returns-in-Err-clause-run g c =
+    λ before begins. took_fault g.B.Keeper before g.K.Sink.takes _ _ _ c.in-Err.fault (c.requires.kept.stands before begins) c.requires.some_left (c.in-Err.ensures.taken before begins) c.in-Err.ensures.start c.in-Err.ensures.places
+
+pub returns-in-None-clause-run : goal.returns-in-None-clause-run
+returns-in-None-clause-run g c =
+    λ before begins. took_none g.B.Keeper before g.K.Sink.takes _ _ _ c.requires.some_left (subst (λ (letter : Option Letter). IsRequestTaken g.B.Keeper before c.args.self.now c.take_one.new.self (Ok letter)) c.in-None.is (c.in-Ok.ensures.taken before begins)) c.in-Ok.ensures.start c.in-Ok.ensures.places
 
 pub returns-in-Ok-offer-clause-run : goal.returns-in-Ok-offer-clause-run
 returns-in-Ok-offer-clause-run g c =
-    took_handed _ _ _ _ _ c.in-Some.letter c.requires.some_left (subst (λ (letter : Option Letter). IsRequestTaken c.args.self.now c.take_one.new.self (Ok letter)) c.in-Some.is c.in-Ok.ensures.taken) c.in-Ok.ensures.limits c.in-Ok.ensures.places c.in-Ok-offer.ensures.ok
+    λ before begins. took_handed g.B.Keeper before g.K.Sink.takes _ _ _ _ c.in-Some.letter c.requires.some_left (subst (λ (letter : Option Letter). IsRequestTaken g.B.Keeper before c.args.self.now c.take_one.new.self (Ok letter)) c.in-Some.is (c.in-Ok.ensures.taken before begins)) c.in-Ok.ensures.start c.in-Ok.ensures.places c.in-Ok-offer.ensures.ok
+
+pub returns-in-Err-offer-clause-run : goal.returns-in-Err-offer-clause-run
+returns-in-Err-offer-clause-run g c =
+    let start = c.in-Ok.ensures.start in
+    λ before begins. took_lost g.B.Keeper before g.K.Sink.takes _ _ _ _ _ c.in-Some.letter _
+    (c.in-Ok.ensures.kept.stands before (subst (λ s. BeginsWith g.B.Keeper s before) (sym start) begins)) c.requires.some_left (subst (λ (letter : Option Letter). IsRequestTaken g.B.Keeper before c.args.self.now c.take_one.new.self (Ok letter)) c.in-Some.is (c.in-Ok.ensures.taken before begins)) start c.in-Ok.ensures.places
+    (ap (λ desk. with_failed desk true) c.self.view_is) (search rules) (search rules)

@@ -1,7 +1,12 @@
 -- The requests so far were a run.
-use Rattle.std.specs.Prelude.{Ok}
-use Rattle.dsn_crew.specs.desk.Desk.{IsRun}
+use Rattle.std.specs.Prelude.{◌≡◌, List, Ok}
+use Rattle.dsn_outcome.specs.History.{Exchange}
+use Rattle.dsn_crew.specs.desk.Desk.{BeginsWith, IsRun, places_of}
 use Rattle.dsn_crew.proofs.desk.desk.Desk.run.Given as goal
 
 abbrev pub invariant-loop : goal.invariant-loop
-invariant-loop g l = IsRun g.K.Sink.takes l.fn.self l.self l.fn.sink l.sink (Ok tt)
+invariant-loop g l = record {
+  run : (before : List Exchange) → BeginsWith g.B.Keeper l.fn.self.start before → IsRun g.B.Keeper before g.K.Sink.takes l.fn.self l.self l.fn.sink l.sink (Ok tt);
+  start : l.self.start ≡ l.fn.self.start;
+  places : places_of l.self ≡ places_of l.fn.self;
+}

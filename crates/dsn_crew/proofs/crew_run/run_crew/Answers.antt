@@ -1,0 +1,14 @@
+-- A run over a book that is empty begins with no history.
+use Rattle.std.proofs.Common.{[]}
+use Rattle.dsn_crew.proofs.CrewLemmas.{book_account, book_fault}
+use Rattle.dsn_crew.proofs.desk.EarlierLemmas.{none_earlier}
+use Rattle.dsn_crew.proofs.crew_run.run_crew.Goals as goal
+
+pub run_crew_over-requires-clause-begins : goal.run_crew_over-requires-clause-begins
+run_crew_over-requires-clause-begins g c κs within = ([], (c.in-Ok.ensures.empty.0, none_earlier))
+
+pub returns-in-Ok-clause-account : goal.returns-in-Ok-clause-account
+returns-in-Ok-clause-account g c = book_account _ _ _ _ _ _ _ _ c.in-Ok.ensures.limits (c.run_crew_over.ensures.account [] (c.in-Ok.ensures.empty.0, none_earlier))
+
+pub returns-in-Ok-clause-fault : goal.returns-in-Ok-clause-fault
+returns-in-Ok-clause-fault g c = book_fault _ _ _ _ _ _ _ c.in-Ok.ensures.limits (c.run_crew_over.ensures.fault [] (c.in-Ok.ensures.empty.0, none_earlier))

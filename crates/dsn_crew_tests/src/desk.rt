@@ -10,3 +10,4 @@ mod opened;
 mod peer;
 mod serving;
 mod sixteen;
+mod unkept;

@@ -1,0 +1,98 @@
+//! A request that isn't kept is neither carried out nor answered, and ends the collector.
+
+use super::bodies::append;
+use crate::assert_same::same;
+use dsn_book::{Book, Keeper, Limits, NotKept, Step};
+use dsn_crew::{Agent, Desk, open_crew_over};
+use dsn_lane::LaneOut;
+use dsn_outcome::{Answer, Reply, Request};
+use std::alloc::Global;
+use std::sync::Wait;
+use std::test::Fail;
+
+/// A book beside something that keeps so many requests more, and refuses those after them.
+#[derive(Drop)]
+struct Refusing {
+    book: Book,
+    left: u32,
+}
+
+impl Keeper for Refusing {
+    ghost use Rattle.dsn_book.specs.Book.{Represents};
+
+    ghost limits = { λ keeper. keeper.book.limits };
+
+    ghost stands = { λ keeper. Represents keeper.book };
+
+    ghost awaits = { λ _ _. Unit {0} };
+
+    ghost sealed = { λ keeper. keeper.book.sealed };
+
+    ghost may_refuse = { λ _. Unit {0} };
+
+    fn limits(&self) -> Limits {
+        self.book.limits()
+    }
+
+    fn keep(&mut self, _requests: &[Request]) -> Result<(), NotKept> {
+        if self.left == 0 {
+            return Err(NotKept::Full);
+        }
+        self.left -= 1;
+        Ok(())
+    }
+
+    fn apply(&mut self, request: Request) -> Step {
+        self.book.apply(request)
+    }
+}
+
+/// Sends an append of the agent, and gives the half by which it is answered.
+fn send_append(rt: &impl Wait, alloc: Global, agent: Agent) -> Option<LaneOut<Answer>> {
+    let agent_number = agent.number();
+    let body = append(alloc, b"K1")?;
+    let (mut requests, answers) = agent.into_halves();
+    let number = requests.count();
+    if number == u32::MAX {
+        return None;
+    }
+    let request = Request {
+        agent: agent_number,
+        number,
+        body,
+    };
+    requests.send(rt, request).ok()?;
+    Some(answers)
+}
+
+/// Whether a collector, of which some agent is left, answers one request.
+fn answers_one(rt: &impl Wait, desk: &mut Desk<Refusing>) -> bool {
+    !desk.all_gone() && desk.take_one(rt).is_ok()
+}
+
+/// What two agents that ask once are answered where only one request is kept, and which of three
+/// takes of their collector went well.
+fn one_kept(rt: &impl Wait, alloc: Global) -> Option<(Reply, bool, [bool; 3])> {
+    let limits = Limits::new(8, 8, 8)?;
+    let book = Book::new(alloc, limits).ok()?;
+    let (mut crew, mut desk) = open_crew_over(rt, alloc, Refusing { book, left: 1 }, 2).ok()?;
+    let second = crew.pop()?;
+    let first = crew.pop()?;
+    let mut first = send_append(rt, alloc, first)?;
+    let mut second = send_append(rt, alloc, second)?;
+    let taken = [
+        answers_one(rt, &mut desk),
+        answers_one(rt, &mut desk),
+        answers_one(rt, &mut desk),
+    ];
+    drop(desk);
+    let answered = first.take(rt).ok()?;
+    Some((answered.reply, second.take(rt).is_ok(), taken))
+}
+
+#[test]
+fn unkept_request_is_not_answered(rt: HostRuntime) -> Result<(), Fail> {
+    let seen = one_kept(&rt, rt.alloc()).ok_or("a crew of two")?;
+    same(&rt, seen, (Reply::Logged(0), false, [true, false, false]));
+    Ok(())
+}

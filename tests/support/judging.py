@@ -4,9 +4,10 @@ check says of each. refused.py tries those of all crates, and tells when a refus
 A function is proved against the contracts of those that it calls, so edits of different functions are tried in one check,
 and each is refused by what the check says of its own function: a clause that isn't proved, or an error in its proof. An
 edit of anything but a function's body (a definition, a constant, a type) is tried alone, and refused by whatever is no
-longer proved. A check reads the changed functions alone, over what a check of the crate as it stands proved; an edit that this
-doesn't refuse, or one of a definition that only proofs refuse so far, is tried once more alone, over the whole crate with its
-worked examples."""
+longer proved. Each check is one of the whole crate, over what a check of the crate as it stands proved, so it proves anew only
+what the edits change; of an edit of a definition the laws near it are tried first, alone. An edit that its group's check doesn't
+refuse, or one of a definition that only proofs refuse so far, is tried once more alone, over the whole crate with its worked
+examples."""
 import os
 import re
 import shutil
@@ -171,8 +172,8 @@ class Trial:
 
     def try_group(self, group: list) -> list:
         """Tries the edits of a group in one check: the checks of those that must be tried alone."""
-        only = sorted(set().union(*(it.functions for it in group))) or nearby(self.crate.name, group[0])
-        said = self.over_seed(group, only) if only else ""
+        only = nearby(self.crate.name, group[0])
+        said = self.over_seed(group, only) if only or group[0].functions else ""
         self.found |= {it.path: verdict(it, said) for it in group}
         return [partial(self.try_alone, it) for it in group if self.is_open(it)]
 

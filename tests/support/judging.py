@@ -18,10 +18,12 @@ from functools import partial
 from pathlib import Path
 
 sys.path.insert(0, str(Path(__file__).parent))
+import keeping  # noqa: E402
 import kit  # noqa: E402
 from wrong_edits import item_with  # noqa: E402
 from running import ROOT  # noqa: E402
 
+PARTS = ("src", "specs", "proofs")
 # Modules of worked examples: theorems that say what a definition comes to, in which a wrong definition is a wrong value.
 EXAMPLES = re.compile(r"(?:^|/)(?:\w*Examples|Dates)$")
 
@@ -69,12 +71,22 @@ class Edit:
 @dataclass
 class Verdict:
     """What a check said of an edit: the clauses and worked examples that refuse it, the errors in proofs written by hand,
-    whether everything that it changes was proved, and the error of a text that can't be read, where it is one."""
+    whether everything that it changes was proved, why it says nothing, as of a text that can't be read, and whether it came
+    to its end."""
 
     clauses: set = field(default_factory=set)
     proofs: set = field(default_factory=set)
     is_accepted: bool = False
     unread: str = ""
+    has_ended: bool = False
+
+    @classmethod
+    def of(cls, kept: dict):
+        """A verdict that was kept, or none where this is no whole one."""
+        try:
+            return cls(set(kept["clauses"]), set(kept["proofs"]), kept["is_accepted"] is True, has_ended=kept["has_ended"] is True)
+        except (TypeError, KeyError):
+            return None
 
     @property
     def is_refused(self) -> bool:
@@ -153,38 +165,82 @@ def copied(folder: Path, to: Path):
 
 class Trial:
     """The edits of a crate: its checks, and what came of each edit so far. A check is a call that gives further ones. The first,
-    `prove`, proves the crate as it stands; each of the others begins with a copy of what that one kept."""
+    `begin`, takes what earlier runs kept, and proves the crate as it stands where something is left to try; each of the others
+    begins with a copy of what that one kept."""
 
-    def __init__(self, crate, place: Path):
-        self.crate, self.seed = crate, place / crate.name
+    def __init__(self, crate, place: Path, kept: keeping.Kept):
+        self.crate, self.kept = crate, kept
+        self.texts, self.seed = place / f"{crate.name}-texts", place / crate.name
         self.edits = edits_of(crate.name)
-        self.groups = groups_of(self.edits)
-        self.found, self.seconds = {}, []
+        self.found, self.taken, self.seconds = {}, 0, []
+        self.is_proved, self.read, self.libraries = True, "", []
 
-    def prove(self) -> list:
-        """Proves the crate as it stands: the checks of its groups, those that read the most first."""
+    def begin(self) -> list:
+        """Takes what is kept of the edits, and proves the crate as it stands where something is left: the checks of the groups that
+        are left, those that read the most first."""
+        for part in PARTS:
+            if (Path(self.crate.folder) / part).is_dir():
+                shutil.copytree(Path(self.crate.folder) / part, self.texts / part)
+        self.libraries = keeping.marks_of(self.crate)
+        self.read = keeping.sum_read(self.crate, self.texts)
+        groups = [it for it in groups_of(self.edits) if not self.take(it)]
+        if groups:
+            self.prove()
+        return [partial(self.try_group, it) for it in sorted(groups, key=lambda it: bool(it[0].functions))]
+
+    def prove(self):
+        """Proves the crate as it stands."""
         before = Path(self.crate.folder) / "out/incremental"
         if before.is_dir():
             copied(before, self.seed)
         self.seed.mkdir(exist_ok=True)
-        self.check([], [], self.seed)
-        return [partial(self.try_group, it) for it in sorted(self.groups, key=lambda it: bool(it[0].functions))]
+        said = self.check([], [], self.seed)
+        if said.startswith(kit.NO_VERDICT):
+            # (killed, most likely for memory)
+            said = self.check([], [], self.seed)
+        self.is_proved = bool(kit.WHOLE.search(said))
+
+    def name_of(self, group: list) -> str:
+        """The name under which it is kept what came of a group: a sum of all that its checks read, and of what judges it."""
+        return keeping.sum_of(self.read, [(it.name, it.is_control, it.changes, it.items) for it in group], nearby(self.crate.name, group[0]))
+
+    def take(self, group: list) -> bool:
+        """Takes what is kept of a group, where that settles all of it."""
+        found = [Verdict.of(it) for it in self.kept.take(self.name_of(group))]
+        if len(found) != len(group) or not all(it and it.has_ended and it.settles(edit) for it, edit in zip(found, group)):
+            return False
+        self.found |= {edit.path: it for it, edit in zip(found, group)}
+        self.taken += len(group)
+        return True
+
+    def keep(self, group: list):
+        """Keeps what came of a group where that is settled, over the crate as it was proved and libraries that nothing replaced."""
+        found = [self.found[it.path] for it in group]
+        is_sound = self.is_proved and self.libraries == keeping.marks_of(self.crate)
+        if is_sound and all(it.has_ended and it.settles(edit) for it, edit in zip(found, group)):
+            self.kept.keep(self.name_of(group), found)
 
     def try_group(self, group: list) -> list:
         """Tries the edits of a group in one check: the checks of those that must be tried alone."""
         only = nearby(self.crate.name, group[0])
         said = self.over_seed(group, only) if only or group[0].functions else ""
         self.found |= {it.path: verdict(it, said) for it in group}
-        return [partial(self.try_alone, it) for it in group if self.is_open(it)]
+        left = [it for it in group if self.is_open(it)]
+        if not left:
+            self.keep(group)
+        return [partial(self.try_alone, left, group)] if left else []
 
     def is_open(self, edit: Edit) -> bool:
         """Whether what is known of an edit doesn't settle what becomes of it."""
         known = self.found[edit.path]
         return not known.settles(edit) or known.is_weak and not edit.functions
 
-    def try_alone(self, edit: Edit) -> list:
-        """Tries an edit over the whole crate."""
-        self.found[edit.path] = verdict(edit, self.over_seed([edit], []))
+    def try_alone(self, left: list, group: list) -> list:
+        """Tries the first of the edits of a group that are left over the whole crate, alone: the check of the next one."""
+        self.found[left[0].path] = verdict(left[0], self.over_seed(left[:1], []))
+        if left[1:]:
+            return [partial(self.try_alone, left[1:], group)]
+        self.keep(group)
         return []
 
     def over_seed(self, edits: list, only: list) -> str:
@@ -196,9 +252,7 @@ class Trial:
     def check(self, edits: list, only: list, kept: Path) -> str:
         """What a check says of a copy of the crate with these edits, over what is kept in this folder."""
         with tempfile.TemporaryDirectory(prefix="edit-", dir=self.seed.parent) as name:
-            for part in ("src", "specs", "proofs"):
-                if (Path(self.crate.folder) / part).is_dir():
-                    shutil.copytree(Path(self.crate.folder) / part, Path(name) / part)
+            shutil.copytree(self.texts, name, dirs_exist_ok=True)
             for edit in edits:
                 apply(edit, Path(name))
             said, seconds = kit.check(self.crate, name, kept, only)
@@ -218,11 +272,13 @@ def apply(edit: Edit, folder: Path):
 def verdict(edit: Edit, said: str) -> Verdict:
     """What a check says of an edit: of its functions, the clauses that aren't proved, and the errors in their proofs; of an edit
     of something else, those of every function, worked example and lemma."""
+    if said.startswith(kit.NO_VERDICT):
+        return Verdict(unread=said)
     unread = kit.UNREAD.search(said)
     if unread:
         return Verdict(unread=f"it doesn't compile: {unread[0][:120]}")
     wrong = [it for it in kit.PROOF.finditer(said) if not kit.TAKEN_AWAY.search(it["why"])]
-    found = Verdict({note["clause"] for note in kit.NOTE.finditer(said) if edit.is_about(note)})
+    found = Verdict({note["clause"] for note in kit.NOTE.finditer(said) if edit.is_about(note)}, has_ended=bool(kit.ENDS.search(said)))
     for function in kit.UNPROVED.finditer(said):
         path = function["path"]
         if edit.functions and not edit.changes_function(path):

@@ -6,6 +6,8 @@ Nearly all is asked of `rt` in its public words. One thing isn't: `rt must-fail`
 crate, some 280 checks here, and doesn't say which clause refuses it. So the edits are tried in groups by the prover itself
 (`rattle check`), with the words that `rt` would call it with, which only the kit's own module `rtlib.py` knows, and what it
 prints is read by the patterns below. All that the next kit may change of that is in this file."""
+import functools
+import hashlib
 import importlib.machinery
 import importlib.util
 import os
@@ -30,6 +32,11 @@ PROOF = re.compile(r"^(?:\./)?proofs/(?P<file>\S+?)\.antt:\d+:\d+: error: (?P<wh
 UNREAD = re.compile(r"^(?:\./)?(?:src|specs)/\S+:\d+:\d+: error: (?:(?!`[^`]*`: )|.*(?:is not in scope|has no field|is no name)).*$", re.M)
 # A proof that names what an edit took away says nothing of the contract.
 TAKEN_AWAY = re.compile(r"has no field|is not in scope|has no `|was not admitted")
+# The last line of a check that came to its end, what stands for all that one said that didn't, and the status of one that met a
+# limit of the prover's own: what it said counts, but it has no last line then, and isn't kept.
+ENDS = re.compile(r"^(?:logic=(?:not-)?proved\b|only=\d+ proved=\d+$)", re.M)
+NO_VERDICT = "its check came to no verdict, and ended with status"
+LIMIT = 3
 
 # What `rt ci` prints of a library that is proved in this run, or taken from what an earlier one proved of the same files, and
 # its last line.
@@ -48,11 +55,27 @@ def crates_below(room: Path) -> dict:
     return {it.name: it for it in module.crates_below(str(room))}
 
 
+@functools.lru_cache(maxsize=None)
+def identity() -> str:
+    """A sum that tells this kit from any other: of each of its files the name, the size and the time."""
+    found = hashlib.sha256()
+    for at, folders, names in os.walk(Path(RT).resolve().parent.parent):
+        folders[:] = sorted(it for it in folders if it != "__pycache__")
+        for name in sorted(names):
+            stat = os.lstat(f"{at}/{name}")
+            found.update(f"{at}/{name} {stat.st_mode} {stat.st_size} {stat.st_mtime_ns}\n".encode())
+    return found.hexdigest()
+
+
+def words_of(crate) -> list:
+    """The words that the prover is called with for a check of a crate."""
+    return crate.words(["--jobs", "1"], keeps=False)
+
+
 def check(crate, folder: str, kept: Path, only: list) -> tuple:
     """What the prover says of a copy of a crate's texts in this folder, of these functions or of all, over what earlier checks kept
-    there; and its seconds of processor time."""
-    words = [*crate.words(["--jobs", "1"], keeps=False), "--incremental", str(kept)]
-    words += [word for path in only for word in ("--only", path)]
+    there, or `NO_VERDICT` where it came to none, as where it was killed; and its seconds of processor time."""
+    words = [*words_of(crate), "--incremental", str(kept), *[word for path in only for word in ("--only", path)]]
     prover = [str(Path(RT).resolve().parent / "rattle"), "check", *words]
     with tempfile.TemporaryFile("w+", errors="replace") as said, tempfile.TemporaryFile("w+", errors="replace") as more:
         running = subprocess.Popen(prover, cwd=folder, stdin=subprocess.DEVNULL, stdout=said, stderr=more)
@@ -60,4 +83,10 @@ def check(crate, folder: str, kept: Path, only: list) -> tuple:
         running.returncode = os.waitstatus_to_exitcode(status)
         said.seek(0)
         more.seek(0)
-        return said.read() + more.read(), usage.ru_utime + usage.ru_stime
+        text = said.read() + more.read()
+        ended = running.returncode
+        if ended == LIMIT:
+            text = ENDS.sub("", text)
+        elif ended not in (0, 1) or not ENDS.search(text) and not UNREAD.search(text):
+            text = f"{NO_VERDICT} {ended}"
+        return text, usage.ru_utime + usage.ru_stime

@@ -11,9 +11,11 @@ accept. The weak edits that are known stand in tests/support/weak_edits.txt (non
 weak, and where one of these isn't any more.
 
 The libraries below must have been built (`rt all check`). With `--beside ROOM LOG` they are those that `rt ci` builds in
-ROOM and tells of in LOG, and the edits of a crate are tried as soon as what the crate stands on is there. The last lines
-count the weak refusals, and the edits that were refused and what failed: an edit that wasn't, a control that wasn't accepted, a
-difference between the weak ones and the list. The status is 1 where anything failed."""
+ROOM and tells of in LOG, and the edits of a crate are tried as soon as what the crate stands on is there. What came of edits
+is kept on this machine, and taken by a later run where all that their checks read is the same (keeping.py); with `--anew` nothing
+of it is read, and all are tried. The last lines count those that were kept and those that were tried, the weak refusals, and the
+edits that were refused and what failed: an edit that wasn't, a control that wasn't accepted, a crate that isn't proved as it
+stands, a difference between the weak ones and the list. The status is 1 where anything failed."""
 import os
 import sys
 import tempfile
@@ -28,6 +30,7 @@ import kit  # noqa: E402
 from wrong_edits import crates  # noqa: E402
 from jobs import has_room, processors  # noqa: E402
 from judging import Edit, Trial, Verdict  # noqa: E402
+from keeping import Kept  # noqa: E402
 from running import ROOT  # noqa: E402
 
 POLL = 2  # seconds between two looks at what was built
@@ -36,17 +39,20 @@ KNOWN = ROOT / "tests/support/weak_edits.txt"
 
 @dataclass
 class Tally:
-    """What came of the edits of a crate, or of several: how many were refused, the lines that tell of them, the weak ones, and
-    how many failed."""
+    """What came of the edits of a crate, or of several: how many were refused, the lines that tell of them, the weak ones, how
+    many failed, and of how many edits and controls the verdict was kept, and of how many it was tried for."""
 
     refused: int = 0
     failed: int = 0
+    kept: int = 0
+    tried: int = 0
     weak: set = field(default_factory=set)
     lines: list = field(default_factory=list)
 
     def add(self, other):
         """Adds another crate's."""
         self.refused, self.failed, self.weak = self.refused + other.refused, self.failed + other.failed, self.weak | other.weak
+        self.kept, self.tried = self.kept + other.kept, self.tried + other.tried
 
     def tell(self, crate: str, edit: Edit, found: Verdict, control):
         """Adds what came of an edit, and of its control where it has one (as a pair of both, and what came of it)."""
@@ -68,8 +74,12 @@ def tally_of(trial: Trial) -> Tally:
     """What came of all of a crate's edits."""
     controls = {it.name: (it, trial.found[it.path]) for it in trial.edits if it.is_control}
     wrong = [it for it in trial.edits if not it.is_control]
-    tally = Tally()
-    tally.lines = [f"{trial.crate.name}: {len(wrong)} wrong edits and {len(controls)} controls in {len(trial.seconds)} checks, {sum(trial.seconds):.0f} seconds of processor time"]
+    tally = Tally(kept=trial.taken, tried=len(trial.edits) - trial.taken)
+    took = f"{tally.kept} kept, {tally.tried} tried in {len(trial.seconds)} checks, {sum(trial.seconds):.0f} seconds of processor time"
+    tally.lines = [f"{trial.crate.name}: {len(wrong)} wrong edits and {len(controls)} controls: {took}"]
+    if not trial.is_proved:
+        tally.failed += 1
+        tally.lines.append("  THE CRATE AS IT STANDS ISN'T PROVED")
     for edit in wrong:
         tally.tell(trial.crate.name, edit, trial.found[edit.path], controls.pop(edit.name, None))
     tally.lines += [f"  {name}: CONTROL OF NO EDIT" for name in controls]
@@ -123,7 +133,7 @@ def try_all(trials: list, libraries):
             if ended and not begun and not ready and not running:
                 raise ValueError(f"not built: {', '.join(sorted(set().union(*(libraries.lacking(it.crate) for it in waiting))))}; run rt all check first")
             waiting = [it for it in waiting if it not in begun]
-            ready = [(it, it.prove) for it in begun] + ready
+            ready = [(it, it.begin) for it in begun] + ready
             left.update(begun)
             # (one a turn, so that the memory of the last one shows)
             if ready and len(running) < most(libraries) and (not running or has_room()):
@@ -156,7 +166,8 @@ def compare(weak: set, known: set) -> int:
 
 
 def main() -> int:
-    words = sys.argv[1:]
+    words = [it for it in sys.argv[1:] if it != "--anew"]
+    kept = Kept(anew="--anew" in sys.argv[1:])
     room, libraries = ROOT, Built()
     if words[:1] == ["--beside"]:
         room, libraries, words = Path(words[1]), Proving(Path(words[2])), words[3:]
@@ -166,7 +177,7 @@ def main() -> int:
     whole = Tally()
     with tempfile.TemporaryDirectory(prefix="noticed-edits-", ignore_cleanup_errors=True) as place:
         try:
-            for trial in try_all([Trial(it, Path(place)) for it in wanted], libraries):
+            for trial in try_all([Trial(it, Path(place), kept) for it in wanted], libraries):
                 tally = tally_of(trial)
                 print("\n".join(tally.lines), flush=True)
                 whole.add(tally)
@@ -174,6 +185,8 @@ def main() -> int:
         except ValueError as wrong:
             print(wrong)
             whole.failed += 1
+    kept.shrink()
+    print(f"{whole.kept} verdicts kept by earlier runs on this machine, {whole.tried} tried in this one")
     print(f"{whole.refused} refused, {whole.failed} failed")
     return 1 if whole.failed else 0
 

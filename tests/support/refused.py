@@ -98,6 +98,10 @@ class Proving:
         built = set(kit.LIBRARY.findall(self.log.read_text(errors="replace")))
         return [low.name for low in crate.below() if low.name not in built]
 
+    def has_tests_alone(self) -> bool:
+        """Whether all that is left to prove is tests."""
+        return set(crates()) <= set(kit.LIBRARY.findall(self.log.read_text(errors="replace")))
+
     def has_ended(self) -> bool:
         """Whether it proves no more."""
         return bool(kit.ENDED.search(self.log.read_text(errors="replace")))
@@ -112,14 +116,22 @@ class Built:
         return [low.name for low in crate.below() if not Path(low.rlib).is_dir()]
 
     @staticmethod
+    def has_tests_alone() -> bool:
+        """Not even tests are proved beside the edits."""
+        return True
+
+    @staticmethod
     def has_ended() -> bool:
         """Nothing is proved beside the edits."""
         return True
 
 
 def most(libraries) -> int:
-    """How many checks may run at once: half as many as the processors allow while libraries are proved beside them."""
-    return processors() if libraries.has_ended() else max(1, processors() // 2)
+    """How many checks may run at once: as many as the processors allow; half as many while libraries and programs are proved
+    beside them, and one fewer while only tests are."""
+    if libraries.has_ended():
+        return processors()
+    return max(1, processors() - 1 if libraries.has_tests_alone() else processors() // 2)
 
 
 def try_all(trials: list, libraries):

@@ -189,16 +189,23 @@ class Trial:
         return [partial(self.try_group, it) for it in sorted(groups, key=lambda it: bool(it[0].functions))]
 
     def prove(self):
-        """Proves the crate as it stands."""
-        before = Path(self.crate.folder) / "out/incremental"
-        if before.is_dir():
-            copied(before, self.seed)
+        """Proves the crate as it stands: over what checks on this machine kept, where that serves, and else from nothing."""
+        for work in (kit.work_for(self.crate) if self.kept.is_read else None, None):
+            self.begin_with(work)
+            if kit.WHOLE.search(self.check([], [], self.seed)):
+                self.is_proved = True
+                return
+        self.is_proved = False
+
+    def begin_with(self, work):
+        """Has the first check begin with a copy of this folder, or with nothing, as where another check writes to it."""
+        shutil.rmtree(self.seed, ignore_errors=True)
+        if work:
+            try:
+                copied(Path(work), self.seed)
+            except (OSError, shutil.Error):
+                shutil.rmtree(self.seed, ignore_errors=True)
         self.seed.mkdir(exist_ok=True)
-        said = self.check([], [], self.seed)
-        if said.startswith(kit.NO_VERDICT):
-            # (killed, most likely for memory)
-            said = self.check([], [], self.seed)
-        self.is_proved = bool(kit.WHOLE.search(said))
 
     def name_of(self, group: list) -> str:
         """The name under which it is kept what came of a group: a sum of all that its checks read, and of what judges it."""

@@ -4,8 +4,8 @@ The environment's RT names the `rt` (`make RT=.. check`); else it is the one on 
 
 Nearly all is asked of `rt` in its public words. One thing isn't: `rt must-fail` tries one edit a check and each over the whole
 crate, some 280 checks here, and doesn't say which clause refuses it. So the edits are tried in groups by the prover itself
-(`rattle check`), with the words that `rt` would call it with, which only the kit's own module `rtlib.py` knows, and what it
-prints is read by the patterns below. All that the next kit may change of that is in this file."""
+(`rattle check`), with the words that `rt` would call it with, which only the kit's own module `rtlib.py` knows, over the work
+that `rt` itself finds, and what it prints is read by the patterns below. All that the next kit may change of that is in this file."""
 import functools
 import hashlib
 import importlib.machinery
@@ -44,15 +44,30 @@ LIBRARY = re.compile(r"^rt: (\w+) (?:proved$|is kept: )", re.M)
 ENDED = re.compile(r"^\d+ passed, \d+ failed$", re.M)
 
 
+@functools.lru_cache(maxsize=None)
+def module(name: str, place: Path):
+    """A script of the kit, as a module of this name."""
+    loader = importlib.machinery.SourceFileLoader(name, str(place))
+    made = importlib.util.module_from_spec(importlib.util.spec_from_loader(name, loader))
+    sys.modules[name] = made
+    loader.exec_module(made)
+    return made
+
+
 def crates_below(room: Path) -> dict:
     """The crates of a repository, or of a copy of it, by their names, as the kit's own module has them: each says what it
     stands on (`below()`), where its library is (`rlib`), and the words of its check (`words(..)`)."""
-    place = Path(RT).resolve().parent / "rtlib.py"
-    loader = importlib.machinery.SourceFileLoader("rtlib", str(place))
-    module = importlib.util.module_from_spec(importlib.util.spec_from_loader("rtlib", loader))
-    sys.modules["rtlib"] = module
-    loader.exec_module(module)
-    return {it.name: it for it in module.crates_below(str(room))}
+    rtlib = module("rtlib", Path(RT).resolve().parent / "rtlib.py")
+    return {it.name: it for it in rtlib.crates_below(str(room))}
+
+
+def work_for(crate):
+    """The folder where checks of the crate, in any checkout on this machine, kept what the next one best begins with, as `rt`
+    itself finds it; none where there is none."""
+    try:
+        return module("rt_of_kit", Path(RT).resolve()).work_for(crate)
+    except (AttributeError, ImportError, OSError, SyntaxError):
+        return None
 
 
 @functools.lru_cache(maxsize=None)
@@ -60,7 +75,7 @@ def identity() -> str:
     """A sum that tells this kit from any other: of each of its files the name, the size and the time."""
     found = hashlib.sha256()
     for at, folders, names in os.walk(Path(RT).resolve().parent.parent):
-        folders[:] = sorted(it for it in folders if it != "__pycache__")
+        folders[:] = sorted(it for it in folders if it not in ("out", "__pycache__"))
         for name in sorted(names):
             stat = os.lstat(f"{at}/{name}")
             found.update(f"{at}/{name} {stat.st_mode} {stat.st_size} {stat.st_mtime_ns}\n".encode())

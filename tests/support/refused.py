@@ -157,7 +157,7 @@ def try_all(trials: list, libraries):
                 left[trial] += len(further) - 1
                 if not left[trial]:
                     yield trial
-            if not running:
+            if waiting and not ready and not running:
                 time.sleep(POLL)
 
 

@@ -4,8 +4,10 @@ The environment's RT names the `rt` (`make RT=.. check`); else it is the one on 
 
 Nearly all is asked of `rt` in its public words. One thing isn't: `rt must-fail` tries one edit a check and each over the whole
 crate, some 280 checks here, and doesn't say which clause refuses it. So the edits are tried in groups by the prover itself
-(`rattle check`), with the words that `rt` would call it with, which only the kit's own module `rtlib.py` knows, and what it
-prints is read by the patterns below. All that the next kit may change of that is in this file."""
+(`rattle check`), with the words that `rt` would call it with, which only the kit's own module `rtlib.py` knows, over the work
+that `rt` itself finds, and what it prints is read by the patterns below. All that the next kit may change of that is in this file."""
+import functools
+import hashlib
 import importlib.machinery
 import importlib.util
 import os
@@ -30,6 +32,11 @@ PROOF = re.compile(r"^(?:\./)?proofs/(?P<file>\S+?)\.antt:\d+:\d+: error: (?P<wh
 UNREAD = re.compile(r"^(?:\./)?(?:src|specs)/\S+:\d+:\d+: error: (?:(?!`[^`]*`: )|.*(?:is not in scope|has no field|is no name)).*$", re.M)
 # A proof that names what an edit took away says nothing of the contract.
 TAKEN_AWAY = re.compile(r"has no field|is not in scope|has no `|was not admitted")
+# The last line of a check that came to its end, what stands for all that one said that didn't, and the status of one that met a
+# limit of the prover's own: what it said counts, but it has no last line then, and isn't kept.
+ENDS = re.compile(r"^(?:logic=(?:not-)?proved\b|only=\d+ proved=\d+$)", re.M)
+NO_VERDICT = "its check came to no verdict, and ended with status"
+LIMIT = 3
 
 # What `rt ci` prints of a library that is proved in this run, or taken from what an earlier one proved of the same files, and
 # its last line.
@@ -37,22 +44,53 @@ LIBRARY = re.compile(r"^rt: (\w+) (?:proved$|is kept: )", re.M)
 ENDED = re.compile(r"^\d+ passed, \d+ failed$", re.M)
 
 
+@functools.lru_cache(maxsize=None)
+def module(name: str, place: Path):
+    """A script of the kit, as a module of this name."""
+    loader = importlib.machinery.SourceFileLoader(name, str(place))
+    made = importlib.util.module_from_spec(importlib.util.spec_from_loader(name, loader))
+    sys.modules[name] = made
+    loader.exec_module(made)
+    return made
+
+
 def crates_below(room: Path) -> dict:
     """The crates of a repository, or of a copy of it, by their names, as the kit's own module has them: each says what it
     stands on (`below()`), where its library is (`rlib`), and the words of its check (`words(..)`)."""
-    place = Path(RT).resolve().parent / "rtlib.py"
-    loader = importlib.machinery.SourceFileLoader("rtlib", str(place))
-    module = importlib.util.module_from_spec(importlib.util.spec_from_loader("rtlib", loader))
-    sys.modules["rtlib"] = module
-    loader.exec_module(module)
-    return {it.name: it for it in module.crates_below(str(room))}
+    rtlib = module("rtlib", Path(RT).resolve().parent / "rtlib.py")
+    return {it.name: it for it in rtlib.crates_below(str(room))}
+
+
+def work_for(crate):
+    """The folder where checks of the crate, in any checkout on this machine, kept what the next one best begins with, as `rt`
+    itself finds it; none where there is none."""
+    try:
+        return module("rt_of_kit", Path(RT).resolve()).work_for(crate)
+    except (AttributeError, ImportError, OSError, SyntaxError):
+        return None
+
+
+@functools.lru_cache(maxsize=None)
+def identity() -> str:
+    """A sum that tells this kit from any other: of each of its files the name, the size and the time."""
+    found = hashlib.sha256()
+    for at, folders, names in os.walk(Path(RT).resolve().parent.parent):
+        folders[:] = sorted(it for it in folders if it not in ("out", "__pycache__"))
+        for name in sorted(names):
+            stat = os.lstat(f"{at}/{name}")
+            found.update(f"{at}/{name} {stat.st_mode} {stat.st_size} {stat.st_mtime_ns}\n".encode())
+    return found.hexdigest()
+
+
+def words_of(crate) -> list:
+    """The words that the prover is called with for a check of a crate."""
+    return crate.words(["--jobs", "1"], keeps=False)
 
 
 def check(crate, folder: str, kept: Path, only: list) -> tuple:
     """What the prover says of a copy of a crate's texts in this folder, of these functions or of all, over what earlier checks kept
-    there; and its seconds of processor time."""
-    words = [*crate.words(["--jobs", "1"], keeps=False), "--incremental", str(kept)]
-    words += [word for path in only for word in ("--only", path)]
+    there, or `NO_VERDICT` where it came to none, as where it was killed; and its seconds of processor time."""
+    words = [*words_of(crate), "--incremental", str(kept), *[word for path in only for word in ("--only", path)]]
     prover = [str(Path(RT).resolve().parent / "rattle"), "check", *words]
     with tempfile.TemporaryFile("w+", errors="replace") as said, tempfile.TemporaryFile("w+", errors="replace") as more:
         running = subprocess.Popen(prover, cwd=folder, stdin=subprocess.DEVNULL, stdout=said, stderr=more)
@@ -60,4 +98,10 @@ def check(crate, folder: str, kept: Path, only: list) -> tuple:
         running.returncode = os.waitstatus_to_exitcode(status)
         said.seek(0)
         more.seek(0)
-        return said.read() + more.read(), usage.ru_utime + usage.ru_stime
+        text = said.read() + more.read()
+        ended = running.returncode
+        if ended == LIMIT:
+            text = ENDS.sub("", text)
+        elif ended not in (0, 1) or not ENDS.search(text) and not UNREAD.search(text):
+            text = f"{NO_VERDICT} {ended}"
+        return text, usage.ru_utime + usage.ru_stime

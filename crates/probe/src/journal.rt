@@ -7,7 +7,7 @@ mod taking;
 use asking::Asking;
 use dsn_book::{Limits, Step};
 use dsn_frame::{Spoken, encode_answer};
-use dsn_journal::{FileDisk, Replaceable, create_file, open};
+use dsn_journal::{FileDisk, Opened, Replaceable, create_file, open};
 use std::alloc::Global;
 use std::io::Write;
 use std::{fs, io};
@@ -32,22 +32,24 @@ pub(crate) struct Keeping {
 /// line once it is open, then the answers' frames, each group in one write after it is kept, and a
 /// line where a group found no room, or for the error that ended it.
 pub(crate) fn keep(rt: &HostRuntime, keeping: &Keeping, given: &[u8]) -> Option<()> {
-    let mut disk = match open_file(rt, keeping) {
+    let disk = match open_file(rt, keeping) {
         Ok(disk) => disk,
         Err(error) => {
             println!(rt; "no file: {error}").ok()?;
             return None;
         }
     };
-    let opened = match open(rt.alloc(), &mut disk, keeping.limits, keeping.mark) {
+    let Opened {
+        ledger,
+        letters: _posted,
+    } = match open(rt.alloc(), disk, keeping.limits, keeping.mark) {
         Ok(opened) => opened,
-        Err(error) => {
-            println!(rt; "not opened: {error}").ok()?;
+        Err(left) => {
+            println!(rt; "not opened: {}", left.cause).ok()?;
             return None;
         }
     };
-    println!(rt; "opened {}", opened.used).ok()?;
-    let (ledger, _letters) = opened.into_ledger(disk);
+    println!(rt; "opened {}", ledger.used()).ok()?;
     answer_all(rt, rt.alloc(), Taking { ledger }, given, keeping.group)
 }
 

@@ -3,7 +3,7 @@
 ghost use Rattle.std.specs.Prelude.{◌≤◌};
 ghost use Rattle.dsn_journal.specs.MemoryDisk.{memory_moment};
 
-use super::ledgers::{expect_plain, make_group};
+use super::ledgers::{expect_plain, make_group, open_disk};
 use crate::assert_same::same;
 use crate::book::books::histories::generated;
 use crate::book::books::plain::{Ask, PlainBook};
@@ -61,26 +61,37 @@ fn compacted(
     mut group: Vec<Request>,
     mark: u64,
 ) -> Result<(MemoryDisk, usize), Fail> {
-    let mut disk = MemoryDisk::new(alloc, vec![in alloc; 0; SIZE]?);
-    let opened = open(alloc, &mut disk, limits, 0)?;
-    if opened.base > 0 || opened.book.sealed() > 0 || group.len() > 100 {
+    let disk = MemoryDisk::new(alloc, vec![in alloc; 0; SIZE]?);
+    let Opened { mut ledger, .. } = open_disk(alloc, disk, limits, 0)?;
+    if ledger.base() > 0 || ledger.book().sealed() > 0 || group.len() > 100 {
         return Err(Fail::from("not a new disk"));
     }
-    let (mut ledger, mut letters) = opened.into_ledger(disk);
-    for step in ledger.apply_all(alloc, &mut group)? {
-        if let Some(letter) = step.letter {
-            if letter.serial() >= mark {
-                letters.push(letter)?;
-            }
-        }
-    }
-    let sealed = ledger.book.sealed();
-    if sealed > 100 || letters.len() as u64 > sealed {
+    ledger.apply_all(alloc, &mut group)?;
+    put_away(alloc, ledger.into_disk(), limits, mark)
+}
+
+/// Opens a disk under a mark, and puts its journal away for a shorter one. The disk comes back, with
+/// the moment before.
+fn put_away(
+    alloc: Global,
+    disk: MemoryDisk,
+    limits: Limits,
+    mark: u64,
+) -> Result<(MemoryDisk, usize), Fail> {
+    let Ok(opened) = open(alloc, disk, limits, mark) else {
+        return Err(Fail::from("not opened"));
+    };
+    let Opened {
+        mut ledger,
+        letters,
+    } = opened;
+    let sealed = ledger.book().sealed();
+    if ledger.base() > 100 || sealed > 100 || letters.len() as u64 > sealed {
         return Err(Fail::from("too many letters"));
     }
-    let began = ledger.journal.disk.moment();
+    let began = ledger.disk().moment();
     ledger.compact(alloc, &letters)?;
-    Ok((ledger.journal.disk, began))
+    Ok((ledger.into_disk(), began))
 }
 
 /// Letters tell what those of the plain book tell that are not below a mark, once it has carried out
@@ -112,12 +123,9 @@ fn stop_at(
 ) -> Result<(), Fail>
     requires { moment ≤ memory_moment disk.now }
 {
-    let mut left = MemoryDisk::new(alloc, disk.crashed(moment, lost)?);
-    let Opened {
-        mut book,
-        letters,
-        ..
-    } = open(alloc, &mut left, limits, mark)?;
+    let left = MemoryDisk::new(alloc, disk.crashed(moment, lost)?);
+    let Opened { ledger, letters } = open_disk(alloc, left, limits, mark)?;
+    let mut book = ledger.into_book();
     let mut plain = PlainBook::new(alloc, limits);
     expect_letters(rt, alloc, &letters, &mut plain, asks, mark)?;
     expect_plain(rt, alloc, &mut book, &mut plain, asks)

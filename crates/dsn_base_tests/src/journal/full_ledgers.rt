@@ -1,7 +1,8 @@
 //! A ledger without room for a group: nothing is asked of its disk, and a smaller group is kept.
+use super::ledgers::open_disk;
 use crate::assert_same::same;
 use dsn_book::Limits;
-use dsn_journal::{JournalError, MemoryDisk, open};
+use dsn_journal::{JournalError, KeepError, MemoryDisk, Opened};
 use dsn_outcome::{Body, Request};
 use std::alloc::Global;
 use std::test::Fail;
@@ -26,22 +27,21 @@ fn goodbyes(alloc: Global, count: u32) -> Result<Vec<Request>, Fail> {
 /// where it wasn't, and no call changed it then.
 fn keep(
     alloc: Global,
-    mut disk: MemoryDisk,
+    disk: MemoryDisk,
     mut group: Vec<Request>,
 ) -> Result<(MemoryDisk, bool), Fail> {
     let limits = Limits::new(10, 10, 100).ok_or("not limits")?;
-    let opened = open(alloc, &mut disk, limits, 0)?;
-    if opened.base > 0 || opened.book.sealed() > 1_000 || group.len() > 100 {
+    let Opened { mut ledger, .. } = open_disk(alloc, disk, limits, 0)?;
+    if ledger.base() > 0 || ledger.book().sealed() > 1_000 || group.len() > 100 {
         return Err(Fail::from("too many"));
     }
-    let (mut ledger, _letters) = opened.into_ledger(disk);
-    let before = ledger.journal.disk.moment();
+    let before = ledger.disk().moment();
     let kept = match ledger.apply_all(alloc, &mut group) {
         Ok(_) => true,
-        Err(JournalError::Full) => false,
+        Err(KeepError::Journal(JournalError::Full)) => false,
         Err(_) => return Err(Fail::from("another error")),
     };
-    let disk = ledger.journal.disk;
+    let disk = ledger.into_disk();
     if !kept && disk.moment() != before {
         return Err(Fail::from("a full disk was changed"));
     }

@@ -1,15 +1,16 @@
 //! Ledgers: what is damaged and what is full, and every moment of many histories at which a machine
 //! can stop: the book that is found then answers as the history of the first requests, among them
 //! each that was answered.
-ghost use Rattle.std.specs.Prelude.{◌≤◌};
+ghost use Rattle.std.specs.Prelude.{◌≤◌, [], IfOk};
 ghost use Rattle.dsn_journal.specs.MemoryDisk.{memory_moment};
+ghost use Rattle.dsn_journal.specs.OpenLedger.{AwaitsRequests};
 
 use super::crashes::{Answered, bounds};
 use crate::assert_same::same;
 use crate::book::books::histories::{body_of, generated};
 use crate::book::books::plain::{Ask, PlainBook};
 use dsn_book::{Book, Limits};
-use dsn_journal::{Disk, JournalError, LedgerError, MemoryDisk, open, recover};
+use dsn_journal::{Disk, JournalError, LedgerError, MemoryDisk, Opened, open, recover};
 use dsn_outcome::{Reply, Request};
 use std::alloc::Global;
 use std::process::Abort;
@@ -31,23 +32,50 @@ pub(super) fn make_group(alloc: Global, asks: &[Ask]) -> Result<Vec<Request>, Fa
     Ok(group)
 }
 
+/// Opens a disk that is to be opened.
+pub(super) fn open_disk<D: Disk + Drop>(
+    alloc: Global,
+    disk: D,
+    limits: Limits,
+    mark: u64,
+) -> Result<Opened<D>, Fail>
+    ensures none { IfOk result (λ opened. AwaitsRequests D.Disk opened.ledger []) }
+{
+    match open(alloc, disk, limits, mark) {
+        Ok(opened) => Ok(opened),
+        Err(_left) => Err(Fail::from("not opened")),
+    }
+}
+
+/// Why a disk isn't opened, if it isn't, and the disk.
+pub(super) fn refusal<D: Disk + Drop>(
+    alloc: Global,
+    disk: D,
+    limits: Limits,
+    mark: u64,
+) -> (Option<LedgerError>, D) {
+    match open(alloc, disk, limits, mark) {
+        Ok(opened) => (None, opened.ledger.into_disk()),
+        Err(left) => (Some(left.cause), left.disk),
+    }
+}
+
 /// Opens a disk, and has a group kept and carried out. The disk comes back, with the replies.
 pub(super) fn carry_out(
     alloc: Global,
-    mut disk: MemoryDisk,
+    disk: MemoryDisk,
     limits: Limits,
     mut group: Vec<Request>,
 ) -> Result<(MemoryDisk, Vec<Reply>), Fail> {
-    let opened = open(alloc, &mut disk, limits, 0)?;
-    if opened.base > 0 || opened.book.sealed() > 1_000 || group.len() > 100 {
+    let Opened { mut ledger, .. } = open_disk(alloc, disk, limits, 0)?;
+    if ledger.base() > 0 || ledger.book().sealed() > 1_000 || group.len() > 100 {
         return Err(Fail::from("too many"));
     }
-    let (mut ledger, _letters) = opened.into_ledger(disk);
     let mut replies = Vec::new(alloc);
     for step in ledger.apply_all(alloc, &mut group)? {
         replies.push(step.answer.reply)?;
     }
-    Ok((ledger.journal.disk, replies))
+    Ok((ledger.into_disk(), replies))
 }
 
 /// A history: the disk, what was asked, and what each group came to.
@@ -134,9 +162,10 @@ pub(super) fn expect_plain(
 
 /// Opens a file: its book, and how many requests it keeps.
 fn opened(alloc: Global, limits: Limits, file: Vec<u8>) -> Result<(Book, usize), Fail> {
-    let mut disk = MemoryDisk::new(alloc, file);
-    let book = open(alloc, &mut disk, limits, 0)?.book;
-    let records = recover(alloc, &mut disk)?.records.len();
+    let disk = MemoryDisk::new(alloc, file.to_vec(alloc)?);
+    let book = open_disk(alloc, disk, limits, 0)?.ledger.into_book();
+    let mut same_file = MemoryDisk::new(alloc, file);
+    let records = recover(alloc, &mut same_file)?.records.len();
     Ok((book, records.saturating_sub(1)))
 }
 
@@ -186,8 +215,7 @@ fn refusal_of(alloc: Global, header: &[u8], bytes: &[u8]) -> Result<Option<Ledge
     let limits = Limits::new(10, 10, 100).ok_or("not limits")?;
     let mut file = header.to_vec(alloc)?;
     file.extend_from_slice(bytes)?;
-    let mut disk = MemoryDisk::new(alloc, file);
-    Ok(open(alloc, &mut disk, limits, 0).err())
+    Ok(refusal(alloc, MemoryDisk::new(alloc, file), limits, 0).0)
 }
 
 #[test]

@@ -2,14 +2,14 @@
 ghost use Rattle.std.specs.Prelude.{List, map};
 ghost use Rattle.dsn_outcome.specs.Letter.{Letter};
 
-use super::ledgers::make_group;
+use super::ledgers::{make_group, open_disk, refusal};
 use crate::assert_same::same;
 use crate::book::books::histories::generated;
 use dsn_book::Limits;
 use dsn_device::Broken;
 use dsn_journal::{
     DeliveryError, FileDisk, Journal, JournalError, LedgerError, Marks, MarksError, MemoryDisk,
-    Outlet, Replaceable, create_file, deliver, mark_in, open, recover,
+    Opened, Outlet, Replaceable, create_file, deliver, mark_in, recover,
 };
 use dsn_outcome::Letter;
 use std::alloc::Global;
@@ -113,15 +113,14 @@ fn a_last_record_of_another_length_is_no_mark(rt: HostRuntime) -> Result<(), Fai
 
 /// A disk with some requests that seal three letters.
 fn disk_of_three(alloc: Global, limits: Limits) -> Result<MemoryDisk, Fail> {
-    let mut disk = MemoryDisk::new(alloc, vec![in alloc; 0; 4_000]?);
-    let opened = open(alloc, &mut disk, limits, 0)?;
+    let disk = MemoryDisk::new(alloc, vec![in alloc; 0; 4_000]?);
+    let Opened { mut ledger, .. } = open_disk(alloc, disk, limits, 0)?;
     let mut group = make_group(alloc, &generated(alloc, 1, 40)?)?;
-    if opened.base > 0 || opened.book.sealed() > 0 || group.len() > 100 {
+    if ledger.base() > 0 || ledger.book().sealed() > 0 || group.len() > 100 {
         return Err(Fail::from("not a new disk"));
     }
-    let (mut ledger, _letters) = opened.into_ledger(disk);
     ledger.apply_all(alloc, &mut group)?;
-    Ok(ledger.journal.disk)
+    Ok(ledger.into_disk())
 }
 
 /// Opens a disk of marks.
@@ -153,8 +152,8 @@ fn deliver_one<D: Replaceable>(
 /// The letters of a journal that sealed three.
 fn three_letters(alloc: Global) -> Result<Vec<Letter>, Fail> {
     let limits = Limits::new(6, 4, 100).ok_or("not limits")?;
-    let mut disk = disk_of_three(alloc, limits)?;
-    Ok(open(alloc, &mut disk, limits, 0)?.letters)
+    let disk = disk_of_three(alloc, limits)?;
+    Ok(open_disk(alloc, disk, limits, 0)?.letters)
 }
 
 #[test]
@@ -295,17 +294,22 @@ fn a_mark_of_more_letters_is_refused(rt: HostRuntime) -> Result<(), Fail> {
     let alloc = rt.alloc();
     let limits = Limits::new(6, 4, 100).ok_or("not limits")?;
     let ahead = Some(LedgerError::MarkAhead);
-    let mut disk = MemoryDisk::new(alloc, vec![in alloc; 0; 4_000]?);
-    same(&rt, open(alloc, &mut disk, limits, 1).err(), ahead);
+    let new = MemoryDisk::new(alloc, vec![in alloc; 0; 4_000]?);
+    let (refused, disk) = refusal(alloc, new, limits, 1);
+    same(&rt, refused, ahead);
     // It was synced, and no header was written.
     let left = disk.crashed(disk.moment(), 0)?;
     same(&rt, (disk.moment(), left.contains(&74)), (1, false));
     let mut disk = disk_of_three(alloc, limits)?;
     for (mark, left) in [(0, 3), (2, 1), (3, 0)] {
-        let letters = open(alloc, &mut disk, limits, mark)?.letters;
+        let Opened { ledger, letters } = open_disk(alloc, disk, limits, mark)?;
         same(&rt, letters.len(), left);
+        disk = ledger.into_disk();
     }
-    same(&rt, open(alloc, &mut disk, limits, 4).err(), ahead);
-    same(&rt, open(alloc, &mut disk, limits, u64::MAX).err(), ahead);
+    for mark in [4, u64::MAX] {
+        let (refused, then) = refusal(alloc, disk, limits, mark);
+        same(&rt, refused, ahead);
+        disk = then;
+    }
     Ok(())
 }

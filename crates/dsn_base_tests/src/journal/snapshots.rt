@@ -1,11 +1,11 @@
 //! Snapshots: their records, and the book that is opened over them, which goes on as the old one
 //! does.
-use super::ledgers::{carry_out, make_group};
+use super::ledgers::{carry_out, make_group, open_disk};
 use crate::assert_same::same;
 use crate::book::books::histories::{generated, scripted};
 use crate::book::books::plain::Ask;
 use dsn_book::{Book, Limits};
-use dsn_journal::{Journal, MemoryDisk, open, recover, write_snapshot};
+use dsn_journal::{Journal, MemoryDisk, recover, write_snapshot};
 use dsn_outcome::{Letter, Reply};
 use std::alloc::Global;
 use std::process::Abort;
@@ -38,12 +38,13 @@ fn apply_asks(rt: &impl Abort, alloc: Global, book: &mut Book, asks: &[Ask]) -> 
 
 /// The book that is opened over a disk with these records.
 fn opened_over(alloc: Global, limits: Limits, records: &[Vec<u8>]) -> Result<Book, Fail> {
-    let mut disk = MemoryDisk::new(alloc, vec![in alloc; 0; SIZE]?);
-    let used = open(alloc, &mut disk, limits, 0)?.used;
+    let disk = MemoryDisk::new(alloc, vec![in alloc; 0; SIZE]?);
+    let mut disk = open_disk(alloc, disk, limits, 0)?.ledger.into_disk();
+    let used = recover(alloc, &mut disk)?.used;
     let mut journal = Journal { disk, used };
     journal.append_all(alloc, records)?;
-    let Journal { mut disk, used: _ } = journal;
-    Ok(open(alloc, &mut disk, limits, 0)?.book)
+    let Journal { disk, used: _ } = journal;
+    Ok(open_disk(alloc, disk, limits, 0)?.ledger.into_book())
 }
 
 /// Whom a letter goes to, and its recipients, in their order.

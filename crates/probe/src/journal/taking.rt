@@ -1,16 +1,26 @@
 //! A ledger that is open.
-ghost use Rattle.dsn_journal.specs.Journal.{IsSettled};
 
 use dsn_book::Step;
-use dsn_journal::{JournalError, Ledger, Replaceable};
+use dsn_journal::{JournalError, KeepError, Ledger, Replaceable, ledgers_have_one_history};
 use dsn_outcome::Request;
 use std::alloc::Global;
+use std::marker::Model;
 
-/// A ledger whose journal takes records.
+/// A ledger that awaits no request, if it is settled.
 #[derive(Drop)]
 pub(crate) struct Taking<D: Replaceable> {
     pub(crate) ledger: Ledger<D>,
-    ghost settled: { IsSettled D.Disk ledger.journal.disk ledger.journal.used },
+}
+
+impl<D: Replaceable> Model for Taking<D> {
+    ghost use Rattle.std.specs.Prelude.{◌≡◌, [], true};
+    ghost use Rattle.dsn_journal.specs.OpenLedger.{AwaitsRequests, Ledger};
+
+    ghost Value = { Ledger D };
+
+    ghost view = { λ t. t.ledger };
+
+    ghost invariant = { λ t. t.ledger.settled ≡ true → AwaitsRequests D.Disk t.ledger [] };
 }
 
 /// What came of a group.
@@ -21,7 +31,7 @@ pub(crate) enum Came<D: Replaceable> {
     /// There was no room for it, and the ledger goes on.
     Full(Taking<D>),
     /// The ledger ended.
-    Ended(JournalError),
+    Ended(KeepError),
 }
 
 impl<D: Replaceable + Drop> Taking<D> {
@@ -40,12 +50,12 @@ impl<D: Replaceable + Drop> Taking<D> {
     /// sealed, is beyond what a script asks.
     fn keep(self, alloc: Global, group: &mut Vec<Request>) -> Came<D> {
         let Taking { mut ledger } = self;
-        if ledger.base > 1 << 40 || ledger.book.sealed() > 1 << 40 || group.len() > 1 << 20 {
-            return Came::Ended(JournalError::Memory);
+        if ledger.base() > 1 << 40 || ledger.book().sealed() > 1 << 40 || group.len() > 1 << 20 {
+            return Came::Ended(KeepError::Journal(JournalError::Memory));
         }
         match ledger.apply_all(alloc, group) {
             Ok(steps) => Came::Kept(Taking { ledger }, steps),
-            Err(JournalError::Full) => Came::Full(Taking { ledger }),
+            Err(KeepError::Journal(JournalError::Full)) => Came::Full(Taking { ledger }),
             Err(error) => Came::Ended(error),
         }
     }
@@ -53,12 +63,13 @@ impl<D: Replaceable + Drop> Taking<D> {
     /// Puts the journal away for a shorter one. No step comes of it.
     fn shortened(self, alloc: Global) -> Came<D> {
         let Taking { mut ledger } = self;
-        if ledger.base > 1 << 40 || ledger.book.sealed() > 1 << 40 {
-            return Came::Ended(JournalError::Memory);
+        if ledger.base() > 1 << 40 || ledger.book().sealed() > 1 << 40 {
+            return Came::Ended(KeepError::Journal(JournalError::Memory));
         }
+        ledgers_have_one_history();
         match ledger.compact(alloc, &[]) {
             Ok(()) => Came::Kept(Taking { ledger }, Vec::new(alloc)),
-            Err(JournalError::Full) => Came::Full(Taking { ledger }),
+            Err(KeepError::Journal(JournalError::Full)) => Came::Full(Taking { ledger }),
             Err(error) => Came::Ended(error),
         }
     }

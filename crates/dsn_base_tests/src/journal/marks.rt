@@ -8,8 +8,8 @@ use crate::book::books::histories::generated;
 use dsn_book::Limits;
 use dsn_device::Broken;
 use dsn_journal::{
-    DeliveryError, FileDisk, Journal, JournalError, LedgerError, Marks, MarksError, MemoryDisk,
-    Outlet, Replaceable, create_file, deliver, mark_in, open, recover,
+    DeliveryError, FileDisk, JournalError, LedgerError, Marks, MarksError, MemoryDisk, Outlet,
+    Replaceable, create_file, deliver, mark_in, open,
 };
 use dsn_outcome::Letter;
 use std::alloc::Global;
@@ -58,39 +58,6 @@ impl Outlet for Few {
     }
 }
 
-/// The mark that a crash leaves.
-fn mark_left(alloc: Global, left: Vec<u8>) -> Result<Option<u64>, Fail> {
-    let mut disk = MemoryDisk::new(alloc, left);
-    Ok(mark_in(&recover(alloc, &mut disk)?.records))
-}
-
-#[test]
-fn marks_are_kept_and_put_in_place_of_others(rt: HostRuntime) -> Result<(), Fail> {
-    let alloc = rt.alloc();
-    let mut disk = MemoryDisk::new(alloc, vec![in alloc; 0; SIZE]?);
-    for mark in 1..=5u64 {
-        let used = recover(alloc, &mut disk)?.used;
-        let mut journal = Journal { disk, used };
-        let began = journal.disk.moment();
-        journal.mark(alloc, mark)?;
-        let Journal {
-            disk: then,
-            used: _,
-        } = journal;
-        for moment in began..=then.moment() {
-            let left = mark_left(alloc, then.crashed(moment, u64::MAX)?)?;
-            let wanted = if moment == then.moment() {
-                mark
-            } else {
-                mark - 1
-            };
-            same(&rt, left, Some(wanted));
-        }
-        disk = then;
-    }
-    Ok(())
-}
-
 #[test]
 fn a_last_record_of_another_length_is_no_mark(rt: HostRuntime) -> Result<(), Fail> {
     let alloc = rt.alloc();
@@ -104,10 +71,6 @@ fn a_last_record_of_another_length_is_no_mark(rt: HostRuntime) -> Result<(), Fai
         same(&rt, mark_in(&records), mark);
     }
     same(&rt, mark_in(&[]), Some(0));
-    let mut none = MemoryDisk::new(alloc, vec![in alloc; 0; 15]?);
-    let used = recover(alloc, &mut none)?.used;
-    let mut small = Journal { disk: none, used };
-    same(&rt, small.mark(alloc, 5), Err(JournalError::Full));
     Ok(())
 }
 
@@ -155,6 +118,30 @@ fn three_letters(alloc: Global) -> Result<Vec<Letter>, Fail> {
     let limits = Limits::new(6, 4, 100).ok_or("not limits")?;
     let mut disk = disk_of_three(alloc, limits)?;
     Ok(open(alloc, &mut disk, limits, 0)?.letters)
+}
+
+#[test]
+fn marks_are_kept_and_put_in_place_of_others(rt: HostRuntime) -> Result<(), Fail> {
+    let alloc = rt.alloc();
+    let letters = three_letters(alloc)?;
+    let mut outlet = Few::new(alloc, 3);
+    let mut disk = MemoryDisk::new(alloc, vec![in alloc; 0; SIZE]?);
+    for letter in letters.as_slice() {
+        let mut marks = open_marks(alloc, disk)?;
+        let known = marks.mark();
+        let delivered = deliver_one(alloc, letter, &mut outlet, &mut marks)?;
+        let next = known.wrapping_add(1);
+        same(&rt, delivered, (Ok(()), next));
+        disk = marks.into_disk();
+        // The sync of a mark, or the one call that replaces all, came last.
+        let last = disk.moment();
+        let after = MemoryDisk::new(alloc, disk.crashed(last, u64::MAX)?);
+        same(&rt, open_marks(alloc, after)?.mark(), next);
+        let before = disk.crashed(last.saturating_sub(1), u64::MAX)?;
+        let before = MemoryDisk::new(alloc, before);
+        same(&rt, open_marks(alloc, before)?.mark(), known);
+    }
+    Ok(())
 }
 
 #[test]
@@ -217,20 +204,20 @@ fn an_outlet_that_fails_is_asked_only_for_the_next_letter(rt: HostRuntime) -> Re
 }
 
 #[test]
-fn a_letter_whose_mark_has_no_room_was_taken(rt: HostRuntime) -> Result<(), Fail> {
+fn a_letter_whose_mark_has_no_room_is_not_taken(rt: HostRuntime) -> Result<(), Fail> {
     let alloc = rt.alloc();
     let letters = three_letters(alloc)?;
     let first = letters.first().ok_or("no letter")?;
     let mut outlet = Few::new(alloc, 2);
     let full = Err(DeliveryError::Marks(JournalError::Full));
     // The mark 1 has seventeen bytes there: each of its eight is written as two, and then its end.
-    for (size, wanted, mark) in [(16, full, 0), (17, Ok(()), 1)] {
+    for (size, wanted, mark, taken) in [(0, full, 0, 0), (16, full, 0, 0), (17, Ok(()), 1, 1)] {
         let disk = MemoryDisk::new(alloc, vec![in alloc; 0; size]?);
         let mut marks = open_marks(alloc, disk)?;
         let delivered = deliver_one(alloc, first, &mut outlet, &mut marks)?;
         same(&rt, (delivered, marks.is_settled()), ((wanted, mark), true));
+        same(&rt, (outlet.taken.len(), outlet.failures), (taken, 0));
     }
-    same(&rt, outlet.taken.len(), 2);
     Ok(())
 }
 

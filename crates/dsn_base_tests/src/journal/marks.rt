@@ -240,6 +240,56 @@ fn marks_whose_last_record_is_none_are_not_opened(rt: HostRuntime) -> Result<(),
 }
 
 #[test]
+fn marks_are_begun_in_a_new_file_alone(rt: HostRuntime) -> Result<(), Fail> {
+    let alloc = rt.alloc();
+    // The mark 1, whose record is seven zeros and a 1, and what a crash leaves of it.
+    for (bytes, wanted, moment) in [
+        (b"\0\0\0\0".as_slice(), Some(0), 3),
+        (b"", Some(0), 3),
+        (
+            b"\x01\x01\x01\x01\x01\x01\x01\x01\x01\x01\x01\x01\x01\x01\x01\x02\0\0",
+            Some(0),
+            3,
+        ),
+        (
+            b"\0\x01\x01\x01\x01\x01\x01\x01\x01\x01\x01\x01\x01\x01\x01\x02\x02\0",
+            Some(0),
+            3,
+        ),
+        (
+            b"\x01\x01\x01\x01\x01\x01\x01\x01\x01\x01\x01\x01\x01\x01\x01\x02\x02\0",
+            Some(1),
+            3,
+        ),
+        (
+            b"\x01\x01\x01\x01\x01\x01\x01\x01\x01\x01\x01\x01\x01\x01\x01\x03\0\0",
+            None,
+            1,
+        ),
+        (b"\0\0\0\0\0\0\0\0\0\0\0\0\0\0\0\0\0\x02", None, 1),
+        (b"a text\0\0", None, 1),
+        (b"J", None, 1),
+    ] {
+        let disk = MemoryDisk::new(alloc, bytes.to_vec(alloc)?);
+        let (disk, mark) = match Marks::open(alloc, disk) {
+            Ok(marks) => {
+                let mark = marks.mark();
+                (marks.into_disk(), Some(mark))
+            }
+            Err(left) => {
+                same(&rt, left.cause, MarksError::Foreign);
+                let stands = left.disk.crashed(left.disk.moment(), u64::MAX)?;
+                same(&rt, stands.as_slice() == bytes, true);
+                (left.disk, None)
+            }
+        };
+        // A sync, and where it is opened a write and a sync.
+        same(&rt, (mark, disk.moment()), (wanted, moment));
+    }
+    Ok(())
+}
+
+#[test]
 fn marks_whose_disk_failed_are_opened_anew(rt: HostRuntime) -> Result<(), Fail> {
     let alloc = rt.alloc();
     let _ = fs::remove_dir_all(&rt, FOLDER);

@@ -8,8 +8,8 @@ use crate::book::books::histories::generated;
 use dsn_book::Limits;
 use dsn_device::Broken;
 use dsn_journal::{
-    DeliveryError, FileDisk, Journal, JournalError, LedgerError, Marks, MarksError, MemoryDisk,
-    Opened, Outlet, Replaceable, create_file, deliver, mark_in, recover,
+    DeliveryError, FileDisk, JournalError, LedgerError, Marks, MarksError, MemoryDisk, Opened, Outlet,
+    Replaceable, create_file, deliver, mark_in,
 };
 use dsn_outcome::Letter;
 use std::alloc::Global;
@@ -58,39 +58,6 @@ impl Outlet for Few {
     }
 }
 
-/// The mark that a crash leaves.
-fn mark_left(alloc: Global, left: Vec<u8>) -> Result<Option<u64>, Fail> {
-    let mut disk = MemoryDisk::new(alloc, left);
-    Ok(mark_in(&recover(alloc, &mut disk)?.records))
-}
-
-#[test]
-fn marks_are_kept_and_put_in_place_of_others(rt: HostRuntime) -> Result<(), Fail> {
-    let alloc = rt.alloc();
-    let mut disk = MemoryDisk::new(alloc, vec![in alloc; 0; SIZE]?);
-    for mark in 1..=5u64 {
-        let used = recover(alloc, &mut disk)?.used;
-        let mut journal = Journal { disk, used };
-        let began = journal.disk.moment();
-        journal.mark(alloc, mark)?;
-        let Journal {
-            disk: then,
-            used: _,
-        } = journal;
-        for moment in began..=then.moment() {
-            let left = mark_left(alloc, then.crashed(moment, u64::MAX)?)?;
-            let wanted = if moment == then.moment() {
-                mark
-            } else {
-                mark - 1
-            };
-            same(&rt, left, Some(wanted));
-        }
-        disk = then;
-    }
-    Ok(())
-}
-
 #[test]
 fn a_last_record_of_another_length_is_no_mark(rt: HostRuntime) -> Result<(), Fail> {
     let alloc = rt.alloc();
@@ -104,10 +71,6 @@ fn a_last_record_of_another_length_is_no_mark(rt: HostRuntime) -> Result<(), Fai
         same(&rt, mark_in(&records), mark);
     }
     same(&rt, mark_in(&[]), Some(0));
-    let mut none = MemoryDisk::new(alloc, vec![in alloc; 0; 15]?);
-    let used = recover(alloc, &mut none)?.used;
-    let mut small = Journal { disk: none, used };
-    same(&rt, small.mark(alloc, 5), Err(JournalError::Full));
     Ok(())
 }
 
@@ -154,6 +117,30 @@ fn three_letters(alloc: Global) -> Result<Vec<Letter>, Fail> {
     let limits = Limits::new(6, 4, 100).ok_or("not limits")?;
     let disk = disk_of_three(alloc, limits)?;
     Ok(open_disk(alloc, disk, limits, 0)?.letters)
+}
+
+#[test]
+fn marks_are_kept_and_put_in_place_of_others(rt: HostRuntime) -> Result<(), Fail> {
+    let alloc = rt.alloc();
+    let letters = three_letters(alloc)?;
+    let mut outlet = Few::new(alloc, 3);
+    let mut disk = MemoryDisk::new(alloc, vec![in alloc; 0; SIZE]?);
+    for letter in letters.as_slice() {
+        let mut marks = open_marks(alloc, disk)?;
+        let known = marks.mark();
+        let delivered = deliver_one(alloc, letter, &mut outlet, &mut marks)?;
+        let next = known.wrapping_add(1);
+        same(&rt, delivered, (Ok(()), next));
+        disk = marks.into_disk();
+        // The sync of a mark, or the one call that replaces all, came last.
+        let last = disk.moment();
+        let after = MemoryDisk::new(alloc, disk.crashed(last, u64::MAX)?);
+        same(&rt, open_marks(alloc, after)?.mark(), next);
+        let before = disk.crashed(last.saturating_sub(1), u64::MAX)?;
+        let before = MemoryDisk::new(alloc, before);
+        same(&rt, open_marks(alloc, before)?.mark(), known);
+    }
+    Ok(())
 }
 
 #[test]
@@ -216,20 +203,20 @@ fn an_outlet_that_fails_is_asked_only_for_the_next_letter(rt: HostRuntime) -> Re
 }
 
 #[test]
-fn a_letter_whose_mark_has_no_room_was_taken(rt: HostRuntime) -> Result<(), Fail> {
+fn a_letter_whose_mark_has_no_room_is_not_taken(rt: HostRuntime) -> Result<(), Fail> {
     let alloc = rt.alloc();
     let letters = three_letters(alloc)?;
     let first = letters.first().ok_or("no letter")?;
     let mut outlet = Few::new(alloc, 2);
     let full = Err(DeliveryError::Marks(JournalError::Full));
     // The mark 1 has seventeen bytes there: each of its eight is written as two, and then its end.
-    for (size, wanted, mark) in [(16, full, 0), (17, Ok(()), 1)] {
+    for (size, wanted, mark, taken) in [(0, full, 0, 0), (16, full, 0, 0), (17, Ok(()), 1, 1)] {
         let disk = MemoryDisk::new(alloc, vec![in alloc; 0; size]?);
         let mut marks = open_marks(alloc, disk)?;
         let delivered = deliver_one(alloc, first, &mut outlet, &mut marks)?;
         same(&rt, (delivered, marks.is_settled()), ((wanted, mark), true));
+        same(&rt, (outlet.taken.len(), outlet.failures), (taken, 0));
     }
-    same(&rt, outlet.taken.len(), 2);
     Ok(())
 }
 
@@ -248,6 +235,56 @@ fn marks_whose_last_record_is_none_are_not_opened(rt: HostRuntime) -> Result<(),
     let bytes = left.disk.crashed(moment, 0)?;
     let wanted = b"1234567\x02rest\0\0\0\0".as_slice();
     same(&rt, (moment, bytes.as_slice() == wanted), (1, true));
+    Ok(())
+}
+
+#[test]
+fn marks_are_begun_in_a_new_file_alone(rt: HostRuntime) -> Result<(), Fail> {
+    let alloc = rt.alloc();
+    // The mark 1, whose record is seven zeros and a 1, and what a crash leaves of it.
+    for (bytes, wanted, moment) in [
+        (b"\0\0\0\0".as_slice(), Some(0), 3),
+        (b"", Some(0), 3),
+        (
+            b"\x01\x01\x01\x01\x01\x01\x01\x01\x01\x01\x01\x01\x01\x01\x01\x02\0\0",
+            Some(0),
+            3,
+        ),
+        (
+            b"\0\x01\x01\x01\x01\x01\x01\x01\x01\x01\x01\x01\x01\x01\x01\x02\x02\0",
+            Some(0),
+            3,
+        ),
+        (
+            b"\x01\x01\x01\x01\x01\x01\x01\x01\x01\x01\x01\x01\x01\x01\x01\x02\x02\0",
+            Some(1),
+            3,
+        ),
+        (
+            b"\x01\x01\x01\x01\x01\x01\x01\x01\x01\x01\x01\x01\x01\x01\x01\x03\0\0",
+            None,
+            1,
+        ),
+        (b"\0\0\0\0\0\0\0\0\0\0\0\0\0\0\0\0\0\x02", None, 1),
+        (b"a text\0\0", None, 1),
+        (b"J", None, 1),
+    ] {
+        let disk = MemoryDisk::new(alloc, bytes.to_vec(alloc)?);
+        let (disk, mark) = match Marks::open(alloc, disk) {
+            Ok(marks) => {
+                let mark = marks.mark();
+                (marks.into_disk(), Some(mark))
+            }
+            Err(left) => {
+                same(&rt, left.cause, MarksError::Foreign);
+                let stands = left.disk.crashed(left.disk.moment(), u64::MAX)?;
+                same(&rt, stands.as_slice() == bytes, true);
+                (left.disk, None)
+            }
+        };
+        // A sync, and where it is opened a write and a sync.
+        same(&rt, (mark, disk.moment()), (wanted, moment));
+    }
     Ok(())
 }
 

@@ -8,6 +8,7 @@ mod LogRecordLemmas
 mod LogRoundTrip
 mod LogSpaces
 mod LogWritten
+mod LoggedExamples
 mod QueueExamples
 mod QueueWalkLemmas
 mod RequestExamples

@@ -3,8 +3,10 @@ pub mod AttributeValues
 pub mod LogFile
 pub mod LogLine
 pub mod LogRecord
+pub mod LoggedAppend
 pub mod PostfixAnswer
 pub mod PostfixRequest
 pub mod QueueRecord
 pub mod QueueWalk
+pub mod QuotedAddress
 pub mod RequestReading

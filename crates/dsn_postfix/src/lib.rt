@@ -14,6 +14,7 @@ mod log_reader;
 mod log_record;
 mod log_write_error;
 mod log_writer;
+mod logged_append;
 mod number;
 mod postfix_answer;
 mod postfix_request;
@@ -23,6 +24,7 @@ mod queue_name;
 mod queue_reader;
 mod queue_record;
 mod queue_step;
+mod quoted_address;
 mod request_fault;
 mod request_reading;
 mod verp_delimiters;
@@ -31,9 +33,11 @@ pub use attribute_text::AttributeText;
 pub use decode::decode_postfix_request;
 pub use encode::encode_postfix_request;
 pub use laws::{lists_are_read_as_written, written_logs_are_read_back};
+pub use log_field::LogField;
 pub use log_reader::LogReader;
 pub use log_record::LogRecord;
 pub use log_write_error::LogWriteError;
+pub use logged_append::logged_as;
 pub use postfix_answer::{decode_status, encode_announcement, encode_status};
 pub use postfix_request::{
     AppendRequest, DeliveryReport, NoticeRequest, PostfixRequest, ReportedRecipient,

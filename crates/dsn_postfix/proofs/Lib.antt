@@ -10,6 +10,7 @@ mod LogSpaces
 mod LogWritten
 mod LoggedExamples
 mod QueueExamples
+mod QueueListingLemmas
 mod QueueWalkLemmas
 mod RequestExamples
 pub mod AttributeLaws

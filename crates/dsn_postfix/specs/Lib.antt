@@ -6,6 +6,7 @@ pub mod LogRecord
 pub mod LoggedAppend
 pub mod PostfixAnswer
 pub mod PostfixRequest
+pub mod QueueListing
 pub mod QueueRecord
 pub mod QueueWalk
 pub mod QuotedAddress

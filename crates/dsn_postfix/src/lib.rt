@@ -16,6 +16,7 @@ mod log_write_error;
 mod log_writer;
 mod logged_append;
 mod number;
+mod placed_record;
 mod postfix_answer;
 mod postfix_request;
 mod postfix_version;
@@ -32,12 +33,13 @@ mod verp_delimiters;
 pub use attribute_text::AttributeText;
 pub use decode::decode_postfix_request;
 pub use encode::encode_postfix_request;
-pub use laws::{lists_are_read_as_written, written_logs_are_read_back};
+pub use laws::{lists_are_read_as_written, queue_files_have_one_list, written_logs_are_read_back};
 pub use log_field::LogField;
 pub use log_reader::LogReader;
 pub use log_record::LogRecord;
 pub use log_write_error::LogWriteError;
 pub use logged_append::logged_as;
+pub use placed_record::PlacedRecord;
 pub use postfix_answer::{decode_status, encode_announcement, encode_status};
 pub use postfix_request::{
     AppendRequest, DeliveryReport, NoticeRequest, PostfixRequest, ReportedRecipient,

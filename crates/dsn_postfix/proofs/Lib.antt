@@ -2,10 +2,12 @@ mod AttributeExamples
 mod LogExamples
 mod LogFileLemmas
 mod LogLineLemmas
+mod LogPartLemmas
 mod LogPicked
 mod LogReadBack
 mod LogRecordLemmas
 mod LogRoundTrip
+mod LogSaidLines
 mod LogSpaces
 mod LogWritten
 mod LoggedExamples

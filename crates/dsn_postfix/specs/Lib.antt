@@ -1,7 +1,9 @@
 pub mod Attribute
 pub mod AttributeValues
+pub mod LogEntry
 pub mod LogFile
 pub mod LogLine
+pub mod LogParts
 pub mod LogRecord
 pub mod LoggedAppend
 pub mod PostfixAnswer

@@ -13,7 +13,9 @@ mod LogWritten
 mod LoggedExamples
 mod QueueExamples
 mod QueueListingLemmas
+mod QueueRecipientLemmas
 mod QueueWalkLemmas
+mod RecipientExamples
 mod RequestExamples
 pub mod AttributeLaws
 pub mod AttributeLemmas

@@ -9,6 +9,7 @@ pub mod LoggedAppend
 pub mod PostfixAnswer
 pub mod PostfixRequest
 pub mod QueueListing
+pub mod QueueRecipients
 pub mod QueueRecord
 pub mod QueueWalk
 pub mod QuotedAddress

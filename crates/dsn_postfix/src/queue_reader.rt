@@ -1,12 +1,14 @@
 //! Reads a queue file, a record at a time.
 ghost use Rattle.std.specs.Prelude.{◌≡◌, ◌<◌, ◌≤◌, List, length, IfOk, IfSome, MatchOption, MatchResult};
 ghost use Rattle.dsn_postfix.specs.QueueListing.{RecordsFrom, QueueEnding, ReadsListing};
+ghost use Rattle.dsn_postfix.specs.QueueRecipients.{ReadsRecipients, RecipientFacts, RecipientsLeft, nothing_before};
 ghost use Rattle.dsn_postfix.specs.QueueRecord.{PlacedBytes, placed_bytes_in};
 ghost use Rattle.dsn_postfix.specs.QueueWalk.{BrokenThere, EndThere, IsNextStep, RecordThere, StepsTo, first_place, step_in, steps_left};
 
 use crate::placed_record::PlacedRecord;
 use crate::queue_broken::QueueBroken;
 use crate::queue_step::{QueueStep, step_at};
+use crate::queued_recipient::{QueuedRecipient, RecipientStep, next_recipient};
 use std::marker::Model;
 
 /// How many pointers back a file may have, as Postfix has it.
@@ -78,10 +80,29 @@ impl<'a> QueueReader<'a> {
             QueueStep::Pointer(_, _) => unreachable!(),
         }
     }
+
+    /// The next recipient, done or not, or none where the file's last record comes. Records that say nothing of a
+    /// recipient are passed over, and what is said before a recipient counts for that one alone.
+    pub fn next_recipient(&mut self) -> Result<Option<QueuedRecipient<'a>>, QueueBroken>
+        ensures file { self.new.file ≡ self.old.file }
+        ensures listed { (recipients : List RecipientFacts) (ending : QueueEnding)
+            → RecipientsLeft self.old nothing_before recipients ending
+            → ReadsRecipients result recipients ending self.new }
+    {
+        match next_recipient(self.file, self.rest, self.jumps) {
+            RecipientStep::Recipient(found, place, jumps) => {
+                self.rest = place;
+                self.jumps = jumps;
+                Ok(Some(found))
+            }
+            RecipientStep::End => Ok(None),
+            RecipientStep::Broken => Err(QueueBroken),
+        }
+    }
 }
 
 /// The next step that is no pointer.
-fn next_step<'a>(file: &'a [u8], rest: &'a [u8], jumps: u32) -> QueueStep<'a>
+pub(crate) fn next_step<'a>(file: &'a [u8], rest: &'a [u8], jumps: u32) -> QueueStep<'a>
     requires { length rest.now ≤ length file.now }
     ensures steps { StepsTo file.now (record { rest = rest.now; jumps = jumps }) (step_in result) }
     ensures next { IsNextStep file.now (record { rest = rest.now; jumps = jumps }) (step_in result) }

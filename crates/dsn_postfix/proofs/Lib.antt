@@ -3,6 +3,7 @@ mod LogExamples
 mod LogFileLemmas
 mod LogLineLemmas
 mod LogPartLemmas
+mod LogPartsWhole
 mod LogPicked
 mod LogReadBack
 mod LogRecordLemmas

@@ -1,6 +1,6 @@
 #!/usr/bin/env python3
-"""Files that Postfix wrote (tests/postfix/), read by the program probe: each log file is written again as it was, and of each queue
-file the records that count come in the order and with the bytes that Postfix's own postcat shows. Damaged at random, each is read to
+"""Files that Postfix wrote (tests/postfix/), read by the program probe: each log file is written again as it was, a record in front of it
+that was cut short is told as damage and mixes with none, and of each queue file the records that count come in the order and with the bytes that Postfix's own postcat shows. Damaged at random, each is read to
 an end, without a crash."""
 import os
 import random
@@ -39,7 +39,10 @@ def main():
     for log in logs:
         # (spaces at a line's end don't count, and Postfix's reader drops them too)
         text = re.sub(rb" +$", b"", log.read_bytes(), flags=re.M)
-        checks.equal(log.name, read(log.name.partition("-")[0], log.read_bytes()).stdout, text)
+        kind = log.name.partition("-")[0]
+        checks.equal(log.name, read(kind, log.read_bytes()).stdout, text)
+        cut = text.index(b"\nstatus=") + 5
+        checks.equal(f"{log.name} after a record that was cut short", read(kind, text[:cut] + text).stdout, b"damaged at 1\n" + text)
     for records in queues:
         checks.equal(records.stem, read("queue", records.with_suffix("").read_bytes()).stdout, records.read_bytes())
     random_number = random.Random(7)

@@ -2,14 +2,21 @@ mod AttributeExamples
 mod LogExamples
 mod LogFileLemmas
 mod LogLineLemmas
+mod LogPartLemmas
+mod LogPartsWhole
 mod LogPicked
 mod LogReadBack
 mod LogRecordLemmas
 mod LogRoundTrip
+mod LogSaidLines
 mod LogSpaces
 mod LogWritten
+mod LoggedExamples
 mod QueueExamples
+mod QueueListingLemmas
+mod QueueRecipientLemmas
 mod QueueWalkLemmas
+mod RecipientExamples
 mod RequestExamples
 pub mod AttributeLaws
 pub mod AttributeLemmas

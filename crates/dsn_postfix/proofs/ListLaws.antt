@@ -1,4 +1,4 @@
--- Lists of attributes: what was written is read, and what is read was written.
+-- RecordsFrom of attributes: what was written is read, and what is read was written.
 use Rattle.std.proofs.Common.{◌≡◌, ℕ, zero, suc, ◌<◌, List, [], ◌∷◌, ◌++◌, length, Option, Some, None, refl, ap, subst, ◌∙◌, append_assoc, arith}
 use Rattle.std.specs.List.{AllByRecursion, flat_map}
 use Rattle.std.specs.Option.{option_map}

@@ -1,16 +1,18 @@
 -- A record that was written is read back.
-use Rattle.std.proofs.Common.{◌≡◌, ℕ, ◌-◌, Bool, true, false, List, [], ◌∷◌, ◌++◌, length, take, drop, map, Option, Some, None, refl, ◌∙◌, ap, arith, append_assoc, if◌then◌else◌}
-use Rattle.std.specs.Prelude.{◌==◌, ◌&&◌}
-use Rattle.std.specs.List.{cons_option, filter_map, flat_map, list_all, position_or_len, prefix_len, slice_split, suffix_len}
+use Rattle.std.proofs.Common.{◌≡◌, ℕ, ◌+◌, ◌-◌, Bool, true, false, List, [], ◌∷◌, ◌++◌, length, length-append, take, drop, map, Option, Some, None, refl, ◌∙◌, ap, arith, append_assoc, if◌then◌else◌}
+use Rattle.std.specs.Prelude.{◌==◌, ◌&&◌, ◌||◌, not}
+use Rattle.std.specs.Option.{is_some}
+use Rattle.std.specs.List.{cons_option, filter_map, flat_map, list_all, position_or_len, prefix_len, suffix_len}
 use Rattle.std.proofs.lemmas.Bool.{and_parts}
 use Rattle.std.proofs.lemmas.List.Folds.{list_all-append}
 use Rattle.std.proofs.Math.Seq.{take-length}
 use Rattle.dsn_postfix.specs.declared.log_field.LogField.{LogField}
 use Rattle.dsn_postfix.specs.declared.log_field.LogField.TheVariants.{Recipient, OriginalRecipient, Offset, DsnOriginal, NotifyFlags, Status, Action, DiagnosticType, DiagnosticText, MtaType, MtaName, Reason}
-use Rattle.dsn_postfix.specs.LogFile.{is_blank, before_blank, after_blank}
-use Rattle.dsn_postfix.specs.LogLine.{is_line_feed, is_nul, is_space, before_nul, all_but_last, ended_lines, field_name, text_in, without_outer_spaces, without_trailing_spaces}
+use Rattle.dsn_postfix.specs.LogFile.{goes_on, is_blank}
+use Rattle.dsn_postfix.specs.LogLine.{is_line_feed, is_nul, is_space, all_lines, before_nul, field_name, old_parts, text_in, without_outer_spaces, without_trailing_spaces}
 use Rattle.dsn_postfix.specs.LogRecord.{said_text, said_line, said_bytes, can_stand_in_line, is_loggable}
-use Rattle.dsn_postfix.proofs.LogLineLemmas.{but_last-split}
+use Rattle.dsn_postfix.proofs.LogPartLemmas.{feed-by}
+use Rattle.dsn_postfix.specs.LogParts.{more_after, more_ended, more_size, with_its_feed}
 
 abbrev Said : Type 0
 Said = LogField × List ℕ
@@ -24,7 +26,7 @@ no-nul : (byte : ℕ) → can_stand_in_line byte ≡ true → is_nul byte ≡ fa
 no-nul byte stands = grind arith
 
 -- no line feed stands in it
-split-line : (text rest : List ℕ) → list_all can_stand_in_line text ≡ true → slice_split is_line_feed (text ++ 10 ∷ rest) ≡ text ∷ slice_split is_line_feed rest
+pub split-line : (text rest : List ℕ) → list_all can_stand_in_line text ≡ true → all_lines (text ++ 10 ∷ rest) ≡ text ∷ all_lines rest
 split-line [] rest _ = refl
 split-line (byte ∷ text) rest stand =
     let parts = and_parts (can_stand_in_line byte) (list_all can_stand_in_line text) stand in
@@ -37,14 +39,8 @@ nul-place (byte ∷ text) stand =
     let parts = and_parts (can_stand_in_line byte) (list_all can_stand_in_line text) stand in
     rw (no-nul byte parts.0, nul-place text parts.1) (omega arith)
 
-whole-line : (text : List ℕ) → list_all can_stand_in_line text ≡ true → before_nul text ≡ text
+pub whole-line : (text : List ℕ) → list_all can_stand_in_line text ≡ true → before_nul text ≡ text
 whole-line text stand = ap (λ n. take n text) (nul-place text stand) ∙ take-length text
-
-pub line-read : (text rest : List ℕ) → list_all can_stand_in_line text ≡ true → ended_lines (text ++ 10 ∷ rest) ≡ text ∷ ended_lines rest
-line-read text rest stand =
-    ap (λ (parts : List (List ℕ)). map before_nul (all_but_last parts)) (split-line text rest stand)
-    ∙ ap (map before_nul) (but_last-split is_line_feed text rest)
-    ∙ ap (λ (l : List ℕ). l ∷ ended_lines rest) (whole-line text stand)
 
 -- ---- what it says
 
@@ -210,7 +206,7 @@ same_field Reason Reason = true
 abbrev pub said_of : LogField → Said → Option (List ℕ)
 said_of field said = if same_field field said.0 then Some said.1 else None
 
-line-says : (field written : LogField) (text : List ℕ) → is_loggable text ≡ true → text_in field (said_line (written, text)) ≡ said_of field (written, text)
+pub line-says : (field written : LogField) (text : List ℕ) → is_loggable text ≡ true → text_in field (said_line (written, text)) ≡ said_of field (written, text)
 line-says Recipient Recipient text loggable = ap (λ (l : List ℕ). Some l) (spaces-none text loggable)
 line-says OriginalRecipient OriginalRecipient text loggable = ap (λ (l : List ℕ). Some l) (spaces-none text loggable)
 line-says Offset Offset text loggable = ap (λ (l : List ℕ). Some l) (spaces-none text loggable)
@@ -244,18 +240,25 @@ name-stands Reason = refl
 abbrev pub are_loggable : List Said → Bool
 are_loggable said = list_all (λ one. is_loggable one.1) said
 
-said-stands : (one : Said) → is_loggable one.1 ≡ true → list_all can_stand_in_line (said_line one) ≡ true
+pub said-stands : (one : Said) → is_loggable one.1 ≡ true → list_all can_stand_in_line (said_line one) ≡ true
 said-stands one loggable =
     let parts = and_parts (list_all can_stand_in_line one.1) ((prefix_len is_space one.1 == 0) && (suffix_len is_space one.1 == 0)) loggable in
     list_all-append can_stand_in_line (field_name one.0) (61 ∷ one.1) ∙ (λ i. name-stands one.0 i && parts.0 i)
 
-pub lines-read : (said : List Said) (rest : List ℕ) → are_loggable said ≡ true → ended_lines (flat_map said_bytes said ++ rest) ≡ map said_line said ++ ended_lines rest
-lines-read [] rest _ = refl
-lines-read (one ∷ said) rest loggable =
+pub lines-split : (said : List Said) (rest : List ℕ) → are_loggable said ≡ true → all_lines (flat_map said_bytes said ++ rest) ≡ map said_line said ++ all_lines rest
+lines-split [] rest _ = refl
+lines-split (one ∷ said) rest loggable =
     let parts = and_parts (is_loggable one.1) (are_loggable said) loggable in
-    ap ended_lines (append_assoc (said_bytes one) (flat_map said_bytes said) rest ∙ append_assoc (said_line one) (10 ∷ []) (flat_map said_bytes said ++ rest))
-    ∙ line-read (said_line one) (flat_map said_bytes said ++ rest) (said-stands one parts.0)
-    ∙ ap (λ (l : List (List ℕ)). said_line one ∷ l) (lines-read said rest parts.1)
+    ap all_lines (append_assoc (said_bytes one) (flat_map said_bytes said) rest ∙ append_assoc (said_line one) (10 ∷ []) (flat_map said_bytes said ++ rest))
+    ∙ split-line (said_line one) (flat_map said_bytes said ++ rest) (said-stands one parts.0)
+    ∙ ap (λ (l : List (List ℕ)). said_line one ∷ l) (lines-split said rest parts.1)
+
+-- all of them counts
+pub lines-count : (said : List Said) → are_loggable said ≡ true → map before_nul (map said_line said) ≡ map said_line said
+lines-count [] _ = refl
+lines-count (one ∷ said) loggable =
+    let parts = and_parts (is_loggable one.1) (are_loggable said) loggable in
+    λ i. whole-line (said_line one) (said-stands one parts.0) i ∷ lines-count said parts.1 i
 
 pub texts-said : (field : LogField) (said : List Said) → are_loggable said ≡ true → filter_map (text_in field) (map said_line said) ≡ filter_map (said_of field) said
 texts-said field [] _ = refl
@@ -278,21 +281,56 @@ full-line MtaType text = refl
 full-line MtaName text = refl
 full-line Reason text = refl
 
-full-before : (line : List ℕ) (lines more : List (List ℕ)) → is_blank line ≡ false → before_blank (lines ++ [] ∷ more) ≡ lines → before_blank (line ∷ (lines ++ [] ∷ more)) ≡ line ∷ lines
-full-before [] lines more full before = grind (arith, full)
-full-before (byte ∷ line) lines more full before = ap (λ (l : List (List ℕ)). (byte ∷ line) ∷ l) before
+-- nor of the older form
+not-old : (field : LogField) (text : List ℕ) → old_parts (said_line (field, text)) ≡ None
+not-old Recipient text = refl
+not-old OriginalRecipient text = refl
+not-old Offset text = refl
+not-old DsnOriginal text = refl
+not-old NotifyFlags text = refl
+not-old Status text = refl
+not-old Action text = refl
+not-old DiagnosticType text = refl
+not-old DiagnosticText text = refl
+not-old MtaType text = refl
+not-old MtaName text = refl
+not-old Reason text = refl
 
-full-after : (line : List ℕ) (lines : List (List ℕ)) → is_blank line ≡ false → after_blank (line ∷ lines) ≡ after_blank lines
-full-after [] lines full = grind (arith, full)
-full-after (byte ∷ line) lines full = refl
+-- so it goes on with those before it
+said-goes_on : (one : Said) → is_loggable one.1 ≡ true → goes_on (said_line one) ≡ true
+said-goes_on one loggable =
+    let none = ap old_parts (whole-line (said_line one) (said-stands one loggable)) ∙ not-old one.0 one.1 in
+    λ i. not (full-line one.0 one.1 i || is_some (none i))
 
-pub said-before : (said : List Said) (more : List (List ℕ)) → before_blank (map said_line said ++ [] ∷ more) ≡ map said_line said
-said-before [] more = refl
-said-before (one ∷ said) more = full-before (said_line one) (map said_line said) more (full-line one.0 one.1) (said-before said more)
+pub some-more : (said : List Said) (more : List (List ℕ)) → is_blank (map said_line said ++ [] ∷ more) ≡ false
+some-more [] more = refl
+some-more (one ∷ said) more = refl
 
-pub said-after : (said : List Said) (more : List (List ℕ)) → after_blank (map said_line said ++ [] ∷ more) ≡ Some more
-said-after [] more = refl
-said-after (one ∷ said) more = full-after (said_line one) (map said_line said ++ [] ∷ more) (full-line one.0 one.1) ∙ said-after said more
+pub said-size : (said : List Said) (more : List (List ℕ)) → are_loggable said ≡ true → more_size (map said_line said ++ [] ∷ more) ≡ length (flat_map said_bytes said)
+said-size [] more _ = refl
+said-size (one ∷ said) more loggable =
+    let parts = and_parts (is_loggable one.1) (are_loggable said) loggable in
+    let lines = map said_line said ++ [] ∷ more in
+    let feed : with_its_feed (said_line one) lines ≡ length (said_line one) + 1 = feed-by (said_line one) lines (some-more said more) in
+    let later : more_size lines ≡ length (flat_map said_bytes said) = said-size said more parts.1 in
+    let long = length-append (said_bytes one) (flat_map said_bytes said) in
+    let line_long = length-append (said_line one) (10 ∷ []) in
+    let sum : with_its_feed (said_line one) lines + more_size lines ≡ length (said_bytes one ++ flat_map said_bytes said) = omega (arith, feed, later, long, line_long) in
+    ap (λ (on : Bool). if on then with_its_feed (said_line one) lines + more_size lines else 0) (said-goes_on one parts.0) ∙ sum
+
+pub said-ended : (said : List Said) (more : List (List ℕ)) → are_loggable said ≡ true → is_blank more ≡ false → more_ended (map said_line said ++ [] ∷ more) ≡ true
+said-ended [] more _ full = ap not full
+said-ended (one ∷ said) more loggable full =
+    let parts = and_parts (is_loggable one.1) (are_loggable said) loggable in
+    let lines = map said_line said ++ [] ∷ more in
+    ap (λ (on : Bool). if on then more_ended lines else is_blank (said_line one) && not (is_blank lines)) (said-goes_on one parts.0) ∙ said-ended said more parts.1 full
+
+pub said-after : (said : List Said) (more : List (List ℕ)) → are_loggable said ≡ true → more_after (map said_line said ++ [] ∷ more) ≡ [] ∷ more
+said-after [] more _ = refl
+said-after (one ∷ said) more loggable =
+    let parts = and_parts (is_loggable one.1) (are_loggable said) loggable in
+    let lines = map said_line said ++ [] ∷ more in
+    ap (λ (on : Bool). if on then more_after lines else said_line one ∷ lines) (said-goes_on one parts.0) ∙ said-after said more parts.1
 
 -- ---- of each field
 

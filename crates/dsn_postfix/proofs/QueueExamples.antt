@@ -1,7 +1,8 @@
 -- Worked examples of a queue file's definitions, each computed. The bytes are of files that Postfix
 -- 3.7 wrote.
-use Rattle.std.proofs.Common.{◌≡◌, ℕ, List, [], ◌∷◌, ◌++◌, codes, drop, refl, Some, None}
-use Rattle.dsn_postfix.specs.QueueRecord.{length_at, queue_record_at}
+use Rattle.std.proofs.Common.{◌≡◌, ℕ, List, [], ◌∷◌, ◌++◌, codes, drop, take, refl, Some, None}
+use Rattle.dsn_postfix.specs.QueueListing.{BrokenOff, RecordsFrom, WholeFile}
+use Rattle.dsn_postfix.specs.QueueRecord.{PlacedBytes, length_at, queue_record_at}
 use Rattle.dsn_postfix.specs.QueueWalk.{BrokenThere, EndThere, PointerTo, QueuePlace, RecordThere, step_at}
 
 -- a recipient's record
@@ -37,7 +38,7 @@ file = (82 ∷ 1 ∷ codes "a") ++ ((112 ∷ 15 ∷ codes "             25") ++ 
 abbrev from : ℕ → ℕ → QueuePlace
 from place jumps = record { rest = drop place file; jumps = jumps }
 
-pub record_there : step_at file (from 0 1) ≡ RecordThere (record { kind = 82; bytes = codes "a" }) (from 3 1)
+pub record_there : step_at file (from 0 1) ≡ RecordThere (record { place = 0; kind = 82; bytes = codes "a" }) (from 3 1)
 unfolding step_at
 record_there = refl
 
@@ -71,3 +72,33 @@ pointer_to_0 = refl
 pub no_place : step_at [] (record { rest = 112 ∷ 2 ∷ codes "1x"; jumps = 5 }) ≡ BrokenThere
 unfolding step_at
 no_place = refl
+
+-- the list of that file: one record, and then its end
+abbrev placed_recipient : PlacedBytes
+placed_recipient = record { place = 0; kind = 82; bytes = codes "a" }
+
+pub whole_list : RecordsFrom file (from 0 1) (placed_recipient ∷ []) WholeFile
+unfolding step_at
+whole_list = record {
+  next = from 3 1;
+  comes = record { here = from 0 1; pointers = record { count = 0; lead = refl }; is = refl };
+  later = record { here = from 25 1; pointers = record { count = 1; lead = refl }; is = refl };
+}
+
+-- the same file without its last two bytes: after the pointer nothing can be read
+pub broken_list : RecordsFrom (take 25 file) (record { rest = take 25 file; jumps = 1 }) (placed_recipient ∷ []) BrokenOff
+unfolding step_at
+broken_list = record {
+  next = record { rest = drop 3 (take 25 file); jumps = 1 };
+  comes = record { here = record { rest = take 25 file; jumps = 1 }; pointers = record { count = 0; lead = refl }; is = refl };
+  later = record { here = record { rest = []; jumps = 1 }; pointers = record { count = 1; lead = refl }; is = refl };
+}
+
+-- a second record, after the first
+abbrev two_records_file : List ℕ
+two_records_file = (83 ∷ 1 ∷ codes "s") ++ ((82 ∷ 1 ∷ codes "a") ++ (69 ∷ 0 ∷ []))
+
+pub second_place : step_at two_records_file (record { rest = drop 3 two_records_file; jumps = 0 })
+    ≡ RecordThere (record { place = 3; kind = 82; bytes = codes "a" }) (record { rest = 69 ∷ 0 ∷ []; jumps = 0 })
+unfolding step_at
+second_place = refl

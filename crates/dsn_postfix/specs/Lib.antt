@@ -1,10 +1,16 @@
 pub mod Attribute
 pub mod AttributeValues
+pub mod LogEntry
 pub mod LogFile
 pub mod LogLine
+pub mod LogParts
 pub mod LogRecord
+pub mod LoggedAppend
 pub mod PostfixAnswer
 pub mod PostfixRequest
+pub mod QueueListing
+pub mod QueueRecipients
 pub mod QueueRecord
 pub mod QueueWalk
+pub mod QuotedAddress
 pub mod RequestReading

@@ -1,5 +1,6 @@
 -- A record of a queue file: its type, its length, so many bytes.
 use Rattle.std.specs.Prelude.{ℕ, zero, suc, ◌+◌, ◌-◌, ◌*◌, List, [], ◌∷◌, length, take, drop, Option, Some, None, nat_lt, if◌then◌else◌}
+use Rattle.dsn_postfix.specs.declared.placed_record.PlacedRecord.{PlacedRecord}
 use Rattle.dsn_postfix.specs.declared.queue_record.QueueRecord.{QueueRecord}
 
 -- a record, as its bytes say it
@@ -10,6 +11,18 @@ pub record QueuedBytes : Type 0 where
 -- the bytes that the program's reference points to
 abbrev pub queued_bytes_in : QueueRecord → QueuedBytes
 queued_bytes_in queue_record = record { kind = queue_record.kind; bytes = queue_record.bytes.now }
+
+-- a record with the place in the file at which it begins
+pub record PlacedBytes : Type 0 where
+  pub place : ℕ
+  pub kind : ℕ
+  pub bytes : List ℕ
+
+abbrev pub placed_at : ℕ → QueuedBytes → PlacedBytes
+placed_at place queued = record { place = place; kind = queued.kind; bytes = queued.bytes }
+
+abbrev pub placed_bytes_in : PlacedRecord → PlacedBytes
+placed_bytes_in placed = record { place = placed.place; kind = placed.kind; bytes = placed.bytes.now }
 
 -- what a byte of a length that goes on adds to what follows it: seven bits, the lowest first
 abbrev pub with_low_bits : ℕ → Option (ℕ × List ℕ) → Option (ℕ × List ℕ)

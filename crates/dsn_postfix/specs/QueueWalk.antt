@@ -1,9 +1,9 @@
 -- The records of a queue file in the order in which they count: one after another, but for pointers,
 -- which lead to another place.
-use Rattle.std.specs.Prelude.{◌≡◌, ◌≤◌, ℕ, zero, suc, List, length, drop, Option, Some, None, ◌==◌, nat_le, if◌then◌else◌}
+use Rattle.std.specs.Prelude.{◌≡◌, ◌<◌, ◌≤◌, ℕ, zero, suc, ◌+◌, ◌-◌, ◌*◌, List, length, drop, Option, Some, None, ◌==◌, nat_le, if◌then◌else◌}
 use Rattle.dsn_postfix.specs.LogLine.{without_leading_spaces}
 use Rattle.dsn_postfix.specs.LogRecord.{written_number}
-use Rattle.dsn_postfix.specs.QueueRecord.{QueuedBytes, queued_bytes_in, queue_record_at}
+use Rattle.dsn_postfix.specs.QueueRecord.{PlacedBytes, QueuedBytes, placed_at, placed_bytes_in, queue_record_at}
 use Rattle.dsn_postfix.specs.declared.queue_step.QueueStep.{QueueStep}
 use Rattle.dsn_postfix.specs.declared.queue_step.QueueStep.TheVariants as steps
 
@@ -15,7 +15,7 @@ pub record QueuePlace : Type 0 where
 -- what stands at a place: a record and the place after it, a pointer to another place, the end, or
 -- nothing that can be read
 pub data WalkStep : Type 0 where
-  RecordThere : QueuedBytes → QueuePlace → WalkStep
+  RecordThere : PlacedBytes → QueuePlace → WalkStep
   PointerTo : QueuePlace → WalkStep
   EndThere : WalkStep
   BrokenThere : WalkStep
@@ -37,15 +37,16 @@ pointer_step file after jumps (Some target) =
 abbrev pub pointer_target : List ℕ → Option ℕ
 pointer_target bytes = written_number (without_leading_spaces bytes)
 
-abbrev pub step_of_record : List ℕ → ℕ → Option (QueuedBytes × List ℕ) → WalkStep
-step_of_record file jumps None = BrokenThere
-step_of_record file jumps (Some read) =
-    if read.0.kind == 112 then pointer_step file read.1 jumps (pointer_target read.0.bytes)
+-- a record begins so many bytes before the file's end as there are from its place on
+abbrev pub step_of_record : List ℕ → QueuePlace → Option (QueuedBytes × List ℕ) → WalkStep
+step_of_record file place None = BrokenThere
+step_of_record file place (Some read) =
+    if read.0.kind == 112 then pointer_step file read.1 place.jumps (pointer_target read.0.bytes)
     else (if read.0.kind == 69 then EndThere
-    else RecordThere read.0 (record { rest = read.1; jumps = jumps }))
+    else RecordThere (placed_at (length file - length place.rest) read.0) (record { rest = read.1; jumps = place.jumps }))
 
 unfoldable pub step_at : List ℕ → QueuePlace → WalkStep
-step_at file place = step_of_record file place.jumps (queue_record_at place.rest)
+step_at file place = step_of_record file place (queue_record_at place.rest)
 
 -- the place after so many pointers, if so many stand one after another
 abbrev pub pointed_at : WalkStep → Option QueuePlace
@@ -65,7 +66,7 @@ after_pointers (suc count) file place = pointed_from file (after_pointers count 
 -- a step, as the program has it
 abbrev pub step_in : QueueStep → WalkStep
 step_in (steps.Record queue_record rest jumps) =
-    RecordThere (queued_bytes_in queue_record) (record { rest = rest.now; jumps = jumps })
+    RecordThere (placed_bytes_in queue_record) (record { rest = rest.now; jumps = jumps })
 step_in (steps.Pointer rest jumps) = PointerTo (record { rest = rest.now; jumps = jumps })
 step_in steps.End = EndThere
 step_in steps.Broken = BrokenThere
@@ -81,12 +82,17 @@ pub record StepsTo (file : List ℕ) (start : QueuePlace) (step : WalkStep) : Ty
   pub pointers : PointersLead file start here
   pub is : step_at file here ≡ step
 
--- no pointer, and after a record a place within the file
-abbrev pub IsNextStep : List ℕ → WalkStep → Type 0
-IsNextStep file (PointerTo place) = ⊥
-IsNextStep file (RecordThere bytes place) = length place.rest ≤ length file
-IsNextStep file EndThere = Unit {0}
-IsNextStep file BrokenThere = Unit {0}
+-- how many records and pointers may still come in a file of this size
+abbrev pub steps_left : ℕ → QueuePlace → ℕ
+steps_left size place = place.jumps * (size + 1) + length place.rest
+
+-- no pointer, and after a record a place within the file, from which fewer steps are left
+abbrev pub IsNextStep : List ℕ → QueuePlace → WalkStep → Type 0
+IsNextStep file start (PointerTo place) = ⊥
+IsNextStep file start (RecordThere bytes place) =
+    (steps_left (length file) place < steps_left (length file) start) × (length place.rest ≤ length file)
+IsNextStep file start EndThere = Unit {0}
+IsNextStep file start BrokenThere = Unit {0}
 
 -- a file that is being read, and the place that comes next
 pub record QueueReading : Type 0 where
@@ -96,3 +102,7 @@ pub record QueueReading : Type 0 where
 -- how many jumps back a file may have
 abbrev pub most_jumps : ℕ
 most_jumps = 10000
+
+-- the file's first place
+abbrev pub first_place : List ℕ → QueuePlace
+first_place file = record { rest = file; jumps = most_jumps }

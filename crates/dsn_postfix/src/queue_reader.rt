@@ -1,11 +1,14 @@
 //! Reads a queue file, a record at a time.
-ghost use Rattle.std.specs.Prelude.{◌≡◌, ◌≤◌, length, MatchOption, MatchResult};
-ghost use Rattle.dsn_postfix.specs.QueueRecord.{queued_bytes_in};
-ghost use Rattle.dsn_postfix.specs.QueueWalk.{BrokenThere, EndThere, IsNextStep, RecordThere, StepsTo, most_jumps, step_in};
+ghost use Rattle.std.specs.Prelude.{◌≡◌, ◌<◌, ◌≤◌, List, length, IfOk, IfSome, MatchOption, MatchResult};
+ghost use Rattle.dsn_postfix.specs.QueueListing.{RecordsFrom, QueueEnding, ReadsListing};
+ghost use Rattle.dsn_postfix.specs.QueueRecipients.{ReadsRecipients, RecipientFacts, RecipientsLeft, nothing_before};
+ghost use Rattle.dsn_postfix.specs.QueueRecord.{PlacedBytes, placed_bytes_in};
+ghost use Rattle.dsn_postfix.specs.QueueWalk.{BrokenThere, EndThere, IsNextStep, RecordThere, StepsTo, first_place, step_in, steps_left};
 
+use crate::placed_record::PlacedRecord;
 use crate::queue_broken::QueueBroken;
-use crate::queue_record::QueueRecord;
 use crate::queue_step::{QueueStep, step_at};
+use crate::queued_recipient::{QueuedRecipient, RecipientStep, next_recipient};
 use std::marker::Model;
 
 /// How many pointers back a file may have, as Postfix has it.
@@ -39,7 +42,7 @@ impl<'a> QueueReader<'a> {
     pub fn new(file: &'a [u8]) -> QueueReader<'a>
         ensures { result ≡ record {
           file = file.now;
-          place = record { rest = file.now; jumps = most_jumps };
+          place = first_place file.now;
         } }
     {
         QueueReader {
@@ -51,14 +54,20 @@ impl<'a> QueueReader<'a> {
 
     /// The next record, or none where the file's last record comes; then, and after a fault, another
     /// call answers the same.
-    pub fn next_record(&mut self) -> Result<Option<QueueRecord<'a>>, QueueBroken>
+    pub fn next_record(&mut self) -> Result<Option<PlacedRecord<'a>>, QueueBroken>
         ensures file { self.new.file ≡ self.old.file }
         ensures found { MatchResult result
             (λ found. MatchOption found
             ((self.new ≡ self.old) × StepsTo self.old.file self.old.place EndThere)
-            (λ queue_record. StepsTo self.old.file self.old.place
-            (RecordThere (queued_bytes_in queue_record) self.new.place)))
+            (λ placed. StepsTo self.old.file self.old.place
+            (RecordThere (placed_bytes_in placed) self.new.place)))
             (λ _. (self.new ≡ self.old) × StepsTo self.old.file self.old.place BrokenThere) }
+        ensures fewer { IfOk result (λ found. IfSome found (λ _.
+            steps_left (length self.old.file) self.new.place
+            < steps_left (length self.old.file) self.old.place)) }
+        ensures listed { (records : List PlacedBytes) (ending : QueueEnding)
+            → RecordsFrom self.old.file self.old.place records ending
+            → ReadsListing result records ending self.new }
     {
         match next_step(self.file, self.rest, self.jumps) {
             QueueStep::Record(found, after, jumps) => {
@@ -71,13 +80,32 @@ impl<'a> QueueReader<'a> {
             QueueStep::Pointer(_, _) => unreachable!(),
         }
     }
+
+    /// The next recipient, done or not, or none where the file's last record comes. Records that say nothing of a
+    /// recipient are passed over, and what is said before a recipient counts for that one alone.
+    pub fn next_recipient(&mut self) -> Result<Option<QueuedRecipient<'a>>, QueueBroken>
+        ensures file { self.new.file ≡ self.old.file }
+        ensures listed { (recipients : List RecipientFacts) (ending : QueueEnding)
+            → RecipientsLeft self.old nothing_before recipients ending
+            → ReadsRecipients result recipients ending self.new }
+    {
+        match next_recipient(self.file, self.rest, self.jumps) {
+            RecipientStep::Recipient(found, place, jumps) => {
+                self.rest = place;
+                self.jumps = jumps;
+                Ok(Some(found))
+            }
+            RecipientStep::End => Ok(None),
+            RecipientStep::Broken => Err(QueueBroken),
+        }
+    }
 }
 
 /// The next step that is no pointer.
-fn next_step<'a>(file: &'a [u8], rest: &'a [u8], jumps: u32) -> QueueStep<'a>
+pub(crate) fn next_step<'a>(file: &'a [u8], rest: &'a [u8], jumps: u32) -> QueueStep<'a>
     requires { length rest.now ≤ length file.now }
     ensures steps { StepsTo file.now (record { rest = rest.now; jumps = jumps }) (step_in result) }
-    ensures next { IsNextStep file.now (step_in result) }
+    ensures next { IsNextStep file.now (record { rest = rest.now; jumps = jumps }) (step_in result) }
 {
     let mut here = rest;
     let mut left = jumps;

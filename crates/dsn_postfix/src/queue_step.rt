@@ -1,9 +1,10 @@
 //! What stands at a place of a queue file.
-ghost use Rattle.std.specs.Prelude.{◌≡◌, drop};
+ghost use Rattle.std.specs.Prelude.{◌≡◌, ◌≤◌, drop, length};
 ghost use Rattle.dsn_postfix.specs.QueueWalk.{pointer_step, step_at, step_in};
 
 use crate::log_line::without_leading_spaces;
 use crate::log_record::written_number;
+use crate::placed_record::PlacedRecord;
 use crate::queue_record::QueueRecord;
 
 /// The type of a pointer.
@@ -16,7 +17,7 @@ const END: u8 = b'E';
 #[derive(Clone, Copy)]
 pub(crate) enum QueueStep<'a> {
     /// A record.
-    Record(QueueRecord<'a>, &'a [u8], u32),
+    Record(PlacedRecord<'a>, &'a [u8], u32),
     /// A pointer.
     Pointer(&'a [u8], u32),
     /// The record that ends the file.
@@ -64,6 +65,7 @@ fn from_place(file: &[u8], place: u64) -> &[u8]
 /// What stands at a place of a file.
 #[tactic(auto, unfolding(crate::specs::QueueWalk::step_at))]
 pub(crate) fn step_at<'a>(file: &'a [u8], rest: &'a [u8], jumps: u32) -> QueueStep<'a>
+    requires { length rest.now ≤ length file.now }
     ensures { step_in result ≡ step_at file.now (record { rest = rest.now; jumps = jumps }) }
 {
     let Some((found, after)) = QueueRecord::read(rest) else {
@@ -75,6 +77,13 @@ pub(crate) fn step_at<'a>(file: &'a [u8], rest: &'a [u8], jumps: u32) -> QueueSt
             pointer_step(file, after, jumps, target)
         }
         END => QueueStep::End,
-        _ => QueueStep::Record(found, after, jumps),
+        _ => {
+            let placed = PlacedRecord {
+                place: (file.len() - rest.len()) as u64,
+                kind: found.kind,
+                bytes: found.bytes,
+            };
+            QueueStep::Record(placed, after, jumps)
+        }
     }
 }

@@ -1,5 +1,5 @@
 //! Reads files that Postfix keeps, for scripts that compare what is found with what Postfix finds.
-use dsn_postfix::{LogReader, QueueReader};
+use dsn_postfix::{LogEntry, LogReader, QueueReader};
 use dsn_text::Service;
 use std::io::Write;
 
@@ -21,18 +21,31 @@ pub(crate) fn show(rt: &HostRuntime, kind: PostfixFile, file: &[u8]) -> Option<(
     rt.stdout().write_all(&found).ok()
 }
 
-/// The records of a log file, written again.
+/// The entries of a log file: records written again, and of lines that aren't what Postfix writes their place.
 fn copied(rt: &HostRuntime, service: Service, file: &[u8]) -> Option<Vec<u8>> {
     let mut reader = LogReader::new(service, file);
     let mut copy = Vec::new(rt.alloc());
     for _ in 0..file.len() {
-        let Some(found) = reader.next_record() else {
+        let Some(entry) = reader.next_entry() else {
             break;
         };
-        let bytes = found.log_bytes(rt.alloc()).ok()?;
+        let bytes = match entry {
+            LogEntry::Said(found) => found.log_bytes(rt.alloc()).ok()?,
+            LogEntry::Damaged(lines) => damage(rt, lines.place)?,
+        };
         copy.extend_from_slice(&bytes).ok()?;
     }
     Some(copy)
+}
+
+/// A line that tells where lines begin that aren't what Postfix writes.
+fn damage(rt: &HostRuntime, place: u64) -> Option<Vec<u8>> {
+    let mut line = Vec::new(rt.alloc());
+    line.extend_from_slice(b"damaged at ").ok()?;
+    line.extend_from_slice(format!(in rt.alloc(); "{place}").ok()?.as_bytes())
+        .ok()?;
+    line.push(b'\n').ok()?;
+    Some(line)
 }
 
 /// The records of a queue file that count, in their order, each as a line: its type's letter and

@@ -1,0 +1,81 @@
+//! Which addresses stand in a log file as they are.
+ghost use Rattle.std.specs.Prelude.{◌≡◌};
+ghost use Rattle.std.specs.List.{list_all};
+ghost use Rattle.dsn_postfix.specs.QuotedAddress.{is_dot_string, local_part, needs_no_quotes, no_dots_meet, stands_unquoted};
+
+/// The local part of an address: what stands before its last `@`, or the whole where it has none.
+fn local_part(address: &[u8]) -> &[u8]
+    ensures { result.now ≡ local_part address.now }
+{
+    let mut len = address.len();
+    while len > 0 && address[len - 1] != b'@' {
+        len -= 1;
+    }
+    if len == 0 {
+        address
+    } else {
+        &address[..len - 1]
+    }
+}
+
+/// Whether a byte stands in an address without quotes around it.
+fn stands_unquoted(byte: u8) -> bool
+    ensures { result ≡ stands_unquoted byte }
+{
+    !matches!(
+        byte,
+        0..=32
+            | 127
+            | b'('
+            | b')'
+            | b'<'
+            | b'>'
+            | b'@'
+            | b','
+            | b';'
+            | b':'
+            | b'\\'
+            | b'"'
+            | b'['
+            | b']'
+    )
+}
+
+/// Whether all bytes stand in an address without quotes around them.
+fn all_stand_unquoted(text: &[u8]) -> bool
+    ensures { result ≡ list_all stands_unquoted text.now }
+{
+    let mut rest = text;
+    while let [byte, after @ ..] = rest {
+        if !stands_unquoted(*byte) {
+            return false;
+        }
+        rest = after;
+    }
+    true
+}
+
+/// Whether no dot stands at an end or beside another.
+fn no_dots_meet(text: &[u8]) -> bool
+    ensures { result ≡ no_dots_meet 46 text.now }
+{
+    let mut before = b'.';
+    let mut rest = text;
+    while let [byte, after @ ..] = rest {
+        if before == b'.' && *byte == b'.' {
+            return false;
+        }
+        before = *byte;
+        rest = after;
+    }
+    before != b'.'
+}
+
+/// Whether the local part of an address needs no quotes (RFC 5321 section 4.1.2).
+#[tactic(auto, unfolding(crate::specs::QuotedAddress::needs_no_quotes))]
+pub(crate) fn needs_no_quotes(address: &[u8]) -> bool
+    ensures { result ≡ needs_no_quotes address.now }
+{
+    let text = local_part(address);
+    all_stand_unquoted(text) && no_dots_meet(text)
+}

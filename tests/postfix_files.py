@@ -1,7 +1,7 @@
 #!/usr/bin/env python3
-"""Files that Postfix wrote (tests/postfix/), read by the program probe: each log file is written again as it was, a record in front of it
-that was cut short is told as damage and mixes with none, and of each queue file the records that count come in the order and with the bytes that Postfix's own postcat shows. Damaged at random, each is read to
-an end, without a crash."""
+"""Files that Postfix wrote (tests/postfix/), read by the program probe: each log file is written again as it was, also after a record
+that was cut short, which is told as damage; of each queue file the records that count come in the order and with the bytes that
+Postfix's own postcat shows. Damaged at random, each is read to an end, without a crash."""
 import os
 import random
 import re

@@ -3,6 +3,7 @@ mod compacting;
 mod crashes;
 mod files;
 mod full_ledgers;
+mod kept_books;
 mod ledgers;
 mod marks;
 mod records;

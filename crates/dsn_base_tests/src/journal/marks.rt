@@ -8,8 +8,8 @@ use crate::book::books::histories::generated;
 use dsn_book::Limits;
 use dsn_device::Broken;
 use dsn_journal::{
-    DeliveryError, FileDisk, JournalError, LedgerError, Marks, MarksError, MemoryDisk, Opened, Outlet,
-    Replaceable, create_file, deliver, mark_in,
+    DeliveryError, FileDisk, JournalError, LedgerError, Marks, MarksError, MemoryDisk, Opened,
+    Outlet, Replaceable, create_file, deliver, mark_in,
 };
 use dsn_outcome::Letter;
 use std::alloc::Global;

@@ -3,6 +3,7 @@ use Rattle.std.proofs.Common.{◌≡◌, ℕ, suc, ◌<◌, ◌⊎◌, List, [],
 use Rattle.std.proofs.lemmas.List.{length-replicate}
 use Rattle.std.proofs.lemmas.List.Elements.{All-cons, All-head, All-nil, All-tail}
 use Rattle.std.specs.Prelude.{None}
+use Rattle.dsn_book.specs.Book.{Book}
 use Rattle.dsn_crew.specs.agents.Agent.{LaneHalves}
 use Rattle.dsn_crew.specs.agents.Port.{AreOverPort, Given, all_given}
 use Rattle.dsn_crew.specs.Crew.{Account, AreAgentAccounts, IsAccount, IsAgentAccount, most_ports}
@@ -53,7 +54,7 @@ module _ {P S : Type 0} (port : Port P S) (untold : (one : P) → port.conns one
     )
 
   module _ {W N : Type 0} (drain : Drain W) (notes_device : Drain N) (host : List ℕ) (limits : Limits) (ports : List P) (fit : All Fits ports) (start : W) (notes later : N) (end : ServeEnd W) where
-    account-uses : (account : Account W) → IsAccount port drain host limits ports start account → IsAccount (socket_port may_end) drain host limits (replicate (length ports) uses) start account
+    account-uses : (account : Account W Book) → IsAccount port drain host limits ports start account → IsAccount (socket_port may_end) drain host limits (replicate (length ports) uses) start account
     account-uses account is = record {
       agents = agents-uses limits [] account.taken 0 ports account.agents account.halves fit is.agents;
       only = rw (length-replicate (length ports)) is.only;

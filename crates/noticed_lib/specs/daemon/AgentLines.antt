@@ -2,6 +2,7 @@
 use Rattle.std.specs.Prelude.{ℕ, suc, List, [], ◌∷◌, ◌++◌, codes, decimal, Option, Some, None, if◌then◌else◌}
 use Rattle.std.specs.List.{list_any}
 use Rattle.dsn_text.specs.FaultCode.{socket_code}
+use Rattle.dsn_book.specs.Book.{Book}
 use Rattle.dsn_book.specs.declared.open_line.OpenLine.{OpenLine}
 use Rattle.dsn_crew.specs.Crew.{Account, crew_cause_code}
 use Rattle.dsn_crew.specs.declared.agents.agent_line.AgentLine.{AgentLine}
@@ -30,7 +31,7 @@ abbrev pub port_fault : List AgentLine → Option ℕ
 port_fault lines = if list_any (λ line. line.port_failed) lines then Some socket_code else None
 
 -- the lines of a run that ended well: those of the agents, and then how it ended
-unfoldable pub account_lines : {W : Type 0} → Account W → Option (List OpenLine) → List ℕ
+unfoldable pub account_lines : {W : Type 0} → Account W Book → Option (List OpenLine) → List ℕ
 account_lines account logs =
     agent_lines account.agents
     ++ end_lines (port_fault account.agents) account.whole account.unsent logs

@@ -1,6 +1,7 @@
 -- Serve: what the daemon's run over ports comes to.
 use Rattle.std.specs.Prelude.{◌≡◌, ℕ, ◌<◌, ◌≤◌, ◌⊎◌, ◌↔◌, Bool, false, not, ◌||◌, List, [], length, Option, replicate, is_some, is_none, if◌then◌else◌}
 use Rattle.dsn_book.specs.declared.open_line.OpenLine.{OpenLine}
+use Rattle.dsn_book.specs.Book.{Book}
 use Rattle.dsn_crew.specs.Crew.{Account, CrewFault, IsAccount, IsCrewFault, most_ports}
 use Rattle.dsn_crew.specs.declared.crew_cause.CrewCause.{CrewCause}
 use Rattle.dsn_crew.specs.declared.crew_cause.CrewCause.TheVariants.{Refused, PortCount}
@@ -15,7 +16,7 @@ use Rattle.noticed_lib.specs.daemon.SocketUses.{socket_port}
 use Rattle.noticed_lib.specs.declared.daemon.serve_end.ServeEnd.{ServeEnd}
 
 -- the exit status of a run that ended well, by whether a line of the notes was lost
-abbrev pub account_status : {W : Type 0} → Bool → Account W → Option (List OpenLine) → ℕ
+abbrev pub account_status : {W : Type 0} → Bool → Account W Book → Option (List OpenLine) → ℕ
 account_status lost account logs =
     if lost || (is_some (port_fault account.agents) || (not account.whole || is_none logs)) then 1
     else 0
@@ -23,7 +24,7 @@ account_status lost account logs =
 module _ {W N : Type 0} (notes_device : Drain N) where
   -- a run with this history and account was written to the notes: each line, up to one that could not
   -- be written
-  pub record WritesAccount (history : List Exchange) (account : Account W) (notes later : N)
+  pub record WritesAccount (history : List Exchange) (account : Account W Book) (notes later : N)
       (end : ServeEnd W) : Type 0 where
     pub logs : Option (List OpenLine)
     pub logs_are : AreOpenLines history logs
@@ -47,7 +48,7 @@ module _ {P S W N : Type 0} (port : Port P S) (drain : Drain W) (notes_device : 
   -- a run that ended well: all that is true of its crew, and its notes, over the logs that the
   -- requests taken leave open
   pub record IsServed : Type 0 where
-    pub account : Account W
+    pub account : Account W Book
     pub crew : IsAccount port drain host limits ports start account
     pub count : (1 ≤ length ports) × (length ports ≤ most_ports)
     pub noted : WritesAccount notes_device (history_of limits account.taken) account notes later end

@@ -2,7 +2,7 @@
 use Rattle.std.proofs.Common.{◌≡◌, ◌≢◌, ℕ, zero, suc, ◌+◌, ◌<◌, ◌≤◌, ◌==◌, Bool, true, false, cond, All, List, [], ◌∷◌, ◌++◌, length, map, filter, set, refl, ap, sym, ◌∙◌, subst, eq-eqb, ne_eqb, length-append, arith}
 use Rattle.std.specs.Prelude.{◌↔◌, IfSome, IsTrue, Option, Some, None, is_some}
 use Rattle.std.specs.List.{slice_index_or}
-use Rattle.std.proofs.lemmas.List.{append-nil, get_or-set_same, get_or-set_other, set-get_or, length-set, take_all}
+use Rattle.std.proofs.lemmas.List.{append-nil, get_or-set_same, get_or-set_other, set-get_or, length-set}
 use Rattle.std.proofs.lemmas.List.Elements.{All-append, All-cons, All-nil, filter-append}
 use Rattle.std.proofs.lemmas.List.Sums.{length-filter, count_by-le-length}
 use Rattle.std.proofs.lemmas.Bool.{false≢true}
@@ -16,7 +16,7 @@ use Rattle.dsn_outcome.specs.History.{Exchange, answer_of, answers_to, exchange_
 use Rattle.dsn_outcome.specs.Request.{Request, Body, Append, Flush, Discard, Forget, Bye}
 use Rattle.dsn_outcome.specs.declared.answer.Answer.{Answer}
 use Rattle.dsn_outcome.proofs.HistoryLaws.{answers_mine, answers_more, answers_other}
-use Rattle.dsn_crew.specs.desk.Desk.{BeginsWith, Desk, IsDesk, StandsAfter, AreAnswered, carried_out, desk_of, IsAnswerSent, IsStopped, answered_more, goodbyes, history, is_goodbye, next_exchange, places_of, taken_request}
+use Rattle.dsn_crew.specs.desk.Desk.{BeginsWith, Desk, IsDesk, StandsAfter, AreAnswered, IsUnseen, desk_of, IsAnswerSent, IsStopped, answered_more, goodbyes, history, is_goodbye, next_exchange, places_of, seen_half, taken_request}
 use Rattle.dsn_crew.specs.declared.desk.stop_cause.StopCause.{StopCause}
 use Rattle.dsn_crew.specs.agents.Place.{Place, place_at}
 use Rattle.dsn_crew.proofs.desk.EarlierLemmas.{more_after}
@@ -278,7 +278,11 @@ pub none_stopped : (refuses : Type 0) (stop : Option StopCause) (taken : List Re
 none_stopped refuses None taken going = tt
 none_stopped refuses (Some stop) taken going = absurd (false≢true (sym going))
 
--- where all that the lane has taken was carried out, the half is the lane's own
-pub carried_all : (count : ℕ) (out : Out Request) → count ≡ length out.taken → carried_out count out ≡ out
-carried_all count out all =
-    ap (λ (taken : List Request). record { lane = out.lane; first = out.first; past = out.past; taken = taken }) (take_all count out.taken (omega arith))
+-- of a collector that has not failed the whole half is seen
+pub seen_going : (stop : Option StopCause) (count : ℕ) (out : Out Request) → is_some stop ≡ false → seen_half stop count out ≡ out
+seen_going None count out going = refl
+seen_going (Some stop) count out going = absurd (false≢true (sym going))
+
+pub unseen_going : (stop : Option StopCause) (count : ℕ) (out : Out Request) → is_some stop ≡ false → IsUnseen stop count out
+unseen_going None count out going = tt
+unseen_going (Some stop) count out going = absurd (false≢true (sym going))

@@ -1,5 +1,5 @@
 -- Desks: what contracts see of the collector, and what each request that it takes comes to.
-use Rattle.std.specs.Prelude.{◌≡◌, ◌≢◌, ◌⊎◌, ℕ, ◌+◌, ◌^◌, ◌<◌, ◌≤◌, Bool, true, false, ◌==◌, ◌&&◌, ◌||◌, not, List, [], ◌∷◌, ◌++◌, length, map, filter, take, slice_set, All, Result, Ok, Err, is_err, Option}
+use Rattle.std.specs.Prelude.{◌≡◌, ◌≢◌, ◌⊎◌, ℕ, ◌+◌, ◌^◌, ◌<◌, ◌≤◌, Bool, true, false, ◌==◌, ◌&&◌, ◌||◌, not, List, [], ◌∷◌, ◌++◌, length, map, filter, take, slice_set, All, Result, Ok, Err, is_err, Option, Some, None}
 use mathlib.Core.List.{IsPrefix}
 use Rattle.std.specs.List.{slice_index_or}
 use Rattle.dsn_book.specs.declared.keeper.Keeper.{Ghosts as Keeper}
@@ -73,6 +73,22 @@ BeginsWith keeper start before = keeper.stands start before × IsEarlier before
 abbrev pub carried_out : ℕ → Out Request → Out Request
 carried_out count out =
     record { lane = out.lane; first = out.first; past = out.past; taken = take count out.taken }
+
+-- what is seen of a collector's half: all that it took, but for a request that was not kept
+abbrev pub seen_half : Option StopCause → ℕ → Out Request → Out Request
+seen_half None count out = out
+seen_half (Some (Gone gone)) count out = out
+seen_half (Some (Refused refused)) count out = out
+seen_half (Some Full) count out = out
+seen_half (Some (Unkept why)) count out = carried_out count out
+
+-- where a request was not kept, it is the only one that was taken and not carried out
+abbrev pub IsUnseen : Option StopCause → ℕ → Out Request → Type 0
+IsUnseen None count out = Unit {0}
+IsUnseen (Some (Gone gone)) count out = Unit {0}
+IsUnseen (Some (Refused refused)) count out = Unit {0}
+IsUnseen (Some Full) count out = Unit {0}
+IsUnseen (Some (Unkept why)) count out = length out.taken ≡ count + 1
 
 -- what the requests come to that it took, after the history that it began with; and so with these
 -- requests more
@@ -179,11 +195,12 @@ with_failed desk failed =
 abbrev pub with_unkept : {B : Type 0} → Desk B → B → Desk B
 with_unkept desk book = desk_of desk.start book desk.requests desk.answers desk.missed true
 
--- a collector that failed with nothing else changed, or only its book, by a request that was not kept
+-- a collector that failed with nothing else changed; or one that hadn't failed and does now, by a
+-- request that was not kept, with only its book changed
 abbrev pub HasStopped : {B : Type 0} → Keeper B → Desk B → Desk B → Type 0
 HasStopped keeper old new =
     (new ≡ with_failed old true)
-    ⊎ (keeper.may_refuse old.start × (new ≡ with_unkept old new.book))
+    ⊎ ((old.failed ≡ false) × keeper.may_refuse old.start × (new ≡ with_unkept old new.book))
 
 -- a collector that hears of so many agents more that never start, with nothing else changed
 abbrev pub missing : {B : Type 0} → Desk B → ℕ → Desk B

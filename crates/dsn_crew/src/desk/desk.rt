@@ -1,5 +1,5 @@
 //! The collector of a crew.
-ghost use Rattle.std.specs.Prelude.{◌≡◌, ◌+◌, ◌^◌, ◌<◌, ◌≤◌, ℕ, List, false, true, [], is_ok, length, OnOk, OnErr, vec_capacity};
+ghost use Rattle.std.specs.Prelude.{◌≡◌, ◌+◌, ◌^◌, ◌<◌, ◌≤◌, ℕ, List, false, true, [], is_err, is_ok, length, OnOk, vec_capacity};
 ghost use Rattle.std.specs.List.{slice_index_or};
 ghost use Rattle.dsn_lane.specs.Halves.{Half};
 ghost use Rattle.dsn_lane.specs.Lane.{most_agents, most_sent};
@@ -40,21 +40,22 @@ pub struct Desk<B: Keeper = Book> {
 }
 
 impl<B: Keeper> Model for Desk<B> {
-    ghost use Rattle.std.specs.Prelude.{◌≡◌, false, IfSome, is_some, length, take, vec_capacity};
-    ghost use Rattle.dsn_crew.specs.desk.Desk.{AreCounted, Desk, HasRoom, IsDesk, IsStopped, carried_out, desk_of};
+    ghost use Rattle.std.specs.Prelude.{IfSome, is_some, vec_capacity};
+    ghost use Rattle.dsn_crew.specs.desk.Desk.{AreCounted, Desk, HasRoom, IsDesk, IsStopped, IsUnseen, desk_of, seen_half};
 
     ghost Value = { Desk B };
 
-    ghost view = { λ d. desk_of d.start.value d.book (carried_out d.taken d.requests) d.lines.items
-        d.missed (is_some d.stop) };
+    ghost view = { λ d. desk_of d.start.value d.book (seen_half d.stop d.taken d.requests)
+        d.lines.items d.missed (is_some d.stop) };
 
     ghost invariant = { λ d. IsDesk B.Keeper
-        (desk_of d.start.value d.book (carried_out d.taken d.requests) d.lines.items d.missed
+        (desk_of d.start.value d.book (seen_half d.stop d.taken d.requests) d.lines.items d.missed
         (is_some d.stop))
-        × AreCounted (take d.taken d.requests.taken) d.taken d.gone
+        × AreCounted (seen_half d.stop d.taken d.requests).taken d.taken d.gone
         × HasRoom d.lines.items d.room.items (vec_capacity d.room)
-        × IfSome d.stop (IsStopped (B.may_refuse d.start.value) (take d.taken d.requests.taken))
-        × (is_some d.stop ≡ false → d.taken ≡ length d.requests.taken) };
+        × IfSome d.stop (IsStopped (B.may_refuse d.start.value)
+        (seen_half d.stop d.taken d.requests).taken)
+        × IsUnseen d.stop d.taken d.requests };
 }
 
 impl<B: Keeper> Desk<B> {
@@ -130,7 +131,7 @@ impl<B: Keeper> Desk<B> {
         ensures full { most_taken ≤ length self.old.requests.taken
             → self.new ≡ with_failed self.old true }
         ensures start { self.new.start ≡ self.old.start }
-        ensures failed { OnErr result (self.new.failed ≡ true) }
+        ensures failed { self.new.failed ≡ is_err result }
         ensures kept { IsDesk B.Keeper self.new }
         ensures places { places_of self.new ≡ places_of self.old }
     {
@@ -175,7 +176,7 @@ impl<B: Keeper> Desk<B> {
         ensures run { (before : List Exchange) → BeginsWith B.Keeper self.old.start before
             → IsRun B.Keeper before K.takes self.old self.new sink.old sink.new result }
         ensures start { self.new.start ≡ self.old.start }
-        ensures failed { OnErr result (self.new.failed ≡ true) }
+        ensures failed { self.new.failed ≡ is_err result }
         ensures all { OnOk result (all_gone self.new ≡ true) }
         ensures kept { IsDesk B.Keeper self.new }
         ensures places { places_of self.new ≡ places_of self.old }
@@ -200,7 +201,7 @@ impl<B: Keeper> Desk<B> {
         ensures run { (before : List Exchange) → BeginsWith B.Keeper self.old.start before
             → IsRun B.Keeper before K.takes self.old self.new sink.old sink.new result }
         ensures start { self.new.start ≡ self.old.start }
-        ensures failed { OnErr result (self.new.failed ≡ true) }
+        ensures failed { self.new.failed ≡ is_err result }
         ensures kept { IsDesk B.Keeper self.new }
         ensures places { places_of self.new ≡ places_of self.old }
     {

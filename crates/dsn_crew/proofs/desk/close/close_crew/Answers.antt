@@ -5,15 +5,15 @@ use Rattle.std.proofs.lemmas.List.{length-map}
 use Rattle.std.proofs.lemmas.List.Elements.{All-head, All-tail}
 use mathlib.Core.List.{IsPrefix}
 use Rattle.std.specs.Vec.Iter.{into_iter_items}
-use Rattle.dsn_lane.specs.Halves.{Half, Out}
+use Rattle.dsn_lane.specs.Halves.{Half}
 use Rattle.dsn_outcome.specs.Agents.{from_agent}
 use Rattle.dsn_outcome.specs.History.{Exchange, answers_to}
 use Rattle.dsn_outcome.specs.declared.answer.Answer.{Answer}
 use Rattle.dsn_outcome.specs.Request.{Request}
 use Rattle.dsn_crew.specs.agents.Agent.{LaneHalves, IsFinished}
 use Rattle.dsn_crew.specs.agents.Place.{Place, place_at, place_of}
-use Rattle.dsn_crew.specs.desk.Desk.{BeginsWith, Desk, IsDesk, desk_of, history}
-use Rattle.dsn_crew.proofs.desk.DeskLemmas.{carried_all}
+use Rattle.dsn_crew.specs.desk.Desk.{BeginsWith, Desk, IsDesk, history}
+use Rattle.dsn_crew.proofs.desk.TakeLemmas.{desk_here, whole_is}
 use Rattle.dsn_crew.proofs.desk.CloseLemmas.{IsAnswered, all_heard, all_of_crew, as_many, closed_more, going_on, kept_all, kept_more, lines_answered, none_left, paired, room_of_one_lane}
 use Rattle.dsn_crew.proofs.desk.close.close_crew.Goals as goal
 
@@ -56,23 +56,27 @@ loop-finished-preserved g c =
 -- the collector has not failed, so it carried out all that its lane has taken
 pub close_lane-requires-clause-lane : goal.close_lane-requires-clause-lane
 close_lane-requires-clause-lane g c =
-    let same = subst (λ (desk : Desk _). map place_of c.args.crew.items ≡ map (place_at desk.requests.lane) desk.answers) (sym c.desk.view_is) c.requires.crew in
+    let going : is_some c.desk.inside.stop ≡ false = ap (λ (desk : Desk _). desk.failed) c.desk.view_is ∙ going_on c.args.desk c.requires.gone in
+    let is = whole_is g.B.Keeper c.desk.inside.start.value c.desk.inside.book c.desk.inside.stop c.desk.inside.taken c.desk.inside.requests c.desk.inside.lines.items c.desk.inside.missed going c.args.desk c.desk.view_is in
+    let same = subst (λ (desk : Desk _). map place_of c.args.crew.items ≡ map (place_at desk.requests.lane) desk.answers) (sym is) c.requires.crew in
     room_of_one_lane _ _ _ _ same (kept_all _ _ _ (search rules) c.loop-finished.invariant.asked)
 
 pub close_lane-requires-clause-all : goal.close_lane-requires-clause-all
 close_lane-requires-clause-all g c =
+    let going : is_some c.desk.inside.stop ≡ false = ap (λ (desk : Desk _). desk.failed) c.desk.view_is ∙ going_on c.args.desk c.requires.gone in
+    let kept = desk_here g.B.Keeper c.desk.inside.start.value c.desk.inside.book c.desk.inside.stop c.desk.inside.taken c.desk.inside.requests c.desk.inside.lines.items c.desk.inside.missed going c.desk.invariant.0 in
     let room = ap length (kept_all _ _ _ (search rules) c.loop-finished.invariant.asked) in
     let halves = length-map c.args.crew.items (λ (halves : LaneHalves). halves.requests) in
     let count = as_many _ c.args.crew.items c.args.desk.answers c.requires.crew in
     let lines = ap (λ (desk : Desk _). length desk.answers) c.desk.view_is in
-    omega (arith, c.desk.invariant.0.first, c.desk.invariant.0.past)
+    omega (arith, kept.first, kept.past)
 
 pub returns-clause-heard : goal.returns-clause-heard
 returns-clause-heard g c = λ before begins.
     let room = kept_all _ _ _ (search rules) c.loop-finished.invariant.asked in
     let going : is_some c.desk.inside.stop ≡ false = ap (λ (desk : Desk _). desk.failed) c.desk.view_is ∙ going_on c.args.desk c.requires.gone in
-    let taken = subst (λ (desk : Desk _). All (λ (half : Half Request). IsPrefix (from_agent (λ (request : Request). request.agent) half.agent desk.requests.taken) half.sent) c.loop-finished.room.items)
-    (ap (λ (o : Out Request). desk_of c.desk.inside.start.value c.desk.inside.book o c.desk.inside.lines.items c.desk.inside.missed (is_some c.desk.inside.stop)) (sym (carried_all _ _ (c.desk.invariant.4 going))) ∙ c.desk.view_is) c.close_lane.ensures.prefix in
+    let is = whole_is g.B.Keeper c.desk.inside.start.value c.desk.inside.book c.desk.inside.stop c.desk.inside.taken c.desk.inside.requests c.desk.inside.lines.items c.desk.inside.missed going c.args.desk c.desk.view_is in
+    let taken = subst (λ (desk : Desk _). All (λ (half : Half Request). IsPrefix (from_agent (λ (request : Request). request.agent) half.agent desk.requests.taken) half.sent) c.loop-finished.room.items) is c.close_lane.ensures.prefix in
     all_heard g.B.Keeper before c.args.desk _ _ begins.1 (subst (IsDesk g.B.Keeper) c.desk.view_is c.desk.invariant.0) c.requires.crew (c.loop-finished.invariant.closed before begins (none_left (IsAnswered (history g.B.Keeper before c.args.desk)) _ (search rules))) room taken
 
 pub returns-clause-only : goal.returns-clause-only

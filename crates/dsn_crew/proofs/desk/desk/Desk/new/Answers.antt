@@ -1,20 +1,20 @@
 -- A collector that has taken nothing stands for whatever its book stands for.
-use Rattle.std.proofs.Common.{length, false, sym, ap, refl, subst}
+use Rattle.std.proofs.Common.{rules, false, sym, ap, subst}
 use Rattle.dsn_crew.proofs.OpenLemmas.{new_desk}
-use Rattle.dsn_crew.specs.desk.Desk.{IsDesk, carried_out, desk_of}
+use Rattle.dsn_crew.specs.desk.Desk.{IsDesk, desk_of, goodbyes}
 use Rattle.dsn_crew.proofs.desk.desk.Desk.new.Goals as goal
 
 pub invariant_of-result : goal.invariant_of-result
 invariant_of-result g c = (
-  subst (λ start. IsDesk g.B.Keeper (desk_of start c.args.book (carried_out 0 c.args.requests) c.args.lines.items 0 false)) (sym c.of.ensures)
-      (new_desk g.B.Keeper _ (carried_out 0 c.args.requests) _ c.requires.awaits c.requires.few c.requires.requests.0 c.requires.requests.1 refl c.requires.lines.0 c.requires.lines.1),
-  (refl, refl),
+  subst (λ start. IsDesk g.B.Keeper (desk_of start c.args.book c.args.requests c.args.lines.items 0 false)) (sym c.of.ensures)
+      (new_desk g.B.Keeper _ _ _ c.requires.awaits c.requires.few c.requires.requests.0 c.requires.requests.1 c.requires.requests.2 c.requires.lines.0 c.requires.lines.1),
+  (search rules, ap goodbyes (sym c.requires.requests.2)),
   c.requires.room,
   tt,
-  (λ _. ap length (sym c.requires.requests.2)),
+  tt,
 )
 
 pub returns-clause-kept : goal.returns-clause-kept
 returns-clause-kept g c =
-    subst (λ start. IsDesk g.B.Keeper (desk_of start c.args.book (carried_out 0 c.args.requests) c.args.lines.items 0 false)) (sym c.of.ensures)
-    (new_desk g.B.Keeper _ (carried_out 0 c.args.requests) _ c.requires.awaits c.requires.few c.requires.requests.0 c.requires.requests.1 refl c.requires.lines.0 c.requires.lines.1)
+    subst (λ start. IsDesk g.B.Keeper (desk_of start c.args.book c.args.requests c.args.lines.items 0 false)) (sym c.of.ensures)
+    (new_desk g.B.Keeper _ _ _ c.requires.awaits c.requires.few c.requires.requests.0 c.requires.requests.1 c.requires.requests.2 c.requires.lines.0 c.requires.lines.1)

@@ -7,7 +7,7 @@ memory allow.
 A refusal is weak where no clause and no worked example refuses the edit, and only a proof that was written by hand has an
 error: a right body of another shape may get that error too. It isn't weak where a control shows that a right body doesn't: a
 file crates/*/controls/ with the name of the edit, which changes the same texts into right ones, and which the prover must
-accept. The weak edits that are known stand in tests/support/weak_edits.txt (none now); it is a failure where another one is
+accept. The weak edits that are known stand in tests/support/weak_edits.txt; it is a failure where another one is
 weak, and where one of these isn't any more.
 
 The libraries below must have been built (`rt all check`). With `--beside ROOM LOG` they are those that `rt ci` builds in

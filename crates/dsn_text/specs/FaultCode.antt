@@ -134,6 +134,10 @@ agent_count_code = 43
 abbrev pub used_up_code : ℕ
 used_up_code = 44
 
+-- a request could not be kept: the daemon gave up
+abbrev pub not_kept_code : ℕ
+not_kept_code = 45
+
 -- the number of a frame is out of turn
 abbrev pub out_of_turn_code : ℕ
 out_of_turn_code = 46
@@ -153,3 +157,31 @@ bad_host_code = 51
 -- a socket could not be bound, connected or removed, or an accept failed
 abbrev pub socket_code : ℕ
 socket_code = 61
+
+-- a journal has no room for the records
+abbrev pub journal_full_code : ℕ
+journal_full_code = 71
+
+-- a file of a journal could not be opened, read, written or synced
+abbrev pub journal_failed_code : ℕ
+journal_failed_code = 72
+
+-- a file has no record, and is no new one
+abbrev pub journal_foreign_code : ℕ
+journal_foreign_code = 73
+
+-- a journal is of another version, or was kept under other limits
+abbrev pub journal_header_code : ℕ
+journal_header_code = 74
+
+-- a record is damaged
+abbrev pub journal_damaged_code : ℕ
+journal_damaged_code = 75
+
+-- a mark counts more letters than the journal sealed
+abbrev pub mark_ahead_code : ℕ
+mark_ahead_code = 76
+
+-- a mark counts fewer letters than the journal's base
+abbrev pub mark_behind_code : ℕ
+mark_behind_code = 77

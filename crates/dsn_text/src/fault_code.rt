@@ -2,7 +2,8 @@
 //! stand in the contracts' FaultCode.
 //!
 //! 1 to 10 and 21 to 30 are refusals of a request's body, 11 to 14 faults of a frame, 31 to 35 of
-//! what is written, 41 to 44 of a crew, 46 to 48 of a session, 51 of a site and 61 of a socket.
+//! what is written, 41 to 45 of a crew, 46 to 48 of a session, 51 of a site, 61 of a socket and 71
+//! to 77 of a journal.
 //! Each is what `code()` of an error type of this project gives.
 
 /// The final recipient is no address.
@@ -75,6 +76,8 @@ pub const CREW_REFUSED: u32 = 42;
 pub const AGENT_COUNT: u32 = 43;
 /// An agent's requests are used up.
 pub const USED_UP: u32 = 44;
+/// A request could not be kept: the daemon gave up.
+pub const NOT_KEPT: u32 = 45;
 
 /// The number of a frame is out of turn.
 pub const OUT_OF_TURN: u32 = 46;
@@ -88,3 +91,18 @@ pub const BAD_HOST: u32 = 51;
 
 /// A socket could not be bound, connected or removed, or an accept failed.
 pub const SOCKET: u32 = 61;
+
+/// A journal has no room for the records.
+pub const JOURNAL_FULL: u32 = 71;
+/// A file of a journal could not be opened, read, written or synced.
+pub const JOURNAL_FAILED: u32 = 72;
+/// A file has no record, and is no new one.
+pub const JOURNAL_FOREIGN: u32 = 73;
+/// A journal is of another version, or was kept under other limits.
+pub const JOURNAL_HEADER: u32 = 74;
+/// A record is damaged.
+pub const JOURNAL_DAMAGED: u32 = 75;
+/// A mark counts more letters than the journal sealed.
+pub const MARK_AHEAD: u32 = 76;
+/// A mark counts fewer letters than the journal's base.
+pub const MARK_BEHIND: u32 = 77;

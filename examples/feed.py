@@ -22,10 +22,12 @@ later ones are handed in (RFC 5321 section 4.5.4.1; --retry and --give-up say ot
 refused for good, or for so long, is left out: it must not cause another notice. Each of both is said once, by a line on
 standard error with its key and the reply. Of a pipe what is put off is kept in memory: where a hundred wait nothing more
 is read, and those that still wait when a signal comes are left out. A notice is sent twice where it was taken and its
-reply was late or lost, or the feeder was killed before it had written that down.
+reply was late or lost, or the feeder was killed before it had written that down. With
+--once a notice is left out where the state has that it was handed in before, byte for byte: a daemon that keeps a journal
+may post a letter again after it was killed.
 
-The last line says how many were handed in, how many were left out, and how many wait for the next start. The status is
-0 where none was left out and each outbox was whole, 1 where one was left out or cut short or not read to its end, 2 for
+The last line says how many were handed in, how many were left out, how many were handed in before, and how many wait for
+the next start. The status is 0 where none was left out and each outbox was whole, 1 where one was left out or cut short or not read to its end, 2 for
 wrong arguments, 3 where nothing could be done: another feeder is at work, or a file can't be used. FEEDER.md has more.
 """
 import argparse
@@ -100,7 +102,7 @@ class Feeder:
         self.waiting = deque()
         if self.path:
             self.wait_on(self.state.records.values())
-        self.handed, self.left_out, self.cut, self.passed, self.aside = 0, 0, 0, {}, {}
+        self.handed, self.left_out, self.repeated, self.cut, self.passed, self.aside = 0, 0, 0, 0, {}, {}
 
     def wait_on(self, records):
         """Tries again what waits of these outboxes since an earlier start."""
@@ -128,7 +130,7 @@ class Feeder:
         refused, message_id = self.refused(notice), notice.message_id()
         digest = source.taken()
         if refused is None:
-            self.state.note(record, "handed", source.at, digest)
+            self.state.note(record, "handed", source.at, digest, notice.digest())
         elif self.is_last_try(refused, since):
             self.leave_out(message_id, refused)
             self.state.note(record, "left", source.at, digest)
@@ -140,7 +142,11 @@ class Feeder:
             self.waiting.append(it)
 
     def refused(self, notice: Notice) -> Optional[Refused]:
-        """Hands in a notice: why it was refused, if it was."""
+        """Hands in a notice, unless it was before: why it was refused, if it was."""
+        if self.given.once and notice.digest() in self.state.known:
+            self.repeated += 1
+            tell("repeated", notice.message_id(), "it was handed in before")
+            return None
         try:
             self.mailer.send(notice)
         except Refused as refused:
@@ -170,6 +176,7 @@ class Feeder:
         record = self.state.records.get(it.number)
         if record is None or record.waiting.get(it.start) is not it:
             return
+        notice = None
         try:
             notice = self.reread(record, it)
         except OSError as why:
@@ -182,7 +189,7 @@ class Feeder:
             return
         if refused is not None:
             self.leave_out(it.message_id, refused)
-        self.state.note(record, "settled", it.start, "left" if refused else "handed")
+        self.state.note(record, "settled", it.start, *(("left",) if refused else ("handed", notice.digest())))
         self.finish(record)
 
     def reread(self, record: Record, it: Waiting) -> Optional[Notice]:
@@ -437,7 +444,8 @@ class Feeder:
                 self.leave_out(it.message_id, "the feeder ended before another try")
             waits = []
         self.mailer.close()
-        say(f"{self.handed} handed in, {self.left_out} left out" + (f", {len(waits)} wait" if waits else ""))
+        more = ((self.repeated, "repeated"), (len(waits), "wait"))
+        say(f"{self.handed} handed in, {self.left_out} left out" + "".join(f", {count} {what}" for count, what in more if count))
         return 1 if self.left_out or self.cut or self.state.is_behind else 0
 
 
@@ -462,6 +470,7 @@ def options():
     reader.add_argument("--follow", metavar="OUTBOX", help="a file that grows, in place of standard input")
     reader.add_argument("--state", metavar="FILE", help="where it is kept what became of each notice (with --follow feed.OUTBOX.state beside OUTBOX)")
     reader.add_argument("--done", choices=("keep", "remove", "rename"), help="with --follow: what becomes of an outbox that is done (keep)")
+    reader.add_argument("--once", action="store_true", help="leave out a notice that was handed in before, byte for byte")
     reader.add_argument("--retry", type=float, default=RETRY, metavar="SECONDS", help="between two tries of a notice (%(default)s)")
     reader.add_argument("--give-up", type=float, default=GIVE_UP, metavar="SECONDS", help="for which one is tried (%(default)s)")
     reader.add_argument("mailer", nargs=argparse.REMAINDER, help=argparse.SUPPRESS)
@@ -472,6 +481,8 @@ def options():
         reader.error("--done is of --follow")
     if given.follow is None and given.state is not None and not stat.S_ISREG(os.fstat(0).st_mode):
         reader.error("--state is of a file")
+    if given.once and given.follow is None and given.state is None:
+        reader.error("--once is of --follow or --state")
     if given.follow is not None and given.state is None:
         folder, base = os.path.split(given.follow)
         given.state = os.path.join(folder, f"feed.{base}.state")

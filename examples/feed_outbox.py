@@ -1,4 +1,5 @@
 """An outbox as the feeder (feed.py) reads it: its notices one by one, from a pipe or from a file that grows."""
+import hashlib
 import io
 import os
 import re
@@ -28,6 +29,10 @@ class Notice:
         """What the Message-ID has before its host."""
         found = re.search(rb"^Message-ID: <([BDT]\.[0-9A-Za-z]+\.[0-9.]+)@", self.data, re.MULTILINE)
         return found[1].decode() if found else "?"
+
+    def digest(self) -> str:
+        """What tells whether another one is the same, byte for byte."""
+        return hashlib.sha256(b"\r\n".join((self.host, self.path, self.data))).hexdigest()
 
     def message(self) -> bytes:
         """The message as a program takes it: without the dots of the transfer, and with lines that end with LF alone."""

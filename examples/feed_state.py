@@ -11,6 +11,7 @@ from typing import Optional
 
 PAUSE = 0.2  # seconds between two tries to write
 MOST_LINES = 1000  # lines of a state file beyond twice what they come to, before it is written anew
+MOST_KNOWN = 10_000  # notices that were handed in of which the digest is kept, those that were handed in last
 
 
 class Stopped(Exception):
@@ -85,13 +86,14 @@ def line_of_state(*words) -> bytes:
 
 
 class State:
-    """What is known of the outboxes, in a file that is appended to and synced after each reply, or in memory alone.
-    `is_stopped` says whether a signal came. No two feeders have one such file: it is locked. `is_behind` says that
-    a line could not be written."""
+    """What is known of the outboxes, in a file that is appended to and synced after each reply, or in memory alone; and,
+    where there is a file, the digests of the notices that were handed in last. `is_stopped` says whether a signal came. No
+    two feeders have one such file: it is locked. `is_behind` says that a line could not be written."""
 
     def __init__(self, path: Optional[str], is_stopped):
         self.path, self.is_stopped = path, is_stopped
         self.records, self.next, self.file, self.lines, self.size, self.is_behind = {}, 0, None, 0, 0, False
+        self.known = {}  # digests, in the order in which their notices were handed in; each has None
         if path is not None:
             self.file = self.locked()
             self.load()
@@ -128,9 +130,13 @@ class State:
             self.records[number] = Record(number, int(rest[0]))
             self.next = max(self.next, number + 1)
             return
+        if what == "known":
+            self.know(rest[0])
+            return
         record = self.records[number]
         if what in ("handed", "left"):
             record.position, record.digest, record.left = int(rest[0]), rest[1], record.left or what == "left"
+            self.know(*rest[2:])
         elif what == "waits":
             it = Waiting(number, int(rest[0]), int(rest[1]), float(rest[3]), rest[4])
             record.waiting[it.start] = it
@@ -139,6 +145,7 @@ class State:
         elif what == "settled":
             del record.waiting[int(rest[0])]
             record.left = record.left or rest[1] == "left"
+            self.know(*rest[2:])
         elif what == "cut":
             record.cut = True
         elif what == "done":
@@ -148,6 +155,14 @@ class State:
         else:
             raise ValueError
 
+    def know(self, *digests):
+        """Keeps the digest of a notice that was handed in, if there is one, and lets the oldest go where there are too many."""
+        for it in digests:
+            self.known.pop(it, None)
+            self.known[it] = None
+        if len(self.known) > MOST_KNOWN:
+            del self.known[next(iter(self.known))]
+
     def note(self, record: Record, what: str, *rest):
         """Writes a line, and does what it says."""
         words = (record.number, what, *(str(it) for it in rest))
@@ -156,7 +171,7 @@ class State:
             return
         self.keep(lambda: self.append(line_of_state(*words)))
         self.lines += 1
-        if self.lines > MOST_LINES + 2 * sum(3 + len(it.waiting) for it in self.records.values()):
+        if self.lines > MOST_LINES + 2 * (len(self.known) + sum(3 + len(it.waiting) for it in self.records.values())):
             self.lines = 0
             with contextlib.suppress(OSError):
                 self.rewrite()
@@ -176,7 +191,8 @@ class State:
 
     def rewrite(self):
         """Writes the file anew, as few lines as do, and puts it in the place of the old one."""
-        text = b"".join(line for it in self.records.values() for line in it.lines())
+        text = b"".join(line_of_state(0, "known", it) for it in self.known)
+        text += b"".join(line for it in self.records.values() for line in it.lines())
         with contextlib.ExitStack() as undo:
             file = undo.enter_context(open(f"{self.path}.new", "wb", buffering=0))
             fcntl.flock(file, fcntl.LOCK_EX)

@@ -397,6 +397,32 @@ def standard_input(checks: Checks, outbox: bytes):
         checks.equal("a folder that isn't there", feed(["--follow", f"{room}/none/outbox", nobody], b"")[0], 3)
 
 
+def once(checks: Checks):
+    """With --once what was handed in before isn't handed in again: in a later outbox, and by a feeder that is started anew. What
+    was left out is, and so is a notice that differs."""
+    with tempfile.TemporaryDirectory() as room:
+        path, server = Path(room) / "outbox", MailServer(refused={b"sender1@example.com"})
+        path.with_suffix(".1").write_bytes(outbox_of(3))
+        path.with_suffix(".2").write_bytes(outbox_of(2))
+        path.write_bytes(outbox_of(3, b"L"))
+        with Following(path, "--once", server.address) as it:
+            checks.true("all but the refused ones", comes_to(lambda: len(server.taken), 4))
+            status, said = it.end()
+        left = [f"left out B {key}" for key in ("K1", "K1", "L1")]
+        checks.equal("its lines", sorted(line.split(":")[0] for line in said[:-1]), [*left, "repeated B K0"])
+        checks.equal("its end", (status, said[-1]), (1, "4 handed in, 3 left out, 1 repeated"))
+        path.rename(path.with_suffix(".3"))
+        path.write_bytes(outbox_of(4, b"L"))
+        server.refused = set()
+        with Following(path, "--once", server.address) as it:
+            checks.true("what wasn't handed in", comes_to(lambda: len(server.taken), 6))
+            status, said = it.end()
+        repeated = [f"repeated B {key}: it was handed in before" for key in ("L0", "L2")]
+        checks.equal("started anew", (status, said), (0, [*repeated, "2 handed in, 0 left out, 2 repeated"]))
+        checks.equal("whom it went to", recipients(server), [0, 2, 0, 2, 1, 3])
+    checks.equal("of a pipe", feed(["--once", "localhost:25"], b"")[0], 2)
+
+
 def main():
     checks = Checks("feed_restarts: what the feeder keeps from one start to the next")
     outbox = outbox_of(MESSAGES)
@@ -404,6 +430,7 @@ def main():
         it(checks, outbox)
     short_write(checks)
     small(checks)
+    once(checks)
     checks.done()
 
 

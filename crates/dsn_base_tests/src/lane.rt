@@ -8,3 +8,4 @@ mod moved;
 mod one_thread;
 mod requests;
 mod threads;
+mod waiting;

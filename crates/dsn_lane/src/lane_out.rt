@@ -1,5 +1,5 @@
 //! The receiving half of a lane.
-ghost use Rattle.std.specs.Prelude.{◌≡◌, ℕ, ◌<◌, ◌≤◌, List, ◌∷◌, [], ◌++◌, length, IfOk, OnErr};
+ghost use Rattle.std.specs.Prelude.{◌≡◌, ℕ, ◌<◌, ◌≤◌, List, ◌∷◌, [], ◌++◌, length, IfNone, IfOk, IfSome, OnErr};
 ghost use Rattle.crossbeam_channel.specs.Claims.{view, IsSeatAt};
 ghost use Rattle.crossbeam_channel.specs.Ends.{receives_on, ruled_capacity};
 ghost use Rattle.dsn_outcome.specs.Agents.{from_agent};
@@ -88,6 +88,30 @@ impl<T: Carried> LaneOut<T> {
             Err(_) => Err(LaneEnd {
                 gone: LaneGone::reported(),
             }),
+        }
+    }
+
+    /// Takes the item at the front where one waits, and waits for none: so several that wait are taken
+    /// at once. `None` also comes once all sending halves are gone. That it doesn't come while an item
+    /// waits isn't proved.
+    #[tactic(auto, using(crate::proofs::HalfLemmas::agent_within, crate::proofs::HalfLemmas::keeps_receiving))]
+    pub fn take_waiting(&mut self, rt: &impl Wait) -> Option<T>
+        ensures item { IfSome result (λ item. self.new.taken ≡ self.old.taken ++ item ∷ []) }
+        ensures agent { IfSome result
+            (λ item. (self.old.first ≤ T.agent item) × (T.agent item < self.old.past)) }
+        ensures number { IfSome result
+            (λ item. T.number item ≡ length (from_agent T.agent (T.agent item) self.old.taken)) }
+        ensures none { IfNone result (self.new.taken ≡ self.old.taken) }
+        ensures numbered { (a : ℕ) → IsNumbered T.number (from_agent T.agent a self.new.taken) }
+        ensures same { (self.new.lane ≡ self.old.lane) × (self.new.first ≡ self.old.first)
+            × (self.new.past ≡ self.old.past) }
+    {
+        match self.receiver.try_recv_as::<Removes, _>(rt, &mut self.pass) {
+            Ok(item) => {
+                self.count = self.count.wrapping_add(1);
+                Some(item)
+            }
+            Err(_) => None,
         }
     }
 

@@ -81,10 +81,17 @@ impl<'a> QueueReader<'a> {
         }
     }
 
-    /// The next recipient, done or not, or none where the file's last record comes. Records that say nothing of a
-    /// recipient are passed over, and what is said before a recipient counts for that one alone.
+    /// The next recipient, done or not, or none where the file's last record comes; then, and after a
+    /// fault, another call answers the same. Records that say nothing of a recipient are passed over,
+    /// and what is said before a recipient counts for that one alone.
     pub fn next_recipient(&mut self) -> Result<Option<QueuedRecipient<'a>>, QueueBroken>
         ensures file { self.new.file ≡ self.old.file }
+        ensures stays { MatchResult result
+            (λ found. MatchOption found (self.new ≡ self.old) (λ _. Unit {0}))
+            (λ _. self.new ≡ self.old) }
+        ensures fewer { IfOk result (λ found. IfSome found (λ _.
+            steps_left (length self.old.file) self.new.place
+            < steps_left (length self.old.file) self.old.place)) }
         ensures listed { (recipients : List RecipientFacts) (ending : QueueEnding)
             → RecipientsLeft self.old nothing_before recipients ending
             → ReadsRecipients result recipients ending self.new }

@@ -12,6 +12,8 @@ mod LogSaidLines
 mod LogSpaces
 mod LogWritten
 mod LoggedExamples
+mod MessageExamples
+mod MessageFactsLemmas
 mod QueueExamples
 mod QueueListingLemmas
 mod QueueRecipientLemmas

@@ -6,6 +6,7 @@ pub mod LogLine
 pub mod LogParts
 pub mod LogRecord
 pub mod LoggedAppend
+pub mod MessageFacts
 pub mod PostfixAnswer
 pub mod PostfixRequest
 pub mod QueueListing

@@ -17,6 +17,7 @@ mod log_record;
 mod log_write_error;
 mod log_writer;
 mod logged_append;
+mod message_facts;
 mod number;
 mod placed_record;
 mod postfix_answer;
@@ -45,6 +46,7 @@ pub use log_reader::LogReader;
 pub use log_record::LogRecord;
 pub use log_write_error::LogWriteError;
 pub use logged_append::logged_as;
+pub use message_facts::MessageFacts;
 pub use placed_record::PlacedRecord;
 pub use postfix_answer::{decode_status, encode_announcement, encode_status};
 pub use postfix_request::{

@@ -12,7 +12,7 @@ use crate::queued_recipient::{QueuedRecipient, RecipientStep, next_recipient};
 use std::marker::Model;
 
 /// How many pointers back a file may have, as Postfix has it.
-const MOST_JUMPS: u32 = 10_000;
+pub(crate) const MOST_JUMPS: u32 = 10_000;
 
 /// Reads the records of a queue file in the order in which they count. Pointers are followed and
 /// not given: each goes forward, or is one of at most 10,000 that go back, so that the reading ends.

@@ -19,6 +19,7 @@ mod QueueListingLemmas
 mod QueueRecipientLemmas
 mod QueueWalkLemmas
 mod RecipientExamples
+mod WantedExamples
 mod RequestExamples
 pub mod AttributeLaws
 pub mod AttributeLemmas

@@ -15,3 +15,4 @@ pub mod QueueRecord
 pub mod QueueWalk
 pub mod QuotedAddress
 pub mod RequestReading
+pub mod Wanted

@@ -35,6 +35,7 @@ mod request_fault;
 mod request_reading;
 mod said_before;
 mod verp_delimiters;
+mod wanted;
 
 pub use attribute_text::AttributeText;
 pub use decode::decode_postfix_request;

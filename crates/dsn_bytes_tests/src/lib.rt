@@ -1,6 +1,6 @@
 //! Tests of frames, requests and answers in bytes, of notices and outboxes, and of what Postfix's
-//! programs ask, over what their crates make public: so they are proved without the proofs of these,
-//! and beside their wrong edits.
+//! programs ask and keep, over what their crates make public: so they are proved without the proofs
+//! of these, and beside their wrong edits.
 #![tactic(auto)]
 
 #[cfg(test)]
@@ -9,6 +9,8 @@ mod assert_same;
 mod frame;
 #[cfg(test)]
 mod postfix_log;
+#[cfg(test)]
+mod postfix_queue;
 #[cfg(test)]
 mod postfix_request;
 #[cfg(test)]

@@ -21,7 +21,7 @@ const TO_BE_QUOTED: &[u8] =
 
 /// A log in which one write was cut short, and another came after it; and a last line that nothing ends.
 const DAMAGED: &[u8] =
-    b"\n<a@example.com>: no\nrecipient=a@example.com\nsta\n<b@example.com>: busy\nrecipient=b@example.com\n\n\n<c@example.com>: n";
+    b"\n<a@example.com>: no\nrecipient=a@example.com\nsta\n<b@example.com>: busy\nrecipient=b@example.com\nreason=busy\n\n\n<c@example.com>: n";
 
 #[test]
 fn an_append_is_logged_as_bounce_logs_it(rt: HostRuntime) -> Result<(), Fail> {
@@ -63,7 +63,7 @@ fn recipients_of_a_damaged_log_stay_apart(rt: HostRuntime) {
     for want in [
         (b"".as_slice(), Some(1)),
         (b"b@example.com".as_slice(), None),
-        (b"".as_slice(), Some(97)),
+        (b"".as_slice(), Some(109)),
         (b"".as_slice(), None),
     ] {
         same(&rt, told(reader.next_entry()), want);

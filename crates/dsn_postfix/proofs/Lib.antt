@@ -12,11 +12,14 @@ mod LogSaidLines
 mod LogSpaces
 mod LogWritten
 mod LoggedExamples
+mod MessageExamples
+mod MessageFactsLemmas
 mod QueueExamples
 mod QueueListingLemmas
 mod QueueRecipientLemmas
 mod QueueWalkLemmas
 mod RecipientExamples
+mod WantedExamples
 mod RequestExamples
 pub mod AttributeLaws
 pub mod AttributeLemmas

@@ -7,11 +7,11 @@ use Rattle.std.proofs.lemmas.Bool.{and_parts}
 use Rattle.dsn_postfix.specs.Attribute.{is_not_zero, is_zero_free}
 use Rattle.dsn_postfix.specs.declared.log_field.LogField.{LogField}
 use Rattle.dsn_postfix.specs.declared.log_field.LogField.TheVariants.{Recipient, OriginalRecipient, Offset, DsnOriginal, NotifyFlags, Status, Action, DiagnosticType, DiagnosticText, MtaType, MtaName, Reason}
-use Rattle.dsn_postfix.specs.LogFile.{is_said_line, says_field, says_of_delivery, says_of_recipient}
-use Rattle.dsn_postfix.specs.LogLine.{after_front, around_first, cut_here, old_recipient, text_in, with_first_before}
-use Rattle.dsn_postfix.specs.LogRecord.{can_stand_in_line, is_loggable, may_say, number_if_said, number_text, number_written, LoggedFields, old_line, said_line, said_text}
+use Rattle.dsn_postfix.specs.LogFile.{is_older, is_said_line, last_says_reason, says_field, says_of_delivery, says_of_recipient}
+use Rattle.dsn_postfix.specs.LogLine.{after_front, around_first, cut_here, old_parts, old_recipient, text_in, with_first_before}
+use Rattle.dsn_postfix.specs.LogRecord.{can_stand_in_line, is_loggable, may_say, number_if_said, number_text, number_written, LoggedFields, old_line, said_line, said_text, says_something}
 use Rattle.dsn_postfix.proofs.LogPicked.{number-back}
-use Rattle.dsn_postfix.proofs.LogWritten.{line-says, said-stands}
+use Rattle.dsn_postfix.proofs.LogWritten.{line-says, said-stands, whole-line}
 
 not-zero : (byte : ℕ) → can_stand_in_line byte ≡ true → is_not_zero byte ≡ true
 not-zero byte stands = grind arith
@@ -96,5 +96,24 @@ old-recipient-some : (found : Option (List ℕ × List ℕ)) → is_some found �
 old-recipient-some None some = grind (arith, some)
 old-recipient-some (Some parts) some = refl
 
+pub old-says_recipient : (f : LoggedFields) → says_field Recipient (old_line f) ≡ true
+old-says_recipient f = old-recipient-some (around_first (codes ">: ") (f.recipient ++ (codes ">: " ++ f.reason))) (around-some f.recipient f.reason)
+
+pub old-older : (f : LoggedFields) → list_all can_stand_in_line (old_line f) ≡ true → is_older (old_line f) ≡ true
+old-older f stands = ap (λ (l : List ℕ). is_some (old_parts l)) (whole-line (old_line f) stands) ∙ around-some f.recipient f.reason
+
 pub old-said : (f : LoggedFields) → list_all can_stand_in_line (old_line f) ≡ true → is_said_line (old_line f) ≡ true
-old-said f stands = said-if Recipient (old_line f) stands (old-recipient-some (around_first (codes ">: ") (f.recipient ++ (codes ">: " ++ f.reason))) (around-some f.recipient f.reason))
+old-said f stands = said-if Recipient (old_line f) stands (old-says_recipient f)
+
+-- the last line says the reason
+pub reason-last : (reason : List ℕ) (before : Bool) → says_something reason ≡ true → is_loggable reason ≡ true → last_says_reason before (map said_line (said_text Reason reason)) ≡ true
+reason-last [] before full loggable = grind (arith, full)
+reason-last (byte ∷ reason) before full loggable = ap is_some (line-says Reason Reason (byte ∷ reason) loggable)
+
+-- whatever stands before it
+abbrev EndsWell : List (LogField × List ℕ) → Type 0
+EndsWell said = (before : Bool) → last_says_reason before (map said_line said) ≡ true
+
+pub last-after : (some more : List (LogField × List ℕ)) → EndsWell more → EndsWell (some ++ more)
+last-after [] more well before = well before
+last-after (one ∷ some) more well before = last-after some more well (says_field Reason (said_line one))

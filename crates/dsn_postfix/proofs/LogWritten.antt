@@ -8,8 +8,8 @@ use Rattle.std.proofs.lemmas.List.Folds.{list_all-append}
 use Rattle.std.proofs.Math.Seq.{take-length}
 use Rattle.dsn_postfix.specs.declared.log_field.LogField.{LogField}
 use Rattle.dsn_postfix.specs.declared.log_field.LogField.TheVariants.{Recipient, OriginalRecipient, Offset, DsnOriginal, NotifyFlags, Status, Action, DiagnosticType, DiagnosticText, MtaType, MtaName, Reason}
-use Rattle.dsn_postfix.specs.LogFile.{goes_on, is_blank}
-use Rattle.dsn_postfix.specs.LogLine.{is_line_feed, is_nul, is_space, all_lines, before_nul, field_name, old_parts, text_in, without_outer_spaces, without_trailing_spaces}
+use Rattle.dsn_postfix.specs.LogFile.{goes_on, is_blank, is_older, names_recipient}
+use Rattle.dsn_postfix.specs.LogLine.{is_line_feed, is_nul, is_space, all_lines, before_nul, field_name, old_parts, text_in, value_named, without_outer_spaces, without_trailing_spaces}
 use Rattle.dsn_postfix.specs.LogRecord.{said_text, said_line, said_bytes, can_stand_in_line, is_loggable}
 use Rattle.dsn_postfix.proofs.LogPartLemmas.{feed-by}
 use Rattle.dsn_postfix.specs.LogParts.{more_after, more_ended, more_size, with_its_feed}
@@ -296,41 +296,82 @@ not-old MtaType text = refl
 not-old MtaName text = refl
 not-old Reason text = refl
 
--- so it goes on with those before it
-said-goes_on : (one : Said) → is_loggable one.1 ≡ true → goes_on (said_line one) ≡ true
-said-goes_on one loggable =
+-- so it goes on with a line of the older form
+pub said-after_older : (before : List ℕ) (one : Said) → is_older before ≡ true → is_loggable one.1 ≡ true → goes_on before (said_line one) ≡ true
+said-after_older before one older loggable =
     let none = ap old_parts (whole-line (said_line one) (said-stands one loggable)) ∙ not-old one.0 one.1 in
-    λ i. not (full-line one.0 one.1 i || is_some (none i))
+    λ i. not (full-line one.0 one.1 i || (is_some (none i) || (not (older i) && names_recipient (said_line one))))
+
+-- of another field it goes on with any line
+abbrev pub is_no_recipient : Said → Bool
+is_no_recipient one = not (same_field Recipient one.0)
+
+not-named : (field : LogField) (text : List ℕ) → not (same_field Recipient field) ≡ true → value_named (field_name Recipient) (said_line (field, text)) ≡ None
+not-named Recipient text other = grind (arith, other)
+not-named OriginalRecipient text other = refl
+not-named Offset text other = refl
+not-named DsnOriginal text other = refl
+not-named NotifyFlags text other = refl
+not-named Status text other = refl
+not-named Action text other = refl
+not-named DiagnosticType text other = refl
+not-named DiagnosticText text other = refl
+not-named MtaType text other = refl
+not-named MtaName text other = refl
+not-named Reason text other = refl
+
+never : (test : Bool) → not (test && false) ≡ true
+never true = refl
+never false = refl
+
+said-goes_on : (before : List ℕ) (one : Said) → is_no_recipient one ≡ true → is_loggable one.1 ≡ true → goes_on before (said_line one) ≡ true
+said-goes_on before one other loggable =
+    let whole = whole-line (said_line one) (said-stands one loggable) in
+    let none = ap old_parts whole ∙ not-old one.0 one.1 in
+    let unnamed = ap (value_named (field_name Recipient)) whole ∙ not-named one.0 one.1 other in
+    (λ i. not (full-line one.0 one.1 i || (is_some (none i) || (not (is_older before) && is_some (unnamed i))))) ∙ never (not (is_older before))
+
+-- each line goes on with the one before it
+abbrev pub all_go_on : List ℕ → List Said → Bool
+all_go_on before [] = true
+all_go_on before (one ∷ said) = goes_on before (said_line one) && all_go_on (said_line one) said
+
+pub others-go_on : (before : List ℕ) (said : List Said) → list_all is_no_recipient said ≡ true → are_loggable said ≡ true → all_go_on before said ≡ true
+others-go_on before [] _ _ = refl
+others-go_on before (one ∷ said) others loggable =
+    let other = and_parts (is_no_recipient one) (list_all is_no_recipient said) others in
+    let parts = and_parts (is_loggable one.1) (are_loggable said) loggable in
+    λ i. said-goes_on before one other.0 parts.0 i && others-go_on (said_line one) said other.1 parts.1 i
 
 pub some-more : (said : List Said) (more : List (List ℕ)) → is_blank (map said_line said ++ [] ∷ more) ≡ false
 some-more [] more = refl
 some-more (one ∷ said) more = refl
 
-pub said-size : (said : List Said) (more : List (List ℕ)) → are_loggable said ≡ true → more_size (map said_line said ++ [] ∷ more) ≡ length (flat_map said_bytes said)
-said-size [] more _ = refl
-said-size (one ∷ said) more loggable =
-    let parts = and_parts (is_loggable one.1) (are_loggable said) loggable in
+pub said-size : (before : List ℕ) (said : List Said) (more : List (List ℕ)) → all_go_on before said ≡ true → more_size before (map said_line said ++ [] ∷ more) ≡ length (flat_map said_bytes said)
+said-size before [] more _ = refl
+said-size before (one ∷ said) more on =
+    let parts = and_parts (goes_on before (said_line one)) (all_go_on (said_line one) said) on in
     let lines = map said_line said ++ [] ∷ more in
     let feed : with_its_feed (said_line one) lines ≡ length (said_line one) + 1 = feed-by (said_line one) lines (some-more said more) in
-    let later : more_size lines ≡ length (flat_map said_bytes said) = said-size said more parts.1 in
+    let later : more_size (said_line one) lines ≡ length (flat_map said_bytes said) = said-size (said_line one) said more parts.1 in
     let long = length-append (said_bytes one) (flat_map said_bytes said) in
     let line_long = length-append (said_line one) (10 ∷ []) in
-    let sum : with_its_feed (said_line one) lines + more_size lines ≡ length (said_bytes one ++ flat_map said_bytes said) = omega (arith, feed, later, long, line_long) in
-    ap (λ (on : Bool). if on then with_its_feed (said_line one) lines + more_size lines else 0) (said-goes_on one parts.0) ∙ sum
+    let sum : with_its_feed (said_line one) lines + more_size (said_line one) lines ≡ length (said_bytes one ++ flat_map said_bytes said) = omega (arith, feed, later, long, line_long) in
+    ap (λ (on : Bool). if on then with_its_feed (said_line one) lines + more_size (said_line one) lines else 0) parts.0 ∙ sum
 
-pub said-ended : (said : List Said) (more : List (List ℕ)) → are_loggable said ≡ true → is_blank more ≡ false → more_ended (map said_line said ++ [] ∷ more) ≡ true
-said-ended [] more _ full = ap not full
-said-ended (one ∷ said) more loggable full =
-    let parts = and_parts (is_loggable one.1) (are_loggable said) loggable in
+pub said-ended : (before : List ℕ) (said : List Said) (more : List (List ℕ)) → all_go_on before said ≡ true → is_blank more ≡ false → more_ended before (map said_line said ++ [] ∷ more) ≡ true
+said-ended before [] more _ full = ap not full
+said-ended before (one ∷ said) more on full =
+    let parts = and_parts (goes_on before (said_line one)) (all_go_on (said_line one) said) on in
     let lines = map said_line said ++ [] ∷ more in
-    ap (λ (on : Bool). if on then more_ended lines else is_blank (said_line one) && not (is_blank lines)) (said-goes_on one parts.0) ∙ said-ended said more parts.1 full
+    ap (λ (on : Bool). if on then more_ended (said_line one) lines else is_blank (said_line one) && not (is_blank lines)) parts.0 ∙ said-ended (said_line one) said more parts.1 full
 
-pub said-after : (said : List Said) (more : List (List ℕ)) → are_loggable said ≡ true → more_after (map said_line said ++ [] ∷ more) ≡ [] ∷ more
-said-after [] more _ = refl
-said-after (one ∷ said) more loggable =
-    let parts = and_parts (is_loggable one.1) (are_loggable said) loggable in
+pub said-after : (before : List ℕ) (said : List Said) (more : List (List ℕ)) → all_go_on before said ≡ true → more_after before (map said_line said ++ [] ∷ more) ≡ [] ∷ more
+said-after before [] more _ = refl
+said-after before (one ∷ said) more on =
+    let parts = and_parts (goes_on before (said_line one)) (all_go_on (said_line one) said) on in
     let lines = map said_line said ++ [] ∷ more in
-    ap (λ (on : Bool). if on then more_after lines else said_line one ∷ lines) (said-goes_on one parts.0) ∙ said-after said more parts.1
+    ap (λ (on : Bool). if on then more_after (said_line one) lines else said_line one ∷ lines) parts.0 ∙ said-after (said_line one) said more parts.1
 
 -- ---- of each field
 

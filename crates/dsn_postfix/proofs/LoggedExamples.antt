@@ -137,6 +137,11 @@ quoted_original : unlogged_field Bounce (append_of (to (codes "a b@example.org")
 unfolding logged_as needs_no_quotes unlogged_of unsayable_field
 quoted_original = refl
 
+-- the recipient's fault comes first, whatever it is
+line_feed_in_recipient : unlogged_field Bounce (append_of (to (codes "a b@example.org") (codes "b@example\n.org")) said_report) ≡ Some Recipient
+unfolding logged_as needs_no_quotes unlogged_of unsayable_field
+line_feed_in_recipient = refl
+
 abbrev two_lines : DeliveryReport
 two_lines = record { status = codes "5.1.1"; diagnostic_type = []; diagnostic = []; mta_type = []; mta = []; action = codes "failed"; reason = codes "no\nroom" }
 

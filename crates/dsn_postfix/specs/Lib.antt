@@ -6,6 +6,7 @@ pub mod LogLine
 pub mod LogParts
 pub mod LogRecord
 pub mod LoggedAppend
+pub mod MessageFacts
 pub mod PostfixAnswer
 pub mod PostfixRequest
 pub mod QueueListing
@@ -14,3 +15,4 @@ pub mod QueueRecord
 pub mod QueueWalk
 pub mod QuotedAddress
 pub mod RequestReading
+pub mod Wanted

@@ -1,10 +1,10 @@
 -- What a queue file says of its recipients: a record of each, and before it records that say more of that one.
-use Rattle.std.specs.Prelude.{◌≡◌, ◌≤◌, ℕ, List, [], ◌∷◌, length, Option, Some, None, Result, MatchOption, MatchResult, ◌==◌, codes, if◌then◌else◌}
+use Rattle.std.specs.Prelude.{◌≡◌, ◌<◌, ◌≤◌, ℕ, List, [], ◌∷◌, length, Option, Some, None, Result, MatchOption, MatchResult, ◌==◌, codes, if◌then◌else◌}
 use Rattle.dsn_postfix.specs.LogLine.{value_named}
 use Rattle.dsn_postfix.specs.LogRecord.{number_if_said, number_or_0, written_number}
 use Rattle.dsn_postfix.specs.QueueListing.{BrokenOff, QueueEnding, RecordsFrom, WholeFile}
 use Rattle.dsn_postfix.specs.QueueRecord.{PlacedBytes}
-use Rattle.dsn_postfix.specs.QueueWalk.{QueueReading}
+use Rattle.dsn_postfix.specs.QueueWalk.{QueuePlace, QueueReading, steps_left}
 use Rattle.dsn_postfix.specs.declared.log_field.LogField.TheVariants.{NotifyFlags}
 use Rattle.dsn_postfix.specs.declared.queue_broken.QueueBroken.{QueueBroken}
 use Rattle.dsn_postfix.specs.declared.queued_recipient.QueuedRecipient.{QueuedRecipient}
@@ -133,8 +133,9 @@ StepsRecipients file (steps.Recipient found rest jumps) recipients ending =
 StepsRecipients file steps.End recipients ending = (recipients ≡ []) × (ending ≡ WholeFile)
 StepsRecipients file steps.Broken recipients ending = (recipients ≡ []) × (ending ≡ BrokenOff)
 
--- the place after it is within the file
-abbrev pub IsPlaceIn : List ℕ → RecipientStep → Type 0
-IsPlaceIn file (steps.Recipient found rest jumps) = length rest.now ≤ length file
-IsPlaceIn file steps.End = Unit {0}
-IsPlaceIn file steps.Broken = Unit {0}
+-- the place after it is within the file, and fewer steps are left from there
+abbrev pub IsLaterPlace : List ℕ → QueuePlace → RecipientStep → Type 0
+IsLaterPlace file start (steps.Recipient found rest jumps) =
+    (steps_left (length file) (record { rest = rest.now; jumps = jumps }) < steps_left (length file) start) × (length rest.now ≤ length file)
+IsLaterPlace file start steps.End = Unit {0}
+IsLaterPlace file start steps.Broken = Unit {0}

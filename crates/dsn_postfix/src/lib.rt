@@ -17,6 +17,7 @@ mod log_record;
 mod log_write_error;
 mod log_writer;
 mod logged_append;
+mod message_facts;
 mod number;
 mod placed_record;
 mod postfix_answer;
@@ -34,6 +35,7 @@ mod request_fault;
 mod request_reading;
 mod said_before;
 mod verp_delimiters;
+mod wanted;
 
 pub use attribute_text::AttributeText;
 pub use decode::decode_postfix_request;
@@ -45,6 +47,7 @@ pub use log_reader::LogReader;
 pub use log_record::LogRecord;
 pub use log_write_error::LogWriteError;
 pub use logged_append::logged_as;
+pub use message_facts::MessageFacts;
 pub use placed_record::PlacedRecord;
 pub use postfix_answer::{decode_status, encode_announcement, encode_status};
 pub use postfix_request::{

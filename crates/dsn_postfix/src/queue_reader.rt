@@ -12,7 +12,7 @@ use crate::queued_recipient::{QueuedRecipient, RecipientStep, next_recipient};
 use std::marker::Model;
 
 /// How many pointers back a file may have, as Postfix has it.
-const MOST_JUMPS: u32 = 10_000;
+pub(crate) const MOST_JUMPS: u32 = 10_000;
 
 /// Reads the records of a queue file in the order in which they count. Pointers are followed and
 /// not given: each goes forward, or is one of at most 10,000 that go back, so that the reading ends.
@@ -81,10 +81,17 @@ impl<'a> QueueReader<'a> {
         }
     }
 
-    /// The next recipient, done or not, or none where the file's last record comes. Records that say nothing of a
-    /// recipient are passed over, and what is said before a recipient counts for that one alone.
+    /// The next recipient, done or not, or none where the file's last record comes; then, and after a
+    /// fault, another call answers the same. Records that say nothing of a recipient are passed over,
+    /// and what is said before a recipient counts for that one alone.
     pub fn next_recipient(&mut self) -> Result<Option<QueuedRecipient<'a>>, QueueBroken>
         ensures file { self.new.file ≡ self.old.file }
+        ensures stays { MatchResult result
+            (λ found. MatchOption found (self.new ≡ self.old) (λ _. Unit {0}))
+            (λ _. self.new ≡ self.old) }
+        ensures fewer { IfOk result (λ found. IfSome found (λ _.
+            steps_left (length self.old.file) self.new.place
+            < steps_left (length self.old.file) self.old.place)) }
         ensures listed { (recipients : List RecipientFacts) (ending : QueueEnding)
             → RecipientsLeft self.old nothing_before recipients ending
             → ReadsRecipients result recipients ending self.new }

@@ -1,7 +1,7 @@
 //! The recipients of a queue file.
 ghost use Rattle.std.specs.Prelude.{◌≤◌, List, length};
 ghost use Rattle.dsn_postfix.specs.QueueListing.{QueueEnding};
-ghost use Rattle.dsn_postfix.specs.QueueRecipients.{IsPlaceIn, RecipientFacts, RecipientsLeft, StepsRecipients, nothing_before};
+ghost use Rattle.dsn_postfix.specs.QueueRecipients.{IsLaterPlace, RecipientFacts, RecipientsLeft, StepsRecipients, nothing_before};
 
 use crate::queue_reader::next_step;
 use crate::queue_step::QueueStep;
@@ -46,7 +46,7 @@ pub(crate) fn next_recipient<'a>(file: &'a [u8], rest: &'a [u8], jumps: u32) -> 
         → RecipientsLeft (record { file = file.now; place = record { rest = rest.now; jumps = jumps } })
         nothing_before recipients ending
         → StepsRecipients file.now result recipients ending }
-    ensures within { IsPlaceIn file.now result }
+    ensures later { IsLaterPlace file.now (record { rest = rest.now; jumps = jumps }) result }
 {
     let mut here = rest;
     let mut left = jumps;

@@ -7,7 +7,7 @@ ghost use Rattle.dsn_postfix.specs.QueueRecipients.{state_of_kind};
 pub enum RecipientState {
     /// The message is still to be delivered (`R`).
     Waiting,
-    /// The message was delivered, or the sender was told that it couldn't be (`D`).
+    /// The message was delivered, or its bounce was logged: the sender may not have been told yet (`D`).
     Done,
     /// The recipient was taken out before delivery (`/`).
     Removed,

@@ -22,6 +22,7 @@ loop-found-preserved c =
     let none : state_of_kind c.in-Record.found.kind ≡ None = grind (arith, c.in_default.is, c.in_default.ensures, c.of_kind.ensures) in
     record {
       within = c.in-Record.ensures.next.1;
+      fewer = omega (arith, c.in-Record.ensures.next.0, c.loop-found.invariant.fewer);
       left = λ recipients ending left.
           subst (λ (said : SaidBefore). RecipientsLeft (record { file = c.args.file.now; place = next }) said recipients ending) (sym c.after_record-later.ensures)
           (more_recipients c.args.file.now here next before (placed_bytes_in c.in-Record.found) recipients ending c.in-Record.ensures.steps none (c.loop-found.invariant.left recipients ending left));

@@ -6,6 +6,7 @@ mod full_ledgers;
 mod kept_books;
 mod ledgers;
 mod marks;
+mod numbers;
 mod records;
 mod replacing;
 mod snapshots;

@@ -1,5 +1,6 @@
-//! Ledgers whose journal is put away for a shorter one: wherever the machine stops, the book that is
-//! found answers as before, and the letters that are to be posted come again, with their serials.
+//! Ledgers whose journal is put away for a shorter one: wherever the machine stops, the book that
+//! is found answers as before, and the letters that are to be posted come again, with their
+//! serials.
 ghost use Rattle.std.specs.Prelude.{◌≤◌};
 ghost use Rattle.dsn_journal.specs.MemoryDisk.{memory_moment};
 
@@ -70,8 +71,8 @@ fn compacted(
     put_away(alloc, ledger.into_disk(), limits, mark)
 }
 
-/// Opens a disk under a mark, and puts its journal away for a shorter one. The disk comes back, with
-/// the moment before.
+/// Opens a disk under a mark, and puts its journal away for a shorter one. The disk comes back,
+/// with the moment before.
 fn put_away(
     alloc: Global,
     disk: MemoryDisk,
@@ -94,8 +95,8 @@ fn put_away(
     Ok((ledger.into_disk(), began))
 }
 
-/// Letters tell what those of the plain book tell that are not below a mark, once it has carried out
-/// what is asked.
+/// Letters tell what those of the plain book tell that are not below a mark, once it has carried
+/// out what is asked.
 fn expect_letters(
     rt: &impl Abort,
     alloc: Global,

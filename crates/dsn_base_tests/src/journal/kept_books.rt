@@ -1,4 +1,5 @@
-//! A ledger under a crew: what is answered was kept, and is found again once the disk is opened anew.
+//! A ledger under a crew: what is answered was kept, and is found again once the disk is opened
+//! anew.
 ghost use Rattle.std.specs.Prelude.{◌+◌, ◌^◌, ◌<◌, ◌≤◌, [], IfSome};
 
 use super::ledgers::{make_group, open_disk};
@@ -37,8 +38,8 @@ fn carry_two<K: Keeper>(
     (Some(answered), carry_one(keeper, second))
 }
 
-/// The replies to two requests that are kept one after the other on a disk of so many bytes, and how
-/// many logs are open once it is opened anew.
+/// The replies to two requests that are kept one after the other on a disk of so many bytes, and
+/// how many logs are open once it is opened anew.
 fn kept_twice(
     alloc: Global,
     size: usize,
@@ -63,8 +64,8 @@ fn kept_twice(
     ))
 }
 
-/// Which of the three things that can come of two appends to one log came: none, the first or both of
-/// them kept, answered, and found again.
+/// Which of the three things that can come of two appends to one log came: none, the first or both
+/// of them kept, answered, and found again.
 fn case_of(seen: (Option<Reply>, Option<Reply>, usize)) -> Option<usize> {
     match seen {
         (None, None, 0) => Some(0),

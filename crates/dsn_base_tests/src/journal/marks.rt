@@ -14,6 +14,7 @@ use dsn_journal::{
 use dsn_outcome::Letter;
 use std::alloc::Global;
 use std::fs;
+use std::process::Abort;
 use std::snapshot::Snapshot;
 use std::test::Fail;
 
@@ -238,6 +239,27 @@ fn marks_whose_last_record_is_none_are_not_opened(rt: HostRuntime) -> Result<(),
     Ok(())
 }
 
+/// The mark of a file with these bytes, if it is opened as one of marks, and the disk. One that
+/// isn't is foreign, and stays as it was.
+fn mark_over(
+    rt: &impl Abort,
+    alloc: Global,
+    bytes: &[u8],
+) -> Result<(Option<u64>, MemoryDisk), Fail> {
+    match Marks::open(alloc, MemoryDisk::new(alloc, bytes.to_vec(alloc)?)) {
+        Ok(marks) => {
+            let mark = marks.mark();
+            Ok((Some(mark), marks.into_disk()))
+        }
+        Err(left) => {
+            same(rt, left.cause, MarksError::Foreign);
+            let stands = left.disk.crashed(left.disk.moment(), u64::MAX)?;
+            same(rt, stands.as_slice() == bytes, true);
+            Ok((None, left.disk))
+        }
+    }
+}
+
 #[test]
 fn marks_are_begun_in_a_new_file_alone(rt: HostRuntime) -> Result<(), Fail> {
     let alloc = rt.alloc();
@@ -269,19 +291,7 @@ fn marks_are_begun_in_a_new_file_alone(rt: HostRuntime) -> Result<(), Fail> {
         (b"a text\0\0", None, 1),
         (b"J", None, 1),
     ] {
-        let disk = MemoryDisk::new(alloc, bytes.to_vec(alloc)?);
-        let (disk, mark) = match Marks::open(alloc, disk) {
-            Ok(marks) => {
-                let mark = marks.mark();
-                (marks.into_disk(), Some(mark))
-            }
-            Err(left) => {
-                same(&rt, left.cause, MarksError::Foreign);
-                let stands = left.disk.crashed(left.disk.moment(), u64::MAX)?;
-                same(&rt, stands.as_slice() == bytes, true);
-                (left.disk, None)
-            }
-        };
+        let (mark, disk) = mark_over(&rt, alloc, bytes)?;
         // A sync, and where it is opened a write and a sync.
         same(&rt, (mark, disk.moment()), (wanted, moment));
     }

@@ -1,4 +1,5 @@
-//! Records: their bytes on a disk, what is read of bytes that a crash left, and a journal that is full.
+//! Records: their bytes on a disk, what is read of bytes that a crash left, and a journal that is
+//! full.
 use crate::assert_same::same;
 use dsn_journal::{Disk, Journal, JournalError, MemoryDisk, recover};
 use std::alloc::Global;

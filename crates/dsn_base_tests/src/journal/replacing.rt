@@ -1,5 +1,5 @@
-//! Records put in place of others: wherever the machine stops, all of the old ones are recovered, or
-//! all of the new ones.
+//! Records put in place of others: wherever the machine stops, all of the old ones are recovered,
+//! or all of the new ones.
 use crate::assert_same::same;
 use dsn_journal::{Disk, Journal, JournalError, MemoryDisk, recover};
 use std::alloc::Global;

@@ -9,19 +9,19 @@ use Rattle.dsn_lane.specs.Halves.{Half, Identity, Out, fresh_halves}
 use Rattle.dsn_lane.specs.Lane.{IsNumbered}
 use Rattle.dsn_lane.proofs.AgentLemmas.{numbered_none}
 use Rattle.dsn_outcome.specs.Agents.{from_agent}
-use Rattle.dsn_outcome.specs.History.{answers_to, history_after}
+use Rattle.dsn_outcome.specs.History.{Exchange, answers_to, history_after}
 use Rattle.dsn_outcome.specs.Request.{Request}
 use Rattle.dsn_outcome.specs.declared.answer.Answer.{Answer}
 use Rattle.dsn_crew.specs.agents.Agent.{Agent}
-use Rattle.dsn_crew.specs.desk.Desk.{Desk, IsDesk, desk_of}
+use Rattle.dsn_crew.specs.desk.Desk.{BeginsWith, Desk, IsDesk, desk_of}
 use Rattle.dsn_crew.specs.desk.Close.{AreCrew}
 use Rattle.dsn_crew.specs.desk.Open.{AreLines, IsLine, IsOpened, opened_agent}
 use Rattle.dsn_crew.specs.agents.Place.{place_at, place_of}
 
 -- a collector that has taken nothing
-pub new_desk : {B : Type 0} (keeper : Keeper B) (book : B) (requests : Out Request) (halves : List (Half Answer)) → keeper.awaits book [] → keeper.sealed book < 2 ^ 63 → requests.first ≡ 0 → requests.past ≡ length halves → requests.taken ≡ [] → AreLines halves → length halves ≤ 16 → IsDesk keeper (desk_of book book requests halves 0 false)
+pub new_desk : {B : Type 0} (keeper : Keeper B) (book : B) (requests : Out Request) (halves : List (Half Answer)) → keeper.awaits book [] → (before : List Exchange) × BeginsWith keeper book before → keeper.sealed book < 2 ^ 63 → requests.first ≡ 0 → requests.past ≡ length halves → requests.taken ≡ [] → AreLines halves → length halves ≤ 16 → IsDesk keeper (desk_of book book requests halves 0 false)
 unfolding history_after
-new_desk keeper book requests halves awaits small first past taken lines few = record {
+new_desk keeper book requests halves awaits began small first past taken lines few = record {
   first = first;
   past = past;
   few = few;
@@ -29,6 +29,7 @@ new_desk keeper book requests halves awaits small first past taken lines few = r
   numbered = λ agent. subst (λ (q : List Request). IsNumbered (λ (request : Request). request.number) (from_agent (λ (request : Request). request.agent) agent q)) (sym taken) (numbered_none (λ (request : Request). request.number));
   lines = λ a d inside. (lines a d inside).agent_is;
   limits = refl;
+  began = began;
   room = small;
   sealed = omega arith;
   refuses = λ may. may;

@@ -1,7 +1,9 @@
 //! What a run of a crew needs memory for.
-ghost use Rattle.std.specs.Prelude.{◌^◌, ◌<◌, ◌≤◌, [], IfOk};
+ghost use Rattle.std.specs.Prelude.{◌^◌, ◌<◌, ◌≤◌, List, [], IfOk};
 ghost use Rattle.dsn_lane.specs.Lane.{most_agents};
+ghost use Rattle.dsn_outcome.specs.History.{Exchange};
 ghost use Rattle.dsn_crew.specs.CrewMemory.{IsRoom};
+ghost use Rattle.dsn_crew.specs.desk.Desk.{BeginsWith};
 
 use crate::agent_memory::AgentMemory;
 use crate::agents::{Agent, Port};
@@ -33,6 +35,7 @@ impl<P: Port, B: Keeper + Drop> CrewMemory<P, B> {
     ) -> Result<CrewMemory<P, B>, NoMemory>
         requires count { (1 ≤ agents) × (agents ≤ most_agents) }
         requires awaits { B.awaits book [] }
+        requires begins { (before : List Exchange) × BeginsWith B.Keeper book before }
         requires few { B.sealed book < 2 ^ 63 }
         ensures { IfOk result (IsRoom B.Keeper book agents) }
     {

@@ -265,6 +265,7 @@ module _ {B : Type 0} (keeper : Keeper B) (desk : Desk B) (request : Request) (a
           numbered = numbered;
           lines = λ a d' inside. lines_new sent is_sent a d' (omega arith);
           limits = limits;
+          began = asked.kept.began;
           room = asked.kept.room;
           sealed = omega arith;
           refuses = refuses;

@@ -65,6 +65,7 @@ module _ {B : Type 0} (keeper : Keeper B) (start book : B) (stop : Option StopCa
         numbered = desk_here.numbered;
         lines = desk_here.lines;
         limits = limits ∙ desk_here.limits;
+        began = desk_here.began;
         room = desk_here.room;
         sealed = (let before = desk_here.sealed in omega (arith, sealed));
         refuses = λ may. desk_here.refuses (refuses may);

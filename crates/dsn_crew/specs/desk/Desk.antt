@@ -121,8 +121,9 @@ pub record StandsAfter {B : Type 0} (keeper : Keeper B) (before : List Exchange)
 
 -- what every collector keeps: each answer lane is of its agent, and the agents are numbered from 0,
 -- up to `most_agents`; what it took is of these agents, and numbered from 0 agent by agent; it
--- stands for that, whatever history it began with, under the limits that it began with; unless it
--- failed it awaits nothing, and each agent was answered as often as it asked
+-- began with some history, and stands for that after whatever history it began with, under the limits
+-- that it began with; unless it failed it awaits nothing, and each agent was answered as often as it
+-- asked
 pub record IsDesk {B : Type 0} (keeper : Keeper B) (desk : Desk B) : Type 0 where
   pub first : desk.requests.first ≡ 0
   pub past : desk.requests.past ≡ length desk.answers
@@ -134,6 +135,7 @@ pub record IsDesk {B : Type 0} (keeper : Keeper B) (desk : Desk B) : Type 0 wher
       → IsNumbered (λ (request : Request). request.number)
       (from_agent (λ (request : Request). request.agent) agent desk.requests.taken)
   pub limits : keeper.limits desk.book ≡ keeper.limits desk.start
+  pub began : (before : List Exchange) × BeginsWith keeper desk.start before
   pub room : keeper.sealed desk.start < 2 ^ 63
   pub sealed : keeper.sealed desk.book ≤ keeper.sealed desk.start + length desk.requests.taken
   pub refuses : keeper.may_refuse desk.book → keeper.may_refuse desk.start

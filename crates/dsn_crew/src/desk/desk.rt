@@ -67,6 +67,7 @@ impl<B: Keeper> Desk<B> {
         room: Vec<LaneIn<Request>>,
     ) -> Desk<B>
         requires awaits { B.awaits book [] }
+        requires begins { (before : List Exchange) × BeginsWith B.Keeper book before }
         requires few { B.sealed book < 2 ^ 63 }
         requires requests { (requests.first ≡ 0) × (requests.past ≡ length lines.items)
             × (requests.taken ≡ []) }

@@ -1,6 +1,8 @@
 //! A crew, from its first step on.
-ghost use Rattle.std.specs.Prelude.{◌≡◌, ◌^◌, ◌<◌, ◌≤◌, ◌↔◌, ◌⊎◌, [], IfOk, IfErr};
+ghost use Rattle.std.specs.Prelude.{◌≡◌, ◌^◌, ◌<◌, ◌≤◌, ◌↔◌, ◌⊎◌, List, [], IfOk, IfErr};
 ghost use Rattle.dsn_lane.specs.Lane.{most_agents};
+ghost use Rattle.dsn_outcome.specs.History.{Exchange};
+ghost use Rattle.dsn_crew.specs.desk.Desk.{BeginsWith};
 ghost use Rattle.dsn_crew.specs.desk.Open.{IsLine, IsOpened, IsOpenedEmpty, opened_agent};
 
 use crate::agents::Agent;
@@ -41,7 +43,8 @@ pub fn open_crew(
 }
 
 /// A crew of so many agents, from agent 0 on, and its collector, over what carries their requests out.
-/// It asks that this awaits none, and that fewer than 2^63 letters were sealed by it.
+/// It asks that this awaits none, that there is a history to begin with, and that fewer than 2^63
+/// letters were sealed by it.
 ///
 /// `AgentCount` (43) comes where there are not 1 to 16 agents, before any memory is taken;
 /// `NoMemory` (42) only where memory was refused.
@@ -52,6 +55,7 @@ pub fn open_crew_over<B: Keeper + Drop>(
     agents: u32,
 ) -> Result<(Vec<Agent>, Desk<B>), CrewOpenFault>
     requires awaits { B.awaits book [] }
+    requires begins { (before : List Exchange) × BeginsWith B.Keeper book before }
     requires few { B.sealed book < 2 ^ 63 }
     ensures opened { IfOk result (λ crew. IsOpened B.Keeper book agents crew.0.items crew.1) }
     ensures count { IfOk result (λ _. (1 ≤ agents) × (agents ≤ most_agents)) }
@@ -74,6 +78,7 @@ fn open_room<B: Keeper + Drop>(
 ) -> Result<(Vec<Agent>, Desk<B>), CrewOpenFault>
     requires count { (1 ≤ agents) × (agents ≤ most_agents) }
     requires awaits { B.awaits book [] }
+    requires begins { (before : List Exchange) × BeginsWith B.Keeper book before }
     requires few { B.sealed book < 2 ^ 63 }
     ensures opened { IfOk result (λ crew. IsOpened B.Keeper book agents crew.0.items crew.1) }
     ensures refused { IfErr result (λ fault. fault ≡ CrewOpenFault.NoMemory) }

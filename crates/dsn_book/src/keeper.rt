@@ -21,11 +21,9 @@ pub trait Keeper {
     // The limits by which requests are answered.
     ghost limits: { Self → Limits };
 
-    // Which histories it stands for.
-    ghost stands: { Self → List Exchange → Type 0 };
-
-    // That just these requests are kept and not carried out yet, in this order.
-    ghost awaits: { Self → List Request → Type 0 };
+    // That it stands for this history, and that just these requests are kept and not carried out
+    // yet, in this order.
+    ghost has: { Self → List Exchange → List Request → Type 0 };
 
     // No fewer letters than have their serials by it.
     ghost sealed: { Self → ℕ };
@@ -37,33 +35,36 @@ pub trait Keeper {
     fn limits(&self) -> Limits
         ensures { result ≡ limits self.now };
 
-    /// Keeps requests, all of them or none, so that they may be carried out. It asks that none is
-    /// awaited. At an error it isn't known whether one will be carried out by a later run.
+    /// Keeps requests, so that they may be carried out. It asks that it stands for some history and
+    /// that none is awaited. At an error none of them may be carried out, and it isn't known whether
+    /// some of them will be by a later run.
     fn keep(&mut self, requests: &[Request]) -> Result<(), NotKept>
-        requires awaited { awaits self.old [] }
-        ensures awaited { OnOk result (awaits self.new requests.now) }
+        requires has { (t : List Exchange) × has self.old t [] }
+        ensures has { OnOk result ((t : List Exchange) → has self.old t []
+            → has self.new t requests.now) }
         ensures refused { OnErr result (may_refuse self.old) }
         ensures limits { limits self.new ≡ limits self.old }
-        ensures stands { (t : List Exchange) → stands self.old t → stands self.new t }
         ensures sealed { sealed self.new ≡ sealed self.old }
         ensures refuses { may_refuse self.new → may_refuse self.old };
 
     /// Does what the next of the kept requests asks, and answers it. It takes no memory. It asks that
     /// fewer than 18,446,744,073,709,551,615 letters were sealed.
     fn apply(&mut self, request: Request) -> Step
-        requires awaited { (rest : List Request) × awaits self.old (request ∷ rest) }
+        requires has { (t : List Exchange) × (rest : List Request)
+            × has self.old t (request ∷ rest) }
         requires room { sealed self.old < 2 ^ 64 - 1 }
-        ensures awaited { (rest : List Request) → awaits self.old (request ∷ rest)
-            → awaits self.new rest }
         ensures limits { limits self.new ≡ limits self.old }
         ensures asked { (result.answer.agent ≡ request.agent)
             × (result.answer.number ≡ request.number) }
-        ensures answer { (t : List Exchange) → stands self.old t
+        ensures answer { (t : List Exchange) (rest : List Request)
+            → has self.old t (request ∷ rest)
             → result.answer ≡ answer_of (exchange_of (limits self.old) t request) }
-        ensures letter { (t : List Exchange) → stands self.old t
+        ensures letter { (t : List Exchange) (rest : List Request)
+            → has self.old t (request ∷ rest)
             → letters_in result.letter ≡ letter_of t (exchange_of (limits self.old) t request) }
-        ensures stands { (t : List Exchange) → stands self.old t
-            → stands self.new (t ++ exchange_of (limits self.old) t request ∷ []) }
+        ensures has { (t : List Exchange) (rest : List Request)
+            → has self.old t (request ∷ rest)
+            → has self.new (t ++ exchange_of (limits self.old) t request ∷ []) rest }
         ensures sealed { sealed self.new ≤ sealed self.old + 1 }
         ensures refuses { may_refuse self.new → may_refuse self.old };
 }
@@ -74,9 +75,7 @@ impl Keeper for Book {
 
     ghost limits = { λ book. book.limits };
 
-    ghost stands = { Represents };
-
-    ghost awaits = { λ _ _. Unit {0} };
+    ghost has = { λ book history _. Represents book history };
 
     ghost sealed = { λ book. book.sealed };
 

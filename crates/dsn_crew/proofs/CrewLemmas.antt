@@ -295,6 +295,16 @@ module _ {B P S W : Type 0} (keeper : Keeper B) (port : Port P S) (drain : Drain
         may_close (Whole new) (gathered.Lost unheard) has is = tt
         may_close (Failed stop held new) all has is = has.4
 
+        -- each request seals one letter at most
+        pub sealed_few : (collected : CollectorResult B) (all : AgentsResult) (posted : Posted W) (result : Result (Account W B) (CrewFault W)) → IsCollectorResult keeper before begun sink after collected → Concludes keeper collected all posted result → IfOk result (λ account. keeper.sealed account.book ≤ keeper.sealed book + length account.taken)
+        sealed_few collected all posted (Err fault) has ends_so = tt
+        sealed_few (Whole new) (gathered.All lines crew) posted (Ok account) has closed =
+            subst (λ (it : Account W B). keeper.sealed it.book ≤ keeper.sealed book + length it.taken) (sym closed.account_is)
+            (subst (λ (b : B). keeper.sealed new.book ≤ keeper.sealed b + length new.requests.taken) (has.0.start ∙ start_is) has.2.sealed)
+        sealed_few (Whole new) gathered.Missing posted (Ok account) has closed = absurd closed
+        sealed_few (Whole new) (gathered.Lost unheard) posted (Ok account) has closed = absurd closed
+        sealed_few (Failed stop held new) all posted (Ok account) has closed = absurd closed
+
         module _ (posted : Posted W) (post : IsPosted drain host start 16 after.letters posted) where
           module _ (new : Desk B) {result : Result (Unit {0}) DeskFault} (run : IsRun keeper before TakesLetter begun new sink after result) where
             limits_are : keeper.limits new.start ≡ limits
@@ -317,9 +327,9 @@ module _ {B P S W : Type 0} (keeper : Keeper B) (port : Port P S) (drain : Drain
           all_sealed : (new : Desk B) → IsRun keeper before TakesLetter begun new sink after (Ok tt) → AreSealedAfter before (history_after limits before new.requests.taken) after.letters
           all_sealed new run = subst (AreSealedAfter before (history_after limits before new.requests.taken)) (append-nil after.letters) (sealed_are new run)
 
-          account_at : (new : Desk B) (lines : List AgentLine) (crew : List LaneHalves) → IsRun keeper before TakesLetter begun new sink after (Ok tt) → IsDesk keeper new → AreEnded ends lines crew → posted.all ≡ true → All (IsHeard keeper before new) crew → keeper.stands new.book (history keeper before new)
+          account_at : (new : Desk B) (lines : List AgentLine) (crew : List LaneHalves) → IsRun keeper before TakesLetter begun new sink after (Ok tt) → IsDesk keeper new → AreEnded ends lines crew → posted.all ≡ true → All (IsHeard keeper before new) crew → keeper.has new.book (history keeper before new) []
               → HasAccount keeper port drain host limits before ports start (account_of lines crew new posted)
-          account_at new lines crew run kept ended all heard stands =
+          account_at new lines crew run kept ended all heard has =
               let limited = limits_are new run in record {
                 letters = after.letters;
                 sealed = all_sealed new run;
@@ -327,7 +337,7 @@ module _ {B P S W : Type 0} (keeper : Keeper B) (port : Port P S) (drain : Drain
                   agents = agent_accounts port limits desk.requests.lane keeper before new limited 0 desk.answers ports ends lines crew (are_from 0 desk.answers (λ a d inside. (opened.lines a d inside).agent_is ∙ (let same : a ≡ 0 + a = omega arith in same))) served ended heard;
                   only = subst (λ (k : ℕ). All (λ (request : Request). request.agent < k) new.requests.taken) (lines_length new run) kept.mine;
                   book_limits = kept.limits ∙ limited;
-                  book = subst (λ (l : Limits). keeper.stands new.book (history_after l before new.requests.taken)) limited stands;
+                  book = subst (λ (l : Limits). keeper.has new.book (history_after l before new.requests.taken) []) limited has;
                   count = post.count ∙ ap length (post.whole.0 all).1;
                   outbox = subst (IsOutbox drain host start posted.outbox posted.whole posted.unsent) (post.whole.0 all).1 post.outbox;
                 };
@@ -340,7 +350,7 @@ module _ {B P S W : Type 0} (keeper : Keeper B) (port : Port P S) (drain : Drain
           account_is with_it collected all (Err fault) has is ends_so = tt
           account_is with_it (Whole new) (gathered.All lines crew) (Ok account) has is closed =
               subst (HasAccount keeper port drain host limits before ports start) (sym closed.account_is)
-              (account_at new lines.items crew.items has.0 has.2 is closed.all (closed.heard before (new_begins new has.0 with_it)) (subst (λ (it : Account W B). keeper.stands it.book (history keeper before new)) closed.account_is (closed.stands before (new_begins new has.0 with_it))))
+              (account_at new lines.items crew.items has.0 has.2 is closed.all (closed.heard before (new_begins new has.0 with_it)) (subst (λ (it : Account W B). keeper.has it.book (history keeper before new) []) closed.account_is (closed.has before (new_begins new has.0 with_it))))
           account_is with_it (Whole new) gathered.Missing (Ok account) has is closed = absurd closed
           account_is with_it (Whole new) (gathered.Lost unheard) (Ok account) has is closed = absurd closed
           account_is with_it (Failed stop held new) all (Ok account) has is closed = absurd closed

@@ -19,9 +19,9 @@ use Rattle.dsn_crew.specs.desk.Open.{AreLines, IsLine, IsOpened, opened_agent}
 use Rattle.dsn_crew.specs.agents.Place.{place_at, place_of}
 
 -- a collector that has taken nothing
-pub new_desk : {B : Type 0} (keeper : Keeper B) (book : B) (requests : Out Request) (halves : List (Half Answer)) → keeper.awaits book [] → (before : List Exchange) × BeginsWith keeper book before → keeper.sealed book < 2 ^ 63 → requests.first ≡ 0 → requests.past ≡ length halves → requests.taken ≡ [] → AreLines halves → length halves ≤ 16 → IsDesk keeper (desk_of book book requests halves 0 false)
+pub new_desk : {B : Type 0} (keeper : Keeper B) (book : B) (requests : Out Request) (halves : List (Half Answer)) → (before : List Exchange) × BeginsWith keeper book before → keeper.sealed book < 2 ^ 63 → requests.first ≡ 0 → requests.past ≡ length halves → requests.taken ≡ [] → AreLines halves → length halves ≤ 16 → IsDesk keeper (desk_of book book requests halves 0 false)
 unfolding history_after
-new_desk keeper book requests halves awaits began small first past taken lines few = record {
+new_desk keeper book requests halves began small first past taken lines few = record {
   first = first;
   past = past;
   few = few;
@@ -33,14 +33,13 @@ new_desk keeper book requests halves awaits began small first past taken lines f
   room = small;
   sealed = omega arith;
   refuses = λ may. may;
-  awaits = λ _. awaits;
   counted = λ _ a d inside. ap length (lines a d inside).unused ∙ ap (λ (q : List Request). length (from_agent (λ (request : Request). request.agent) a q)) (sym taken);
   stands = λ before begins.
       let none : (a : ℕ) (d : Half Answer) → a < length halves → (slice_index_or halves a d).sent ≡ answers_to a (history_after (keeper.limits book) before requests.taken) =
       λ a d inside.
       (lines a d inside).unused
       ∙ (sym (begins.1 a (omega (arith, inside))) ∙ ap (λ (q : List Request). answers_to a (history_after (keeper.limits book) before q)) (sym taken)) in record {
-        book = subst (λ (q : List Request). keeper.stands book (history_after (keeper.limits book) before q)) (sym taken) begins.0;
+        has = λ _. subst (λ (q : List Request). keeper.has book (history_after (keeper.limits book) before q) []) (sym taken) begins.0;
         sent = λ a d inside. ([], append-nil (slice_index_or halves a d).sent ∙ none a d inside);
         answered = λ _. none;
       };

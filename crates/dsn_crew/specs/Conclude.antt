@@ -64,8 +64,8 @@ pub record HasClosed {B W : Type 0} (keeper : Keeper B) (lines : List AgentLine)
       → Prelude.All (IsHeard keeper before desk) agents
   pub finished : Prelude.All IsFinished agents
   pub only : AreOf agents desk.requests.taken
-  pub stands : (before : List Exchange) → BeginsWith keeper desk.start before
-      → keeper.stands account.book (history keeper before desk)
+  pub has : (before : List Exchange) → BeginsWith keeper desk.start before
+      → keeper.has account.book (history keeper before desk) []
 
 -- the cause of one in which an agent was not started, by whether all letters came to the poster
 abbrev pub missing_cause : Bool → CrewCause

@@ -90,7 +90,7 @@ AreAgentAccounts port limits before taken agent (one ∷ ports) (line ∷ lines)
 AreAgentAccounts port limits before taken agent ports lines crew = ⊥
 
 -- what a run after a history that ended well comes to: each agent's part; nothing else was taken; the
--- book stands for the history with what was taken, and the outbox is that of these letters, in order,
+-- book stands for the history with what was taken, and awaits nothing; and the outbox is that of these letters, in order,
 -- each of them posted or unsent
 pub record IsAccountAfter {B P S W : Type 0} (keeper : Keeper B) (port : Port P S) (drain : Drain W)
     (host : List ℕ) (limits : Limits) (before : List Exchange) (letters : List Letter)
@@ -98,7 +98,7 @@ pub record IsAccountAfter {B P S W : Type 0} (keeper : Keeper B) (port : Port P 
   pub agents : AreAgentAccounts port limits before account.taken 0 ports account.agents account.halves
   pub only : All (λ (request : Request). request.agent < length ports) account.taken
   pub book_limits : keeper.limits account.book ≡ limits
-  pub book : keeper.stands account.book (history_after limits before account.taken)
+  pub book : keeper.has account.book (history_after limits before account.taken) []
   pub count : account.letters + length account.unsent ≡ length letters
   pub outbox :
       IsOutbox drain host start account.outbox account.whole account.unsent letters

@@ -34,7 +34,6 @@ impl<P: Port, B: Keeper + Drop> CrewMemory<P, B> {
         agents: u32,
     ) -> Result<CrewMemory<P, B>, NoMemory>
         requires count { (1 ≤ agents) × (agents ≤ most_agents) }
-        requires awaits { B.awaits book [] }
         requires begins { (before : List Exchange) × BeginsWith B.Keeper book before }
         requires few { B.sealed book < 2 ^ 63 }
         ensures { IfOk result (IsRoom B.Keeper book agents) }

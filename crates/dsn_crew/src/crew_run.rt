@@ -1,5 +1,5 @@
 //! A whole crew, from its first thread to its last.
-ghost use Rattle.std.specs.Prelude.{◌≡◌, ◌≢◌, ◌≤◌, ◌<◌, ◌^◌, ◌↔◌, ◌⊎◌, List, [], All, length, IfErr, IfOk};
+ghost use Rattle.std.specs.Prelude.{◌≡◌, ◌≢◌, ◌+◌, ◌≤◌, ◌<◌, ◌^◌, ◌↔◌, ◌⊎◌, List, [], All, length, IfErr, IfOk};
 ghost use Rattle.dsn_book.specs.Book.{Represents};
 ghost use Rattle.dsn_outcome.specs.History.{Exchange};
 ghost use Rattle.dsn_crew.specs.Crew.{HasAccount, HasFault, IsAccount, IsCrewFault, most_ports};
@@ -89,9 +89,9 @@ fn empty_book(alloc: Global, limits: Limits, ports: usize) -> Result<Book, Breac
 
 /// Runs a crew as [`run_crew`] does, over what keeps its requests and carries them out.
 ///
-/// Beside what it says there, `Lost` (41) comes where a request was not kept; neither that request nor a
-/// later one is carried out or answered then. It asks that no request is awaited, that fewer than 2^63
-/// letters were sealed before, and that there is a history to begin with.
+/// Beside what it says there, `Lost` (41) comes where a request was not kept; neither that request
+/// nor a later one is carried out or answered then. It asks that fewer than 2^63 letters were sealed
+/// before, and that there is a history to begin with, after which no request is awaited.
 pub fn run_crew_over<
     R: Threads + Wait + Sync,
     B: Keeper + Drop,
@@ -108,11 +108,12 @@ pub fn run_crew_over<
     gate: &G,
 ) -> Result<Account<W, B>, CrewFault<W, B>>
     requires asked { All P.may_be_asked ports.items }
-    requires awaits { B.awaits book [] }
     requires few { B.sealed book < 2 ^ 63 }
     requires begins { (before : List Exchange) × BeginsWith B.Keeper book before }
     ensures account { (before : List Exchange) → BeginsWith B.Keeper book before → IfOk result
         (HasAccount B.Keeper P.Port W.Drain site (B.limits book) before ports.items outbox) }
+    ensures sealed { IfOk result
+        (λ account. B.sealed account.book ≤ B.sealed book + length account.taken) }
     ensures count { IfOk result
         (λ _. (1 ≤ length ports.items) × (length ports.items ≤ most_ports)) }
     ensures fault { (before : List Exchange) → BeginsWith B.Keeper book before → IfErr result
@@ -130,7 +131,7 @@ pub fn run_crew_over<
         rt,
         move |scope| -> Result<Account<W, B>, CrewFault<W, B>>
             requires { (1 ≤ length ports.items) × (length ports.items ≤ most_ports)
-                × All P.may_be_asked ports.items × B.awaits book [] × (B.sealed book < 2 ^ 63)
+                × All P.may_be_asked ports.items × (B.sealed book < 2 ^ 63)
                 × ((before : List Exchange) × BeginsWith B.Keeper book before) }
         { run_in(scope, rt, alloc, site, book, ports, outbox, gate) },
     )
@@ -157,11 +158,12 @@ fn run_in<
 ) -> Result<Account<W, B>, CrewFault<W, B>>
     requires few { (1 ≤ length ports.items) × (length ports.items ≤ most_ports) }
     requires asked { All P.may_be_asked ports.items }
-    requires awaits { B.awaits book [] }
     requires room { B.sealed book < 2 ^ 63 }
     requires begins { (before : List Exchange) × BeginsWith B.Keeper book before }
     ensures account { (before : List Exchange) → BeginsWith B.Keeper book before → IfOk result
         (HasAccount B.Keeper P.Port W.Drain site (B.limits book) before ports.items outbox) }
+    ensures sealed { IfOk result
+        (λ account. B.sealed account.book ≤ B.sealed book + length account.taken) }
     ensures fault { (before : List Exchange) → BeginsWith B.Keeper book before → IfErr result
         (HasFault W.Drain site (B.limits book) before (length ports.items) outbox) }
     ensures counted { IfErr result (λ fault. fault.cause ≢ CrewCause.PortCount) }

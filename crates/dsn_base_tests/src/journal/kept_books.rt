@@ -1,12 +1,13 @@
 //! A ledger under a crew: what is answered was kept, and is found again once the disk is opened
 //! anew.
-ghost use Rattle.std.specs.Prelude.{◌+◌, ◌^◌, ◌<◌, ◌≤◌, [], IfSome};
+ghost use Rattle.std.specs.Prelude.{◌+◌, ◌^◌, ◌<◌, ◌≤◌, List, [], IfSome};
+ghost use Rattle.dsn_outcome.specs.History.{Exchange};
 
 use super::ledgers::{make_group, open_disk};
 use crate::assert_same::same;
 use crate::book::books::plain::Ask;
 use dsn_book::{Keeper, Limits};
-use dsn_journal::{KeptBook, MemoryDisk};
+use dsn_journal::{KeptBook, MemoryDisk, ledgers_have_one_history};
 use dsn_outcome::{Key, QueueId, Reply, Request, Service};
 use std::alloc::Global;
 use std::slice;
@@ -14,9 +15,9 @@ use std::test::Fail;
 
 /// Has a request kept and carried out; none where it isn't kept.
 fn carry_one<K: Keeper>(keeper: &mut K, request: Request) -> Option<Reply>
-    requires awaits { K.awaits keeper.old [] }
+    requires has { (t : List Exchange) × K.has keeper.old t [] }
     requires room { K.sealed keeper.old < 2 ^ 63 }
-    ensures awaits { IfSome result (λ _. K.awaits keeper.new []) }
+    ensures has { IfSome result (λ _. (t : List Exchange) × K.has keeper.new t []) }
     ensures sealed { IfSome result (λ _. K.sealed keeper.new ≤ K.sealed keeper.old + 1) }
 {
     keeper.keep(slice::from_ref(&request)).ok()?;
@@ -29,7 +30,7 @@ fn carry_two<K: Keeper>(
     first: Request,
     second: Request,
 ) -> (Option<Reply>, Option<Reply>)
-    requires awaits { K.awaits keeper.old [] }
+    requires has { (t : List Exchange) × K.has keeper.old t [] }
     requires room { K.sealed keeper.old < 2 ^ 62 }
 {
     let Some(answered) = carry_one(keeper, first) else {
@@ -48,12 +49,13 @@ fn kept_twice(
     let limits = Limits::new(6, 4, 100).ok_or("not limits")?;
     let disk = MemoryDisk::new(alloc, vec![in alloc; 0; size]?);
     let ledger = open_disk(alloc, disk, limits, 0)?.ledger;
-    if !ledger.is_settled() || ledger.base() > 1_000 || ledger.book().sealed() > 1_000 {
+    if !ledger.is_settled() || ledger.base() > 0 || ledger.book().sealed() > 1_000 {
         return Err(Fail::from("not new"));
     }
     let mut group = make_group(alloc, asks)?;
     let second = group.pop().ok_or("two requests")?;
     let first = group.pop().ok_or("two requests")?;
+    ledgers_have_one_history();
     let mut keeper = KeptBook::new(alloc, ledger);
     let (answered, then) = carry_two(&mut keeper, first, second);
     let opened = open_disk(alloc, keeper.into_ledger().into_disk(), limits, 0)?;

@@ -237,9 +237,9 @@ module _ {B : Type 0} (keeper : Keeper B) (desk : Desk B) (request : Request) (a
           )
 
       -- the collector stands for one request more, after a history
-      pub stands_on : (sent : Bool) (d : Half Answer) → IsAnswerSent sent desk.answers answer halves → keeper.stands book (history keeper before desk ++ next_exchange keeper before desk request ∷ []) → (failed ≡ false → sent ≡ true) → StandsAfter keeper before new
+      pub stands_on : (sent : Bool) (d : Half Answer) → IsAnswerSent sent desk.answers answer halves → keeper.has book (history keeper before desk ++ next_exchange keeper before desk request ∷ []) [] → (failed ≡ false → sent ≡ true) → StandsAfter keeper before new
       stands_on sent d is_sent book_is going_on = record {
-        book = subst (keeper.stands book) (sym history_new) book_is;
+        has = λ _. subst (λ (t : List Exchange). keeper.has book t []) (sym history_new) book_is;
         sent = sent_new sent d is_sent;
         answered = λ well. answered_new d (subst (λ (it : Bool). IsAnswerSent it desk.answers answer halves) (going_on well) is_sent);
       }
@@ -247,9 +247,9 @@ module _ {B : Type 0} (keeper : Keeper B) (desk : Desk B) (request : Request) (a
     -- it keeps what every collector does
     pub keeps :
         ((a : ℕ) → IsNumbered (λ (r : Request). r.number) (from_agent (λ (r : Request). r.agent) a out.taken)) → (sent : Bool) (d : Half Answer) → IsAnswerSent sent desk.answers answer halves → (failed ≡ false → sent ≡ true) → keeper.limits book ≡ keeper.limits desk.start
-        → keeper.sealed book ≤ keeper.sealed desk.book + 1 → (keeper.may_refuse book → keeper.may_refuse desk.start) → keeper.awaits book []
-        → ((before : List Exchange) → BeginsWith keeper desk.start before → (answer ≡ answer_of (next_exchange keeper before desk request)) × keeper.stands book (history keeper before desk ++ next_exchange keeper before desk request ∷ [])) → IsDesk keeper new
-    keeps numbered sent d is_sent going_on limits sealed refuses awaits book_is =
+        → keeper.sealed book ≤ keeper.sealed desk.book + 1 → (keeper.may_refuse book → keeper.may_refuse desk.start)
+        → ((before : List Exchange) → BeginsWith keeper desk.start before → (answer ≡ answer_of (next_exchange keeper before desk request)) × keeper.has book (history keeper before desk ++ next_exchange keeper before desk request ∷ []) []) → IsDesk keeper new
+    keeps numbered sent d is_sent going_on limits sealed refuses book_is =
         let same = long sent d is_sent in
         let first = asked.kept.first in
         let past = asked.kept.past in
@@ -269,7 +269,6 @@ module _ {B : Type 0} (keeper : Keeper B) (desk : Desk B) (request : Request) (a
           room = asked.kept.room;
           sealed = omega arith;
           refuses = refuses;
-          awaits = λ _. awaits;
           counted = λ well a d' inside. counted_new (subst (λ (it : Bool). IsAnswerSent it desk.answers answer halves) (going_on well) is_sent) a d' (omega arith);
           stands = λ before begins. stands_on before (asked.kept.stands before begins) (book_is before begins).0 sent d is_sent (book_is before begins).1 going_on;
         }

@@ -52,10 +52,17 @@ module _ {B : Type 0} (keeper : Keeper B) (start book : B) (stop : Option StopCa
   pub desk_here : IsDesk keeper (desk_of start book out lines missed (is_some stop))
   desk_here = subst (λ (o : Out Request). IsDesk keeper (desk_of start book o lines missed (is_some stop))) (seen_going stop count out going) kept
 
-  -- a collector that has failed, over a book that stands for what the one before did
-  pub failed_desk : (new_book : B) (seen : Out Request) → seen ≡ out → keeper.limits new_book ≡ keeper.limits book → keeper.sealed new_book ≡ keeper.sealed book → (keeper.may_refuse new_book → keeper.may_refuse book) → ((t : List Exchange) → keeper.stands book t → keeper.stands new_book t)
+  -- what it stands for
+  pub has_here : (before : List Exchange) → BeginsWith keeper start before → keeper.has book (history keeper before (desk_of start book out lines missed (is_some stop))) []
+  has_here before begins = (desk_here.stands before begins).has going
+
+  pub has_some : (t : List Exchange) × keeper.has book t []
+  has_some = (_, has_here desk_here.began.0 desk_here.began.1)
+
+  -- a collector that has failed, over another book
+  pub failed_desk : (new_book : B) (seen : Out Request) → seen ≡ out → keeper.limits new_book ≡ keeper.limits book → keeper.sealed new_book ≡ keeper.sealed book → (keeper.may_refuse new_book → keeper.may_refuse book)
       → IsDesk keeper (desk_of start new_book seen lines missed true)
-  failed_desk new_book seen same limits sealed refuses stands =
+  failed_desk new_book seen same limits sealed refuses =
       subst (λ (o : Out Request). IsDesk keeper (desk_of start new_book o lines missed true)) (sym same)
       (record {
         first = desk_here.first;
@@ -69,11 +76,10 @@ module _ {B : Type 0} (keeper : Keeper B) (start book : B) (stop : Option StopCa
         room = desk_here.room;
         sealed = (let before = desk_here.sealed in omega (arith, sealed));
         refuses = λ may. desk_here.refuses (refuses may);
-        awaits = λ never. absurd (true≢false never);
         counted = λ never. absurd (true≢false never);
         stands = λ before begins.
             let then = desk_here.stands before begins in record {
-              book = stands _ then.book;
+              has = λ never. absurd (true≢false never);
               sent = then.sent;
               answered = λ never. absurd (true≢false never);
             };
@@ -83,35 +89,35 @@ module _ {B : Type 0} (keeper : Keeper B) (start book : B) (stop : Option StopCa
     pub asked : IsAsked keeper (desk_of start book out lines missed (is_some stop)) request answer
     asked = record { kept = desk_here; going = going; from = from; number = number; agent_is = agent_is; number_is = number_is }
 
-    module _ (kept_book : B) (kept_limits : keeper.limits kept_book ≡ keeper.limits book) (kept_stands : (t : List Exchange) → keeper.stands book t → keeper.stands kept_book t) (answers : (t : List Exchange) → keeper.stands kept_book t → answer ≡ answer_of (exchange_of (keeper.limits kept_book) t request)) where
+    module _ (kept_book : B) (kept_limits : keeper.limits kept_book ≡ keeper.limits book) (kept_has : (t : List Exchange) → keeper.has book t [] → keeper.has kept_book t (request ∷ [])) (answers : (t : List Exchange) (rest : List Request) → keeper.has kept_book t (request ∷ rest) → answer ≡ answer_of (exchange_of (keeper.limits kept_book) t request)) where
       limits_here : keeper.limits kept_book ≡ keeper.limits start
       limits_here = kept_limits ∙ desk_here.limits
 
       -- the answer is the one that each history says
       pub answer_says : (before : List Exchange) → BeginsWith keeper start before → answer ≡ answer_of (next_exchange keeper before (desk_of start book out lines missed (is_some stop)) request)
       answer_says before begins =
-          answers _ (kept_stands _ (desk_here.stands before begins).book)
+          answers _ [] (kept_has _ (has_here before begins))
           ∙ ap (λ l. answer_of (exchange_of l (history keeper before (desk_of start book out lines missed (is_some stop))) request)) limits_here
 
       -- and so is the letter
-      pub letter_says : (letters : List Letter) → ((t : List Exchange) → keeper.stands kept_book t → letters ≡ letter_of t (exchange_of (keeper.limits kept_book) t request)) → (before : List Exchange) → BeginsWith keeper start before
+      pub letter_says : (letters : List Letter) → ((t : List Exchange) (rest : List Request) → keeper.has kept_book t (request ∷ rest) → letters ≡ letter_of t (exchange_of (keeper.limits kept_book) t request)) → (before : List Exchange) → BeginsWith keeper start before
           → letters ≡ letter_of (history keeper before (desk_of start book out lines missed (is_some stop))) (next_exchange keeper before (desk_of start book out lines missed (is_some stop)) request)
       letter_says letters says before begins =
-          says _ (kept_stands _ (desk_here.stands before begins).book)
+          says _ [] (kept_has _ (has_here before begins))
           ∙ ap (λ l. letter_of (history keeper before (desk_of start book out lines missed (is_some stop))) (exchange_of l (history keeper before (desk_of start book out lines missed (is_some stop))) request)) limits_here
 
-      module _ (new_book : B) (stands : (t : List Exchange) → keeper.stands kept_book t → keeper.stands new_book (t ++ exchange_of (keeper.limits kept_book) t request ∷ [])) where
-        stands_says : (before : List Exchange) → BeginsWith keeper start before
-            → keeper.stands new_book (history keeper before (desk_of start book out lines missed (is_some stop)) ++ next_exchange keeper before (desk_of start book out lines missed (is_some stop)) request ∷ [])
-        stands_says before begins =
-            subst (λ l. keeper.stands new_book (history keeper before (desk_of start book out lines missed (is_some stop)) ++ exchange_of l (history keeper before (desk_of start book out lines missed (is_some stop))) request ∷ [])) limits_here
-            (stands _ (kept_stands _ (desk_here.stands before begins).book))
+      module _ (new_book : B) (has : (t : List Exchange) (rest : List Request) → keeper.has kept_book t (request ∷ rest) → keeper.has new_book (t ++ exchange_of (keeper.limits kept_book) t request ∷ []) rest) where
+        has_says : (before : List Exchange) → BeginsWith keeper start before
+            → keeper.has new_book (history keeper before (desk_of start book out lines missed (is_some stop)) ++ next_exchange keeper before (desk_of start book out lines missed (is_some stop)) request ∷ []) []
+        has_says before begins =
+            subst (λ l. keeper.has new_book (history keeper before (desk_of start book out lines missed (is_some stop)) ++ exchange_of l (history keeper before (desk_of start book out lines missed (is_some stop))) request ∷ []) []) limits_here
+            (has _ [] (kept_has _ (has_here before begins)))
 
         -- the collector keeps what it does, with the request more, and its answer sent or lost
         pub carried_on :
             (new_out : Out Request) (new_lines : List (Half Answer)) (new_failed : Bool) → new_out ≡ taken_request out request → ((a : ℕ) → IsNumbered (λ (r : Request). r.number) (from_agent (λ (r : Request). r.agent) a new_out.taken)) → (sent : Bool) (d : Half Answer)
             → IsAnswerSent sent lines answer new_lines → (new_failed ≡ false → sent ≡ true) → keeper.limits new_book ≡ keeper.limits kept_book → keeper.sealed kept_book ≡ keeper.sealed book → keeper.sealed new_book ≤ keeper.sealed kept_book + 1
-            → (keeper.may_refuse kept_book → keeper.may_refuse book) → (keeper.may_refuse new_book → keeper.may_refuse kept_book) → keeper.awaits new_book [] → IsDesk keeper (desk_of start new_book new_out new_lines missed new_failed)
-        carried_on new_out new_lines new_failed taken numbered sent d is_sent going_on limits kept_sealed sealed kept_refuses refuses awaits =
-            keeps keeper (desk_of start book out lines missed (is_some stop)) request answer asked new_book new_out new_lines missed new_failed taken numbered sent d is_sent going_on (limits ∙ limits_here) (omega arith) (λ may. desk_here.refuses (kept_refuses (refuses may))) awaits
-            (λ before begins. (answer_says before begins, stands_says before begins))
+            → (keeper.may_refuse kept_book → keeper.may_refuse book) → (keeper.may_refuse new_book → keeper.may_refuse kept_book) → IsDesk keeper (desk_of start new_book new_out new_lines missed new_failed)
+        carried_on new_out new_lines new_failed taken numbered sent d is_sent going_on limits kept_sealed sealed kept_refuses refuses =
+            keeps keeper (desk_of start book out lines missed (is_some stop)) request answer asked new_book new_out new_lines missed new_failed taken numbered sent d is_sent going_on (limits ∙ limits_here) (omega arith) (λ may. desk_here.refuses (kept_refuses (refuses may)))
+            (λ before begins. (answer_says before begins, has_says before begins))

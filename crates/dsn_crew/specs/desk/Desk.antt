@@ -65,9 +65,9 @@ desk_of start book requests answers missed failed = record {
 abbrev pub IsEarlier : List Exchange → Type 0
 IsEarlier before = (agent : ℕ) → agent < most_agents → answers_to agent before ≡ []
 
--- what carries requests out stands for such a history
+-- what carries requests out stands for such a history, and awaits nothing
 abbrev pub BeginsWith : {B : Type 0} → Keeper B → B → List Exchange → Type 0
-BeginsWith keeper start before = keeper.stands start before × IsEarlier before
+BeginsWith keeper start before = keeper.has start before [] × IsEarlier before
 
 -- the half of which so many requests were carried out, as one that took just these
 abbrev pub carried_out : ℕ → Out Request → Out Request
@@ -110,11 +110,12 @@ AreAnswered halves exchanges =
     (a : ℕ) (d : Half Answer) → a < length halves
     → (slice_index_or halves a d).sent ≡ answers_to a exchanges
 
--- a collector that began with a history: its book stands for what it took; what it sent each agent
--- are the first of the answers which that history gives the agent, and all of them unless it failed
+-- a collector that began with a history: unless it failed, its book stands for what it took, and awaits
+-- nothing; what it sent each agent are the first of the answers which that history gives the agent, and
+-- all of them unless it failed
 pub record StandsAfter {B : Type 0} (keeper : Keeper B) (before : List Exchange)
     (desk : Desk B) : Type 0 where
-  pub book : keeper.stands desk.book (history keeper before desk)
+  pub has : desk.failed ≡ false → keeper.has desk.book (history keeper before desk) []
   pub sent : (a : ℕ) (d : Half Answer) → a < length desk.answers
       → IsPrefix (slice_index_or desk.answers a d).sent (answers_to a (history keeper before desk))
   pub answered : desk.failed ≡ false → AreAnswered desk.answers (history keeper before desk)
@@ -122,8 +123,7 @@ pub record StandsAfter {B : Type 0} (keeper : Keeper B) (before : List Exchange)
 -- what every collector keeps: each answer lane is of its agent, and the agents are numbered from 0,
 -- up to `most_agents`; what it took is of these agents, and numbered from 0 agent by agent; it
 -- began with some history, and stands for that after whatever history it began with, under the limits
--- that it began with; unless it failed it awaits nothing, and each agent was answered as often as it
--- asked
+-- that it began with; unless it failed each agent was answered as often as it asked
 pub record IsDesk {B : Type 0} (keeper : Keeper B) (desk : Desk B) : Type 0 where
   pub first : desk.requests.first ≡ 0
   pub past : desk.requests.past ≡ length desk.answers
@@ -139,7 +139,6 @@ pub record IsDesk {B : Type 0} (keeper : Keeper B) (desk : Desk B) : Type 0 wher
   pub room : keeper.sealed desk.start < 2 ^ 63
   pub sealed : keeper.sealed desk.book ≤ keeper.sealed desk.start + length desk.requests.taken
   pub refuses : keeper.may_refuse desk.book → keeper.may_refuse desk.start
-  pub awaits : desk.failed ≡ false → keeper.awaits desk.book []
   pub counted : desk.failed ≡ false → (a : ℕ) (d : Half Answer) → a < length desk.answers
       → length (slice_index_or desk.answers a d).sent
       ≡ length (from_agent (λ (request : Request). request.agent) a desk.requests.taken)

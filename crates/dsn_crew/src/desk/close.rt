@@ -1,5 +1,5 @@
 //! The close of a crew.
-ghost use Rattle.std.specs.Prelude.{◌≡◌, ◌+◌, List, true, All};
+ghost use Rattle.std.specs.Prelude.{◌≡◌, ◌+◌, List, [], true, All};
 ghost use mathlib.Core.List.{IsPrefix};
 ghost use Rattle.dsn_outcome.specs.History.{Exchange};
 ghost use Rattle.dsn_crew.specs.agents.Agent.{IsFinished};
@@ -29,8 +29,8 @@ pub fn close_crew<B: Keeper>(rt: &impl Wait, crew: Vec<Finished>, desk: Desk<B>)
     ensures finished { All IsFinished crew.items }
     ensures only { AreOf crew.items desk.requests.taken }
     ensures shut { result ≡ record { book = desk.book; crew = crew.items; desk = desk } }
-    ensures stands { (before : List Exchange) → BeginsWith B.Keeper desk.start before
-        → B.stands result.book (history B.Keeper before desk) }
+    ensures has { (before : List Exchange) → BeginsWith B.Keeper desk.start before
+        → B.has result.book (history B.Keeper before desk) [] }
 {
     let agents = Snapshot::of(&crew);
     let collector = Snapshot::of(&desk);

@@ -66,7 +66,6 @@ impl<B: Keeper> Desk<B> {
         lines: Vec<AnswerLane>,
         room: Vec<LaneIn<Request>>,
     ) -> Desk<B>
-        requires awaits { B.awaits book [] }
         requires begins { (before : List Exchange) × BeginsWith B.Keeper book before }
         requires few { B.sealed book < 2 ^ 63 }
         requires requests { (requests.first ≡ 0) × (requests.past ≡ length lines.items)

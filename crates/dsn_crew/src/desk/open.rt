@@ -42,9 +42,9 @@ pub fn open_crew(
     open_room(rt, alloc, book, agents)
 }
 
-/// A crew of so many agents, from agent 0 on, and its collector, over what carries their requests out.
-/// It asks that this awaits none, that there is a history to begin with, and that fewer than 2^63
-/// letters were sealed by it.
+/// A crew of so many agents, from agent 0 on, and its collector, over what carries their requests
+/// out. It asks that there is a history to begin with, after which nothing is awaited, and that fewer
+/// than 2^63 letters were sealed by it.
 ///
 /// `AgentCount` (43) comes where there are not 1 to 16 agents, before any memory is taken;
 /// `NoMemory` (42) only where memory was refused.
@@ -54,7 +54,6 @@ pub fn open_crew_over<B: Keeper + Drop>(
     book: B,
     agents: u32,
 ) -> Result<(Vec<Agent>, Desk<B>), CrewOpenFault>
-    requires awaits { B.awaits book [] }
     requires begins { (before : List Exchange) × BeginsWith B.Keeper book before }
     requires few { B.sealed book < 2 ^ 63 }
     ensures opened { IfOk result (λ crew. IsOpened B.Keeper book agents crew.0.items crew.1) }
@@ -77,7 +76,6 @@ fn open_room<B: Keeper + Drop>(
     agents: u32,
 ) -> Result<(Vec<Agent>, Desk<B>), CrewOpenFault>
     requires count { (1 ≤ agents) × (agents ≤ most_agents) }
-    requires awaits { B.awaits book [] }
     requires begins { (before : List Exchange) × BeginsWith B.Keeper book before }
     requires few { B.sealed book < 2 ^ 63 }
     ensures opened { IfOk result (λ crew. IsOpened B.Keeper book agents crew.0.items crew.1) }

@@ -22,9 +22,7 @@ impl Keeper for Refusing {
 
     ghost limits = { λ keeper. keeper.book.limits };
 
-    ghost stands = { λ keeper. Represents keeper.book };
-
-    ghost awaits = { λ _ _. Unit {0} };
+    ghost has = { λ keeper history _. Represents keeper.book history };
 
     ghost sealed = { λ keeper. keeper.book.sealed };
 

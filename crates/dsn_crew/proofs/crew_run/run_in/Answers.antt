@@ -4,7 +4,7 @@ use Rattle.dsn_lane.specs.Halves.{Identity}
 use Rattle.dsn_post.specs.LetterSink.{LetterSink}
 use Rattle.dsn_post.specs.Parcel.{Parcel}
 use Rattle.dsn_post.specs.Posting.{IsPosted, Posts}
-use Rattle.dsn_crew.proofs.CrewLemmas.{account_is, begins, collected_lane, ends_length, fault_is, handles_length, may_close, may_miss, missing_few, never_begun, no_count}
+use Rattle.dsn_crew.proofs.CrewLemmas.{account_is, begins, collected_lane, ends_length, fault_is, handles_length, may_close, may_miss, missing_few, never_begun, no_count, sealed_few}
 use Rattle.dsn_crew.proofs.crew_run.run_in.Goals as goal
 
 pub overflow_cast-count_missing : goal.overflow_cast-count_missing
@@ -77,6 +77,12 @@ returns-clause-fault g c = λ before with_it.
     subst (λ (posts : Posts g.row.W.Denot). IsPosted g.W.Drain posts.site posts.outbox c.by-collected.new.sink.lane.capacity c.by-collected.new.sink.letters c.end_posting-posted.result) c.in-Ok-start_posting.ensures.promise c.end_posting-posted.ensures in
     let post = subst (λ (most : ℕ). IsPosted g.W.Drain c.args.site c.args.outbox most c.by-collected.new.sink.letters c.end_posting-posted.result) waiting posted in
     fault_is g.B.Keeper g.P.Port g.W.Drain c.args.site c.args.book c.args.ports.items c.args.outbox _ _ _ room.opened (search rules) _ c.start_all-handles.ensures _ c.join_all.ensures _ _ c.miss.ensures.missed _ _ (ap (λ (sink : LetterSink). sink.letters) same ∙ room.sink) before _ post _ _ _ (c.by-collected.ensures before (begins g.B.Keeper g.P.Port g.W.Drain c.args.site c.args.book c.args.ports.items c.args.outbox _ _ _ room.opened (search rules) _ c.start_all-handles.ensures _ c.join_all.ensures _ _ c.miss.ensures.missed before with_it)) c.conclude.ensures
+
+pub returns-clause-sealed : goal.returns-clause-sealed
+returns-clause-sealed g c =
+    let room = c.in-Ok.ensures in
+    let same = c.in-Ok-start_posting.ensures.sink in
+    sealed_few g.B.Keeper g.P.Port g.W.Drain c.args.site c.args.book c.args.ports.items c.args.outbox _ _ _ room.opened (search rules) _ c.start_all-handles.ensures _ c.join_all.ensures _ _ c.miss.ensures.missed _ _ (ap (λ (sink : LetterSink). sink.letters) same ∙ room.sink) c.requires.begins.0 _ _ _ _ (c.by-collected.ensures c.requires.begins.0 (begins g.B.Keeper g.P.Port g.W.Drain c.args.site c.args.book c.args.ports.items c.args.outbox _ _ _ room.opened (search rules) _ c.start_all-handles.ensures _ c.join_all.ensures _ _ c.miss.ensures.missed c.requires.begins.0 c.requires.begins.1)) c.conclude.ensures
 
 pub returns-clause-counted : goal.returns-clause-counted
 returns-clause-counted g c = no_count g.B.Keeper _ _ _ _ c.conclude.ensures

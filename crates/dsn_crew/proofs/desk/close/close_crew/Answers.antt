@@ -82,10 +82,10 @@ returns-clause-heard g c = λ before begins.
 pub returns-clause-only : goal.returns-clause-only
 returns-clause-only g c = all_of_crew g.B.Keeper c.args.desk c.args.crew.items (subst (IsDesk g.B.Keeper) c.desk.view_is c.desk.invariant.0) c.requires.crew
 
-pub returns-clause-stands : goal.returns-clause-stands
-returns-clause-stands g c = λ before begins.
-    subst (λ book. g.B.Keeper.stands book (history g.B.Keeper before c.args.desk)) (sym (ap (λ shut. shut.book) c.new.ensures))
-    (subst (λ (desk : Desk _). (b : List Exchange) → BeginsWith g.B.Keeper desk.start b → g.B.Keeper.stands c.desk.inside.book (history g.B.Keeper b desk)) c.desk.view_is (λ b is. (c.desk.invariant.0.stands b is).book) before begins)
+pub returns-clause-has : goal.returns-clause-has
+returns-clause-has g c = λ before begins.
+    subst (λ book. g.B.Keeper.has book (history g.B.Keeper before c.args.desk) []) (sym (ap (λ shut. shut.book) c.new.ensures))
+    (subst (λ (desk : Desk _). (b : List Exchange) → BeginsWith g.B.Keeper desk.start b → desk.failed ≡ false → g.B.Keeper.has c.desk.inside.book (history g.B.Keeper b desk) []) c.desk.view_is (λ b is. (c.desk.invariant.0.stands b is).has) before begins (going_on c.args.desk c.requires.gone))
 
 pub returns-clause-finished : goal.returns-clause-finished
 returns-clause-finished g c = c.loop-finished.invariant.finished (none_left IsFinished _ (search rules))

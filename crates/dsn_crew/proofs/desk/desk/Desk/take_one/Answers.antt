@@ -1,11 +1,11 @@
 -- An answer that is sent is the one that the history defines, and the collector stands for one request more.
-use Rattle.std.proofs.Common.{rules, ◌≡◌, ◌+◌, ◌<◌, Bool, [], false, true, length, map, refl, ap, sym, ◌∙◌, subst, true≢false, arith}
+use Rattle.std.proofs.Common.{rules, ◌≡◌, ◌+◌, ◌<◌, Bool, List, [], ◌∷◌, false, true, length, map, refl, ap, sym, ◌∙◌, subst, true≢false, arith}
 use Rattle.std.specs.Prelude.{is_ok, is_some}
 use Rattle.dsn_lane.specs.Halves.{Half, Out}
 use Rattle.dsn_outcome.specs.declared.answer.Answer.{Answer}
-use Rattle.dsn_outcome.specs.History.{letter_of}
+use Rattle.dsn_outcome.specs.History.{Exchange, letter_of}
 use Rattle.dsn_crew.proofs.desk.DeskLemmas.{IsAsked, counted_more, first_half, goodbyes_fit, goodbyes_more, line_agent, line_number, none_stopped, seen_going, small, sent_places, sent_none, sent_room, unseen_going, within}
-use Rattle.dsn_crew.proofs.desk.TakeLemmas.{asked, carried_on, counts_here, desk_going, failed_desk, letter_says, took_nothing, took_one, took_unkept, whole_is}
+use Rattle.dsn_crew.proofs.desk.TakeLemmas.{asked, carried_on, counts_here, desk_going, failed_desk, has_some, letter_says, took_nothing, took_one, took_unkept, whole_is}
 use Rattle.dsn_crew.specs.desk.Desk.{IsAnswerSent, desk_of, goodbyes, history, next_exchange, places_of, taken_request}
 use Rattle.dsn_crew.specs.agents.Place.{place_at}
 use Rattle.dsn_crew.proofs.desk.desk.Desk.take_one.Goals as goal
@@ -14,7 +14,7 @@ pub invariant_of-self-in-Err : goal.invariant_of-self-in-Err
 invariant_of-self-in-Err g c =
     let counted = counts_here g.B.Keeper c.self.inside.start.value c.self.inside.book c.self.inside.stop c.self.inside.taken c.self.inside.requests c.self.inside.lines.items c.self.inside.missed (search rules) c.self.inside.gone c.self.invariant.1 in
     let same = took_nothing c.self.inside.requests c.take.new.self c.take.ensures.same (search rules) in (
-      failed_desk g.B.Keeper c.self.inside.start.value c.self.inside.book c.self.inside.stop c.self.inside.taken c.self.inside.requests c.self.inside.lines.items c.self.inside.missed (search rules) c.self.invariant.0 c.self.inside.book c.take.new.self same refl refl (λ may. may) (λ t stands. stands),
+      failed_desk g.B.Keeper c.self.inside.start.value c.self.inside.book c.self.inside.stop c.self.inside.taken c.self.inside.requests c.self.inside.lines.items c.self.inside.missed (search rules) c.self.invariant.0 c.self.inside.book c.take.new.self same refl refl (λ may. may),
       (counted.0 ∙ ap (λ (o : Out _). length o.taken) (sym same), counted.1 ∙ ap (λ (o : Out _). goodbyes o.taken) (sym same)),
       c.self.invariant.2,
       tt,
@@ -24,13 +24,13 @@ invariant_of-self-in-Err g c =
 pub returns-in-Err-clause-kept : goal.returns-in-Err-clause-kept
 returns-in-Err-clause-kept g c =
     let same = took_nothing c.self.inside.requests c.take.new.self c.take.ensures.same (search rules) in
-    failed_desk g.B.Keeper c.self.inside.start.value c.self.inside.book c.self.inside.stop c.self.inside.taken c.self.inside.requests c.self.inside.lines.items c.self.inside.missed (search rules) c.self.invariant.0 c.self.inside.book c.take.new.self same refl refl (λ may. may) (λ t stands. stands)
+    failed_desk g.B.Keeper c.self.inside.start.value c.self.inside.book c.self.inside.stop c.self.inside.taken c.self.inside.requests c.self.inside.lines.items c.self.inside.missed (search rules) c.self.invariant.0 c.self.inside.book c.take.new.self same refl refl (λ may. may)
 
 pub invariant_of-self-in-Err-keep : goal.invariant_of-self-in-Err-keep
 invariant_of-self-in-Err-keep g c =
     let counted = counts_here g.B.Keeper c.self.inside.start.value c.self.inside.book c.self.inside.stop c.self.inside.taken c.self.inside.requests c.self.inside.lines.items c.self.inside.missed (search rules) c.self.inside.gone c.self.invariant.1 in
     let same = took_unkept c.self.inside.taken c.self.inside.requests c.take.new.self c.in-Ok.request c.take.ensures.same counted.0 c.in-Ok.ensures.item in (
-      failed_desk g.B.Keeper c.self.inside.start.value c.self.inside.book c.self.inside.stop c.self.inside.taken c.self.inside.requests c.self.inside.lines.items c.self.inside.missed (search rules) c.self.invariant.0 c.keep.new.self _ same c.keep.ensures.limits c.keep.ensures.sealed c.keep.ensures.refuses c.keep.ensures.stands,
+      failed_desk g.B.Keeper c.self.inside.start.value c.self.inside.book c.self.inside.stop c.self.inside.taken c.self.inside.requests c.self.inside.lines.items c.self.inside.missed (search rules) c.self.invariant.0 c.keep.new.self _ same c.keep.ensures.limits c.keep.ensures.sealed c.keep.ensures.refuses,
       (counted.0 ∙ ap (λ (o : Out _). length o.taken) (sym same), counted.1 ∙ ap (λ (o : Out _). goodbyes o.taken) (sym same)),
       c.self.invariant.2,
       c.self.invariant.0.refuses (search rules),
@@ -41,12 +41,21 @@ pub returns-in-Err-keep-clause-kept : goal.returns-in-Err-keep-clause-kept
 returns-in-Err-keep-clause-kept g c =
     let counted = counts_here g.B.Keeper c.self.inside.start.value c.self.inside.book c.self.inside.stop c.self.inside.taken c.self.inside.requests c.self.inside.lines.items c.self.inside.missed (search rules) c.self.inside.gone c.self.invariant.1 in
     let same = took_unkept c.self.inside.taken c.self.inside.requests c.take.new.self c.in-Ok.request c.take.ensures.same counted.0 c.in-Ok.ensures.item in
-    failed_desk g.B.Keeper c.self.inside.start.value c.self.inside.book c.self.inside.stop c.self.inside.taken c.self.inside.requests c.self.inside.lines.items c.self.inside.missed (search rules) c.self.invariant.0 c.keep.new.self _ same c.keep.ensures.limits c.keep.ensures.sealed c.keep.ensures.refuses c.keep.ensures.stands
+    failed_desk g.B.Keeper c.self.inside.start.value c.self.inside.book c.self.inside.stop c.self.inside.taken c.self.inside.requests c.self.inside.lines.items c.self.inside.missed (search rules) c.self.invariant.0 c.keep.new.self _ same c.keep.ensures.limits c.keep.ensures.sealed c.keep.ensures.refuses
 
 pub overflow_add-self-2 : goal.overflow_add-self-2
 overflow_add-self-2 g c =
     let counted = counts_here g.B.Keeper c.self.inside.start.value c.self.inside.book c.self.inside.stop c.self.inside.taken c.self.inside.requests c.self.inside.lines.items c.self.inside.missed (search rules) c.self.inside.gone c.self.invariant.1 in
     record { fits = goodbyes_fit c.self.inside.gone c.from.result c.self.inside.taken 4294967296 c.is_bye.result c.self.inside.requests.taken counted.1 counted.0 (search rules) (search rules) }
+
+pub keep-requires : goal.keep-requires
+keep-requires g c =
+    record { has = has_some g.B.Keeper c.self.inside.start.value c.self.inside.book c.self.inside.stop c.self.inside.taken c.self.inside.requests c.self.inside.lines.items c.self.inside.missed (search rules) c.self.invariant.0 }
+
+pub apply-letter-requires-clause-has : goal.apply-letter-requires-clause-has
+apply-letter-requires-clause-has g c =
+    let some = has_some g.B.Keeper c.self.inside.start.value c.self.inside.book c.self.inside.stop c.self.inside.taken c.self.inside.requests c.self.inside.lines.items c.self.inside.missed (search rules) c.self.invariant.0 in
+    let kept : (t : List Exchange) → g.B.Keeper.has c.self.inside.book t [] → g.B.Keeper.has c.keep.new.self t (c.in-Ok.request ∷ []) = search rules in (some.0, [], kept some.0 some.1)
 
 pub apply-letter-requires-clause-room : goal.apply-letter-requires-clause-room
 apply-letter-requires-clause-room g c =
@@ -89,7 +98,7 @@ invariant_of-self-in-Ok-send_answer g c =
     let more = counted_more _ _ _ c.in-Ok.request counted.0 c.in-Ok.ensures.item in
     let bye = goodbyes_more c.self.inside.gone c.from.result c.is_bye.result c.self.inside.requests.taken c.take.new.self.taken c.in-Ok.request counted.1 c.in-Ok.ensures.item (search rules) (search rules) in
     let seen = seen_going c.self.inside.stop (c.self.inside.taken + 1) c.take.new.self (search rules) in (
-      desk_going g.B.Keeper c.self.inside.start.value c.apply-letter.new.self c.self.inside.stop (c.self.inside.taken + 1) c.take.new.self c.send_answer.new.lines.items c.self.inside.missed (search rules) (carried_on g.B.Keeper c.self.inside.start.value c.self.inside.book c.self.inside.stop c.self.inside.taken c.self.inside.requests c.self.inside.lines.items c.self.inside.missed (search rules) c.self.invariant.0 c.in-Ok.request c.apply-letter.result.answer (search rules) (search rules) c.apply-letter.ensures.asked.0 c.apply-letter.ensures.asked.1 c.keep.new.self c.keep.ensures.limits c.keep.ensures.stands c.apply-letter.ensures.answer c.apply-letter.new.self c.apply-letter.ensures.stands c.take.new.self c.send_answer.new.lines.items (is_some c.self.inside.stop) (took_one _ _ _ c.in-Ok.ensures.same c.in-Ok.ensures.item) c.in-Ok.ensures.numbered true d is_sent (λ _. refl) c.apply-letter.ensures.limits c.keep.ensures.sealed c.apply-letter.ensures.sealed c.keep.ensures.refuses c.apply-letter.ensures.refuses (c.apply-letter.ensures.awaited [] (search rules))),
+      desk_going g.B.Keeper c.self.inside.start.value c.apply-letter.new.self c.self.inside.stop (c.self.inside.taken + 1) c.take.new.self c.send_answer.new.lines.items c.self.inside.missed (search rules) (carried_on g.B.Keeper c.self.inside.start.value c.self.inside.book c.self.inside.stop c.self.inside.taken c.self.inside.requests c.self.inside.lines.items c.self.inside.missed (search rules) c.self.invariant.0 c.in-Ok.request c.apply-letter.result.answer (search rules) (search rules) c.apply-letter.ensures.asked.0 c.apply-letter.ensures.asked.1 c.keep.new.self c.keep.ensures.limits (search rules) c.apply-letter.ensures.answer c.apply-letter.new.self c.apply-letter.ensures.has c.take.new.self c.send_answer.new.lines.items (is_some c.self.inside.stop) (took_one _ _ _ c.in-Ok.ensures.same c.in-Ok.ensures.item) c.in-Ok.ensures.numbered true d is_sent (λ _. refl) c.apply-letter.ensures.limits c.keep.ensures.sealed c.apply-letter.ensures.sealed c.keep.ensures.refuses c.apply-letter.ensures.refuses),
       (more ∙ ap (λ (o : Out _). length o.taken) (sym seen), bye ∙ ap (λ (o : Out _). goodbyes o.taken) (sym seen)),
       (search rules, sent_room true _ _ c.apply-letter.result.answer _ d is_sent c.self.invariant.2.1),
       none_stopped _ c.self.inside.stop _ (search rules),
@@ -102,7 +111,7 @@ returns-in-Ok-send_answer-clause-kept g c =
     let d : Half Answer = first_half _ _ (within _ _ _ _ is_asked) in
     let sent : is_ok c.send_answer.result ≡ true = search rules in
     let is_sent : IsAnswerSent true c.self.inside.lines.items c.apply-letter.result.answer c.send_answer.new.lines.items = subst (λ (it : Bool). IsAnswerSent it c.self.inside.lines.items c.apply-letter.result.answer c.send_answer.new.lines.items) sent c.send_answer.ensures in
-    desk_going g.B.Keeper c.self.inside.start.value c.apply-letter.new.self c.self.inside.stop (c.self.inside.taken + 1) c.take.new.self c.send_answer.new.lines.items c.self.inside.missed (search rules) (carried_on g.B.Keeper c.self.inside.start.value c.self.inside.book c.self.inside.stop c.self.inside.taken c.self.inside.requests c.self.inside.lines.items c.self.inside.missed (search rules) c.self.invariant.0 c.in-Ok.request c.apply-letter.result.answer (search rules) (search rules) c.apply-letter.ensures.asked.0 c.apply-letter.ensures.asked.1 c.keep.new.self c.keep.ensures.limits c.keep.ensures.stands c.apply-letter.ensures.answer c.apply-letter.new.self c.apply-letter.ensures.stands c.take.new.self c.send_answer.new.lines.items (is_some c.self.inside.stop) (took_one _ _ _ c.in-Ok.ensures.same c.in-Ok.ensures.item) c.in-Ok.ensures.numbered true d is_sent (λ _. refl) c.apply-letter.ensures.limits c.keep.ensures.sealed c.apply-letter.ensures.sealed c.keep.ensures.refuses c.apply-letter.ensures.refuses (c.apply-letter.ensures.awaited [] (search rules)))
+    desk_going g.B.Keeper c.self.inside.start.value c.apply-letter.new.self c.self.inside.stop (c.self.inside.taken + 1) c.take.new.self c.send_answer.new.lines.items c.self.inside.missed (search rules) (carried_on g.B.Keeper c.self.inside.start.value c.self.inside.book c.self.inside.stop c.self.inside.taken c.self.inside.requests c.self.inside.lines.items c.self.inside.missed (search rules) c.self.invariant.0 c.in-Ok.request c.apply-letter.result.answer (search rules) (search rules) c.apply-letter.ensures.asked.0 c.apply-letter.ensures.asked.1 c.keep.new.self c.keep.ensures.limits (search rules) c.apply-letter.ensures.answer c.apply-letter.new.self c.apply-letter.ensures.has c.take.new.self c.send_answer.new.lines.items (is_some c.self.inside.stop) (took_one _ _ _ c.in-Ok.ensures.same c.in-Ok.ensures.item) c.in-Ok.ensures.numbered true d is_sent (λ _. refl) c.apply-letter.ensures.limits c.keep.ensures.sealed c.apply-letter.ensures.sealed c.keep.ensures.refuses c.apply-letter.ensures.refuses)
 
 pub returns-in-Ok-send_answer-clause-places : goal.returns-in-Ok-send_answer-clause-places
 returns-in-Ok-send_answer-clause-places g c =
@@ -122,7 +131,7 @@ invariant_of-self-in-Err-send_answer g c =
     let counted = counts_here g.B.Keeper c.self.inside.start.value c.self.inside.book c.self.inside.stop c.self.inside.taken c.self.inside.requests c.self.inside.lines.items c.self.inside.missed (search rules) c.self.inside.gone c.self.invariant.1 in
     let more = counted_more _ _ _ c.in-Ok.request counted.0 c.in-Ok.ensures.item in
     let bye = goodbyes_more c.self.inside.gone c.from.result c.is_bye.result c.self.inside.requests.taken c.take.new.self.taken c.in-Ok.request counted.1 c.in-Ok.ensures.item (search rules) (search rules) in (
-      carried_on g.B.Keeper c.self.inside.start.value c.self.inside.book c.self.inside.stop c.self.inside.taken c.self.inside.requests c.self.inside.lines.items c.self.inside.missed (search rules) c.self.invariant.0 c.in-Ok.request c.apply-letter.result.answer (search rules) (search rules) c.apply-letter.ensures.asked.0 c.apply-letter.ensures.asked.1 c.keep.new.self c.keep.ensures.limits c.keep.ensures.stands c.apply-letter.ensures.answer c.apply-letter.new.self c.apply-letter.ensures.stands c.take.new.self c.send_answer.new.lines.items true (took_one _ _ _ c.in-Ok.ensures.same c.in-Ok.ensures.item) c.in-Ok.ensures.numbered false d is_sent (λ never. absurd (true≢false never)) c.apply-letter.ensures.limits c.keep.ensures.sealed c.apply-letter.ensures.sealed c.keep.ensures.refuses c.apply-letter.ensures.refuses (c.apply-letter.ensures.awaited [] (search rules)),
+      carried_on g.B.Keeper c.self.inside.start.value c.self.inside.book c.self.inside.stop c.self.inside.taken c.self.inside.requests c.self.inside.lines.items c.self.inside.missed (search rules) c.self.invariant.0 c.in-Ok.request c.apply-letter.result.answer (search rules) (search rules) c.apply-letter.ensures.asked.0 c.apply-letter.ensures.asked.1 c.keep.new.self c.keep.ensures.limits (search rules) c.apply-letter.ensures.answer c.apply-letter.new.self c.apply-letter.ensures.has c.take.new.self c.send_answer.new.lines.items true (took_one _ _ _ c.in-Ok.ensures.same c.in-Ok.ensures.item) c.in-Ok.ensures.numbered false d is_sent (λ never. absurd (true≢false never)) c.apply-letter.ensures.limits c.keep.ensures.sealed c.apply-letter.ensures.sealed c.keep.ensures.refuses c.apply-letter.ensures.refuses,
       (more, bye),
       (search rules, sent_room false _ _ c.apply-letter.result.answer _ d is_sent c.self.invariant.2.1),
       tt,
@@ -135,7 +144,7 @@ returns-in-Err-send_answer-clause-kept g c =
     let d : Half Answer = first_half _ _ (within _ _ _ _ is_asked) in
     let lost : is_ok c.send_answer.result ≡ false = search rules in
     let is_sent : IsAnswerSent false c.self.inside.lines.items c.apply-letter.result.answer c.send_answer.new.lines.items = subst (λ (it : Bool). IsAnswerSent it c.self.inside.lines.items c.apply-letter.result.answer c.send_answer.new.lines.items) lost c.send_answer.ensures in
-    carried_on g.B.Keeper c.self.inside.start.value c.self.inside.book c.self.inside.stop c.self.inside.taken c.self.inside.requests c.self.inside.lines.items c.self.inside.missed (search rules) c.self.invariant.0 c.in-Ok.request c.apply-letter.result.answer (search rules) (search rules) c.apply-letter.ensures.asked.0 c.apply-letter.ensures.asked.1 c.keep.new.self c.keep.ensures.limits c.keep.ensures.stands c.apply-letter.ensures.answer c.apply-letter.new.self c.apply-letter.ensures.stands c.take.new.self c.send_answer.new.lines.items true (took_one _ _ _ c.in-Ok.ensures.same c.in-Ok.ensures.item) c.in-Ok.ensures.numbered false d is_sent (λ never. absurd (true≢false never)) c.apply-letter.ensures.limits c.keep.ensures.sealed c.apply-letter.ensures.sealed c.keep.ensures.refuses c.apply-letter.ensures.refuses (c.apply-letter.ensures.awaited [] (search rules))
+    carried_on g.B.Keeper c.self.inside.start.value c.self.inside.book c.self.inside.stop c.self.inside.taken c.self.inside.requests c.self.inside.lines.items c.self.inside.missed (search rules) c.self.invariant.0 c.in-Ok.request c.apply-letter.result.answer (search rules) (search rules) c.apply-letter.ensures.asked.0 c.apply-letter.ensures.asked.1 c.keep.new.self c.keep.ensures.limits (search rules) c.apply-letter.ensures.answer c.apply-letter.new.self c.apply-letter.ensures.has c.take.new.self c.send_answer.new.lines.items true (took_one _ _ _ c.in-Ok.ensures.same c.in-Ok.ensures.item) c.in-Ok.ensures.numbered false d is_sent (λ never. absurd (true≢false never)) c.apply-letter.ensures.limits c.keep.ensures.sealed c.apply-letter.ensures.sealed c.keep.ensures.refuses c.apply-letter.ensures.refuses
 
 pub returns-in-Err-send_answer-clause-places : goal.returns-in-Err-send_answer-clause-places
 returns-in-Err-send_answer-clause-places g c =
@@ -159,7 +168,7 @@ returns-in-Err-send_answer-clause-taken g c =
       search rules,
       sent_none _ _ c.apply-letter.result.answer d is_sent ∙ ap (λ desk. desk.answers) is,
       ap (λ desk. desk.missed) is,
-      letter_says g.B.Keeper c.self.inside.start.value c.self.inside.book c.self.inside.stop c.self.inside.taken c.self.inside.requests c.self.inside.lines.items c.self.inside.missed (search rules) c.self.invariant.0 c.in-Ok.request c.apply-letter.result.answer (search rules) (search rules) c.apply-letter.ensures.asked.0 c.apply-letter.ensures.asked.1 c.keep.new.self c.keep.ensures.limits c.keep.ensures.stands c.apply-letter.ensures.answer _ c.apply-letter.ensures.letter before (search rules)
+      letter_says g.B.Keeper c.self.inside.start.value c.self.inside.book c.self.inside.stop c.self.inside.taken c.self.inside.requests c.self.inside.lines.items c.self.inside.missed (search rules) c.self.invariant.0 c.in-Ok.request c.apply-letter.result.answer (search rules) (search rules) c.apply-letter.ensures.asked.0 c.apply-letter.ensures.asked.1 c.keep.new.self c.keep.ensures.limits (search rules) c.apply-letter.ensures.answer _ c.apply-letter.ensures.letter before (search rules)
           ∙ ap (λ desk. letter_of (history g.B.Keeper before desk) (next_exchange g.B.Keeper before desk c.in-Ok.request)) is,
     )
 
@@ -167,7 +176,7 @@ pub invariant_of-self : goal.invariant_of-self
 invariant_of-self g c =
     let counted = counts_here g.B.Keeper c.self.inside.start.value c.self.inside.book c.self.inside.stop c.self.inside.taken c.self.inside.requests c.self.inside.lines.items c.self.inside.missed (search rules) c.self.inside.gone c.self.invariant.1 in
     let most : c.self.inside.taken ≡ 4294967295 = search rules in (
-      failed_desk g.B.Keeper c.self.inside.start.value c.self.inside.book c.self.inside.stop c.self.inside.taken c.self.inside.requests c.self.inside.lines.items c.self.inside.missed (search rules) c.self.invariant.0 c.self.inside.book c.self.inside.requests refl refl refl (λ may. may) (λ t stands. stands),
+      failed_desk g.B.Keeper c.self.inside.start.value c.self.inside.book c.self.inside.stop c.self.inside.taken c.self.inside.requests c.self.inside.lines.items c.self.inside.missed (search rules) c.self.invariant.0 c.self.inside.book c.self.inside.requests refl refl refl (λ may. may),
       counted,
       c.self.invariant.2,
       sym counted.0 ∙ most,
@@ -176,4 +185,4 @@ invariant_of-self g c =
 
 pub returns-then-self-clause-kept : goal.returns-then-self-clause-kept
 returns-then-self-clause-kept g c =
-    failed_desk g.B.Keeper c.self.inside.start.value c.self.inside.book c.self.inside.stop c.self.inside.taken c.self.inside.requests c.self.inside.lines.items c.self.inside.missed (search rules) c.self.invariant.0 c.self.inside.book c.self.inside.requests refl refl refl (λ may. may) (λ t stands. stands)
+    failed_desk g.B.Keeper c.self.inside.start.value c.self.inside.book c.self.inside.stop c.self.inside.taken c.self.inside.requests c.self.inside.lines.items c.self.inside.missed (search rules) c.self.invariant.0 c.self.inside.book c.self.inside.requests refl refl refl (λ may. may)

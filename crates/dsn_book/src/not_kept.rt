@@ -1,4 +1,8 @@
 //! Why requests were not kept.
+ghost use Rattle.std.specs.Prelude.{◌≡◌};
+ghost use Rattle.dsn_text.specs.FaultCode.{not_kept_code};
+
+use dsn_text::fault_code;
 
 /// Why requests were not kept.
 #[derive(Clone, Copy, Debug, Drop, PartialEq, Eq)]
@@ -7,4 +11,15 @@ pub enum NotKept {
     Full,
     /// What was to keep them failed: which of them stand isn't known.
     Failed,
+}
+
+impl NotKept {
+    /// The number of the fault: 45.
+    pub fn code(&self) -> u32
+        ensures { result ≡ not_kept_code }
+    {
+        match self {
+            NotKept::Full | NotKept::Failed => fault_code::NOT_KEPT,
+        }
+    }
 }

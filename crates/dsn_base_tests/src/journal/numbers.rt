@@ -1,5 +1,6 @@
-//! The numbers of what keeps a journal from being opened or written.
+//! The numbers of what keeps a journal from being opened or written, and a request from being kept.
 use crate::assert_same::same;
+use dsn_book::NotKept;
 use dsn_journal::{JournalError, KeepError, LedgerError, MarksError};
 use std::test::Fail;
 
@@ -32,5 +33,12 @@ fn what_is_not_opened_has_its_number(rt: HostRuntime) -> Result<(), Fail> {
     }
     same(&rt, MarksError::Foreign.code(), 73);
     same(&rt, MarksError::Damaged.code(), 75);
+    Ok(())
+}
+
+#[test]
+fn requests_that_are_not_kept_have_one_number(rt: HostRuntime) -> Result<(), Fail> {
+    same(&rt, NotKept::Full.code(), 45);
+    same(&rt, NotKept::Failed.code(), 45);
     Ok(())
 }

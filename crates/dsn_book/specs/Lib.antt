@@ -4,6 +4,7 @@ pub mod Held
 pub mod Index
 pub mod Keeper
 pub mod Limits
+pub mod NotKept
 pub mod OpenLine
 pub mod Step
 pub mod Table

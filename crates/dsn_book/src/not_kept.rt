@@ -1,6 +1,6 @@
 //! Why requests were not kept.
 ghost use Rattle.std.specs.Prelude.{◌≡◌};
-ghost use Rattle.dsn_text.specs.FaultCode.{not_kept_code};
+ghost use Rattle.dsn_book.specs.NotKept.{unkept_code};
 
 use dsn_text::fault_code;
 
@@ -16,7 +16,7 @@ pub enum NotKept {
 impl NotKept {
     /// The number of the fault: 45.
     pub fn code(&self) -> u32
-        ensures { result ≡ not_kept_code }
+        ensures { result ≡ unkept_code self.now }
     {
         match self {
             NotKept::Full | NotKept::Failed => fault_code::NOT_KEPT,

@@ -1,0 +1,9 @@
+-- The numbers of why requests were not kept.
+use Rattle.std.specs.Prelude.{ℕ}
+use Rattle.dsn_text.specs.FaultCode.{not_kept_code}
+use Rattle.dsn_book.specs.declared.not_kept.NotKept.{NotKept}
+use Rattle.dsn_book.specs.declared.not_kept.NotKept.TheVariants.{Full, Failed}
+
+abbrev pub unkept_code : NotKept → ℕ
+unkept_code Full = not_kept_code
+unkept_code Failed = not_kept_code

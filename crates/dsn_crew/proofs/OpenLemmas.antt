@@ -1,5 +1,5 @@
 -- Openings: a collector that has taken nothing, and the agents one after another.
-use Rattle.std.proofs.Common.{◌≡◌, ℕ, zero, suc, ◌+◌, ◌-◌, ◌^◌, ◌<◌, ◌≤◌, All, List, [], ◌∷◌, ◌++◌, length, map, false, refl, ap, sym, ◌∙◌, subst, length-append, arith}
+use Rattle.std.proofs.Common.{◌≡◌, ℕ, zero, suc, inl, ◌+◌, ◌-◌, ◌^◌, ◌<◌, ◌≤◌, All, List, [], ◌∷◌, ◌++◌, length, map, false, refl, ap, sym, ◌∙◌, subst, length-append, arith}
 use Rattle.std.specs.List.{slice_index_or}
 use Rattle.std.proofs.lemmas.List.{append-nil, map-append}
 use Rattle.std.proofs.lemmas.List.Elements.{All-nil}
@@ -39,7 +39,7 @@ new_desk keeper book requests halves began small first past taken lines few = re
       λ a d inside.
       (lines a d inside).unused
       ∙ (sym (begins.1 a (omega (arith, inside))) ∙ ap (λ (q : List Request). answers_to a (history_after (keeper.limits book) before q)) (sym taken)) in record {
-        has = λ _. subst (λ (q : List Request). keeper.has book (history_after (keeper.limits book) before q) []) (sym taken) begins.0;
+        has = inl (subst (λ (q : List Request). keeper.has book (history_after (keeper.limits book) before q) []) (sym taken) begins.0);
         sent = λ a d inside. ([], append-nil (slice_index_or halves a d).sent ∙ none a d inside);
         answered = λ _. none;
       };

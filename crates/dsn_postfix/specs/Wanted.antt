@@ -11,7 +11,7 @@ abbrev pub wants_flag : ℕ → ℕ → Bool
 wants_flag flag flags = flags == 0 || (flags / flag) % 2 == 1
 
 -- a notice of failure tells those who want that, a warning those who want to hear of delay. A notice of
--- deliveries tells all: the log has those alone of whom one was asked for
+-- deliveries tells all that its log has
 abbrev pub wants : PostfixRequest → ℕ → Bool
 wants (Append append) flags = false
 wants (Flush notice) flags = wants_flag 4 flags

@@ -40,7 +40,10 @@ mod wanted;
 pub use attribute_text::AttributeText;
 pub use decode::decode_postfix_request;
 pub use encode::encode_postfix_request;
-pub use laws::{lists_are_read_as_written, queue_files_have_one_list, written_logs_are_read_back};
+pub use laws::{
+    lists_are_read_as_written, log_files_are_read_whole, queue_files_have_one_list,
+    written_logs_are_read_back,
+};
 pub use log_entry::{DamagedEntry, LogEntry};
 pub use log_field::LogField;
 pub use log_reader::LogReader;

@@ -51,7 +51,8 @@ pub struct NoticeRequest<'a> {
     pub smtputf8: u32,
     /// The envelope sender of the message; empty where it is null.
     pub sender: AttributeText<'a>,
-    /// The envelope id of the message as it was given, in xtext; empty where there is none.
+    /// The envelope id of the message, without the xtext in which a client gives it; empty where there
+    /// is none.
     pub envelope_id: AttributeText<'a>,
     /// How much of the message the sender wants back: 1 the whole, 2 the header, 0 where that wasn't said.
     pub returns: u32,

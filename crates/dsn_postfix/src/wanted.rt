@@ -26,6 +26,7 @@ fn wants_delay(flags: u32) -> bool
 impl<'a> PostfixRequest<'a> {
     /// Whether notices of the request tell of a recipient, by the flags of its NOTIFY: 1 never,
     /// 2 success, 4 failure, 8 delay, and sums; 0 where nothing was said. An append makes no notice.
+    /// A null sender has none either, which isn't asked here.
     pub fn wants(&self, notify_flags: u32) -> bool
         ensures { result ≡ wants self.now notify_flags }
     {

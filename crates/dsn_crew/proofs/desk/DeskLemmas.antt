@@ -1,5 +1,5 @@
 -- Desks: what one more request, with its answer sent, leaves.
-use Rattle.std.proofs.Common.{◌≡◌, ◌≢◌, ℕ, zero, suc, ◌+◌, ◌<◌, ◌≤◌, ◌==◌, Bool, true, false, cond, All, List, [], ◌∷◌, ◌++◌, length, map, filter, set, refl, ap, sym, ◌∙◌, subst, eq-eqb, ne_eqb, length-append, arith}
+use Rattle.std.proofs.Common.{◌≡◌, ◌≢◌, inl, ℕ, zero, suc, ◌+◌, ◌<◌, ◌≤◌, ◌==◌, Bool, true, false, cond, All, List, [], ◌∷◌, ◌++◌, length, map, filter, set, refl, ap, sym, ◌∙◌, subst, eq-eqb, ne_eqb, length-append, arith}
 use Rattle.std.specs.Prelude.{◌↔◌, IfSome, IsTrue, Option, Some, None, is_some}
 use Rattle.std.specs.List.{slice_index_or}
 use Rattle.std.proofs.lemmas.List.{append-nil, get_or-set_same, get_or-set_other, set-get_or, length-set}
@@ -239,7 +239,7 @@ module _ {B : Type 0} (keeper : Keeper B) (desk : Desk B) (request : Request) (a
       -- the collector stands for one request more, after a history
       pub stands_on : (sent : Bool) (d : Half Answer) → IsAnswerSent sent desk.answers answer halves → keeper.has book (history keeper before desk ++ next_exchange keeper before desk request ∷ []) [] → (failed ≡ false → sent ≡ true) → StandsAfter keeper before new
       stands_on sent d is_sent book_is going_on = record {
-        has = λ _. subst (λ (t : List Exchange). keeper.has book t []) (sym history_new) book_is;
+        has = inl (subst (λ (t : List Exchange). keeper.has book t []) (sym history_new) book_is);
         sent = sent_new sent d is_sent;
         answered = λ well. answered_new d (subst (λ (it : Bool). IsAnswerSent it desk.answers answer halves) (going_on well) is_sent);
       }

@@ -1,5 +1,5 @@
 -- A request that a collector takes, has kept, and carries out: what is known at each of these steps.
-use Rattle.std.proofs.Common.{◌≡◌, ℕ, ◌+◌, ◌<◌, ◌≤◌, Bool, true, false, List, [], ◌∷◌, ◌++◌, length, take, ap, sym, ◌∙◌, subst, true≢false, arith}
+use Rattle.std.proofs.Common.{◌≡◌, ◌⊎◌, inl, inr, ℕ, ◌+◌, ◌<◌, ◌≤◌, Bool, true, false, refl, List, [], ◌∷◌, ◌++◌, length, take, ap, sym, ◌∙◌, subst, true≢false, arith}
 use Rattle.std.proofs.lemmas.List.{take_at}
 use Rattle.dsn_book.specs.declared.keeper.Keeper.{Ghosts as Keeper}
 use Rattle.std.specs.Prelude.{Option, is_some}
@@ -10,7 +10,7 @@ use Rattle.dsn_outcome.specs.History.{Exchange, answer_of, exchange_of, letter_o
 use Rattle.dsn_outcome.specs.Letter.{Letter}
 use Rattle.dsn_outcome.specs.Request.{Request}
 use Rattle.dsn_outcome.specs.declared.answer.Answer.{Answer}
-use Rattle.dsn_crew.specs.desk.Desk.{AreCounted, BeginsWith, Desk, IsAnswerSent, IsDesk, carried_out, desk_of, history, next_exchange, seen_half, taken_request}
+use Rattle.dsn_crew.specs.desk.Desk.{AreCounted, BeginsWith, Desk, IsAnswerSent, IsDesk, UnlessUnkept, carried_out, desk_of, history, next_exchange, seen_half, taken_request}
 use Rattle.dsn_crew.specs.declared.desk.stop_cause.StopCause.{StopCause}
 use Rattle.dsn_crew.proofs.desk.DeskLemmas.{IsAsked, keeps, seen_going}
 
@@ -31,6 +31,19 @@ pub took_one : (old new : Out Request) (request : Request) → (new.lane ≡ old
 took_one old new request same more = λ i. record { lane = same.0 i; first = same.1 i; past = same.2 i; taken = more i }
 
 -- ---- the collector
+
+-- one that has not failed
+pub has_going : {B : Type 0} (keeper : Keeper B) (desk : Desk B) {P : Type 0} → UnlessUnkept keeper desk P → desk.failed ≡ false → P
+has_going keeper desk (inl is) going = is
+has_going keeper desk (inr unkept) going = absurd (true≢false (sym unkept.0 ∙ going))
+
+-- another keeper has what this one has, or requests may be refused
+abbrev pub HasOrRefused : {B : Type 0} → Keeper B → B → B → B → Type 0
+HasOrRefused keeper start book new_book = ((t : List Exchange) → keeper.has book t [] → keeper.has new_book t []) ⊎ keeper.may_refuse start
+
+still_has : {B : Type 0} (keeper : Keeper B) (start book new_book : B) {t : List Exchange} → HasOrRefused keeper start book new_book → keeper.has book t [] → keeper.has new_book t [] ⊎ ((true ≡ true) × keeper.may_refuse start)
+still_has keeper start book new_book {t} (inl same) is = inl (same t is)
+still_has keeper start book new_book (inr may) is = inr (refl, may)
 
 -- a collector by its parts
 abbrev pub desk_at : {B : Type 0} → B → B → Option StopCause → ℕ → Out Request → List (Half Answer) → ℕ → Desk B
@@ -54,15 +67,15 @@ module _ {B : Type 0} (keeper : Keeper B) (start book : B) (stop : Option StopCa
 
   -- what it stands for
   pub has_here : (before : List Exchange) → BeginsWith keeper start before → keeper.has book (history keeper before (desk_of start book out lines missed (is_some stop))) []
-  has_here before begins = (desk_here.stands before begins).has going
+  has_here before begins = has_going keeper (desk_of start book out lines missed (is_some stop)) (desk_here.stands before begins).has going
 
   pub has_some : (t : List Exchange) × keeper.has book t []
   has_some = (_, has_here desk_here.began.0 desk_here.began.1)
 
   -- a collector that has failed, over another book
-  pub failed_desk : (new_book : B) (seen : Out Request) → seen ≡ out → keeper.limits new_book ≡ keeper.limits book → keeper.sealed new_book ≡ keeper.sealed book → (keeper.may_refuse new_book → keeper.may_refuse book)
+  pub failed_desk : (new_book : B) (seen : Out Request) → HasOrRefused keeper start book new_book → seen ≡ out → keeper.limits new_book ≡ keeper.limits book → keeper.sealed new_book ≡ keeper.sealed book → (keeper.may_refuse new_book → keeper.may_refuse book)
       → IsDesk keeper (desk_of start new_book seen lines missed true)
-  failed_desk new_book seen same limits sealed refuses =
+  failed_desk new_book seen tied same limits sealed refuses =
       subst (λ (o : Out Request). IsDesk keeper (desk_of start new_book o lines missed true)) (sym same)
       (record {
         first = desk_here.first;
@@ -79,7 +92,7 @@ module _ {B : Type 0} (keeper : Keeper B) (start book : B) (stop : Option StopCa
         counted = λ never. absurd (true≢false never);
         stands = λ before begins.
             let then = desk_here.stands before begins in record {
-              has = λ never. absurd (true≢false never);
+              has = still_has keeper start book new_book tied (has_here before begins);
               sent = then.sent;
               answered = λ never. absurd (true≢false never);
             };

@@ -110,12 +110,17 @@ AreAnswered halves exchanges =
     (a : ℕ) (d : Half Answer) → a < length halves
     → (slice_index_or halves a d).sent ≡ answers_to a exchanges
 
--- a collector that began with a history: unless it failed, its book stands for what it took, and awaits
--- nothing; what it sent each agent are the first of the answers which that history gives the agent, and
--- all of them unless it failed
+-- this holds of a collector, unless it has failed where requests may be refused: then one may not have
+-- been kept, and what its keeper has isn't known
+abbrev pub UnlessUnkept : {B : Type 0} → Keeper B → Desk B → Type 0 → Type 0
+UnlessUnkept keeper desk P = P ⊎ ((desk.failed ≡ true) × keeper.may_refuse desk.start)
+
+-- a collector that began with a history: its book stands for what it took, and awaits nothing, unless a
+-- request was not kept; what it sent each agent are the first of the answers which that history gives
+-- the agent, and all of them unless it failed
 pub record StandsAfter {B : Type 0} (keeper : Keeper B) (before : List Exchange)
     (desk : Desk B) : Type 0 where
-  pub has : desk.failed ≡ false → keeper.has desk.book (history keeper before desk) []
+  pub has : UnlessUnkept keeper desk (keeper.has desk.book (history keeper before desk) [])
   pub sent : (a : ℕ) (d : Half Answer) → a < length desk.answers
       → IsPrefix (slice_index_or desk.answers a d).sent (answers_to a (history keeper before desk))
   pub answered : desk.failed ≡ false → AreAnswered desk.answers (history keeper before desk)

@@ -1,5 +1,5 @@
 -- One request is a run of one.
-use Rattle.std.proofs.Common.{rules, ◌≡◌, false, refl, ap, ◌∙◌, subst, sym, true}
+use Rattle.std.proofs.Common.{rules, ◌≡◌, inl, false, refl, ap, ◌∙◌, subst, sym, true}
 use Rattle.std.specs.Prelude.{Ok, Option, is_some}
 use Rattle.dsn_outcome.specs.Letter.{Letter}
 use Rattle.dsn_crew.proofs.desk.RunLemmas.{took_fault, took_handed, took_lost, took_none}
@@ -30,7 +30,7 @@ returns-in-Err-offer-clause-run g c =
 pub invariant_of-self : goal.invariant_of-self
 invariant_of-self g c =
     let going : is_some c.self.inside.stop ≡ false = ap (λ (desk : Desk _). desk.failed) c.self.view_is ∙ c.in-Ok.ensures.failed in (
-      failed_desk g.B.Keeper c.self.inside.start.value c.self.inside.book c.self.inside.stop c.self.inside.taken c.self.inside.requests c.self.inside.lines.items c.self.inside.missed going c.self.invariant.0 c.self.inside.book c.self.inside.requests refl refl refl (λ may. may),
+      failed_desk g.B.Keeper c.self.inside.start.value c.self.inside.book c.self.inside.stop c.self.inside.taken c.self.inside.requests c.self.inside.lines.items c.self.inside.missed going c.self.invariant.0 c.self.inside.book c.self.inside.requests (inl (λ t is. is)) refl refl refl (λ may. may),
       counts_here g.B.Keeper c.self.inside.start.value c.self.inside.book c.self.inside.stop c.self.inside.taken c.self.inside.requests c.self.inside.lines.items c.self.inside.missed going c.self.inside.gone c.self.invariant.1,
       c.self.invariant.2,
       tt,
@@ -40,4 +40,4 @@ invariant_of-self g c =
 pub returns-in-Err-offer-clause-kept : goal.returns-in-Err-offer-clause-kept
 returns-in-Err-offer-clause-kept g c =
     let going : is_some c.self.inside.stop ≡ false = ap (λ (desk : Desk _). desk.failed) c.self.view_is ∙ c.in-Ok.ensures.failed in
-    failed_desk g.B.Keeper c.self.inside.start.value c.self.inside.book c.self.inside.stop c.self.inside.taken c.self.inside.requests c.self.inside.lines.items c.self.inside.missed going c.self.invariant.0 c.self.inside.book c.self.inside.requests refl refl refl (λ may. may)
+    failed_desk g.B.Keeper c.self.inside.start.value c.self.inside.book c.self.inside.stop c.self.inside.taken c.self.inside.requests c.self.inside.lines.items c.self.inside.missed going c.self.invariant.0 c.self.inside.book c.self.inside.requests (inl (λ t is. is)) refl refl refl (λ may. may)

@@ -1,5 +1,5 @@
 -- An answer that is sent is the one that the history defines, and the collector stands for one request more.
-use Rattle.std.proofs.Common.{rules, ◌≡◌, ◌+◌, ◌<◌, Bool, List, [], ◌∷◌, false, true, length, map, refl, ap, sym, ◌∙◌, subst, true≢false, arith}
+use Rattle.std.proofs.Common.{rules, ◌≡◌, inl, inr, ◌+◌, ◌<◌, Bool, List, [], ◌∷◌, false, true, length, map, refl, ap, sym, ◌∙◌, subst, true≢false, arith}
 use Rattle.std.specs.Prelude.{is_ok, is_some}
 use Rattle.dsn_lane.specs.Halves.{Half, Out}
 use Rattle.dsn_outcome.specs.declared.answer.Answer.{Answer}
@@ -14,7 +14,7 @@ pub invariant_of-self-in-Err : goal.invariant_of-self-in-Err
 invariant_of-self-in-Err g c =
     let counted = counts_here g.B.Keeper c.self.inside.start.value c.self.inside.book c.self.inside.stop c.self.inside.taken c.self.inside.requests c.self.inside.lines.items c.self.inside.missed (search rules) c.self.inside.gone c.self.invariant.1 in
     let same = took_nothing c.self.inside.requests c.take.new.self c.take.ensures.same (search rules) in (
-      failed_desk g.B.Keeper c.self.inside.start.value c.self.inside.book c.self.inside.stop c.self.inside.taken c.self.inside.requests c.self.inside.lines.items c.self.inside.missed (search rules) c.self.invariant.0 c.self.inside.book c.take.new.self same refl refl (λ may. may),
+      failed_desk g.B.Keeper c.self.inside.start.value c.self.inside.book c.self.inside.stop c.self.inside.taken c.self.inside.requests c.self.inside.lines.items c.self.inside.missed (search rules) c.self.invariant.0 c.self.inside.book c.take.new.self (inl (λ t is. is)) same refl refl (λ may. may),
       (counted.0 ∙ ap (λ (o : Out _). length o.taken) (sym same), counted.1 ∙ ap (λ (o : Out _). goodbyes o.taken) (sym same)),
       c.self.invariant.2,
       tt,
@@ -24,13 +24,13 @@ invariant_of-self-in-Err g c =
 pub returns-in-Err-clause-kept : goal.returns-in-Err-clause-kept
 returns-in-Err-clause-kept g c =
     let same = took_nothing c.self.inside.requests c.take.new.self c.take.ensures.same (search rules) in
-    failed_desk g.B.Keeper c.self.inside.start.value c.self.inside.book c.self.inside.stop c.self.inside.taken c.self.inside.requests c.self.inside.lines.items c.self.inside.missed (search rules) c.self.invariant.0 c.self.inside.book c.take.new.self same refl refl (λ may. may)
+    failed_desk g.B.Keeper c.self.inside.start.value c.self.inside.book c.self.inside.stop c.self.inside.taken c.self.inside.requests c.self.inside.lines.items c.self.inside.missed (search rules) c.self.invariant.0 c.self.inside.book c.take.new.self (inl (λ t is. is)) same refl refl (λ may. may)
 
 pub invariant_of-self-in-Err-keep : goal.invariant_of-self-in-Err-keep
 invariant_of-self-in-Err-keep g c =
     let counted = counts_here g.B.Keeper c.self.inside.start.value c.self.inside.book c.self.inside.stop c.self.inside.taken c.self.inside.requests c.self.inside.lines.items c.self.inside.missed (search rules) c.self.inside.gone c.self.invariant.1 in
     let same = took_unkept c.self.inside.taken c.self.inside.requests c.take.new.self c.in-Ok.request c.take.ensures.same counted.0 c.in-Ok.ensures.item in (
-      failed_desk g.B.Keeper c.self.inside.start.value c.self.inside.book c.self.inside.stop c.self.inside.taken c.self.inside.requests c.self.inside.lines.items c.self.inside.missed (search rules) c.self.invariant.0 c.keep.new.self _ same c.keep.ensures.limits c.keep.ensures.sealed c.keep.ensures.refuses,
+      failed_desk g.B.Keeper c.self.inside.start.value c.self.inside.book c.self.inside.stop c.self.inside.taken c.self.inside.requests c.self.inside.lines.items c.self.inside.missed (search rules) c.self.invariant.0 c.keep.new.self _ (inr (c.self.invariant.0.refuses (search rules))) same c.keep.ensures.limits c.keep.ensures.sealed c.keep.ensures.refuses,
       (counted.0 ∙ ap (λ (o : Out _). length o.taken) (sym same), counted.1 ∙ ap (λ (o : Out _). goodbyes o.taken) (sym same)),
       c.self.invariant.2,
       c.self.invariant.0.refuses (search rules),
@@ -41,7 +41,7 @@ pub returns-in-Err-keep-clause-kept : goal.returns-in-Err-keep-clause-kept
 returns-in-Err-keep-clause-kept g c =
     let counted = counts_here g.B.Keeper c.self.inside.start.value c.self.inside.book c.self.inside.stop c.self.inside.taken c.self.inside.requests c.self.inside.lines.items c.self.inside.missed (search rules) c.self.inside.gone c.self.invariant.1 in
     let same = took_unkept c.self.inside.taken c.self.inside.requests c.take.new.self c.in-Ok.request c.take.ensures.same counted.0 c.in-Ok.ensures.item in
-    failed_desk g.B.Keeper c.self.inside.start.value c.self.inside.book c.self.inside.stop c.self.inside.taken c.self.inside.requests c.self.inside.lines.items c.self.inside.missed (search rules) c.self.invariant.0 c.keep.new.self _ same c.keep.ensures.limits c.keep.ensures.sealed c.keep.ensures.refuses
+    failed_desk g.B.Keeper c.self.inside.start.value c.self.inside.book c.self.inside.stop c.self.inside.taken c.self.inside.requests c.self.inside.lines.items c.self.inside.missed (search rules) c.self.invariant.0 c.keep.new.self _ (inr (c.self.invariant.0.refuses (search rules))) same c.keep.ensures.limits c.keep.ensures.sealed c.keep.ensures.refuses
 
 pub overflow_add-self-2 : goal.overflow_add-self-2
 overflow_add-self-2 g c =
@@ -176,7 +176,7 @@ pub invariant_of-self : goal.invariant_of-self
 invariant_of-self g c =
     let counted = counts_here g.B.Keeper c.self.inside.start.value c.self.inside.book c.self.inside.stop c.self.inside.taken c.self.inside.requests c.self.inside.lines.items c.self.inside.missed (search rules) c.self.inside.gone c.self.invariant.1 in
     let most : c.self.inside.taken ≡ 4294967295 = search rules in (
-      failed_desk g.B.Keeper c.self.inside.start.value c.self.inside.book c.self.inside.stop c.self.inside.taken c.self.inside.requests c.self.inside.lines.items c.self.inside.missed (search rules) c.self.invariant.0 c.self.inside.book c.self.inside.requests refl refl refl (λ may. may),
+      failed_desk g.B.Keeper c.self.inside.start.value c.self.inside.book c.self.inside.stop c.self.inside.taken c.self.inside.requests c.self.inside.lines.items c.self.inside.missed (search rules) c.self.invariant.0 c.self.inside.book c.self.inside.requests (inl (λ t is. is)) refl refl refl (λ may. may),
       counted,
       c.self.invariant.2,
       sym counted.0 ∙ most,
@@ -185,4 +185,4 @@ invariant_of-self g c =
 
 pub returns-then-self-clause-kept : goal.returns-then-self-clause-kept
 returns-then-self-clause-kept g c =
-    failed_desk g.B.Keeper c.self.inside.start.value c.self.inside.book c.self.inside.stop c.self.inside.taken c.self.inside.requests c.self.inside.lines.items c.self.inside.missed (search rules) c.self.invariant.0 c.self.inside.book c.self.inside.requests refl refl refl (λ may. may)
+    failed_desk g.B.Keeper c.self.inside.start.value c.self.inside.book c.self.inside.stop c.self.inside.taken c.self.inside.requests c.self.inside.lines.items c.self.inside.missed (search rules) c.self.invariant.0 c.self.inside.book c.self.inside.requests (inl (λ t is. is)) refl refl refl (λ may. may)

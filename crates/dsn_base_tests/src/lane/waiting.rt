@@ -5,7 +5,7 @@ use crate::assert_same::same;
 use crate::lane::hands::{last_half, opened, put_by, shut};
 use crate::lane::item::{Item, send_many};
 use dsn_lane::LaneOut;
-use std::alloc::Global;
+use std::alloc::{AllocError, Global};
 use std::sync::Wait;
 use std::test::Fail;
 
@@ -15,18 +15,18 @@ fn take_all_waiting(
     alloc: Global,
     out: &mut LaneOut<Item>,
     most: u32,
-) -> Option<Vec<Item>>
+) -> Result<Vec<Item>, AllocError>
     ensures { (out.new.lane ≡ out.old.lane) × (out.new.first ≡ out.old.first)
         × (out.new.past ≡ out.old.past) }
 {
     let mut items = Vec::new(alloc);
     for _ in 0..most {
-        match out.take_waiting(rt) {
-            Some(item) => items.push(item).ok()?,
-            None => return Some(items),
-        }
+        let Some(item) = out.take_waiting(rt) else {
+            return Ok(items);
+        };
+        items.push(item)?;
     }
-    Some(items)
+    Ok(items)
 }
 
 /// One agent of a lane for four items sends so many; what waits then, two at most, what waits after
@@ -37,8 +37,8 @@ fn run(rt: &impl Wait, alloc: Global, sends: u32) -> Option<(Vec<Item>, Vec<Item
     if !send_many(rt, &mut half, 0, sends) {
         return None;
     }
-    let first = take_all_waiting(rt, alloc, &mut out, 2)?;
-    let rest = take_all_waiting(rt, alloc, &mut out, 5)?;
+    let first = take_all_waiting(rt, alloc, &mut out, 2).ok()?;
+    let rest = take_all_waiting(rt, alloc, &mut out, 5).ok()?;
     let mut used = Vec::new(alloc);
     put_by(&mut used, &out, half)?;
     let counts = shut(rt, used, out, 1)?;
@@ -47,16 +47,17 @@ fn run(rt: &impl Wait, alloc: Global, sends: u32) -> Option<(Vec<Item>, Vec<Item
 
 #[test]
 fn what_waits_is_taken_without_a_wait(rt: HostRuntime) -> Result<(), Fail> {
-    for (sends, first, rest) in [(0, 0, 0), (1, 1, 0), (2, 2, 0), (3, 2, 1), (4, 2, 2)] {
+    for (sends, first, rest) in [
+        (0, 0usize, 0usize),
+        (1, 1, 0),
+        (2, 2, 0),
+        (3, 2, 1),
+        (4, 2, 2),
+    ] {
         let (taken, later, counts) = run(&rt, rt.alloc(), sends).expect(&rt, "it runs");
-        same(&rt, taken.len() as u32, first);
-        same(&rt, later.len() as u32, rest);
+        same(&rt, (taken.len(), later.len()), (first, rest));
         for (number, item) in taken.iter().chain(later.iter()).enumerate() {
-            let wanted = Item {
-                agent: 0,
-                number: number as u32,
-            };
-            same(&rt, *item, wanted);
+            same(&rt, (item.agent, item.number as usize), (0, number));
         }
         same(&rt, counts, (u64::from(sends), u64::from(sends)));
     }

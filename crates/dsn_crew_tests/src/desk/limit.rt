@@ -95,7 +95,9 @@ fn two_agents<R: Threads + Wait + Sync>(
 /// The same of a crew that was just opened, with the log that stays open.
 fn limit_of_one<R: Threads + Wait + Sync>(rt: &R, alloc: Global) -> Option<(Reply, u32, u32, u32)> {
     let limits = Limits::new(8, 8, 1)?;
-    let (crew, desk) = open_crew(rt, alloc, limits, 2).ok()?;
+    let Ok((crew, desk)) = open_crew(rt, alloc, limits, 2) else {
+        return None;
+    };
     let (reply, first, second, book) = two_agents(rt, alloc, crew, desk)?;
     let open = book.open_lines(alloc).ok()?;
     let line = open.first()?;

@@ -7,5 +7,5 @@ use Rattle.dsn_crew_tests.proofs.desk.limit.limit_of_one.Goals as goal
 
 pub two_agents-requires-after_bounds : goal.two_agents-requires-after_bounds
 two_agents-requires-after_bounds g c κs within =
-    let opened : IsOpenedEmpty c.in_ok-limits.limits 2 c.in_ok-crew.crew.items c.in_ok-crew.desk = search rules in
-    opened_two book_keeper c.in_ok-crew.desk.start c.in_ok-crew.crew.items c.in_ok-crew.desk opened.opened
+    let opened : IsOpenedEmpty c.in_ok-limits.limits 2 c.in-Ok.crew.items c.in-Ok.desk = c.in-Ok.ensures.opened in
+    opened_two book_keeper c.in-Ok.desk.start c.in-Ok.crew.items c.in-Ok.desk opened.opened

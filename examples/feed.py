@@ -130,7 +130,7 @@ class Feeder:
         refused, message_id = self.refused(notice), notice.message_id()
         digest = source.taken()
         if refused is None:
-            self.state.note(record, "handed", source.at, digest, notice.digest())
+            self.state.note(record, "handed", source.at, digest, *self.known_as(notice))
         elif self.is_last_try(refused, since):
             self.leave_out(message_id, refused)
             self.state.note(record, "left", source.at, digest)
@@ -153,6 +153,10 @@ class Feeder:
             return refused
         self.handed += 1
         return None
+
+    def known_as(self, notice: Notice) -> list:
+        """What the state keeps of a notice that was handed in, so that it isn't again."""
+        return [notice.digest()] if self.given.once else []
 
     def is_last_try(self, refused: Refused, since: float) -> bool:
         """Whether a notice that was first refused then isn't tried again."""
@@ -189,7 +193,7 @@ class Feeder:
             return
         if refused is not None:
             self.leave_out(it.message_id, refused)
-        self.state.note(record, "settled", it.start, *(("left",) if refused else ("handed", notice.digest())))
+        self.state.note(record, "settled", it.start, *(("left",) if refused else ("handed", *self.known_as(notice))))
         self.finish(record)
 
     def reread(self, record: Record, it: Waiting) -> Optional[Notice]:

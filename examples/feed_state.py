@@ -87,7 +87,7 @@ def line_of_state(*words) -> bytes:
 
 class State:
     """What is known of the outboxes, in a file that is appended to and synced after each reply, or in memory alone; and,
-    where there is a file, the digests of the notices that were handed in last. `is_stopped` says whether a signal came. No
+    with --once, the digests of the notices that were handed in last. `is_stopped` says whether a signal came. No
     two feeders have one such file: it is locked. `is_behind` says that a line could not be written."""
 
     def __init__(self, path: Optional[str], is_stopped):

@@ -27,8 +27,9 @@ reply was late or lost, or the feeder was killed before it had written that down
 may post a letter again after it was killed.
 
 The last line says how many were handed in, how many were left out, how many were handed in before, and how many wait for
-the next start. The status is 0 where none was left out and each outbox was whole, 1 where one was left out or cut short or not read to its end, 2 for
-wrong arguments, 3 where nothing could be done: another feeder is at work, or a file can't be used. FEEDER.md has more.
+the next start. The status is 0 where none was left out and each outbox was whole, 1 where one was left out or cut short or
+not read to its end, 2 for wrong arguments, 3 where nothing could be done: another feeder is at work, or a file can't be
+used. FEEDER.md has more.
 """
 import argparse
 import contextlib

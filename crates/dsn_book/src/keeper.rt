@@ -21,8 +21,8 @@ pub trait Keeper {
     // The limits by which requests are answered.
     ghost limits: { Self → Limits };
 
-    // That it stands for this history, and that just these requests are kept and not carried out
-    // yet, in this order.
+    // That it stands for this history, and that these requests may be carried out next, in this
+    // order, as they are kept.
     ghost has: { Self → List Exchange → List Request → Type 0 };
 
     // No fewer letters than have their serials by it.

@@ -7,7 +7,7 @@ use dsn_text::fault_code;
 /// Why requests were not kept.
 #[derive(Clone, Copy, Debug, Drop, PartialEq, Eq)]
 pub enum NotKept {
-    /// They have no room; nothing was written.
+    /// There is no room for them, or no memory.
     Full,
     /// What was to keep them failed: which of them stand isn't known.
     Failed,

@@ -90,8 +90,8 @@ AreAgentAccounts port limits before taken agent (one ∷ ports) (line ∷ lines)
 AreAgentAccounts port limits before taken agent ports lines crew = ⊥
 
 -- what a run after a history that ended well comes to: each agent's part; nothing else was taken; the
--- book stands for the history with what was taken, and awaits nothing; and the outbox is that of these letters, in order,
--- each of them posted or unsent
+-- book stands for the history with what was taken, and awaits nothing; and the outbox is that of these
+-- letters, in order, each of them posted or unsent
 pub record IsAccountAfter {B P S W : Type 0} (keeper : Keeper B) (port : Port P S) (drain : Drain W)
     (host : List ℕ) (limits : Limits) (before : List Exchange) (letters : List Letter)
     (ports : List P) (start : W) (account : Account W B) : Type 0 where

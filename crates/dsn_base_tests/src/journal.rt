@@ -2,9 +2,11 @@
 mod compacting;
 mod crashes;
 mod files;
+mod forgetting;
 mod full_ledgers;
 mod kept_books;
 mod ledgers;
+mod marked_outboxes;
 mod marks;
 mod numbers;
 mod records;

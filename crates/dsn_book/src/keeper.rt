@@ -1,5 +1,5 @@
 //! What carries out the requests of a crew.
-ghost use Rattle.std.specs.Prelude.{◌≡◌, ◌+◌, ◌-◌, ◌^◌, ◌<◌, ◌≤◌, List, [], ◌∷◌, ◌++◌, OnOk, OnErr};
+ghost use Rattle.std.specs.Prelude.{◌≡◌, ◌+◌, ◌-◌, ◌^◌, ◌<◌, ◌≤◌, List, [], ◌∷◌, ◌++◌, OnOk, IfErr};
 ghost use Rattle.dsn_book.specs.Step.{letters_in};
 ghost use Rattle.dsn_outcome.specs.History.{Exchange, answer_of, exchange_of, letter_of};
 ghost use Rattle.dsn_outcome.specs.Request.{Request};
@@ -17,6 +17,7 @@ pub trait Keeper {
     ghost use Rattle.std.specs.Prelude.{ℕ, List};
     ghost use Rattle.dsn_outcome.specs.History.{Limits, Exchange};
     ghost use Rattle.dsn_outcome.specs.Request.{Request};
+    ghost use Rattle.dsn_book.specs.declared.not_kept.NotKept.{NotKept};
 
     // The limits by which requests are answered.
     ghost limits: { Self → Limits };
@@ -28,24 +29,24 @@ pub trait Keeper {
     // No fewer letters than have their serials by it.
     ghost sealed: { Self → ℕ };
 
-    // Whether requests may be refused, instead of being kept.
-    ghost may_refuse: { Self → Type 0 };
+    // That it may refuse to keep these requests, for this reason, and what it is after that.
+    ghost refuses: { Self → List Request → NotKept → Self → Type 0 };
 
     /// Its limits.
     fn limits(&self) -> Limits
         ensures { result ≡ limits self.now };
 
     /// Keeps requests, so that they may be carried out. It asks that it stands for some history and
-    /// that none is awaited. At an error none of them may be carried out, and it isn't known whether
-    /// some of them will be by a later run.
+    /// that none is awaited. At an error none of them may be carried out, and `refuses` says what
+    /// the keeper is then: after `Failed` it isn't known whether some of them will be by a later
+    /// run.
     fn keep(&mut self, requests: &[Request]) -> Result<(), NotKept>
         requires has { (t : List Exchange) × has self.old t [] }
         ensures has { OnOk result ((t : List Exchange) → has self.old t []
             → has self.new t requests.now) }
-        ensures refused { OnErr result (may_refuse self.old) }
+        ensures refused { IfErr result (λ why. refuses self.old requests.now why self.new) }
         ensures limits { limits self.new ≡ limits self.old }
-        ensures sealed { sealed self.new ≡ sealed self.old }
-        ensures refuses { may_refuse self.new → may_refuse self.old };
+        ensures sealed { sealed self.new ≡ sealed self.old };
 
     /// Does what the next of the kept requests asks, and answers it. It takes no memory. It asks that
     /// fewer than 18,446,744,073,709,551,615 letters were sealed.
@@ -65,8 +66,7 @@ pub trait Keeper {
         ensures has { (t : List Exchange) (rest : List Request)
             → has self.old t (request ∷ rest)
             → has self.new (t ++ exchange_of (limits self.old) t request ∷ []) rest }
-        ensures sealed { sealed self.new ≤ sealed self.old + 1 }
-        ensures refuses { may_refuse self.new → may_refuse self.old };
+        ensures sealed { sealed self.new ≤ sealed self.old + 1 };
 }
 
 /// A book keeps nothing: what it is asked may be carried out at once.
@@ -79,7 +79,7 @@ impl Keeper for Book {
 
     ghost sealed = { λ book. book.sealed };
 
-    ghost may_refuse = { λ _. ⊥ };
+    ghost refuses = { λ _ _ _ _. ⊥ };
 
     fn limits(&self) -> Limits {
         self.limits()

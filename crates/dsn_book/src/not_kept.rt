@@ -7,7 +7,9 @@ use dsn_text::fault_code;
 /// Why requests were not kept.
 #[derive(Clone, Copy, Debug, Drop, PartialEq, Eq)]
 pub enum NotKept {
-    /// There is no room for them, or no memory.
+    /// No memory was left for them, and nothing was written.
+    Memory,
+    /// There is no room for them, and nothing was written.
     Full,
     /// What was to keep them failed: which of them stand isn't known.
     Failed,
@@ -19,7 +21,7 @@ impl NotKept {
         ensures { result ≡ unkept_code self.now }
     {
         match self {
-            NotKept::Full | NotKept::Failed => fault_code::NOT_KEPT,
+            NotKept::Memory | NotKept::Full | NotKept::Failed => fault_code::NOT_KEPT,
         }
     }
 }

@@ -1,21 +1,24 @@
 -- Crews: what each agent's thread, the collector and the poster came to, put together.
 use Rattle.std.proofs.Common.{◌≡◌, ◌≢◌, ℕ, suc, ◌+◌, ◌<◌, ◌≤◌, inl, inr, Bool, true, false, All, List, [], ◌∷◌, ◌++◌, length, map, refl, ap, sym, ◌∙◌, subst, append_assoc, length-append, arith}
-use Rattle.std.specs.Prelude.{IfErr, IfOk, IfSome, Option, Some, Result, Ok, Err, is_none, not}
+use Rattle.std.specs.Prelude.{IfErr, IfOk, IfSome, Option, Some, None, Result, Ok, Err, is_none, is_some, not}
+use Rattle.std.proofs.lemmas.Bool.{false≢true}
 use Rattle.std.specs.declared.thread.PromisedHandle.{PromisedHandle}
+use Rattle.std.proofs.KnownBytes.{Appends-nil}
 use Rattle.std.specs.List.{AllZip, flat_map, slice_index_or}
 use Rattle.std.proofs.lemmas.List.{append-nil, length-map}
 use Rattle.std.proofs.lemmas.List.Elements.{All-head, All-tail}
 use Rattle.std.proofs.lemmas.List.Filters.{length-filter_both}
 use Rattle.std.proofs.lemmas.Slice.Zip.{AllZip-long}
-use Rattle.dsn_book.specs.Book.{Book}
+use Rattle.dsn_book.specs.Book.{Book, Represents}
 use Rattle.dsn_book.specs.Keeper.{book_keeper}
 use Rattle.dsn_book.specs.declared.keeper.Keeper.{Ghosts as Keeper}
+use Rattle.dsn_book.specs.declared.not_kept.NotKept.{NotKept}
 use Rattle.dsn_book.specs.Step.{letters_in}
 use Rattle.dsn_device.specs.declared.drain.Drain.{Ghosts as Drain}
 use Rattle.dsn_frame.specs.bodies.Spoken.{reply_of}
 use Rattle.dsn_lane.specs.Halves.{Half, Identity}
 use Rattle.dsn_outcome.specs.Agents.{from_agent}
-use Rattle.dsn_outcome.specs.History.{Limits, Exchange, answers_to, history_after, letters_after, sealed_letters}
+use Rattle.dsn_outcome.specs.History.{Limits, Exchange, answers_to, history_after, history_of, letters_after, sealed_letters}
 use Rattle.dsn_outcome.specs.Letter.{Letter}
 use Rattle.dsn_outcome.specs.Request.{Request, Bye}
 use Rattle.dsn_outcome.specs.declared.answer.Answer.{Answer}
@@ -25,13 +28,15 @@ use Rattle.dsn_post.specs.Posting.{IsPosted, IsUntouched}
 use Rattle.dsn_post.specs.declared.posted.Posted.{Posted}
 use Rattle.dsn_post.proofs.LetterSinkLemmas.{handed_letters}
 use Rattle.dsn_post.proofs.ParcelLemmas.{option_few}
-use Rattle.dsn_report.specs.Outgoing.{IsOutbox}
+use Rattle.dsn_report.specs.Outgoing as outgoing
+use Rattle.dsn_report.specs.Outgoing.{Delivered, IsOutbox, Outgoing}
 use Rattle.dsn_crew.specs.agents.Agent.{Agent, LaneHalves, after_reply}
 use Rattle.dsn_crew.specs.desk.Close.{IsHeard}
+use Rattle.dsn_crew.specs.Breach.{stop_cause}
 use Rattle.dsn_crew.specs.CollectorResult.{IsCollectorResult}
 use Rattle.dsn_crew.specs.Conclude.{Concludes, MayClose, account_of, fault_of, missing_cause}
-use Rattle.dsn_crew.specs.Crew.{Account, AreAgentAccounts, AreSealedAfter, CrewFault, HasAccount, HasFault, IsAccount, IsAccountAfter, IsAgentAccount, IsBrokenOff, IsCrewFault, IsFaultWith}
-use Rattle.dsn_crew.specs.desk.Desk.{BeginsWith, Desk, IsDesk, IsRun, goodbyes, history, letter_kept, missing as missing_more, places_of}
+use Rattle.dsn_crew.specs.Crew.{Account, AreAgentAccounts, AreSealedAfter, CrewFault, HasAccount, HasFault, IsAccount, IsAccountAfter, IsAgentAccount, IsBrokenOff, IsCrewFault, IsFaultWith, IsHandedBack, IsPostedBy, PostedBefore, StandsAtFault, none_posted}
+use Rattle.dsn_crew.specs.desk.Desk.{BeginsWith, Desk, IsDesk, IsNextOf, IsRun, IsStopped, Refusal, StandsOrRefused, all_gone, goodbyes, history, letter_kept, missing as missing_more, places_of}
 use Rattle.dsn_crew.specs.AgentsResult.{AreEnded, IsAgentsResult}
 use Rattle.dsn_crew.specs.desk.Open.{IsOpened, opened_agent}
 use Rattle.dsn_crew.specs.agents.Place.{place_at, place_of}
@@ -44,12 +49,15 @@ use Rattle.dsn_crew.specs.declared.collector_result.CollectorResult.TheVariants.
 use Rattle.dsn_crew.specs.declared.crew_cause.CrewCause.{CrewCause}
 use Rattle.dsn_crew.specs.declared.crew_cause.CrewCause.TheVariants as causes
 use Rattle.dsn_crew.specs.declared.desk.desk_fault.DeskFault.{DeskFault}
+use Rattle.dsn_crew.specs.declared.desk.stop_cause.StopCause.{StopCause}
+use Rattle.dsn_crew.specs.declared.desk.stop_cause.StopCause.TheVariants as stops
 use Rattle.dsn_crew.specs.declared.agents_result.AgentsResult.{AgentsResult}
 use Rattle.dsn_crew.specs.declared.agents_result.AgentsResult.TheVariants as gathered
 use Rattle.dsn_crew.specs.declared.agents.port.Port.{Ghosts as Port}
 use Rattle.dsn_crew.specs.agents.PortEnd.{PortEnd}
 use Rattle.dsn_crew.specs.declared.start_serving.Serves.{Serves}
 use Rattle.dsn_crew.proofs.agents.ServeLemmas.{numbered-length}
+use Rattle.dsn_crew.proofs.desk.CloseLemmas.{going_on}
 use Rattle.dsn_crew.proofs.StartServingLemmas.{are-served, starts-length}
 
 -- ---- one agent
@@ -162,10 +170,10 @@ run_letters keeper before old new sink after result run none no_sent =
       took.1,
     )
 
-module _ {B W : Type 0} (keeper : Keeper B) (drain : Drain W) (host : List ℕ) (start : W) (sent : List Letter) (posted : Posted W) (is : IsPosted drain host start 16 sent posted) (desk : Desk B) (kept : IsDesk keeper desk) (agents : ℕ) (lines : length desk.answers ≡ agents) where
+module _ {B W : Type 0} (keeper : Keeper B) (drain : Drain W) (from : PostedBefore W) (poster : Outgoing W) (by : IsPostedBy drain from poster) (sent : List Letter) (posted : Posted W) (is : IsPosted drain poster 16 sent posted) (desk : Desk B) (kept : IsDesk keeper desk) (agents : ℕ) (lines : length desk.answers ≡ agents) where
   -- what is left of a run in which these letters were sealed
-  abbrev broken_off : (cause : CrewCause) (held : List Letter) → length held ≤ 1 → (sealed : List Letter) → sealed ≡ sent ++ held → IsBrokenOff drain host sealed agents start (fault_of cause held desk posted)
-  broken_off cause held one sealed sealed_is = record {
+  abbrev broken_off : (cause : CrewCause) (book : B) (held : List Letter) → length held ≤ 1 → (sealed : List Letter) → sealed ≡ sent ++ held → IsBrokenOff drain from sealed agents (fault_of cause held book desk posted)
+  broken_off cause book held one sealed sealed_is = record {
     only = subst (λ (k : ℕ). All (λ (request : Request). request.agent < k) desk.requests.taken) lines kept.mine;
     numbered = kept.numbered;
     letters = is.letters;
@@ -177,41 +185,57 @@ module _ {B W : Type 0} (keeper : Keeper B) (drain : Drain W) (host : List ℕ) 
     whole = posted.whole;
     unsent = posted.unsent;
     unsent_are = refl;
-    outbox = is.outbox;
+    outbox = is.outbox from.host from.start from.first by.delivered;
+    handed_back = refl;
   }
 
-  pub failed_fault : (fault : CrewFault W) (held : Option Letter) → fault ≡ fault_of causes.Lost (letters_in held) desk posted → IsFaultWith drain host (sent ++ letters_in held) agents start fault fault.cause
-  failed_fault fault held fault_is =
-      subst (λ (it : CrewFault W). IsFaultWith drain host (sent ++ letters_in held) agents start it it.cause) (sym fault_is) (broken_off causes.Lost (letters_in held) (option_few held) (sent ++ letters_in held) refl)
+  stopped_is : (stop : StopCause) (book : B) (held : Option Letter) → IsFaultWith drain from (sent ++ letters_in held) agents (fault_of (stop_cause stop) (letters_in held) book desk posted) (stop_cause stop)
+  stopped_is (stops.Gone gone) book held = broken_off causes.Lost book (letters_in held) (option_few held) (sent ++ letters_in held) refl
+  stopped_is (stops.Refused refused) book held = broken_off causes.Lost book (letters_in held) (option_few held) (sent ++ letters_in held) refl
+  stopped_is stops.Full book held = broken_off causes.Lost book (letters_in held) (option_few held) (sent ++ letters_in held) refl
+  stopped_is (stops.Unkept why) book held = broken_off (causes.Unkept why) book (letters_in held) (option_few held) (sent ++ letters_in held) refl
 
-  pub lost_fault : (fault : CrewFault W) → fault ≡ fault_of causes.Lost [] desk posted → IsFaultWith drain host sent agents start fault fault.cause
+  pub failed_fault : (fault : CrewFault W B) (stop : StopCause) (book : B) (held : Option Letter) → fault ≡ fault_of (stop_cause stop) (letters_in held) book desk posted → IsFaultWith drain from (sent ++ letters_in held) agents fault fault.cause
+  failed_fault fault stop book held fault_is =
+      subst (λ (it : CrewFault W B). IsFaultWith drain from (sent ++ letters_in held) agents it it.cause) (sym fault_is) (stopped_is stop book held)
+
+  pub lost_fault : (fault : CrewFault W B) → fault ≡ fault_of causes.Lost [] desk.book desk posted → IsFaultWith drain from sent agents fault fault.cause
   lost_fault fault fault_is =
-      subst (λ (it : CrewFault W). IsFaultWith drain host sent agents start it it.cause) (sym fault_is) (broken_off causes.Lost [] (omega arith) sent (sym (append-nil sent)))
+      subst (λ (it : CrewFault W B). IsFaultWith drain from sent agents it it.cause) (sym fault_is) (broken_off causes.Lost desk.book [] (omega arith) sent (sym (append-nil sent)))
 
-  missing_is : (all : Bool) → posted.all ≡ all → IsFaultWith drain host sent agents start (fault_of (missing_cause all) [] desk posted) (missing_cause all)
-  missing_is true all = inr (broken_off causes.Refused [] (omega arith) sent (sym (append-nil sent)), (is.whole.0 all).1)
-  missing_is false all = broken_off causes.Lost [] (omega arith) sent (sym (append-nil sent))
+  missing_is : (all : Bool) → posted.all ≡ all → IsFaultWith drain from sent agents (fault_of (missing_cause all) [] desk.book desk posted) (missing_cause all)
+  missing_is true all = inr (broken_off causes.Refused desk.book [] (omega arith) sent (sym (append-nil sent)), (is.whole.0 all).1)
+  missing_is false all = broken_off causes.Lost desk.book [] (omega arith) sent (sym (append-nil sent))
 
-  pub missing_fault : (fault : CrewFault W) → fault ≡ fault_of (missing_cause posted.all) [] desk posted → IsFaultWith drain host sent agents start fault fault.cause
+  pub missing_fault : (fault : CrewFault W B) → fault ≡ fault_of (missing_cause posted.all) [] desk.book desk posted → IsFaultWith drain from sent agents fault fault.cause
   missing_fault fault fault_is =
-      subst (λ (it : CrewFault W). IsFaultWith drain host sent agents start it it.cause) (sym fault_is) (missing_is posted.all refl)
+      subst (λ (it : CrewFault W B). IsFaultWith drain from sent agents it it.cause) (sym fault_is) (missing_is posted.all refl)
 
--- a run that never began sealed nothing
-sealed_none : {W : Type 0} (drain : Drain W) (host : List ℕ) (limits : Limits) (before : List Exchange) (agents : ℕ) (start : W) (fault : CrewFault W) → fault.taken ≡ [] → IsFaultWith drain host [] agents start fault fault.cause → HasFault drain host limits before agents start fault
-sealed_none drain host limits before agents start fault none is = record {
+-- an outbox that is as it was is untouched
+untouched : {W : Type 0} (drain : Drain W) (start end : W) → start ≡ end → IsUntouched drain start end
+untouched drain start end same = subst (IsUntouched drain start) same (record { nothing = Appends-nil (drain.contents start); failures = refl; flushes = refl })
+
+-- a run that never began sealed nothing, and hands nothing back
+sealed_none : {B W : Type 0} (keeper : Keeper B) (drain : Drain W) (from : PostedBefore W) (limits : Limits) (before : List Exchange) (agents : ℕ) (fault : CrewFault W B) → fault.taken ≡ [] → fault.book ≡ None → IsFaultWith drain from [] agents fault fault.cause → HasFault keeper drain from limits before agents fault
+sealed_none keeper drain from limits before agents fault none nothing is = record {
   sealed = [];
   are = record { are = none_taken limits before fault.taken none ∙ sym (append-nil (sealed_letters before)) };
   is = is;
+  book = subst (λ (book : Option _). IfSome book (IsHandedBack keeper limits agents fault.taken (history_after limits before fault.taken) fault.cause)) (sym nothing) tt;
 }
 
-pub never_counted : {W : Type 0} (drain : Drain W) (host : List ℕ) (limits : Limits) (before : List Exchange) (agents : ℕ) (start : W) (fault : CrewFault W) → fault ≡ record { cause = causes.PortCount; outbox = start; unsent = []; taken = [] } → HasFault drain host limits before agents start fault
-never_counted drain host limits before agents start fault is =
-    sealed_none drain host limits before agents start fault (ap (λ (it : CrewFault _). it.taken) is) (subst (λ (it : CrewFault _). IsFaultWith drain host [] agents start it it.cause) (sym is) (refl, refl, refl))
+pub never_counted : {B W : Type 0} (keeper : Keeper B) (drain : Drain W) (from : PostedBefore W) (limits : Limits) (before : List Exchange) (agents : ℕ) (outbox : W) (fault : CrewFault W B) → from.outbox ≡ outbox → fault ≡ record { cause = causes.PortCount; outbox = outbox; unsent = []; book = None; taken = [] } → HasFault keeper drain from limits before agents fault
+never_counted keeper drain from limits before agents outbox fault same is =
+    sealed_none keeper drain from limits before agents fault (ap (λ (it : CrewFault _ _). it.taken) is) (ap (λ (it : CrewFault _ _). it.book) is) (subst (λ (it : CrewFault _ _). IsFaultWith drain from [] agents it it.cause) (sym is) (sym same, refl, refl))
 
-pub never_begun : {W : Type 0} (drain : Drain W) (host : List ℕ) (limits : Limits) (before : List Exchange) (agents : ℕ) (start outbox : W) (fault : CrewFault W) → fault ≡ record { cause = causes.Refused; outbox = outbox; unsent = []; taken = [] } → IsUntouched drain start outbox → HasFault drain host limits before agents start fault
-never_begun drain host limits before agents start outbox fault is untouched =
-    sealed_none drain host limits before agents start fault (ap (λ (it : CrewFault _). it.taken) is)
-    (subst (λ (it : CrewFault _). IsFaultWith drain host [] agents start it it.cause) (sym is) (inl (record { taken = refl; unsent = refl; outbox = untouched })))
+pub never_begun : {B W : Type 0} (keeper : Keeper B) (drain : Drain W) (from : PostedBefore W) (limits : Limits) (before : List Exchange) (agents : ℕ) (outbox : W) (fault : CrewFault W B) → from.outbox ≡ outbox → fault ≡ record { cause = causes.Refused; outbox = outbox; unsent = []; book = None; taken = [] } → HasFault keeper drain from limits before agents fault
+never_begun keeper drain from limits before agents outbox fault same is =
+    sealed_none keeper drain from limits before agents fault (ap (λ (it : CrewFault _ _). it.taken) is) (ap (λ (it : CrewFault _ _). it.book) is)
+    (subst (λ (it : CrewFault _ _). IsFaultWith drain from [] agents it it.cause) (sym is) (inl (record { taken = refl; unsent = refl; outbox = untouched drain from.outbox outbox same })))
+
+-- a poster that posted nothing
+pub nothing_posted : {W : Type 0} (drain : Drain W) (host : List ℕ) (start : W) (poster : Outgoing W) → Delivered drain host start poster [] → poster ≡ outgoing.begun host start → IsPostedBy drain (none_posted host start) poster
+nothing_posted drain host start poster delivered is = record { delivered = delivered; outbox = sym (ap (λ (out : Outgoing _). out.poster.outbox) is) }
 
 -- ---- a book alone
 
@@ -220,34 +244,89 @@ all_of_none : (history : List Exchange) (letters : List Letter) → AreSealedAft
 unfolding letters_after
 all_of_none history letters sealed = sym sealed.are
 
-pub book_account : {P S W : Type 0} (port : Port P S) (drain : Drain W) (host : List ℕ) (limits of_book : Limits) (ports : List P) (start : W) (result : Result (Account W Book) (CrewFault W)) → of_book ≡ limits → IfOk result (HasAccount book_keeper port drain host of_book [] ports start) → IfOk result (IsAccount port drain host limits ports start)
+pub book_account : {P S W : Type 0} (port : Port P S) (drain : Drain W) (host : List ℕ) (limits of_book : Limits) (ports : List P) (start : W) (result : Result (Account W Book) (CrewFault W Book)) → of_book ≡ limits → IfOk result (HasAccount book_keeper port drain (none_posted host start) of_book [] ports) → IfOk result (IsAccount port drain host limits ports start)
 book_account port drain host limits of_book ports start (Err fault) same has = tt
 book_account port drain host limits of_book ports start (Ok account) same has =
     subst (λ (l : Limits). IsAccount port drain host l ports start account) same
-    (subst (λ (letters : List Letter). IsAccountAfter book_keeper port drain host of_book [] letters ports start account) (all_of_none _ _ has.sealed) has.is)
+    (subst (λ (letters : List Letter). IsAccountAfter book_keeper port drain (none_posted host start) of_book [] letters ports account) (all_of_none _ _ has.sealed) has.is)
 
-pub book_fault : {W : Type 0} (drain : Drain W) (host : List ℕ) (limits of_book : Limits) (agents : ℕ) (start : W) (result : Result (Account W Book) (CrewFault W)) → of_book ≡ limits → IfErr result (HasFault drain host of_book [] agents start)
+pub book_fault : {W : Type 0} (drain : Drain W) (host : List ℕ) (limits of_book : Limits) (agents : ℕ) (start : W) (result : Result (Account W Book) (CrewFault W Book)) → of_book ≡ limits → IfErr result (HasFault book_keeper drain (none_posted host start) of_book [] agents)
     → IfErr result (λ fault. IsCrewFault drain host limits agents start fault fault.cause)
 book_fault drain host limits of_book agents start (Ok account) same has = tt
 book_fault drain host limits of_book agents start (Err fault) same has =
     subst (λ (l : Limits). IsCrewFault drain host l agents start fault fault.cause) same
-    (subst (λ (letters : List Letter). IsFaultWith drain host letters agents start fault fault.cause) (all_of_none _ _ has.are) has.is)
+    (subst (λ (letters : List Letter). IsFaultWith drain (none_posted host start) letters agents fault fault.cause) (all_of_none _ _ has.are) has.is)
+
+-- a book refuses nothing
+unkept_never : (limits : Limits) (agents : ℕ) (taken : List Request) (exchanges : List Exchange) (why : NotKept) (book : Option Book) → is_some book ≡ true → IfSome book (IsHandedBack book_keeper limits agents taken exchanges (causes.Unkept why)) → ⊥
+unkept_never limits agents taken exchanges why None some handed = absurd (false≢true some)
+unkept_never limits agents taken exchanges why (Some book) some handed = handed.stands.stood.2
+
+pub book_kept : {W : Type 0} (drain : Drain W) (host : List ℕ) (limits : Limits) (agents : ℕ) (start : W) (result : Result (Account W Book) (CrewFault W Book)) → IfErr result (HasFault book_keeper drain (none_posted host start) limits [] agents) → IfErr result (λ fault. (why : NotKept) → fault.cause ≢ causes.Unkept why)
+book_kept drain host limits agents start (Ok account) has = tt
+book_kept drain host limits agents start (Err fault) has = λ why same.
+    let broken : IsBrokenOff drain (none_posted host start) has.sealed agents fault = subst (IsFaultWith drain (none_posted host start) has.sealed agents fault) same has.is in
+    unkept_never limits agents fault.taken (history_after limits [] fault.taken) why fault.book broken.handed_back
+    (subst (λ (cause : CrewCause). IfSome fault.book (IsHandedBack book_keeper limits agents fault.taken (history_after limits [] fault.taken) cause)) same has.book)
+
+-- so it stands for what was taken
+stood_book : (limits : Limits) (agents : ℕ) (taken : List Request) (exchanges : List Exchange) (cause : CrewCause) (book : Book) → IsHandedBack book_keeper limits agents taken exchanges cause book → Represents book exchanges
+stood_book limits agents taken exchanges causes.Lost book handed = handed.stands
+stood_book limits agents taken exchanges causes.Refused book handed = handed.stands
+stood_book limits agents taken exchanges causes.PortCount book handed = handed.stands
+stood_book limits agents taken exchanges (causes.Unkept why) book handed = absurd handed.stands.stood.2
+
+left_book : (limits : Limits) (agents : ℕ) (taken : List Request) (exchanges : List Exchange) (cause : CrewCause) (book : Option Book) → IfSome book (IsHandedBack book_keeper limits agents taken exchanges cause) → IfSome book (λ it. (it.limits ≡ limits) × Represents it exchanges)
+left_book limits agents taken exchanges cause None handed = tt
+left_book limits agents taken exchanges cause (Some book) handed = (handed.limits_are, stood_book limits agents taken exchanges cause book handed)
+
+pub book_left : {W : Type 0} (drain : Drain W) (host : List ℕ) (limits of_book : Limits) (agents : ℕ) (start : W) (result : Result (Account W Book) (CrewFault W Book)) → of_book ≡ limits → IfErr result (HasFault book_keeper drain (none_posted host start) of_book [] agents)
+    → IfErr result (λ fault. IfSome fault.book (λ book. (book.limits ≡ limits) × Represents book (history_of limits fault.taken)))
+book_left drain host limits of_book agents start (Ok account) same has = tt
+book_left drain host limits of_book agents start (Err fault) same has =
+    subst (λ (l : Limits). IfSome fault.book (λ book. (book.limits ≡ l) × Represents book (history_of l fault.taken))) same
+    (left_book of_book agents fault.taken (history_after of_book [] fault.taken) fault.cause fault.book has.book)
 
 -- no crew that began is refused since its ports are too few or too many
 missing≢count : (all : Bool) → missing_cause all ≢ causes.PortCount
 missing≢count true same = let never : causes.Refused ≡ causes.PortCount = same in cc
 missing≢count false same = let never : causes.Lost ≡ causes.PortCount = same in cc
 
-pub no_count : {B W : Type 0} (keeper : Keeper B) (collected : CollectorResult B) (all : AgentsResult) (posted : Posted W) (result : Result (Account W B) (CrewFault W)) → Concludes keeper collected all posted result → IfErr result (λ fault. fault.cause ≢ causes.PortCount)
+stop≢count : (stop : StopCause) → stop_cause stop ≢ causes.PortCount
+stop≢count (stops.Gone gone) same = let never : causes.Lost ≡ causes.PortCount = same in cc
+stop≢count (stops.Refused refused) same = let never : causes.Lost ≡ causes.PortCount = same in cc
+stop≢count stops.Full same = let never : causes.Lost ≡ causes.PortCount = same in cc
+stop≢count (stops.Unkept why) same = let never : causes.Unkept why ≡ causes.PortCount = same in cc
+
+pub no_count : {B W : Type 0} (keeper : Keeper B) (collected : CollectorResult B) (all : AgentsResult) (posted : Posted W) (result : Result (Account W B) (CrewFault W B)) → Concludes keeper collected all posted result → IfErr result (λ fault. fault.cause ≢ causes.PortCount)
 no_count keeper collected all posted (Ok account) ends_so = tt
 no_count keeper (Whole new) (gathered.All lines crew) posted (Err fault) faulted = λ same. missing≢count false (sym (ap (λ it. it.cause) faulted.1) ∙ same)
 no_count keeper (Whole new) gathered.Missing posted (Err fault) faulted = λ same. missing≢count posted.all (sym (ap (λ it. it.cause) faulted) ∙ same)
 no_count keeper (Whole new) (gathered.Lost unheard) posted (Err fault) faulted = λ same. missing≢count false (sym (ap (λ it. it.cause) faulted) ∙ same)
-no_count keeper (Failed stop held new) all posted (Err fault) faulted = λ same. missing≢count false (sym (ap (λ it. it.cause) faulted) ∙ same)
+no_count keeper (Failed book stop held new) all posted (Err fault) faulted = λ same. stop≢count stop (sym (ap (λ it. it.cause) faulted) ∙ same)
+
+-- ---- what is handed back
+
+module _ {B : Type 0} (keeper : Keeper B) (desk : Desk B) (exchanges : List Exchange) where
+  -- where a collector has failed, for this reason
+  pub stopped_stands : (stop : StopCause) → IsStopped keeper desk stop → StandsOrRefused keeper desk.unkept exchanges desk.book → IfSome desk.unkept (λ refusal. IsNextOf (length desk.answers) desk.requests.taken refusal.request) → StandsAtFault keeper (length desk.answers) desk.requests.taken exchanges (stop_cause stop) desk.book
+  stopped_stands (stops.Gone gone) is stands next = subst (λ (u : Option Refusal). StandsOrRefused keeper u exchanges desk.book) is stands
+  stopped_stands (stops.Refused refused) is stands next = subst (λ (u : Option Refusal). StandsOrRefused keeper u exchanges desk.book) is stands
+  stopped_stands stops.Full is stands next = subst (λ (u : Option Refusal). StandsOrRefused keeper u exchanges desk.book) is.0 stands
+  stopped_stands (stops.Unkept why) is stands next = record {
+    request = is.request;
+    next = subst (λ (u : Option Refusal). IfSome u (λ refusal. IsNextOf (length desk.answers) desk.requests.taken refusal.request)) is.unkept next;
+    stood = subst (λ (u : Option Refusal). StandsOrRefused keeper u exchanges desk.book) is.unkept stands;
+  }
+
+  -- and where it has not, and an agent was not started
+  pub missing_stands : (agents : ℕ) (all : Bool) → keeper.has desk.book exchanges [] → StandsAtFault keeper agents desk.requests.taken exchanges (missing_cause all) desk.book
+  missing_stands agents true has = has
+  missing_stands agents false has = has
 
 -- ---- the whole
 
-module _ {B P S W : Type 0} (keeper : Keeper B) (port : Port P S) (drain : Drain W) (host : List ℕ) (book : B) (ports : List P) (start : W) (count : ℕ) (agents : List Agent) (desk : Desk B) (opened : IsOpened keeper book count agents desk) (count_is : count ≡ length ports) (handles : List (Option (PromisedHandle PortEnd (Serves P)))) (started : AreStarted agents ports handles) where
+module _ {B P S : Type 0} (keeper : Keeper B) (port : Port P S) (book : B) (ports : List P) (count : ℕ) (agents : List Agent) (desk : Desk B) (opened : IsOpened keeper book count agents desk) (count_is : count ≡ length ports) (handles : List (Option (PromisedHandle PortEnd (Serves P)))) (started : AreStarted agents ports handles) where
   abbrev limits : Limits
   limits = keeper.limits book
 
@@ -283,7 +362,7 @@ module _ {B P S W : Type 0} (keeper : Keeper B) (port : Port P S) (drain : Drain
       module _ (sink after : LetterSink) (fresh : sink.letters ≡ []) (before : List Exchange) where
         pub collected_lane : (collected : CollectorResult B) → IsCollectorResult keeper before begun sink after collected → after.lane ≡ sink.lane
         collected_lane (Whole new) has = (run_letters keeper before begun new sink after (Ok tt) has.0 (ap (λ (d : Desk B). d.requests.taken) begun_is ∙ opened.taken) fresh).1
-        collected_lane (Failed stop held new) has = (run_letters keeper before begun new.value sink after (Err has.0) has.1 (ap (λ (d : Desk B). d.requests.taken) begun_is ∙ opened.taken) fresh).1
+        collected_lane (Failed book stop held new) has = (run_letters keeper before begun new.value sink after (Err has.0) has.1 (ap (λ (d : Desk B). d.requests.taken) begun_is ∙ opened.taken) fresh).1
 
         pub may_close : (collected : CollectorResult B) (all : AgentsResult) → IsCollectorResult keeper before begun sink after collected → IsAgentsResult ends all → MayClose keeper collected all
         may_close (Whole new) (gathered.All lines crew) has is = (
@@ -293,19 +372,33 @@ module _ {B P S W : Type 0} (keeper : Keeper B) (port : Port P S) (drain : Drain
         )
         may_close (Whole new) gathered.Missing has is = tt
         may_close (Whole new) (gathered.Lost unheard) has is = tt
-        may_close (Failed stop held new) all has is = has.4
+        may_close (Failed book stop held new) all has is = has.4
 
         -- each request seals one letter at most
-        pub sealed_few : (collected : CollectorResult B) (all : AgentsResult) (posted : Posted W) (result : Result (Account W B) (CrewFault W)) → IsCollectorResult keeper before begun sink after collected → Concludes keeper collected all posted result → IfOk result (λ account. keeper.sealed account.book ≤ keeper.sealed book + length account.taken)
+        pub sealed_few : {W : Type 0} (collected : CollectorResult B) (all : AgentsResult) (posted : Posted W) (result : Result (Account W B) (CrewFault W B)) → IsCollectorResult keeper before begun sink after collected → Concludes keeper collected all posted result → IfOk result (λ account. keeper.sealed account.book ≤ keeper.sealed book + length account.taken)
         sealed_few collected all posted (Err fault) has ends_so = tt
         sealed_few (Whole new) (gathered.All lines crew) posted (Ok account) has closed =
-            subst (λ (it : Account W B). keeper.sealed it.book ≤ keeper.sealed book + length it.taken) (sym closed.account_is)
+            subst (λ (it : Account _ B). keeper.sealed it.book ≤ keeper.sealed book + length it.taken) (sym closed.account_is)
             (subst (λ (b : B). keeper.sealed new.book ≤ keeper.sealed b + length new.requests.taken) (has.0.start ∙ start_is) has.2.sealed)
         sealed_few (Whole new) gathered.Missing posted (Ok account) has closed = absurd closed
         sealed_few (Whole new) (gathered.Lost unheard) posted (Ok account) has closed = absurd closed
-        sealed_few (Failed stop held new) all posted (Ok account) has closed = absurd closed
+        sealed_few (Failed book stop held new) all posted (Ok account) has closed = absurd closed
 
-        module _ (posted : Posted W) (post : IsPosted drain host start 16 after.letters posted) where
+        -- what is handed back sealed no more than it took
+        few_of : {W : Type 0} (cause : CrewCause) (held : List Letter) (new : Desk B) (left : B) (posted : Posted W) (fault : CrewFault W B) → fault ≡ fault_of cause held left new posted → left ≡ new.book → new.start ≡ book → IsDesk keeper new → IfSome fault.book (λ it. keeper.sealed it ≤ keeper.sealed book + length fault.taken)
+        few_of cause held new left posted fault fault_is left_is start_was kept =
+            subst (λ (it : CrewFault _ B). IfSome it.book (λ b. keeper.sealed b ≤ keeper.sealed book + length it.taken)) (sym fault_is)
+            (subst (λ (b : B). keeper.sealed b ≤ keeper.sealed book + length new.requests.taken) (sym left_is)
+            (subst (λ (b : B). keeper.sealed new.book ≤ keeper.sealed b + length new.requests.taken) start_was kept.sealed))
+
+        pub left_few : {W : Type 0} (collected : CollectorResult B) (all : AgentsResult) (posted : Posted W) (result : Result (Account W B) (CrewFault W B)) → IsCollectorResult keeper before begun sink after collected → Concludes keeper collected all posted result → IfErr result (λ fault. IfSome fault.book (λ left. keeper.sealed left ≤ keeper.sealed book + length fault.taken))
+        left_few collected all posted (Ok account) has ends_so = tt
+        left_few (Whole new) (gathered.All lines crew) posted (Err fault) has faulted = few_of _ _ new new.book posted fault faulted.1 refl (has.0.start ∙ start_is) has.2
+        left_few (Whole new) gathered.Missing posted (Err fault) has faulted = few_of _ _ new new.book posted fault faulted refl (has.0.start ∙ start_is) has.2
+        left_few (Whole new) (gathered.Lost unheard) posted (Err fault) has faulted = few_of _ _ new new.book posted fault faulted refl (has.0.start ∙ start_is) has.2
+        left_few (Failed left stop held new) all posted (Err fault) has faulted = few_of _ _ new.value left posted fault faulted has.5 (has.1.start ∙ start_is) has.3
+
+        module _ {W : Type 0} (drain : Drain W) (from : PostedBefore W) (poster : Outgoing W) (by : IsPostedBy drain from poster) (posted : Posted W) (post : IsPosted drain poster 16 after.letters posted) where
           module _ (new : Desk B) {result : Result (Unit {0}) DeskFault} (run : IsRun keeper before TakesLetter begun new sink after result) where
             limits_are : keeper.limits new.start ≡ limits
             limits_are = ap keeper.limits (run.start ∙ start_is)
@@ -328,7 +421,7 @@ module _ {B P S W : Type 0} (keeper : Keeper B) (port : Port P S) (drain : Drain
           all_sealed new run = subst (AreSealedAfter before (history_after limits before new.requests.taken)) (append-nil after.letters) (sealed_are new run)
 
           account_at : (new : Desk B) (lines : List AgentLine) (crew : List LaneHalves) → IsRun keeper before TakesLetter begun new sink after (Ok tt) → IsDesk keeper new → AreEnded ends lines crew → posted.all ≡ true → All (IsHeard keeper before new) crew → keeper.has new.book (history keeper before new) []
-              → HasAccount keeper port drain host limits before ports start (account_of lines crew new posted)
+              → HasAccount keeper port drain from limits before ports (account_of lines crew new posted)
           account_at new lines crew run kept ended all heard has =
               let limited = limits_are new run in record {
                 letters = after.letters;
@@ -339,43 +432,69 @@ module _ {B P S W : Type 0} (keeper : Keeper B) (port : Port P S) (drain : Drain
                   book_limits = kept.limits ∙ limited;
                   book = subst (λ (l : Limits). keeper.has new.book (history_after l before new.requests.taken) []) limited has;
                   count = post.count ∙ ap length (post.whole.0 all).1;
-                  outbox = subst (IsOutbox drain host start posted.outbox posted.whole posted.unsent) (post.whole.0 all).1 post.outbox;
+                  outbox = subst (λ (ls : List Letter). IsOutbox drain from.host from.start posted.outbox posted.whole posted.unsent (from.first ++ ls)) (post.whole.0 all).1 (post.outbox from.host from.start from.first by.delivered);
                 };
               }
 
           new_begins : (new : Desk B) → IsRun keeper before TakesLetter begun new sink after (Ok tt) → BeginsWith keeper book before → BeginsWith keeper new.start before
           new_begins new run is = subst (λ (b : B). BeginsWith keeper b before) (sym (run.start ∙ start_is)) is
 
-          pub account_is : BeginsWith keeper book before → (collected : CollectorResult B) (all : AgentsResult) (result : Result (Account W B) (CrewFault W)) → IsCollectorResult keeper before begun sink after collected → IsAgentsResult ends all → Concludes keeper collected all posted result → IfOk result (HasAccount keeper port drain host limits before ports start)
+          pub account_is : BeginsWith keeper book before → (collected : CollectorResult B) (all : AgentsResult) (result : Result (Account W B) (CrewFault W B)) → IsCollectorResult keeper before begun sink after collected → IsAgentsResult ends all → Concludes keeper collected all posted result → IfOk result (HasAccount keeper port drain from limits before ports)
           account_is with_it collected all (Err fault) has is ends_so = tt
           account_is with_it (Whole new) (gathered.All lines crew) (Ok account) has is closed =
-              subst (HasAccount keeper port drain host limits before ports start) (sym closed.account_is)
+              subst (HasAccount keeper port drain from limits before ports) (sym closed.account_is)
               (account_at new lines.items crew.items has.0 has.2 is closed.all (closed.heard before (new_begins new has.0 with_it)) (subst (λ (it : Account W B). keeper.has it.book (history keeper before new) []) closed.account_is (closed.has before (new_begins new has.0 with_it))))
           account_is with_it (Whole new) gathered.Missing (Ok account) has is closed = absurd closed
           account_is with_it (Whole new) (gathered.Lost unheard) (Ok account) has is closed = absurd closed
-          account_is with_it (Failed stop held new) all (Ok account) has is closed = absurd closed
+          account_is with_it (Failed book stop held new) all (Ok account) has is closed = absurd closed
 
           -- a fault whose requests are those of the collector
-          has_fault : (new : Desk B) (fault : CrewFault W) (letters : List Letter) → fault.taken ≡ new.requests.taken → AreSealedAfter before (history_after limits before new.requests.taken) letters → IsFaultWith drain host letters (length ports) start fault fault.cause → HasFault drain host limits before (length ports) start fault
-          has_fault new fault letters taken sealed is = record {
+          has_fault : (cause : CrewCause) (held : List Letter) (new : Desk B) (left : B) (fault : CrewFault W B) (letters : List Letter) → fault ≡ fault_of cause held left new posted → AreSealedAfter before (history_after limits before new.requests.taken) letters → IsHandedBack keeper limits (length ports) new.requests.taken (history_after limits before new.requests.taken) cause left → IsFaultWith drain from letters (length ports) fault fault.cause
+              → HasFault keeper drain from limits before (length ports) fault
+          has_fault cause held new left fault letters fault_is sealed handed is = record {
             sealed = letters;
-            are = subst (λ (q : List Request). AreSealedAfter before (history_after limits before q) letters) (sym taken) sealed;
+            are = subst (λ (q : List Request). AreSealedAfter before (history_after limits before q) letters) (sym (ap (λ (it : CrewFault W B). it.taken) fault_is)) sealed;
             is = is;
+            book = subst (λ (it : CrewFault W B). IfSome it.book (IsHandedBack keeper limits (length ports) it.taken (history_after limits before it.taken) it.cause)) (sym fault_is) handed;
           }
 
-          module _ (new : Desk B) (fault : CrewFault W) (run : IsRun keeper before TakesLetter begun new sink after (Ok tt)) (kept : IsDesk keeper new) where
-            lost_at : fault ≡ fault_of causes.Lost [] new posted → HasFault drain host limits before (length ports) start fault
-            lost_at is = has_fault new fault after.letters (ap (λ it. it.taken) is) (all_sealed new run) (lost_fault keeper drain host start after.letters posted post new kept (length ports) (lines_length new run) fault is)
+          module _ (with_it : BeginsWith keeper book before) where
+            module _ (new : Desk B) (fault : CrewFault W B) (run : IsRun keeper before TakesLetter begun new sink after (Ok tt)) (gone : all_gone new ≡ true) (kept : IsDesk keeper new) where
+              left_has : keeper.has new.book (history_after limits before new.requests.taken) []
+              left_has =
+                  subst (λ (l : Limits). keeper.has new.book (history_after l before new.requests.taken) []) (limits_are new run)
+                  (subst (λ (u : Option Refusal). StandsOrRefused keeper u (history keeper before new) new.book) (kept.kept (going_on new gone)) (kept.stands before (new_begins new run with_it)).has)
 
-            missing_at : fault ≡ fault_of (missing_cause posted.all) [] new posted → HasFault drain host limits before (length ports) start fault
-            missing_at is = has_fault new fault after.letters (ap (λ it. it.taken) is) (all_sealed new run) (missing_fault keeper drain host start after.letters posted post new kept (length ports) (lines_length new run) fault is)
+              lost_at : fault ≡ fault_of causes.Lost [] new.book new posted → HasFault keeper drain from limits before (length ports) fault
+              lost_at is =
+                  has_fault causes.Lost [] new new.book fault after.letters is (all_sealed new run) (record { limits_are = kept.limits ∙ limits_are new run; stands = left_has })
+                  (lost_fault keeper drain from poster by after.letters posted post new kept (length ports) (lines_length new run) fault is)
 
-          pub fault_is : (collected : CollectorResult B) (all : AgentsResult) (result : Result (Account W B) (CrewFault W)) → IsCollectorResult keeper before begun sink after collected → Concludes keeper collected all posted result → IfErr result (HasFault drain host limits before (length ports) start)
-          fault_is collected all (Ok account) has ends_so = tt
-          fault_is (Whole new) (gathered.All lines crew) (Err fault) has faulted = lost_at new fault has.0 has.2 faulted.1
-          fault_is (Whole new) gathered.Missing (Err fault) has faulted = missing_at new fault has.0 has.2 faulted
-          fault_is (Whole new) (gathered.Lost unheard) (Err fault) has faulted = lost_at new fault has.0 has.2 faulted
-          fault_is (Failed stop held new) all (Err fault) has faulted =
-              has_fault new.value fault (after.letters ++ letters_in held) (ap (λ it. it.taken) faulted)
-              (subst (λ (ls : List Letter). AreSealedAfter before (history_after limits before new.value.requests.taken) (after.letters ++ ls)) (sym has.2) (sealed_are new.value has.1))
-              (failed_fault keeper drain host start after.letters posted post new.value has.3 (length ports) (lines_length new.value has.1) fault held faulted)
+              missing_at : fault ≡ fault_of (missing_cause posted.all) [] new.book new posted → HasFault keeper drain from limits before (length ports) fault
+              missing_at is =
+                  has_fault (missing_cause posted.all) [] new new.book fault after.letters is (all_sealed new run) (record { limits_are = kept.limits ∙ limits_are new run; stands = missing_stands keeper new _ (length ports) posted.all left_has })
+                  (missing_fault keeper drain from poster by after.letters posted post new kept (length ports) (lines_length new run) fault is)
+
+            -- the collector has failed, for this reason
+            handed_at : (stop : StopCause) (new : Desk B) (left : B) {result : Result (Unit {0}) DeskFault} → IsRun keeper before TakesLetter begun new sink after result → IsDesk keeper new → IsStopped keeper new stop → left ≡ new.book → IsHandedBack keeper limits (length ports) new.requests.taken (history_after limits before new.requests.taken) (stop_cause stop) left
+            handed_at stop new left run kept stopped left_is =
+                let limited = limits_are new run in
+                let stands = kept.stands before (subst (λ (b : B). BeginsWith keeper b before) (sym (run.start ∙ start_is)) with_it) in
+                subst (IsHandedBack keeper limits (length ports) new.requests.taken (history_after limits before new.requests.taken) (stop_cause stop)) (sym left_is)
+                (record {
+                  limits_are = kept.limits ∙ limited;
+                  stands =
+                      subst (λ (l : Limits). StandsAtFault keeper (length ports) new.requests.taken (history_after l before new.requests.taken) (stop_cause stop) new.book) limited
+                      (subst (λ (k : ℕ). StandsAtFault keeper k new.requests.taken (history keeper before new) (stop_cause stop) new.book) (lines_length new run) (stopped_stands keeper new (history keeper before new) stop stopped stands.has kept.next));
+                })
+
+            pub fault_is : (collected : CollectorResult B) (all : AgentsResult) (result : Result (Account W B) (CrewFault W B)) → IsCollectorResult keeper before begun sink after collected → Concludes keeper collected all posted result → IfErr result (HasFault keeper drain from limits before (length ports))
+            fault_is collected all (Ok account) has ends_so = tt
+            fault_is (Whole new) (gathered.All lines crew) (Err fault) has faulted = lost_at new fault has.0 has.1 has.2 faulted.1
+            fault_is (Whole new) gathered.Missing (Err fault) has faulted = missing_at new fault has.0 has.1 has.2 faulted
+            fault_is (Whole new) (gathered.Lost unheard) (Err fault) has faulted = lost_at new fault has.0 has.1 has.2 faulted
+            fault_is (Failed left stop held new) all (Err fault) has faulted =
+                has_fault (stop_cause stop) (letters_in held) new.value left fault (after.letters ++ letters_in held) faulted
+                (subst (λ (ls : List Letter). AreSealedAfter before (history_after limits before new.value.requests.taken) (after.letters ++ ls)) (sym has.2) (sealed_are new.value has.1))
+                (handed_at stop new.value left has.1 has.3 has.4 has.5)
+                (failed_fault keeper drain from poster by after.letters posted post new.value has.3 (length ports) (lines_length new.value has.1) fault stop left held faulted)

@@ -1,5 +1,5 @@
 -- Openings: a collector that has taken nothing, and the agents one after another.
-use Rattle.std.proofs.Common.{◌≡◌, ℕ, zero, suc, inl, ◌+◌, ◌-◌, ◌^◌, ◌<◌, ◌≤◌, All, List, [], ◌∷◌, ◌++◌, length, map, false, refl, ap, sym, ◌∙◌, subst, length-append, arith}
+use Rattle.std.proofs.Common.{◌≡◌, ℕ, zero, suc, ◌+◌, ◌-◌, ◌^◌, ◌<◌, ◌≤◌, All, List, [], ◌∷◌, ◌++◌, length, map, false, refl, ap, sym, ◌∙◌, subst, length-append, arith}
 use Rattle.std.specs.List.{slice_index_or}
 use Rattle.std.proofs.lemmas.List.{append-nil, map-append}
 use Rattle.std.proofs.lemmas.List.Elements.{All-nil}
@@ -32,14 +32,15 @@ new_desk keeper book requests halves began small first past taken lines few = re
   began = began;
   room = small;
   sealed = omega arith;
-  refuses = λ may. may;
+  kept = λ _. refl;
+  next = tt;
   counted = λ _ a d inside. ap length (lines a d inside).unused ∙ ap (λ (q : List Request). length (from_agent (λ (request : Request). request.agent) a q)) (sym taken);
   stands = λ before begins.
       let none : (a : ℕ) (d : Half Answer) → a < length halves → (slice_index_or halves a d).sent ≡ answers_to a (history_after (keeper.limits book) before requests.taken) =
       λ a d inside.
       (lines a d inside).unused
       ∙ (sym (begins.1 a (omega (arith, inside))) ∙ ap (λ (q : List Request). answers_to a (history_after (keeper.limits book) before q)) (sym taken)) in record {
-        has = inl (subst (λ (q : List Request). keeper.has book (history_after (keeper.limits book) before q) []) (sym taken) begins.0);
+        has = subst (λ (q : List Request). keeper.has book (history_after (keeper.limits book) before q) []) (sym taken) begins.0;
         sent = λ a d inside. ([], append-nil (slice_index_or halves a d).sent ∙ none a d inside);
         answered = λ _. none;
       };

@@ -9,14 +9,15 @@ use Rattle.dsn_crew.specs.declared.collector_result.CollectorResult.{CollectorRe
 use Rattle.dsn_crew.specs.declared.collector_result.CollectorResult.TheVariants.{Whole, Failed}
 use Rattle.dsn_crew.specs.declared.desk.desk_fault.DeskFault.{DeskFault}
 
--- the collector ran to its end, or failed, for this reason, with the letter that it held
+-- the collector ran to its end, or failed, for this reason, with the letter that it held, and gave
+-- back what carried its requests out
 abbrev pub IsCollectorResult :
     {B : Type 0} → Keeper B → List Exchange → Desk B → LetterSink → LetterSink
     → CollectorResult B → Type 0
 IsCollectorResult keeper before old sink after (Whole new) =
     IsRun keeper before TakesLetter old new sink after (Ok tt) × (all_gone new ≡ true)
     × IsDesk keeper new
-IsCollectorResult keeper before old sink after (Failed stop letter new) =
+IsCollectorResult keeper before old sink after (Failed book stop letter new) =
     (fault : DeskFault) × IsRun keeper before TakesLetter old new.value sink after (Err fault)
     × (letters_in letter ≡ letter_kept (Err fault)) × IsDesk keeper new.value
-    × IsStopped (keeper.may_refuse new.value.start) new.value.requests.taken stop
+    × IsStopped keeper new.value stop × (book ≡ new.value.book)

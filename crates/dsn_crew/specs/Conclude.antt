@@ -1,7 +1,7 @@
 -- Of private parts: how a run is concluded, from how it was collected, what came of its agents, and
 -- what was posted.
 use Rattle.std.specs.Prelude
-use Rattle.std.specs.Prelude.{◌≡◌, Bool, true, false, List, [], ◌++◌, Result, Ok, Err}
+use Rattle.std.specs.Prelude.{◌≡◌, Bool, true, false, List, [], ◌++◌, Result, Ok, Err, Some}
 use Rattle.dsn_book.specs.declared.keeper.Keeper.{Ghosts as Keeper}
 use Rattle.dsn_book.specs.Step.{letters_in}
 use Rattle.dsn_outcome.specs.History.{Exchange}
@@ -9,6 +9,7 @@ use Rattle.dsn_outcome.specs.Letter.{Letter}
 use Rattle.dsn_post.specs.declared.posted.Posted.{Posted}
 use Rattle.dsn_crew.specs.agents.Agent.{LaneHalves, IsFinished}
 use Rattle.dsn_crew.specs.desk.Close.{AreCrew, AreOf, IsHeard}
+use Rattle.dsn_crew.specs.Breach.{stop_cause}
 use Rattle.dsn_crew.specs.Crew.{Account, CrewFault}
 use Rattle.dsn_crew.specs.desk.Desk.{BeginsWith, Desk, IsStopped, all_gone, history}
 use Rattle.dsn_crew.specs.declared.agents.agent_line.AgentLine.{AgentLine}
@@ -26,8 +27,7 @@ MayClose keeper (Whole desk) (All lines agents) =
     AreCrew agents.items desk × (all_gone desk ≡ true)
 MayClose keeper (Whole desk) Missing = Unit {0}
 MayClose keeper (Whole desk) (Lost unheard) = Unit {0}
-MayClose keeper (Failed stop held desk) gathered =
-    IsStopped (keeper.may_refuse desk.value.start) desk.value.requests.taken stop
+MayClose keeper (Failed book stop held desk) gathered = IsStopped keeper desk.value stop
 
 -- what a closed crew comes to, with its outbox
 abbrev pub account_of :
@@ -43,14 +43,16 @@ account_of lines agents desk posted = record {
   halves = agents;
 }
 
--- what is left of one that isn't, with the letter that the collector held
+-- what is left of one that isn't, with the letter that the collector held, and with what carried
+-- its requests out
 abbrev pub fault_of :
-    {B W : Type 0} → CrewCause → List Letter → Desk B → Posted W → CrewFault W
-fault_of cause held desk posted =
+    {B W : Type 0} → CrewCause → List Letter → B → Desk B → Posted W → CrewFault W B
+fault_of cause held book desk posted =
     record {
       cause = cause;
       outbox = posted.outbox;
       unsent = posted.unsent ++ held;
+      book = Some book;
       taken = desk.requests.taken;
     }
 
@@ -75,17 +77,17 @@ missing_cause false = causes.Lost
 -- where all went well the crew is closed; else this is its fault
 abbrev pub Concludes :
     {B W : Type 0} → Keeper B → CollectorResult B → AgentsResult → Posted W
-    → Result (Account W B) (CrewFault W) → Type 0
+    → Result (Account W B) (CrewFault W B) → Type 0
 Concludes keeper (Whole desk) (All lines agents) posted (Ok account) =
     HasClosed keeper lines.items agents.items desk posted account
 Concludes keeper (Whole desk) (All lines agents) posted (Err fault) =
-    (posted.all ≡ false) × (fault ≡ fault_of causes.Lost [] desk posted)
+    (posted.all ≡ false) × (fault ≡ fault_of causes.Lost [] desk.book desk posted)
 Concludes keeper (Whole desk) Missing posted (Ok account) = ⊥
 Concludes keeper (Whole desk) Missing posted (Err fault) =
-    fault ≡ fault_of (missing_cause posted.all) [] desk posted
+    fault ≡ fault_of (missing_cause posted.all) [] desk.book desk posted
 Concludes keeper (Whole desk) (Lost unheard) posted (Ok account) = ⊥
 Concludes keeper (Whole desk) (Lost unheard) posted (Err fault) =
-    fault ≡ fault_of causes.Lost [] desk posted
-Concludes keeper (Failed stop held desk) gathered posted (Ok account) = ⊥
-Concludes keeper (Failed stop held desk) gathered posted (Err fault) =
-    fault ≡ fault_of causes.Lost (letters_in held) desk.value posted
+    fault ≡ fault_of causes.Lost [] desk.book desk posted
+Concludes keeper (Failed book stop held desk) gathered posted (Ok account) = ⊥
+Concludes keeper (Failed book stop held desk) gathered posted (Err fault) =
+    fault ≡ fault_of (stop_cause stop) (letters_in held) book desk.value posted

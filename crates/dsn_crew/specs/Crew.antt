@@ -1,9 +1,11 @@
 -- Crews: what a run of a whole crew comes to, and what its fault says.
-use Rattle.std.specs.Prelude.{◌≡◌, ◌≢◌, ℕ, suc, ◌+◌, ◌<◌, ◌≤◌, ◌⊎◌, Bool, false, List, [], ◌∷◌, ◌++◌, All, length, Option, Some}
+use Rattle.std.specs.Prelude.{◌≡◌, ◌≢◌, ℕ, suc, ◌+◌, ◌<◌, ◌≤◌, ◌⊎◌, Bool, false, List, [], ◌∷◌, ◌++◌, All, length, Option, Some, None, IfSome, is_some, true}
 use Rattle.std.specs.List.{flat_map}
 use Rattle.dsn_book.specs.Book.{Book}
 use Rattle.dsn_book.specs.Keeper.{book_keeper}
+use Rattle.dsn_book.specs.NotKept.{unkept_code}
 use Rattle.dsn_book.specs.declared.keeper.Keeper.{Ghosts as Keeper}
+use Rattle.dsn_book.specs.declared.not_kept.NotKept.{NotKept}
 use Rattle.dsn_device.specs.declared.drain.Drain.{Ghosts as Drain}
 use Rattle.dsn_text.specs.FaultCode.{agent_count_code, crew_refused_code, lane_lost_code}
 use Rattle.dsn_frame.specs.bodies.Spoken.{reply_of}
@@ -15,13 +17,14 @@ use Rattle.dsn_outcome.specs.Request.{Request, Bye}
 use Rattle.dsn_outcome.specs.declared.answer.Reply.TheVariants.{Gone}
 use Rattle.dsn_post.specs.LetterSink.{letters_waiting}
 use Rattle.dsn_post.specs.Posting.{IsUntouched}
-use Rattle.dsn_report.specs.Outgoing.{IsOutbox}
+use Rattle.dsn_report.specs.Outgoing.{Delivered, IsOutbox, Outgoing}
 use Rattle.dsn_crew.specs.agents.Agent.{LaneHalves}
 use Rattle.dsn_crew.specs.agents.Port.{AreOverPort, AreSessions, Conn, Given, HasGiven, Session, answers_of, bodies_of, faults_of, most_connections}
 use Rattle.dsn_crew.specs.agents.Serve.{answers_from, numbered_answer, numbered_request, requests_from}
+use Rattle.dsn_crew.specs.desk.Desk.{IsNextOf, StandsOrRefused}
 use Rattle.dsn_crew.specs.declared.agents.agent_line.AgentLine.{AgentLine}
 use Rattle.dsn_crew.specs.declared.crew_cause.CrewCause.{CrewCause}
-use Rattle.dsn_crew.specs.declared.crew_cause.CrewCause.TheVariants.{Lost, Refused, PortCount}
+use Rattle.dsn_crew.specs.declared.crew_cause.CrewCause.TheVariants.{Lost, Refused, PortCount, Unkept}
 use Rattle.dsn_crew.specs.declared.agents.port.Port.{Ghosts as Port}
 
 -- how many ports a crew has at most: as many as agents
@@ -32,6 +35,7 @@ abbrev pub crew_cause_code : CrewCause → ℕ
 crew_cause_code Lost = lane_lost_code
 crew_cause_code Refused = crew_refused_code
 crew_cause_code PortCount = agent_count_code
+crew_cause_code (Unkept why) = unkept_code why
 
 -- a run that ended well: what each agent did; how many letters were posted, and those that were
 -- not, in order; the outbox, and whether nothing failed in it; what carried the requests out, as it is
@@ -89,27 +93,46 @@ AreAgentAccounts port limits before taken agent (one ∷ ports) (line ∷ lines)
     × AreAgentAccounts port limits before taken (suc agent) ports lines crew
 AreAgentAccounts port limits before taken agent ports lines crew = ⊥
 
+-- what a run posts after: the host that notices come from; the outbox before the first letter of all;
+-- the letters that were handed on since, before the run; and the outbox as the run gets it
+pub record PostedBefore (W : Type 0) : Type 0 where
+  pub host : List ℕ
+  pub start : W
+  pub first : List Letter
+  pub outbox : W
+
+-- nothing was posted yet
+abbrev pub none_posted : {W : Type 0} → List ℕ → W → PostedBefore W
+none_posted host start = record { host = host; start = start; first = []; outbox = start }
+
+-- it is what this poster has posted
+pub record IsPostedBy {W : Type 0} (drain : Drain W) (from : PostedBefore W)
+    (poster : Outgoing W) : Type 0 where
+  pub delivered : Delivered drain from.host from.start poster from.first
+  pub outbox : from.outbox ≡ poster.poster.outbox
+
 -- what a run after a history that ended well comes to: each agent's part; nothing else was taken; the
--- book stands for the history with what was taken, and awaits nothing; and the outbox is that of these
--- letters, in order, each of them posted or unsent
+-- book stands for the history with what was taken, and awaits nothing; and the outbox is that of the
+-- letters that were posted before and of these, in order, each of these posted or unsent
 pub record IsAccountAfter {B P S W : Type 0} (keeper : Keeper B) (port : Port P S) (drain : Drain W)
-    (host : List ℕ) (limits : Limits) (before : List Exchange) (letters : List Letter)
-    (ports : List P) (start : W) (account : Account W B) : Type 0 where
+    (from : PostedBefore W) (limits : Limits) (before : List Exchange) (letters : List Letter)
+    (ports : List P) (account : Account W B) : Type 0 where
   pub agents : AreAgentAccounts port limits before account.taken 0 ports account.agents account.halves
   pub only : All (λ (request : Request). request.agent < length ports) account.taken
   pub book_limits : keeper.limits account.book ≡ limits
   pub book : keeper.has account.book (history_after limits before account.taken) []
   pub count : account.letters + length account.unsent ≡ length letters
   pub outbox :
-      IsOutbox drain host start account.outbox account.whole account.unsent letters
+      IsOutbox drain from.host from.start account.outbox account.whole account.unsent
+      (from.first ++ letters)
 
 -- and so one over a book that begins empty, whose letters are those that the history of what was taken
 -- sealed
 abbrev pub IsAccount :
     {P S W : Type 0} → Port P S → Drain W → List ℕ → Limits → List P → W → Account W Book → Type 0
 IsAccount port drain host limits ports start account =
-    IsAccountAfter book_keeper port drain host limits []
-    (sealed_letters (history_of limits account.taken)) ports start account
+    IsAccountAfter book_keeper port drain (none_posted host start) limits []
+    (sealed_letters (history_of limits account.taken)) ports account
 
 -- the letters that a history sealed after one before it
 pub record AreSealedAfter (before history : List Exchange) (letters : List Letter) : Type 0 where
@@ -117,33 +140,36 @@ pub record AreSealedAfter (before history : List Exchange) (letters : List Lette
 
 -- what a run after any history comes to: its letters are those that were sealed in it
 pub record HasAccount {B P S W : Type 0} (keeper : Keeper B) (port : Port P S) (drain : Drain W)
-    (host : List ℕ) (limits : Limits) (before : List Exchange) (ports : List P) (start : W)
+    (from : PostedBefore W) (limits : Limits) (before : List Exchange) (ports : List P)
     (account : Account W B) : Type 0 where
   pub letters : List Letter
   pub sealed : AreSealedAfter before (history_after limits before account.taken) letters
-  pub is : IsAccountAfter keeper port drain host limits before letters ports start account
+  pub is : IsAccountAfter keeper port drain from limits before letters ports account
 
--- a run that ended with a fault: its cause, the outbox, the letters that are not in it, and the
--- requests that were taken
-pub record CrewFault (W : Type 0) : Type 0 where
+-- a run that ended with a fault: its cause, the outbox, the letters that are not in it, what
+-- carried the requests out, where it is handed back, and the requests that were taken
+pub record CrewFault (W B : Type 0) : Type 0 where
   pub cause : CrewCause
   pub outbox : W
   pub unsent : List Letter
+  pub book : Option B
   pub taken : List Request
 
 -- a run that never began: nothing was taken, and nothing is written
-pub record IsUnbegun {W : Type 0} (drain : Drain W) (start : W) (fault : CrewFault W) : Type 0 where
+pub record IsUnbegun {B W : Type 0} (drain : Drain W) (start : W)
+    (fault : CrewFault W B) : Type 0 where
   pub taken : fault.taken ≡ []
   pub unsent : fault.unsent ≡ []
   pub outbox : IsUntouched drain start fault.outbox
 
 -- what is left of a run of so many agents, in which these letters were sealed, that was broken off. The
 -- requests taken are of these agents, and numbered from 0 agent by agent. The letters that came to the
--- poster are the first of those which were sealed; those that are not in the outbox are unsent, in order. At
--- most `letters_waiting` later ones waited for the poster, and are dropped. After them comes at most
--- one more, which the collector still held
-pub record IsBrokenOff {W : Type 0} (drain : Drain W) (host : List ℕ) (sealed : List Letter)
-    (agents : ℕ) (start : W) (fault : CrewFault W) : Type 0 where
+-- poster are the first of those which were sealed; those that are not in the outbox are unsent, in
+-- order, and it is theirs after the letters that were posted before. At most `letters_waiting` later
+-- ones waited for the poster, and are dropped. After them comes at most one more, which the collector
+-- still held. What carried the requests out is handed back
+pub record IsBrokenOff {B W : Type 0} (drain : Drain W) (from : PostedBefore W)
+    (sealed : List Letter) (agents : ℕ) (fault : CrewFault W B) : Type 0 where
   pub only : All (λ (request : Request). request.agent < agents) fault.taken
   pub numbered :
       (agent : ℕ)
@@ -158,30 +184,65 @@ pub record IsBrokenOff {W : Type 0} (drain : Drain W) (host : List ℕ) (sealed 
   pub whole : Bool
   pub unsent : List Letter
   pub unsent_are : fault.unsent ≡ unsent ++ held
-  pub outbox : IsOutbox drain host start fault.outbox whole unsent letters
+  pub outbox : IsOutbox drain from.host from.start fault.outbox whole unsent (from.first ++ letters)
+  pub handed_back : is_some fault.book ≡ true
 
 -- what a run for so many agents that ended with a fault comes to, where these letters were sealed. 43: there are not 1 to 16 ports,
 -- and the outbox comes back as it was. 42: it never began; or the thread of an agent could not be
--- made, and all letters came to the poster. 41: a lane was lost
+-- made, and all letters came to the poster. 41: a lane was lost. 45: a request was not kept
 abbrev pub IsFaultWith :
-    {W : Type 0} → Drain W → List ℕ → List Letter → ℕ → W → CrewFault W → CrewCause → Type 0
-IsFaultWith drain host sealed agents start fault PortCount =
-    (fault.outbox ≡ start) × (fault.unsent ≡ []) × (fault.taken ≡ [])
-IsFaultWith drain host sealed agents start fault Refused =
-    IsUnbegun drain start fault
-    ⊎ ((broken : IsBrokenOff drain host sealed agents start fault) × (broken.letters ≡ sealed))
-IsFaultWith drain host sealed agents start fault Lost =
-    IsBrokenOff drain host sealed agents start fault
+    {B W : Type 0} → Drain W → PostedBefore W → List Letter → ℕ → CrewFault W B → CrewCause → Type 0
+IsFaultWith drain from sealed agents fault PortCount =
+    (fault.outbox ≡ from.outbox) × (fault.unsent ≡ []) × (fault.taken ≡ [])
+IsFaultWith drain from sealed agents fault Refused =
+    IsUnbegun drain from.outbox fault
+    ⊎ ((broken : IsBrokenOff drain from sealed agents fault) × (broken.letters ≡ sealed))
+IsFaultWith drain from sealed agents fault Lost =
+    IsBrokenOff drain from sealed agents fault
+IsFaultWith drain from sealed agents fault (Unkept why) =
+    IsBrokenOff drain from sealed agents fault
 
 -- and so of one over a book that begins empty
 abbrev pub IsCrewFault :
-    {W : Type 0} → Drain W → List ℕ → Limits → ℕ → W → CrewFault W → CrewCause → Type 0
+    {B W : Type 0} → Drain W → List ℕ → Limits → ℕ → W → CrewFault W B → CrewCause → Type 0
 IsCrewFault drain host limits agents start fault cause =
-    IsFaultWith drain host (sealed_letters (history_of limits fault.taken)) agents start fault cause
+    IsFaultWith drain (none_posted host start) (sealed_letters (history_of limits fault.taken)) agents
+    fault cause
+
+-- what carried out these requests of so many agents refused, after this history, the next request
+-- of one of them, for this reason: it stood for the history until then, and is what it says of that
+pub record HasRefusedNext {B : Type 0} (keeper : Keeper B) (agents : ℕ) (taken : List Request)
+    (exchanges : List Exchange) (why : NotKept) (book : B) : Type 0 where
+  pub request : Request
+  pub next : IsNextOf agents taken request
+  pub stood :
+      StandsOrRefused keeper (Some (record { request = request; why = why })) exchanges book
+
+-- what carried the requests out stands for this history at a fault of this cause, and awaits
+-- nothing; or it refused a request
+abbrev pub StandsAtFault :
+    {B : Type 0} → Keeper B → ℕ → List Request → List Exchange → CrewCause → B → Type 0
+StandsAtFault keeper agents taken exchanges Lost book = keeper.has book exchanges []
+StandsAtFault keeper agents taken exchanges Refused book = keeper.has book exchanges []
+StandsAtFault keeper agents taken exchanges PortCount book = keeper.has book exchanges []
+StandsAtFault keeper agents taken exchanges (Unkept why) book =
+    HasRefusedNext keeper agents taken exchanges why book
+
+-- what is handed back at a fault: its limits are those of the run, and this is what it stands for
+pub record IsHandedBack {B : Type 0} (keeper : Keeper B) (limits : Limits) (agents : ℕ)
+    (taken : List Request) (exchanges : List Exchange) (cause : CrewCause)
+    (book : B) : Type 0 where
+  pub limits_are : keeper.limits book ≡ limits
+  pub stands : StandsAtFault keeper agents taken exchanges cause book
 
 -- and of one after any history
-pub record HasFault {W : Type 0} (drain : Drain W) (host : List ℕ) (limits : Limits)
-    (before : List Exchange) (agents : ℕ) (start : W) (fault : CrewFault W) : Type 0 where
+pub record HasFault {B W : Type 0} (keeper : Keeper B) (drain : Drain W)
+    (from : PostedBefore W) (limits : Limits) (before : List Exchange) (agents : ℕ)
+    (fault : CrewFault W B) : Type 0 where
   pub sealed : List Letter
   pub are : AreSealedAfter before (history_after limits before fault.taken) sealed
-  pub is : IsFaultWith drain host sealed agents start fault fault.cause
+  pub is : IsFaultWith drain from sealed agents fault fault.cause
+  pub book :
+      IfSome fault.book
+      (IsHandedBack keeper limits agents fault.taken (history_after limits before fault.taken)
+      fault.cause)

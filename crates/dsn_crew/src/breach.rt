@@ -7,7 +7,7 @@ use crate::crew_cause::CrewCause;
 use crate::desk::StopCause;
 use dsn_lane::LaneGone;
 
-/// What shows that a lane of the crew was lost.
+/// What shows that a lane of the crew was lost, or that a request was not kept.
 #[derive(Clone, Copy)]
 pub(crate) enum Loss {
     /// A lane reported to the poster that the collector is gone.
@@ -18,10 +18,11 @@ pub(crate) enum Loss {
     Collector(StopCause),
 }
 
-/// Why a crew's run ended with a fault, with what shows that a lane was lost where it was.
+/// Why a crew's run ended with a fault, with what shows that a lane was lost, or a request not
+/// kept, where it was so.
 #[derive(Clone, Copy)]
 pub(crate) enum Breach {
-    /// A lane was lost.
+    /// A lane was lost, or a request was not kept.
     Lost(Loss),
     /// Memory or a thread was refused.
     Refused,
@@ -35,7 +36,8 @@ impl Breach {
         ensures { result ≡ cause_of self.now }
     {
         match self {
-            Breach::Lost(_) => CrewCause::Lost,
+            Breach::Lost(Loss::Collector(stop)) => stop.cause(),
+            Breach::Lost(Loss::Poster(_) | Loss::Agent(_)) => CrewCause::Lost,
             Breach::Refused => CrewCause::Refused,
             Breach::PortCount => CrewCause::PortCount,
         }

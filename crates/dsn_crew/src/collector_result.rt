@@ -16,9 +16,10 @@ use std::sync::Wait;
 pub(crate) enum CollectorResult<B: Keeper> {
     /// All agents are gone.
     Whole(Desk<B>),
-    /// The collector has failed, and its halves are given up, so that no agent waits for them: why it
-    /// has, the letter that it still held, and the collector as it was, for contracts.
-    Failed(StopCause, Option<Letter>, Snapshot<Desk<B>>),
+    /// The collector has failed, and its halves are given up, so that no agent waits for them: what
+    /// carried its requests out, why it has failed, the letter that it still held, and the
+    /// collector as it was, for contracts.
+    Failed(B, StopCause, Option<Letter>, Snapshot<Desk<B>>),
 }
 
 impl<B: Keeper + Drop> CollectorResult<B> {
@@ -30,11 +31,10 @@ impl<B: Keeper + Drop> CollectorResult<B> {
         let mut desk = desk;
         match desk.run(rt, sink) {
             Ok(()) => CollectorResult::Whole(desk),
-            Err(fault) => CollectorResult::Failed(
-                desk.stopped(),
-                fault.into_letter(),
-                Snapshot::of(&desk),
-            ),
+            Err(fault) => {
+                let (stop, collector) = (desk.stopped(), Snapshot::of(&desk));
+                CollectorResult::Failed(desk.into_book(), stop, fault.into_letter(), collector)
+            }
         }
     }
 }

@@ -34,9 +34,9 @@ pub(crate) fn conclude<W, B: Keeper + Drop>(
     } = posted;
     let desk = match collected {
         CollectorResult::Whole(desk) => desk,
-        CollectorResult::Failed(stop, held, desk) => {
+        CollectorResult::Failed(book, stop, held, desk) => {
             let breach = Breach::Lost(Loss::Collector(stop));
-            return Err(CrewFault::broken_off(breach, outbox, unsent, held, desk));
+            return Err(CrewFault::broken_off(breach, outbox, unsent, held, book, desk));
         }
     };
     let breach = match lost {
@@ -50,5 +50,6 @@ pub(crate) fn conclude<W, B: Keeper + Drop>(
             AgentsResult::Lost(unheard) => Breach::Lost(Loss::Agent(unheard)),
         },
     };
-    Err(CrewFault::broken_off(breach, outbox, unsent, None, Snapshot::of(&desk)))
+    let collector = Snapshot::of(&desk);
+    Err(CrewFault::broken_off(breach, outbox, unsent, None, desk.into_book(), collector))
 }

@@ -2,6 +2,7 @@
 ghost use Rattle.std.specs.Prelude.{◌≡◌};
 ghost use Rattle.dsn_crew.specs.Crew.{crew_cause_code};
 
+use dsn_book::NotKept;
 use dsn_text::fault_code;
 use thiserror::Error;
 
@@ -18,10 +19,13 @@ pub enum CrewCause {
     /// There are not 1 to 16 ports.
     #[error("a crew has 1 to 16 ports")]
     PortCount,
+    /// A request was not kept, for this reason. It was neither carried out nor answered.
+    #[error("a request was not kept")]
+    Unkept(NotKept),
 }
 
 impl CrewCause {
-    /// The number of the fault: 41, 42 or 43.
+    /// The number of the fault: 41, 42, 43 or 45.
     pub fn code(&self) -> u32
         ensures { result ≡ crew_cause_code self.now }
     {
@@ -29,6 +33,7 @@ impl CrewCause {
             CrewCause::Lost => fault_code::LANE_LOST,
             CrewCause::Refused => fault_code::CREW_REFUSED,
             CrewCause::PortCount => fault_code::AGENT_COUNT,
+            CrewCause::Unkept(why) => why.code(),
         }
     }
 }

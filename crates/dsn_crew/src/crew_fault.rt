@@ -1,5 +1,5 @@
 //! What is left of a crew whose run ended with a fault.
-ghost use Rattle.std.specs.Prelude.{◌≡◌, [], ◌∷◌, ◌++◌};
+ghost use Rattle.std.specs.Prelude.{◌≡◌, [], ◌∷◌, ◌++◌, None, Some};
 ghost use Rattle.dsn_book.specs.Step.{letters_in};
 ghost use Rattle.dsn_crew.specs.Breach.{cause_of, IsShown};
 ghost use Rattle.dsn_crew.specs.Crew.{crew_cause_code};
@@ -12,8 +12,9 @@ use dsn_outcome::{Letter, Letters};
 use std::marker::Model;
 use std::snapshot::Snapshot;
 
-/// A crew's run that ended with a fault. It says that a lane was lost only with what shows it.
-/// Contracts see, beside its fields, the requests that the collector took; that takes no bytes.
+/// A crew's run that ended with a fault. It says that a lane was lost, or that a request was not
+/// kept, only with what shows it. Contracts see, beside its fields, the requests that the collector
+/// took; that takes no bytes.
 #[derive(Drop)]
 pub struct CrewFault<W, B: Keeper = Book> {
     /// Why.
@@ -23,8 +24,11 @@ pub struct CrewFault<W, B: Keeper = Book> {
     /// The letters that came to the poster and could not be written, in order, and then the one
     /// that the collector still held.
     pub unsent: Letters,
+    /// What carried the requests out, with the logs that are still open; none where the run never
+    /// began.
+    pub book: Option<B>,
     desk: Option<Snapshot<Desk<B>>>,
-    /// Why, with what shows that a lane was lost where it was.
+    /// Why, with what shows that a lane was lost, or a request not kept, where it was so.
     breach: Breach,
 }
 
@@ -32,23 +36,24 @@ impl<W, B: Keeper> Model for CrewFault<W, B> {
     ghost use Rattle.std.specs.Prelude.{◌≡◌};
     ghost use Rattle.dsn_crew.specs.Breach.{cause_of, IsShown};
     ghost use Rattle.dsn_crew.specs.Crew.{CrewFault};
-    ghost use Rattle.dsn_crew.specs.TakenBy.{refused_by, taken_by};
+    ghost use Rattle.dsn_crew.specs.TakenBy.{taken_by};
 
-    ghost Value = { CrewFault W };
+    ghost Value = { CrewFault W B };
 
     ghost view = { λ f. record {
       cause = f.cause;
       outbox = f.outbox;
       unsent = f.unsent;
+      book = f.book;
       taken = taken_by f.desk;
     } };
 
     ghost invariant = { λ f. (f.cause ≡ cause_of f.breach)
-        × IsShown (refused_by B.Keeper f.desk) (taken_by f.desk) f.breach };
+        × IsShown B.Keeper f.desk f.breach };
 }
 
 impl<W, B: Keeper> CrewFault<W, B> {
-    /// The number of the fault: 41, 42 or 43.
+    /// The number of the fault: 41, 42, 43 or 45.
     pub fn code(&self) -> u32
         ensures { result ≡ crew_cause_code self.now.cause }
     {
@@ -57,11 +62,12 @@ impl<W, B: Keeper> CrewFault<W, B> {
 
     /// The fault of a run that never began.
     pub(crate) fn unbegun(breach: Breach, outbox: W) -> CrewFault<W, B>
-        requires shown { IsShown ⊥ [] breach }
+        requires shown { IsShown B.Keeper None breach }
         ensures { result ≡ record {
           cause = cause_of breach;
           outbox = outbox;
           unsent = [];
+          book = None;
           taken = [];
         } }
     {
@@ -69,25 +75,28 @@ impl<W, B: Keeper> CrewFault<W, B> {
             cause: breach.cause(),
             outbox,
             unsent: Letters::new(),
+            book: None,
             desk: None,
             breach,
         }
     }
 
-    /// The fault of a run that was broken off, with the collector as it was then, and with the
-    /// letter that the collector still held.
+    /// The fault of a run that was broken off, with what carried its requests out, the collector as
+    /// it was then, and the letter that the collector still held.
     pub(crate) fn broken_off(
         breach: Breach,
         outbox: W,
         unsent: Letters,
         held: Option<Letter>,
+        book: B,
         desk: Snapshot<Desk<B>>,
     ) -> CrewFault<W, B>
-        requires shown { IsShown (B.may_refuse desk.value.start) desk.value.requests.taken breach }
+        requires shown { IsShown B.Keeper (Some desk) breach }
         ensures { result ≡ record {
           cause = cause_of breach;
           outbox = outbox;
           unsent = unsent ++ letters_in held;
+          book = Some book;
           taken = desk.value.requests.taken;
         } }
     {
@@ -99,6 +108,7 @@ impl<W, B: Keeper> CrewFault<W, B> {
             cause: breach.cause(),
             outbox,
             unsent,
+            book: Some(book),
             desk: Some(desk),
             breach,
         }

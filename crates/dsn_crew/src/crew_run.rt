@@ -1,8 +1,9 @@
 //! A whole crew, from its first thread to its last.
-ghost use Rattle.std.specs.Prelude.{◌≡◌, ◌≢◌, ◌+◌, ◌≤◌, ◌<◌, ◌^◌, ◌↔◌, ◌⊎◌, List, [], All, length, IfErr, IfOk};
+ghost use Rattle.std.specs.Prelude.{◌≡◌, ◌≢◌, ◌+◌, ◌≤◌, ◌<◌, ◌^◌, ◌↔◌, ◌⊎◌, List, [], All, length, IfErr, IfOk, IfSome};
 ghost use Rattle.dsn_book.specs.Book.{Represents};
-ghost use Rattle.dsn_outcome.specs.History.{Exchange};
-ghost use Rattle.dsn_crew.specs.Crew.{HasAccount, HasFault, IsAccount, IsCrewFault, most_ports};
+ghost use Rattle.dsn_book.specs.declared.not_kept.NotKept.{NotKept};
+ghost use Rattle.dsn_outcome.specs.History.{Exchange, history_of};
+ghost use Rattle.dsn_crew.specs.Crew.{HasAccount, HasFault, IsAccount, IsCrewFault, IsPostedBy, PostedBefore, most_ports};
 ghost use Rattle.dsn_crew.specs.desk.Desk.{BeginsWith};
 
 use crate::agent_memory::AgentMemory;
@@ -19,7 +20,7 @@ use crate::start_serving::{count_missing, join_all, start_all};
 use dsn_book::{Book, Keeper, Limits};
 use dsn_device::Drain;
 use dsn_post::{end_posting, start_posting};
-use dsn_report::Site;
+use dsn_report::{Outgoing, Site};
 use std::alloc::Global;
 use std::sync::Wait;
 use std::thread;
@@ -62,9 +63,12 @@ pub fn run_crew<
     ensures refused { IfErr result
         (λ fault. (fault.cause ≡ CrewCause.PortCount)
         ↔ ((length ports.items ≡ 0) ⊎ (most_ports < length ports.items))) }
+    ensures kept { IfErr result (λ fault. (why : NotKept) → fault.cause ≢ CrewCause.Unkept why) }
+    ensures book { IfErr result (λ fault. IfSome fault.book
+        (λ book. (book.limits ≡ limits) × Represents book (history_of limits fault.taken))) }
 {
     match empty_book(alloc, limits, ports.len()) {
-        Ok(book) => run_crew_over(rt, alloc, site, book, ports, outbox, gate),
+        Ok(book) => run_crew_over(rt, alloc, book, ports, Outgoing::new(site, outbox), gate),
         Err(breach) => Err(CrewFault::unbegun(breach, outbox)),
     }
 }
@@ -87,11 +91,14 @@ fn empty_book(alloc: Global, limits: Limits, ports: usize) -> Result<Book, Breac
     }
 }
 
-/// Runs a crew as [`run_crew`] does, over what keeps its requests and carries them out.
+/// Runs a crew as [`run_crew`] does, over what keeps its requests and carries them out. Its notices
+/// come after those that were posted before.
 ///
-/// Beside what it says there, `Lost` (41) comes where a request was not kept; neither that request
-/// nor a later one is carried out or answered then. It asks that fewer than 2^63 letters were sealed
-/// before, and that there is a history to begin with, after which no request is awaited.
+/// Beside what it says there, `Unkept` (45) comes where a request was not kept; neither that
+/// request nor a later one is carried out or answered then. At a fault of a run that began, what
+/// carried the requests out is handed back. It asks that fewer than 2^63 letters were sealed
+/// before, that there is a history to begin with, after which no request is awaited, and that no
+/// letter is unsent.
 pub fn run_crew_over<
     R: Threads + Wait + Sync,
     B: Keeper + Drop,
@@ -101,30 +108,34 @@ pub fn run_crew_over<
 >(
     rt: &R,
     alloc: Global,
-    site: Site,
     book: B,
     ports: Vec<P>,
-    outbox: W,
+    outgoing: Outgoing<W>,
     gate: &G,
 ) -> Result<Account<W, B>, CrewFault<W, B>>
     requires asked { All P.may_be_asked ports.items }
     requires few { B.sealed book < 2 ^ 63 }
     requires begins { (before : List Exchange) × BeginsWith B.Keeper book before }
-    ensures account { (before : List Exchange) → BeginsWith B.Keeper book before → IfOk result
-        (HasAccount B.Keeper P.Port W.Drain site (B.limits book) before ports.items outbox) }
+    requires all_sent { outgoing.unsent ≡ [] }
+    ensures account { (from : PostedBefore W) → IsPostedBy W.Drain from outgoing
+        → (before : List Exchange) → BeginsWith B.Keeper book before → IfOk result
+        (HasAccount B.Keeper P.Port W.Drain from (B.limits book) before ports.items) }
     ensures sealed { IfOk result
         (λ account. B.sealed account.book ≤ B.sealed book + length account.taken) }
     ensures count { IfOk result
         (λ _. (1 ≤ length ports.items) × (length ports.items ≤ most_ports)) }
-    ensures fault { (before : List Exchange) → BeginsWith B.Keeper book before → IfErr result
-        (HasFault W.Drain site (B.limits book) before (length ports.items) outbox) }
+    ensures fault { (from : PostedBefore W) → IsPostedBy W.Drain from outgoing
+        → (before : List Exchange) → BeginsWith B.Keeper book before → IfErr result
+        (HasFault B.Keeper W.Drain from (B.limits book) before (length ports.items)) }
+    ensures left { IfErr result (λ fault. IfSome fault.book
+        (λ left. B.sealed left ≤ B.sealed book + length fault.taken)) }
     ensures refused { IfErr result
         (λ fault. (fault.cause ≡ CrewCause.PortCount)
         ↔ ((length ports.items ≡ 0) ⊎ (most_ports < length ports.items))) }
 {
     let agents = ports.len();
     if agents == 0 || agents > MOST_PORTS {
-        return Err(CrewFault::unbegun(Breach::PortCount, outbox));
+        return Err(CrewFault::unbegun(Breach::PortCount, outgoing.into_outbox()));
     }
     thread::scope(
         thread::scope_env(),
@@ -132,8 +143,8 @@ pub fn run_crew_over<
         move |scope| -> Result<Account<W, B>, CrewFault<W, B>>
             requires { (1 ≤ length ports.items) × (length ports.items ≤ most_ports)
                 × All P.may_be_asked ports.items × (B.sealed book < 2 ^ 63)
-                × ((before : List Exchange) × BeginsWith B.Keeper book before) }
-        { run_in(scope, rt, alloc, site, book, ports, outbox, gate) },
+                × (outgoing.unsent ≡ []) × ((before : List Exchange) × BeginsWith B.Keeper book before) }
+        { run_in(scope, rt, alloc, book, ports, outgoing, gate) },
     )
 }
 
@@ -150,26 +161,30 @@ fn run_in<
     scope: &Scope<'s, E>,
     rt: &'s R,
     alloc: Global,
-    site: Site,
     book: B,
     ports: Vec<P>,
-    outbox: W,
+    outgoing: Outgoing<W>,
     gate: &'s G,
 ) -> Result<Account<W, B>, CrewFault<W, B>>
     requires few { (1 ≤ length ports.items) × (length ports.items ≤ most_ports) }
     requires asked { All P.may_be_asked ports.items }
     requires room { B.sealed book < 2 ^ 63 }
     requires begins { (before : List Exchange) × BeginsWith B.Keeper book before }
-    ensures account { (before : List Exchange) → BeginsWith B.Keeper book before → IfOk result
-        (HasAccount B.Keeper P.Port W.Drain site (B.limits book) before ports.items outbox) }
+    requires all_sent { outgoing.unsent ≡ [] }
+    ensures account { (from : PostedBefore W) → IsPostedBy W.Drain from outgoing
+        → (before : List Exchange) → BeginsWith B.Keeper book before → IfOk result
+        (HasAccount B.Keeper P.Port W.Drain from (B.limits book) before ports.items) }
     ensures sealed { IfOk result
         (λ account. B.sealed account.book ≤ B.sealed book + length account.taken) }
-    ensures fault { (before : List Exchange) → BeginsWith B.Keeper book before → IfErr result
-        (HasFault W.Drain site (B.limits book) before (length ports.items) outbox) }
+    ensures fault { (from : PostedBefore W) → IsPostedBy W.Drain from outgoing
+        → (before : List Exchange) → BeginsWith B.Keeper book before → IfErr result
+        (HasFault B.Keeper W.Drain from (B.limits book) before (length ports.items)) }
+    ensures left { IfErr result (λ fault. IfSome fault.book
+        (λ left. B.sealed left ≤ B.sealed book + length fault.taken)) }
     ensures counted { IfErr result (λ fault. fault.cause ≢ CrewCause.PortCount) }
 {
     let Ok(room) = CrewMemory::take(rt, alloc, book, ports.len() as u32) else {
-        return Err(CrewFault::unbegun(Breach::Refused, outbox));
+        return Err(CrewFault::unbegun(Breach::Refused, outgoing.into_outbox()));
     };
     let CrewMemory {
         agents,
@@ -178,7 +193,7 @@ fn run_in<
         source,
         slots,
     } = room;
-    let (mut sink, poster) = match start_posting(scope, rt, site, outbox, sink, source) {
+    let (mut sink, poster) = match start_posting(scope, rt, outgoing, sink, source) {
         Ok(started) => started,
         Err(outbox) => return Err(CrewFault::unbegun(Breach::Refused, outbox)),
     };

@@ -2,6 +2,7 @@
 mod frames;
 mod heard;
 mod hold;
+mod keepers;
 mod memory_port;
 mod outbox;
 mod outbox_text;

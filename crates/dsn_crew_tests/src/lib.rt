@@ -8,3 +8,5 @@ mod assert_same;
 mod crew;
 #[cfg(test)]
 mod desk;
+#[cfg(test)]
+mod refusing;

@@ -1,5 +1,5 @@
 -- Counts over several calls.
-use Rattle.std.proofs.Common.{◌≡◌, ℕ, Bool, false, refl, ap, ◌∙◌}
+use Rattle.std.proofs.Common.{ℕ, Bool, false, refl, ap, ◌∙◌}
 use Rattle.dsn_device.specs.Counts.{Counts}
 use Rattle.dsn_device.specs.Failures.{counted}
 

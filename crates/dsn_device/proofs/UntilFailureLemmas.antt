@@ -1,12 +1,13 @@
 -- Texts that were written one after another until a drain's first failure: what became of them is what became of the one
 -- text that they are together.
 use Rattle.std.proofs.Common.{◌≡◌, ℕ, Bool, true, false, List, [], ◌++◌, Option, refl, sym, ap, subst, ◌∙◌}
-use Rattle.std.specs.Prelude.{not}
+use Rattle.std.specs.Prelude.{not, None, Some}
 use Rattle.std.specs.Io.KnownBytes.{Appends, Keeps}
 use Rattle.std.proofs.KnownBytes.{Appends-nil, Appends-trans, Appends-kept, Keeps-refl, Keeps-trans}
 use Rattle.dsn_device.specs.Failures.{counted}
 use Rattle.dsn_device.specs.Transfer.{AppendsFront}
-use Rattle.dsn_device.specs.UntilFailure.{Sent, counts_failure, WritesUntilFailure, FlushesUntilFailure, Lost, in_text, at_flush, WrittenAndFlushed}
+use Rattle.dsn_device.specs.Marking.{marked_by}
+use Rattle.dsn_device.specs.UntilFailure.{Sent, counts_failure, WritesUntilFailure, FlushesUntilFailure, MarksUntilFailure, Lost, in_text, at_flush, WrittenAndFlushed, Unmarked, unflushed, at_mark, WrittenAndMarked}
 use Rattle.dsn_device.specs.declared.drain.Drain.{Ghosts as Drain}
 use Rattle.dsn_device.proofs.TransferLemmas.{Appends-part, AppendsFront-all, AppendsFront-none, AppendsFront-part, AppendsPart-longer, AppendsPart-kept}
 
@@ -50,6 +51,7 @@ module _ {W : Type 0} {drain : Drain W} where
     idle = λ before. (before, refl);
     count = counts-none failed (drain.failures w);
     no_flush = refl;
+    marked = refl;
     surely = λ h. h;
     stays_steady = λ h. (h, refl);
   }
@@ -60,6 +62,7 @@ module _ {W : Type 0} {drain : Drain W} where
     idle = λ before. let first = p.idle before in let second = q.idle first.0 in (second.0, second.1 ∙ first.1);
     count = counts-then a b c (drain.contents x) (drain.contents y) (drain.contents z) s t (drain.failures x) (drain.failures y) (drain.failures z) p.sent q.sent p.count q.count;
     no_flush = q.no_flush ∙ p.no_flush;
+    marked = q.marked ∙ p.marked;
     surely = λ h. q.surely (p.surely h);
     stays_steady = λ h. let first = p.stays_steady h in let second = q.stays_steady first.0 in (second.0, second.1 ∙ first.1);
   }
@@ -127,3 +130,61 @@ module _ {W : Type 0} {drain : Drain W} where
   written-flushed {a} {b} {c} {x} {y} {z} {text} p q =
       ends drain a b c x y z text p.sent p.no_flush (λ is. (p.idle is).1) q.kept q.once (λ is. (q.idle is).1) (λ is. (q.idle is).0) q.passed_on
       (λ h. q.surely (p.surely h))
+
+-- ---- a text, a flush, and then a mark
+
+unmarked : (serial : ℕ) (count : Option ℕ) → marked_by false serial count ≡ count
+unmarked serial None = refl
+unmarked serial (Some n) = refl
+
+module _ {W : Type 0} (drain : Drain W) where
+  marks : (a b c : Bool) (x y z : W) (text : List ℕ) (serial : ℕ)
+      → WrittenAndFlushed drain a b x y text → drain.marked y ≡ drain.marked x
+      → MarksUntilFailure drain b c y z serial
+      → WrittenAndMarked drain a c x z text serial
+  marks false false false x y z text serial made same q = record {
+    flushed = record {
+      taken = Appends-kept _ _ _ text made.taken q.kept;
+      once = q.no_flush ∙ made.once;
+      passed_on = q.unflushed ∙ made.passed_on;
+      surely = λ h. (q.surely (made.surely h)).0;
+    };
+    marked = rw same at q.marked;
+  }
+  marks false false true x y z text serial made same q =
+      at_mark (Appends-kept _ _ _ text made.taken q.kept) (q.no_flush ∙ made.once)
+      (q.marked ∙ unmarked serial (drain.marked y) ∙ same)
+      (λ none. never (sym (q.unmarking (same ∙ none))))
+      (λ h. never (sym (q.surely (made.surely h)).1))
+  marks false true false x y z text serial made same q = absurd (never (q.idle refl).0)
+  marks false true true x y z text serial made same q =
+      unflushed (rw (sym (q.idle refl).1) at made) (ap drain.marked (q.idle refl).1 ∙ same)
+  marks true false c x y z text serial made same q = absurd made
+  marks true true false x y z text serial made same q = absurd (never (q.idle refl).0)
+  marks true true true x y z text serial made same q = (q.idle refl).1 ∙ made
+
+  -- a text that was written, flushed and marked, where nothing failed
+  pub marked-whole : (a b : Bool) (old new : W) (text : List ℕ) (serial : ℕ) → b ≡ false → WrittenAndMarked drain a b old new text serial
+      → Appends (drain.contents old) (drain.contents new) text
+  marked-whole false false old new text serial is p = p.flushed.taken
+  marked-whole true false old new text serial is p = absurd p
+  marked-whole a true old new text serial is p = absurd (never (sym is))
+
+  unmarked-front : (old new : W) (text : List ℕ) → Unmarked drain old new text → AppendsFront (drain.contents old) (drain.contents new) text
+  unmarked-front old new text (unflushed lost same) = lost-front drain old new text lost
+  unmarked-front old new text (at_mark all once same some unsure) = AppendsFront-all _ _ text all
+
+  -- and whatever failed
+  pub marked-front : (a b : Bool) (old new : W) (text : List ℕ) (serial : ℕ) → WrittenAndMarked drain a b old new text serial
+      → AppendsFront (drain.contents old) (drain.contents new) text
+  marked-front false false old new text serial p = AppendsFront-all _ _ text p.flushed.taken
+  marked-front false true old new text serial p = unmarked-front old new text p
+  marked-front true false old new text serial p = absurd p
+  marked-front true true old new text serial p = AppendsFront-none _ _ text (rw p (Keeps-refl (drain.contents old)))
+
+module _ {W : Type 0} {drain : Drain W} where
+  -- a text was written, the drain was flushed, and then its letter was marked
+  pub written-marked : {a b c d : Bool} {x y z w : W} {text : List ℕ} {serial : ℕ} → WritesUntilFailure drain a b x y text → FlushesUntilFailure drain b c y z
+      → MarksUntilFailure drain c d z w serial → WrittenAndMarked drain a d x w text serial
+  written-marked {a} {b} {c} {d} {x} {y} {z} {w} {text} {serial} p q r =
+      marks drain a c d x z w text serial (written-flushed p q) (q.marked ∙ p.marked) r

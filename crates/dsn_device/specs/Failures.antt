@@ -1,6 +1,6 @@
 -- The count that a device keeps of its failures: it rises by one at each of them, and stands still
 -- at its end.
-use Rattle.std.specs.Prelude.{ℕ, ◌+◌, ◌-◌, ◌^◌, ◌<◌, Bool, true, ◌&&◌, nat_lt, List, length, Result, Ok, Err, ◌==◌, if◌then◌else◌}
+use Rattle.std.specs.Prelude.{ℕ, ◌+◌, ◌-◌, ◌^◌, Bool, true, ◌&&◌, nat_lt, List, length, Result, Ok, Err, ◌==◌, if◌then◌else◌}
 
 -- the end of the count, 18,446,744,073,709,551,615
 abbrev pub most_failures : ℕ

@@ -4,5 +4,6 @@ pub mod Flushes
 pub mod MemoryDrain
 pub mod Plain
 pub mod QuietWriter
+pub mod Marking
 pub mod Transfer
 pub mod UntilFailure

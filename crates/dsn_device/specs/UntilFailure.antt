@@ -1,9 +1,10 @@
--- Texts that are written one after another until the drain's first failure, and its flushes: after
--- it nothing is done.
-use Rattle.std.specs.Prelude.{◌≡◌, ℕ, Bool, true, false, not, List, Option}
+-- Texts that are written one after another until the drain's first failure, its flushes, and
+-- letters that are marked: after it nothing is done.
+use Rattle.std.specs.Prelude.{◌≡◌, ℕ, Bool, true, false, not, List, Option, None}
 use Rattle.std.specs.Io.KnownBytes.{Appends, Keeps}
 use Rattle.dsn_device.specs.Failures.{counted}
 use Rattle.dsn_device.specs.Flushes.{flushed}
+use Rattle.dsn_device.specs.Marking.{marked_by}
 use Rattle.dsn_device.specs.Transfer.{AppendsPart}
 use Rattle.dsn_device.specs.declared.drain.Drain
 
@@ -27,6 +28,7 @@ pub record WritesUntilFailure {W : Type 0} (drain : Drain.Ghosts W) (before afte
   pub idle : before ≡ true → (after ≡ true) × (new ≡ old)
   pub count : drain.failures new ≡ counts_failure before after (drain.failures old)
   pub no_flush : drain.flushes new ≡ drain.flushes old
+  pub marked : drain.marked new ≡ drain.marked old
   pub surely : drain.flushes_surely old → drain.flushes_surely new
   pub stays_steady : drain.steady old → drain.steady new × (drain.failures new ≡ drain.failures old)
 
@@ -38,6 +40,20 @@ pub record FlushesUntilFailure {W : Type 0} (drain : Drain.Ghosts W) (before aft
   pub count : drain.failures new ≡ counts_failure before after (drain.failures old)
   pub once : drain.flushes new ≡ counted (not before) (drain.flushes old)
   pub passed_on : after ≡ false → drain.unflushed new ≡ false
+  pub marked : drain.marked new ≡ drain.marked old
+  pub surely : drain.flushes_surely old → drain.flushes_surely new × (after ≡ before)
+  pub stays_steady : drain.steady old → drain.steady new × (drain.failures new ≡ drain.failures old)
+
+-- a letter was marked, unless the drain had failed before
+pub record MarksUntilFailure {W : Type 0} (drain : Drain.Ghosts W) (before after : Bool)
+    (old new : W) (serial : ℕ) : Type 0 where
+  pub kept : Keeps (drain.contents old) (drain.contents new)
+  pub idle : before ≡ true → (after ≡ true) × (new ≡ old)
+  pub count : drain.failures new ≡ counts_failure before after (drain.failures old)
+  pub no_flush : drain.flushes new ≡ drain.flushes old
+  pub unflushed : drain.unflushed new ≡ drain.unflushed old
+  pub marked : drain.marked new ≡ marked_by (not after) serial (drain.marked old)
+  pub unmarking : drain.marked old ≡ None → after ≡ before
   pub surely : drain.flushes_surely old → drain.flushes_surely new × (after ≡ before)
   pub stays_steady : drain.steady old → drain.steady new × (drain.failures new ≡ drain.failures old)
 
@@ -65,3 +81,28 @@ WrittenAndFlushed drain false false old new text = TakenAndFlushed drain old new
 WrittenAndFlushed drain false true old new text = Lost drain old new text
 WrittenAndFlushed drain true false old new text = ⊥
 WrittenAndFlushed drain true true old new text = new ≡ old
+
+-- the whole text was taken, one flush was made, after all of it, and then the letter was marked
+pub record TakenAndMarked {W : Type 0} (drain : Drain.Ghosts W) (old new : W)
+    (text : List ℕ) (serial : ℕ) : Type 0 where
+  pub flushed : TakenAndFlushed drain old new text
+  pub marked : drain.marked new ≡ marked_by true serial (drain.marked old)
+
+-- the drain failed, and the letter is not marked: its text was lost; or the mark failed after the
+-- flush, which it can't where the drain marks no letters, nor where it flushes surely
+pub data Unmarked {W : Type 0} (drain : Drain.Ghosts W) (old new : W) (text : List ℕ) : Type 0 where
+  unflushed : Lost drain old new text → drain.marked new ≡ drain.marked old
+      → Unmarked drain old new text
+  at_mark : Appends (drain.contents old) (drain.contents new) text
+      → drain.flushes new ≡ flushed (drain.flushes old) → drain.marked new ≡ drain.marked old
+      → ¬ (drain.marked old ≡ None) → ¬ drain.flushes_surely old
+      → Unmarked drain old new text
+
+-- what became of a text that was to be written, flushed once, and then marked by its serial, by
+-- whether the drain had failed before and whether it has failed now
+abbrev pub WrittenAndMarked :
+    {W : Type 0} → Drain.Ghosts W → Bool → Bool → W → W → List ℕ → ℕ → Type 0
+WrittenAndMarked drain false false old new text serial = TakenAndMarked drain old new text serial
+WrittenAndMarked drain false true old new text serial = Unmarked drain old new text
+WrittenAndMarked drain true false old new text serial = ⊥
+WrittenAndMarked drain true true old new text serial = new ≡ old

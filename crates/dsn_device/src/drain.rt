@@ -1,9 +1,10 @@
 //! What the daemon writes to.
-ghost use Rattle.std.specs.Prelude.{◌≡◌, ℕ, Bool, ◌&&◌, ◌||◌, List, Option, None, IsOk, is_err};
+ghost use Rattle.std.specs.Prelude.{◌≡◌, ℕ, Bool, ◌&&◌, ◌||◌, false, List, Option, None, IsOk, is_err, is_ok};
 ghost use Rattle.std.specs.Io.{WritesAtMost};
 ghost use Rattle.std.specs.Io.KnownBytes.{WriteAppends, Keeps};
 ghost use Rattle.dsn_device.specs.Failures.{counted, write_failed};
 ghost use Rattle.dsn_device.specs.Flushes.{flushed, took_bytes};
+ghost use Rattle.dsn_device.specs.Marking.{marked_by};
 
 use crate::broken::Broken;
 
@@ -25,6 +26,10 @@ pub trait Drain {
     // Whether it has taken bytes since the last flush that went well.
     ghost unflushed: { Self → Bool };
 
+    // How many letters are marked, where it marks them: those whose text was flushed, so that no
+    // later run writes it again.
+    ghost marked: { Self → Option ℕ } = { λ _. None };
+
     // While this holds the count stands still, and the device keeps it: no call fails.
     ghost steady: { Self → Type 0 };
 
@@ -40,6 +45,7 @@ pub trait Drain {
             ≡ counted (write_failed result text.now) (failures self.old) }
         ensures no_flush { flushes self.new ≡ flushes self.old }
         ensures unflushed { unflushed self.new ≡ (unflushed self.old || took_bytes result) }
+        ensures marked { marked self.new ≡ marked self.old }
         ensures surely { flushes_surely self.old → flushes_surely self.new }
         ensures steady { steady self.old
             → steady self.new × (failures self.new ≡ failures self.old) };
@@ -51,6 +57,26 @@ pub trait Drain {
         ensures count { failures self.new ≡ counted (is_err result) (failures self.old) }
         ensures once { flushes self.new ≡ flushed (flushes self.old) }
         ensures passed_on { unflushed self.new ≡ (unflushed self.old && is_err result) }
+        ensures marked { marked self.new ≡ marked self.old }
+        ensures surely { flushes_surely self.old → flushes_surely self.new × IsOk result }
+        ensures steady { steady self.old
+            → steady self.new × (failures self.new ≡ failures self.old) };
+
+    /// Marks the letter with this serial, and all before it: their text was flushed, so that no
+    /// later run writes it again. A device that marks no letters does nothing. A letter whose mark
+    /// failed may be marked by what a crash leaves.
+    ///
+    /// Requires that the device has taken no byte since its last flush.
+    fn mark_letter(&mut self, serial: u64) -> Result<(), Broken>
+        requires flushed { unflushed self.old ≡ false }
+        ensures bytes { Keeps (contents self.old) (contents self.new) }
+        ensures unread { Keeps (left self.old) (left self.new) }
+        ensures count { failures self.new ≡ counted (is_err result) (failures self.old) }
+        ensures no_flush { flushes self.new ≡ flushes self.old }
+        ensures unflushed { unflushed self.new ≡ unflushed self.old }
+        ensures marked { marked self.new
+            ≡ marked_by (is_ok result) serial (marked self.old) }
+        ensures unmarking { marked self.old ≡ None → IsOk result }
         ensures surely { flushes_surely self.old → flushes_surely self.new × IsOk result }
         ensures steady { steady self.old
             → steady self.new × (failures self.new ≡ failures self.old) };

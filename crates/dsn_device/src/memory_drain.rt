@@ -89,6 +89,10 @@ impl Drain for MemoryDrain {
         self.unflushed = false;
         Ok(())
     }
+
+    fn mark_letter(&mut self, _serial: u64) -> Result<(), Broken> {
+        Ok(())
+    }
 }
 
 #[cfg(test)]

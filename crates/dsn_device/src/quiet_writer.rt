@@ -1,6 +1,6 @@
 //! A drain with a note of whether it has failed, after which nothing is written to it.
 ghost use Rattle.std.specs.Prelude.{◌≡◌, false};
-ghost use Rattle.dsn_device.specs.QuietWriter.{Writes, Flushes};
+ghost use Rattle.dsn_device.specs.QuietWriter.{Writes, Flushes, MarksLetter};
 
 use crate::drain::Drain;
 use crate::until_failure::UntilFailure;
@@ -63,6 +63,15 @@ impl<D: Drain> QuietWriter<D> {
         ensures { Flushes D.Drain self.old self.new }
     {
         self.writing.flush(&mut self.drain);
+    }
+
+    /// Has the drain mark the letter with this serial, unless it has failed. Requires that the
+    /// drain has taken no byte since its last flush, where it has not failed.
+    pub fn mark_letter(&mut self, serial: u64)
+        requires { self.old.failed ≡ false → D.unflushed self.old.drain ≡ false }
+        ensures { MarksLetter D.Drain self.old self.new serial }
+    {
+        self.writing.mark_letter(&mut self.drain, serial);
     }
 }
 

@@ -139,6 +139,10 @@ impl<T: Write> Drain for Plain<T> {
             }
         }
     }
+
+    fn mark_letter(&mut self, _serial: u64) -> Result<(), Broken> {
+        Ok(())
+    }
 }
 
 impl<T: OpaqueStream> Stream for Plain<T> {

@@ -20,6 +20,7 @@ pub fn send<D: Drain>(drain: &mut D, text: &[u8]) -> Result<(), Broken>
     ensures unread { Keeps (D.left drain.old) (D.left drain.new) }
     ensures count { D.failures drain.new ≡ counted (is_err result) (D.failures drain.old) }
     ensures no_flush { D.flushes drain.new ≡ D.flushes drain.old }
+    ensures marked { D.marked drain.new ≡ D.marked drain.old }
     ensures surely { D.flushes_surely drain.old → D.flushes_surely drain.new }
     ensures steady { D.steady drain.old
         → D.steady drain.new × (D.failures drain.new ≡ D.failures drain.old) }

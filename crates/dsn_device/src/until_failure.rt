@@ -1,6 +1,6 @@
 //! Writing until a drain's first failure, and nothing after it.
 ghost use Rattle.std.specs.Prelude.{◌≡◌, false};
-ghost use Rattle.dsn_device.specs.UntilFailure.{WritesUntilFailure, FlushesUntilFailure};
+ghost use Rattle.dsn_device.specs.UntilFailure.{WritesUntilFailure, FlushesUntilFailure, MarksUntilFailure};
 
 use crate::drain::Drain;
 use crate::transfer::send;
@@ -35,6 +35,16 @@ impl UntilFailure {
         ensures { FlushesUntilFailure D.Drain self.old.failed self.new.failed drain.old drain.new }
     {
         self.failed = self.failed || drain.flush().is_err();
+    }
+
+    /// Has the drain mark the letter with this serial, unless it has failed. Requires that the
+    /// drain has taken no byte since its last flush, where it has not failed.
+    pub fn mark_letter<D: Drain>(&mut self, drain: &mut D, serial: u64)
+        requires { self.old.failed ≡ false → D.unflushed drain.old ≡ false }
+        ensures { MarksUntilFailure D.Drain self.old.failed self.new.failed drain.old drain.new
+            serial }
+    {
+        self.failed = self.failed || drain.mark_letter(serial).is_err();
     }
 }
 

@@ -1,42 +1,25 @@
--- Posting: an outbox to which nothing was handed is untouched, and no more letters are left than were handed on.
-use Rattle.std.proofs.Common.{◌≡◌, ◌↔◌, ℕ, ◌≤◌, Bool, true, false, List, [], ◌∷◌, length, refl, ap, sym, ◌∙◌, subst, true≢false, length-append, arith}
+-- Posting: what a lane of letters said at its end.
+use Rattle.std.proofs.Common.{◌≡◌, ◌↔◌, ◌+◌, ◌≤◌, Bool, true, false, List, [], ◌∷◌, ◌++◌, length, refl, ap, sym, ◌∙◌, true≢false, length-append, arith}
 use Rattle.std.specs.Prelude.{Option, Some, None, is_some, not}
 use Rattle.std.proofs.lemmas.Option.{none-some}
-use Rattle.std.specs.Io.KnownBytes.{Appends}
 use mathlib.Core.List.{IsPrefix}
-use Rattle.dsn_device.specs.declared.drain.Drain.{Ghosts as Drain}
 use Rattle.dsn_outcome.specs.Letter.{Letter}
-use Rattle.dsn_report.specs.Outgoing.{Delivered, FrontWritten, IsOutbox, Outgoing, written_of}
 use Rattle.dsn_lane.specs.declared.lane_gone.LaneGone.{LaneGone}
 use Rattle.dsn_post.specs.LetterSource.{is_marked, lane_lost}
-use Rattle.dsn_post.specs.Posting.{IsUntouched}
 use Rattle.dsn_post.specs.declared.letters_end.LettersEnd.{LettersEnd}
 use Rattle.dsn_post.specs.declared.letters_end.LettersEnd.TheVariants.{Marked, Gone}
 
-module _ {W : Type 0} (drain : Drain W) (host : List ℕ) (start : W) where
-  -- nothing failed where nothing was handed on
-  not_failed : (out : Outgoing W) (failed : Bool) → (failed ≡ true → FrontWritten drain start out []) → failed ≡ false
-  not_failed out false front = refl
-  not_failed out true front =
-      let it = front refl in
-      let long = ap length it.split in
-      let split = length-append it.posted (it.failed ∷ it.later) in
-      absurd (omega arith)
+-- there is one letter at least after one more
+pub some_left : (letters : List Letter) (letter : Letter) → letters ++ letter ∷ [] ≡ [] → ⊥
+some_left letters letter none =
+    let long = ap length none in
+    let split = length-append letters (letter ∷ []) in omega arith
 
-  pub untouched : (out : Outgoing W) (letters : List Letter) → letters ≡ [] → Delivered drain host start out letters → IsUntouched drain start out.poster.outbox
-  untouched out letters none delivered =
-      let here = subst (Delivered drain host start out) none delivered in
-      let all = here.while_good (not_failed out out.poster.failed here.after_fault) in record {
-        nothing =
-            subst (λ (greeted : Bool). Appends (drain.contents start) (drain.contents out.poster.outbox) (written_of out.poster.host greeted [])) all.greeted_is all.written;
-        failures = all.good;
-        flushes = all.flushes;
-      }
-
-  pub unsent_within : (outbox : W) (whole : Bool) (unsent letters : List Letter) → IsOutbox drain host start outbox whole unsent letters → length unsent ≤ length letters
-  unsent_within outbox whole unsent letters is =
-      let all = ap length is.split in
-      let split = length-append is.posted unsent in omega arith
+-- no more letters are left than came, where none was left before
+pub left_within : (end unsent before letters : List Letter) → end ≡ unsent → before ≡ [] → length unsent ≤ length before + length letters → length end ≤ length letters
+left_within end unsent before letters is none few =
+    let same = ap length is in
+    let empty = ap length none in omega arith
 
 -- the first letters of none are none
 pub none_first : (letters sent : List Letter) → IsPrefix letters sent → sent ≡ [] → letters ≡ []

@@ -14,9 +14,8 @@ use Rattle.dsn_lane.proofs.SendLemmas.{closure_send}
 use Rattle.dsn_lane.proofs.lane_out.LaneOut.TheSendSync as lane_out
 use Rattle.dsn_lane.specs.contracts.lane_out.LaneOut as LaneOut
 use Rattle.dsn_outcome.proofs.SendLemmas.{letter_send}
-use Rattle.dsn_report.proofs.SendLemmas.{outgoing_send, site_send}
+use Rattle.dsn_report.proofs.SendLemmas.{outgoing_send}
 use Rattle.dsn_report.specs.contracts.outgoing.Outgoing as Outgoing
-use Rattle.dsn_report.specs.contracts.site.Site as Site
 use Rattle.dsn_post.specs.contracts.letter_source.LetterSource as LetterSource
 use Rattle.dsn_post.specs.contracts.letters_end.LettersEnd as LettersEnd
 use Rattle.dsn_post.specs.contracts.parcel.Parcel as Parcel
@@ -38,15 +37,15 @@ source_send = search (parcels_out_send, sendable) depth 20
 end_send : IsSend (as_row LettersEnd.the_field)
 end_send = search sendable depth 20
 
--- what the closure holds: the runtime, the site, the outbox, and the half by which the letters come
+-- what the closure holds: the runtime, the poster, and the half by which the letters come
 abbrev pub captured : NamedLft → RattleType → RattleType → List RattleType
-captured r R W = ShrRef r.mir r.lft (param 1 R) ∷ Site.the_row ∷ param 2 W ∷ LetterSource.the_row ∷ []
+captured r R W = ShrRef r.mir r.lft (param 1 R) ∷ Outgoing.the_row (param 2 W) ∷ LetterSource.the_row ∷ []
 
 runtime_send : (r : NamedLft) (R : RattleType) → IsSync (param 1 R) → IsSend (ShrRef r.mir r.lft (param 1 R))
 runtime_send r R sync = search (sync, sendable) depth 20
 
 pub posts_send : (ν : Sym) (r : NamedLft) (R W : RattleType) → IsSync (param 1 R) → IsSend (param 2 W) → IsSend (TupleAt ν (captured r R W))
-posts_send ν r R W sync send = closure_send ν (captured r R W) (runtime_send r R sync, (site_send, (send, (source_send, tt))))
+posts_send ν r R W sync send = closure_send ν (captured r R W) (runtime_send r R sync, (outgoing_send (param 2 W) send, (source_send, tt)))
 
 pub posting_send : (W : RattleType) → IsSend (param 2 W) → IsSend (Posting.the_row (param 2 W))
 posting_send W send =

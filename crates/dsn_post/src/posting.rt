@@ -1,11 +1,11 @@
 //! The poster's thread.
-ghost use Rattle.std.specs.Prelude.{◌≡◌, false, []};
+ghost use Rattle.std.specs.Prelude.{◌≡◌, []};
 ghost use Rattle.dsn_post.specs.Posting.{IsPosting};
 
 use crate::letter_source::LetterSource;
 use crate::letters_end::LettersEnd;
 use dsn_device::Drain;
-use dsn_report::{Outgoing, Site};
+use dsn_report::Outgoing;
 use std::sync::Wait;
 
 /// What the poster's thread gives back.
@@ -22,17 +22,15 @@ pub struct Posting<W> {
 }
 
 /// Posts the letters that come over a lane, one after another, until the end mark comes or the lane
-/// is lost. Nothing is written before the first letter. It takes no memory.
+/// is lost. Nothing is written before the first of them. It takes no memory.
 pub(crate) fn post_all<W: Drain>(
     rt: &impl Wait,
-    site: Site,
-    outbox: W,
+    mut outgoing: Outgoing<W>,
     mut source: LetterSource,
 ) -> Posting<W>
     requires unused { source.letters ≡ [] }
-    ensures { IsPosting W.Drain site outbox source.lane result }
+    ensures { IsPosting W.Drain outgoing source.lane result }
 {
-    let mut outgoing = Outgoing::new(site, outbox);
     let mut handed = 0;
     for _ in rt.forever() {
         match source.take(rt) {

@@ -1,5 +1,5 @@
 //! The end of the poster's thread, of its lane, and of the outbox.
-ghost use Rattle.std.specs.Prelude.{◌≡◌};
+ghost use Rattle.std.specs.Prelude.{◌≡◌, []};
 ghost use Rattle.dsn_post.specs.Posting.{IsPosted};
 
 use crate::letter_sink::LetterSink;
@@ -12,15 +12,15 @@ use std::sync::Wait;
 use std::thread::{PromisedHandle, Threads};
 
 /// Sends the end mark, waits for the poster's thread to end, closes the lane, and ends the outbox.
-/// It takes no memory.
+/// Requires that no letter was unsent when the thread was started. It takes no memory.
 pub fn end_posting<W: Drain + Drop>(
     rt: &(impl Threads + Wait),
     sink: LetterSink,
     handle: PromisedHandle<Posting<W>, Posts<W>>,
 ) -> Posted<W>
     requires lane { handle.promise.lane ≡ sink.lane }
-    ensures { IsPosted W.Drain handle.promise.site handle.promise.outbox sink.lane.capacity
-        sink.letters result }
+    requires all_sent { handle.promise.begun.unsent ≡ [] }
+    ensures { IsPosted W.Drain handle.promise.begun sink.lane.capacity sink.letters result }
 {
     let sink = sink.mark(rt);
     let Posting {

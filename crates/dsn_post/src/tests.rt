@@ -8,7 +8,7 @@ use dsn_device::Plain;
 use dsn_outcome::{
     Address, Chain, Draft, Key, Letter, Letters, Outcome, Parts, QueueId, RawHeader, Service, Stamp,
 };
-use dsn_report::{Ended, Poster, Site};
+use dsn_report::{Ended, Outgoing, Poster, Site};
 use std::alloc::Global;
 use std::io::{ErrorKind, Write};
 use std::sync::Wait;
@@ -171,7 +171,8 @@ fn posted<R: Threads + Wait + Sync>(
         rt,
         move |scope| -> Result<Posted<Plain<Full>>, Fail> {
             let (sink, source) = open_post(rt, alloc)?;
-            let started = start_posting(scope, rt, site, outbox, sink, source);
+            let outgoing = Outgoing::new(site, outbox);
+            let started = start_posting(scope, rt, outgoing, sink, source);
             let Ok((mut sink, handle)) = started else {
                 return Err("no thread".into());
             };
@@ -219,7 +220,8 @@ fn lane_lost_after_one_letter(rt: HostRuntime) -> Result<(), Fail> {
     let (mut sink, source) = open_post(&rt, rt.alloc())?;
     hand_all(&rt, rt.alloc(), &mut sink, &[b"K1".as_slice()])?;
     drop(sink);
-    let posting = post_all(&rt, site(rt.alloc())?, outbox(rt.alloc(), 10_000), source);
+    let outgoing = Outgoing::new(site(rt.alloc())?, outbox(rt.alloc(), 10_000));
+    let posting = post_all(&rt, outgoing, source);
     same(&rt, posting.handed, 1);
     assert!(rt; posting.end != LettersEnd::Marked);
     Ok(())
@@ -229,7 +231,8 @@ fn lane_lost_after_one_letter(rt: HostRuntime) -> Result<(), Fail> {
 fn lane_lost_before_anything_came(rt: HostRuntime) -> Result<(), Fail> {
     let (sink, source) = open_post(&rt, rt.alloc())?;
     drop(sink);
-    let posting = post_all(&rt, site(rt.alloc())?, outbox(rt.alloc(), 1000), source);
+    let outgoing = Outgoing::new(site(rt.alloc())?, outbox(rt.alloc(), 1000));
+    let posting = post_all(&rt, outgoing, source);
     same(&rt, posting.handed, 0);
     assert!(rt; posting.outgoing.into_outbox().into_inner().held.is_empty());
     Ok(())

@@ -1,6 +1,6 @@
 -- Letters on their way: one letter more, and QUIT.
 use Rattle.std.proofs.Common.{◌≡◌, ℕ, Bool, true, false, List, [], ◌∷◌, ◌++◌, refl, ap, sym, ◌∙◌, append_assoc}
-use Rattle.std.specs.Prelude.{length, Option, if◌then◌else◌, not}
+use Rattle.std.specs.Prelude.{length, Option, None, Some, if◌then◌else◌, not}
 use Rattle.std.specs.Io.KnownBytes.{Appends}
 use Rattle.std.proofs.KnownBytes.{Appends-trans}
 use Rattle.std.specs.List.{flat_map}
@@ -9,7 +9,8 @@ use Rattle.std.proofs.lemmas.Grind.{flat_map-append}
 use Rattle.dsn_outcome.specs.Letter.{Letter}
 use Rattle.dsn_device.specs.Failures.{counted}
 use Rattle.dsn_device.specs.Flushes.{flushed, flushed_times}
-use Rattle.dsn_device.specs.UntilFailure.{Lost, WrittenAndFlushed, counts_failure}
+use Rattle.dsn_device.specs.Marking.{marked_by}
+use Rattle.dsn_device.specs.UntilFailure.{Lost, Unmarked, WrittenAndFlushed, WrittenAndMarked, counts_failure}
 use Rattle.dsn_device.specs.UntilFailure as until
 use Rattle.dsn_device.specs.declared.drain.Drain.{Ghosts as Drain}
 use Rattle.dsn_device.specs.Transfer.{AppendsFront, AppendsPart}
@@ -17,7 +18,7 @@ use Rattle.dsn_device.proofs.TransferLemmas.{Appends-part, AppendsFront-all, App
 use Rattle.dsn_report.specs.declared.post_fault.PostFault.{PostFault}
 use Rattle.dsn_report.specs.Outbox.{greeting, goodbye, mail_transaction, outbox_of}
 use Rattle.dsn_report.specs.Poster.{Poster, post_text, finish_text, post_fault, letter_handed_back}
-use Rattle.dsn_report.specs.Outgoing.{written_of, are_some, text_until, AppendsAtLeast, FailedIn, in_text, at_flush, FrontWritten, StaysSteady, Delivered, IsOutbox}
+use Rattle.dsn_report.specs.Outgoing.{written_of, are_some, text_until, AppendsAtLeast, FailedIn, in_text, at_flush, at_mark, marked_with, FrontWritten, StaysSteady, Delivered, IsOutbox}
 
 pub flat_map-more : {A : Type 0} (f : A → List ℕ) (xs : List A) (x : A) → flat_map f (xs ++ x ∷ []) ≡ flat_map f xs ++ f x
 flat_map-more f [] x = append-nil (f x)
@@ -82,6 +83,37 @@ once-flushed drain false false old new text good well made = (made.once, made.pa
 once-flushed drain true b old new text good well made = absurd (not-both true refl good)
 once-flushed drain false true old new text good well made = absurd (not-both true refl well)
 
+-- what is written, flushed and marked without a failure was flushed once, and marked
+once-marked : {W : Type 0} (drain : Drain W) (a b : Bool) (old new : W) (text : List ℕ) (serial : ℕ) → a ≡ false → b ≡ false → WrittenAndMarked drain a b old new text serial → (drain.flushes new ≡ flushed (drain.flushes old)) × (drain.marked new ≡ marked_by true serial (drain.marked old)) × (drain.flushes_surely old → drain.flushes_surely new)
+once-marked drain false false old new text serial good well made = (made.flushed.once, made.marked, made.flushed.surely)
+once-marked drain true b old new text serial good well made = absurd (not-both true refl good)
+once-marked drain false true old new text serial good well made = absurd (not-both true refl well)
+
+-- what failed now is not marked
+unmarked-now : {W : Type 0} (drain : Drain W) (a b : Bool) (old new : W) (text : List ℕ) (serial : ℕ) → a ≡ false → b ≡ true → WrittenAndMarked drain a b old new text serial → Unmarked drain old new text
+unmarked-now drain false true old new text serial good failed made = made
+unmarked-now drain true b old new text serial good failed made = absurd (not-both true refl good)
+unmarked-now drain false false old new text serial good failed made = absurd (not-both false failed refl)
+
+-- one letter more is marked
+marked_with-more : (letters : List Letter) (letter : Letter) (count : Option ℕ) → marked_by true letter.serial (marked_with letters count) ≡ marked_with (letters ++ letter ∷ []) count
+marked_with-more [] letter count = refl
+marked_with-more (first ∷ rest) letter count = marked_with-more rest letter (marked_by true first.serial count)
+
+-- a device that marked letters marks some
+marked_with-some : (letters : List Letter) (count : Option ℕ) → ¬ (marked_with letters count ≡ None) → ¬ (count ≡ None)
+marked_with-some letters None some none = some (still letters)
+  where
+    still : (letters : List Letter) → marked_with letters None ≡ None
+    still [] = refl
+    still (first ∷ rest) = still rest
+marked_with-some letters (Some n) some none = cc
+
+-- what is not marked is as it was
+not-marked : {W : Type 0} (drain : Drain W) (old new : W) (text : List ℕ) → Unmarked drain old new text → drain.marked new ≡ drain.marked old
+not-marked drain old new text (until.unflushed lost same) = same
+not-marked drain old new text (until.at_mark all once same some unsure) = same
+
 -- what failed now was lost
 lost-now : {W : Type 0} (drain : Drain W) (a b : Bool) (old new : W) (text : List ℕ) → a ≡ false → b ≡ true → WrittenAndFlushed drain a b old new text → Lost drain old new text
 lost-now drain false true old new text good failed made = made
@@ -94,6 +126,14 @@ failed-in drain start old new times least text all flushes surely (until.in_text
     in_text (Appends-part (drain.contents start) (drain.contents old) (drain.contents new) least text all part) (none ∙ flushes)
 failed-in drain start old new times least text all flushes surely (until.at_flush whole once unsure) =
     at_flush (Appends-trans (drain.contents start) (drain.contents old) (drain.contents new) least text all whole) (once ∙ ap flushed flushes) (λ h. unsure (surely h))
+
+-- and so one that was not marked
+failed-unmarked : {W : Type 0} (drain : Drain W) (start old new : W) (letters : List Letter) (times : ℕ) (least text : List ℕ) → Appends (drain.contents start) (drain.contents old) least → drain.flushes old ≡ flushed_times times (drain.flushes start) → drain.marked old ≡ marked_with letters (drain.marked start) → (drain.flushes_surely start → drain.flushes_surely old) → Unmarked drain old new text → FailedIn drain start new times (least ++ text)
+failed-unmarked drain start old new letters times least text all flushes marks surely (until.unflushed lost same) =
+    failed-in drain start old new times least text all flushes surely lost
+failed-unmarked drain start old new letters times least text all flushes marks surely (until.at_mark whole once same some unsure) =
+    at_mark (Appends-trans (drain.contents start) (drain.contents old) (drain.contents new) least text all whole) (once ∙ ap flushed flushes)
+    (marked_with-some letters (drain.marked start) (λ none. some (marks ∙ none))) (λ h. unsure (surely h))
 
 -- the furthest that an outbox gets is a front of the text of all letters
 until-front : (host : List ℕ) (posted unsent : List Letter) → (more : List ℕ) × (outbox_of host (posted ++ unsent) ≡ text_until host posted unsent ++ more)
@@ -109,6 +149,7 @@ short-of drain host start end times posted unsent letters split (in_text part no
     let front = until-front host posted unsent in
     rw (split, front.1) (AppendsPart-longer (drain.contents start) (drain.contents end) _ front.0 part)
 short-of drain host start end times posted unsent letters split (at_flush whole once unsure) surely = absurd (unsure surely)
+short-of drain host start end times posted unsent letters split (at_mark whole once some unsure) surely = absurd (unsure surely)
 
 -- what is steady through two steps is steady through both
 stays-steady : {W : Type 0} (drain : Drain W) (a b c : W) → StaysSteady drain a b → StaysSteady drain b c → StaysSteady drain a c
@@ -128,7 +169,7 @@ module _ {W : Type 0} (drain : Drain W) (host : List ℕ) (start : W) (old new :
   still-good false count is = refl
 
   -- one letter more was written
-  pub hand-ok : Appends (drain.contents old.outbox) (drain.contents new.outbox) (post_text old letter) → (old.failed ≡ true → new ≡ old) → new.failed ≡ false → new.greeted ≡ true → new.host ≡ old.host → drain.failures new.outbox ≡ counts_failure old.failed false (drain.failures old.outbox) → WrittenAndFlushed drain old.failed new.failed old.outbox new.outbox (post_text old letter) → StaysSteady drain old.outbox new.outbox → Delivered drain host start (record { poster = new; unsent = unsent }) (letters ++ letter ∷ [])
+  pub hand-ok : Appends (drain.contents old.outbox) (drain.contents new.outbox) (post_text old letter) → (old.failed ≡ true → new ≡ old) → new.failed ≡ false → new.greeted ≡ true → new.host ≡ old.host → drain.failures new.outbox ≡ counts_failure old.failed false (drain.failures old.outbox) → WrittenAndMarked drain old.failed new.failed old.outbox new.outbox (post_text old letter) letter.serial → StaysSteady drain old.outbox new.outbox → Delivered drain host start (record { poster = new; unsent = unsent }) (letters ++ letter ∷ [])
   hand-ok sent nothing good greeted same_host count made steady =
       let was : old.failed ≡ false = was-good old.failed refl nothing good in
       let all = before.while_good was in record {
@@ -138,15 +179,16 @@ module _ {W : Type 0} (drain : Drain W) (host : List ℕ) (start : W) (old new :
           written = rw (same_host, greeted, ← post_text-after old letters letter (none-where letters old.greeted all.greeted_is)) (Appends-trans (drain.contents start) (drain.contents old.outbox) (drain.contents new.outbox) _ _ all.written sent);
           greeted_is = greeted ∙ sym (are_some-more letters letter);
           good = count ∙ still-good old.failed (drain.failures old.outbox) was ∙ all.good;
-          flushes = (once-flushed drain old.failed new.failed old.outbox new.outbox _ was good made).0 ∙ ap flushed all.flushes ∙ flushed_times-more letters letter (drain.flushes start);
-          surely = λ h. (once-flushed drain old.failed new.failed old.outbox new.outbox _ was good made).2 (all.surely h);
+          flushes = (once-marked drain old.failed new.failed old.outbox new.outbox _ _ was good made).0 ∙ ap flushed all.flushes ∙ flushed_times-more letters letter (drain.flushes start);
+          marked = (once-marked drain old.failed new.failed old.outbox new.outbox _ _ was good made).1 ∙ ap (marked_by true letter.serial) all.marked ∙ marked_with-more letters letter (drain.marked start);
+          surely = λ h. (once-marked drain old.failed new.failed old.outbox new.outbox _ _ was good made).2 (all.surely h);
         };
         after_fault = λ is. absurd (not-both new.failed is good);
         steady = stays-steady drain start old.outbox new.outbox before.steady steady;
       }
 
   -- the first letter that could not be written
-  first-lost : old.failed ≡ false → AppendsFront (drain.contents old.outbox) (drain.contents new.outbox) (post_text old letter) → WrittenAndFlushed drain old.failed new.failed old.outbox new.outbox (post_text old letter) → new.failed ≡ true → new.host ≡ old.host → drain.failures new.outbox ≡ counts_failure old.failed true (drain.failures old.outbox) → FrontWritten drain start (record { poster = new; unsent = unsent ++ letter ∷ [] }) (letters ++ letter ∷ [])
+  first-lost : old.failed ≡ false → AppendsFront (drain.contents old.outbox) (drain.contents new.outbox) (post_text old letter) → WrittenAndMarked drain old.failed new.failed old.outbox new.outbox (post_text old letter) letter.serial → new.failed ≡ true → new.host ≡ old.host → drain.failures new.outbox ≡ counts_failure old.failed true (drain.failures old.outbox) → FrontWritten drain start (record { poster = new; unsent = unsent ++ letter ∷ [] }) (letters ++ letter ∷ [])
   first-lost good front made failed same_host count =
       let all = before.while_good good in
       let first = none-where letters old.greeted all.greeted_is in record {
@@ -156,7 +198,8 @@ module _ {W : Type 0} (drain : Drain W) (host : List ℕ) (start : W) (old new :
         unsent_is = rw all.none_unsent refl;
         split = refl;
         written = rw (same_host, ← all.greeted_is, ← post_text-after old letters letter first) (Appends-least (drain.contents start) (drain.contents old.outbox) (drain.contents new.outbox) _ _ all.written front);
-        lost = rw (same_host, ← post_text-after old letters letter first) (failed-in drain start old.outbox new.outbox (length letters) _ _ all.written all.flushes all.surely (lost-now drain old.failed new.failed old.outbox new.outbox _ good failed made));
+        lost = rw (same_host, ← post_text-after old letters letter first) (failed-unmarked drain start old.outbox new.outbox letters (length letters) _ _ all.written all.flushes all.marked all.surely (unmarked-now drain old.failed new.failed old.outbox new.outbox _ _ good failed made));
+        marked = not-marked drain old.outbox new.outbox _ (unmarked-now drain old.failed new.failed old.outbox new.outbox _ _ good failed made) ∙ all.marked;
         count = rw good at count ∙ ap (counted true) all.good;
       }
 
@@ -171,15 +214,16 @@ module _ {W : Type 0} (drain : Drain W) (host : List ℕ) (start : W) (old new :
         split = rw some.split (append_assoc some.posted (some.failed ∷ some.later) (letter ∷ []));
         written = rw same some.written;
         lost = rw same some.lost;
+        marked = rw same some.marked;
         count = rw same some.count;
       }
 
-  any-lost : (failed : Bool) → old.failed ≡ failed → AppendsFront (drain.contents old.outbox) (drain.contents new.outbox) (post_text old letter) → WrittenAndFlushed drain old.failed new.failed old.outbox new.outbox (post_text old letter) → new.failed ≡ true → (old.failed ≡ true → new ≡ old) → new.host ≡ old.host → drain.failures new.outbox ≡ counts_failure old.failed true (drain.failures old.outbox) → FrontWritten drain start (record { poster = new; unsent = unsent ++ letter ∷ [] }) (letters ++ letter ∷ [])
+  any-lost : (failed : Bool) → old.failed ≡ failed → AppendsFront (drain.contents old.outbox) (drain.contents new.outbox) (post_text old letter) → WrittenAndMarked drain old.failed new.failed old.outbox new.outbox (post_text old letter) letter.serial → new.failed ≡ true → (old.failed ≡ true → new ≡ old) → new.host ≡ old.host → drain.failures new.outbox ≡ counts_failure old.failed true (drain.failures old.outbox) → FrontWritten drain start (record { poster = new; unsent = unsent ++ letter ∷ [] }) (letters ++ letter ∷ [])
   any-lost true is front made now nothing same_host count = later-lost is (nothing is)
   any-lost false is front made now nothing same_host count = first-lost is front made now same_host count
 
   -- one letter more could not be written
-  pub hand-err : (fault : PostFault) → fault ≡ post_fault old.failed letter → AppendsFront (drain.contents old.outbox) (drain.contents new.outbox) (post_text old letter) → WrittenAndFlushed drain old.failed new.failed old.outbox new.outbox (post_text old letter) → (old.failed ≡ true → new ≡ old) → new.failed ≡ true → new.host ≡ old.host → drain.failures new.outbox ≡ counts_failure old.failed true (drain.failures old.outbox) → StaysSteady drain old.outbox new.outbox → Delivered drain host start (record { poster = new; unsent = unsent ++ letter_handed_back fault ∷ [] }) (letters ++ letter ∷ [])
+  pub hand-err : (fault : PostFault) → fault ≡ post_fault old.failed letter → AppendsFront (drain.contents old.outbox) (drain.contents new.outbox) (post_text old letter) → WrittenAndMarked drain old.failed new.failed old.outbox new.outbox (post_text old letter) letter.serial → (old.failed ≡ true → new ≡ old) → new.failed ≡ true → new.host ≡ old.host → drain.failures new.outbox ≡ counts_failure old.failed true (drain.failures old.outbox) → StaysSteady drain old.outbox new.outbox → Delivered drain host start (record { poster = new; unsent = unsent ++ letter_handed_back fault ∷ [] }) (letters ++ letter ∷ [])
   hand-err fault is front made nothing failed same_host count steady =
       let back : letter_handed_back fault ≡ letter = ap letter_handed_back is ∙ handed_back old.failed letter in record {
         host_kept = same_host ∙ before.host_kept;
@@ -193,8 +237,8 @@ module _ {W : Type 0} (drain : Drain W) (host : List ℕ) (start : W) (old : Pos
   any-front outbox true text sent front = AppendsFront-all (drain.contents old.outbox) (drain.contents outbox) text (sent refl)
   any-front outbox false text sent front = front refl
 
-  finished-good : old.failed ≡ false → (outbox : W) (whole : Bool) → (whole ≡ true → Appends (drain.contents old.outbox) (drain.contents outbox) (finish_text old)) → (whole ≡ false → AppendsFront (drain.contents old.outbox) (drain.contents outbox) (finish_text old)) → drain.failures outbox ≡ counts_failure old.failed (not whole) (drain.failures old.outbox) → WrittenAndFlushed drain old.failed (not whole) old.outbox outbox (finish_text old) → StaysSteady drain old.outbox outbox → IsOutbox drain host start outbox whole unsent letters
-  finished-good good outbox whole sent front count made steady =
+  finished-good : old.failed ≡ false → (outbox : W) (whole : Bool) → (whole ≡ true → Appends (drain.contents old.outbox) (drain.contents outbox) (finish_text old)) → (whole ≡ false → AppendsFront (drain.contents old.outbox) (drain.contents outbox) (finish_text old)) → drain.failures outbox ≡ counts_failure old.failed (not whole) (drain.failures old.outbox) → WrittenAndFlushed drain old.failed (not whole) old.outbox outbox (finish_text old) → StaysSteady drain old.outbox outbox → drain.marked outbox ≡ drain.marked old.outbox → IsOutbox drain host start outbox whole unsent letters
+  finished-good good outbox whole sent front count made steady same =
       let all = before.while_good good in
       let ends = finish_text-after old letters (none-where letters old.greeted all.greeted_is) in
       let lost : (whole ≡ false → FailedIn drain start outbox (length letters) (text_until host letters unsent)) = λ part. rw (all.none_unsent, ← before.host_kept, ← ends) (failed-in drain start old.outbox outbox (length letters) _ _ all.written all.flushes all.surely (lost-now drain old.failed (not whole) old.outbox outbox _ good (ap not part) made)) in record {
@@ -206,6 +250,7 @@ module _ {W : Type 0} (drain : Drain W) (host : List ℕ) (start : W) (old : Pos
         count = rw good at count ∙ ap (counted (not whole)) all.good;
         flushes = λ done. (once-flushed drain old.failed (not whole) old.outbox outbox _ good (ap not done) made).0 ∙ ap flushed all.flushes;
         passed_on = λ done. (once-flushed drain old.failed (not whole) old.outbox outbox _ good (ap not done) made).1;
+        marked = same ∙ all.marked;
         lost = lost;
         short = λ part. short-of drain host start outbox (length letters) letters unsent letters (rw all.none_unsent (sym (append-nil letters))) (lost part);
         steady = stays-steady drain start old.outbox outbox before.steady steady;
@@ -223,15 +268,16 @@ module _ {W : Type 0} (drain : Drain W) (host : List ℕ) (start : W) (old : Pos
         count = rw (nothing.0, nothing.1) some.count;
         flushes = λ done. absurd (not-both whole done nothing.1);
         passed_on = λ done. absurd (not-both whole done nothing.1);
+        marked = rw nothing.0 some.marked;
         lost = λ _. lost;
         short = λ _. short-of drain host start outbox (length some.posted) some.posted unsent letters (rw some.unsent_is some.split) lost;
         steady = stays-steady drain start old.outbox outbox before.steady steady;
       }
 
-  finished-by : (failed : Bool) → old.failed ≡ failed → (outbox : W) (whole : Bool) → (whole ≡ true → Appends (drain.contents old.outbox) (drain.contents outbox) (finish_text old)) → (whole ≡ false → AppendsFront (drain.contents old.outbox) (drain.contents outbox) (finish_text old)) → (old.failed ≡ true → (outbox ≡ old.outbox) × (whole ≡ false)) → drain.failures outbox ≡ counts_failure old.failed (not whole) (drain.failures old.outbox) → WrittenAndFlushed drain old.failed (not whole) old.outbox outbox (finish_text old) → StaysSteady drain old.outbox outbox → IsOutbox drain host start outbox whole unsent letters
-  finished-by true is outbox whole sent front nothing count made steady = finished-lost is outbox whole (nothing is) steady
-  finished-by false is outbox whole sent front nothing count made steady = finished-good is outbox whole sent front count made steady
+  finished-by : (failed : Bool) → old.failed ≡ failed → (outbox : W) (whole : Bool) → (whole ≡ true → Appends (drain.contents old.outbox) (drain.contents outbox) (finish_text old)) → (whole ≡ false → AppendsFront (drain.contents old.outbox) (drain.contents outbox) (finish_text old)) → (old.failed ≡ true → (outbox ≡ old.outbox) × (whole ≡ false)) → drain.failures outbox ≡ counts_failure old.failed (not whole) (drain.failures old.outbox) → WrittenAndFlushed drain old.failed (not whole) old.outbox outbox (finish_text old) → StaysSteady drain old.outbox outbox → drain.marked outbox ≡ drain.marked old.outbox → IsOutbox drain host start outbox whole unsent letters
+  finished-by true is outbox whole sent front nothing count made steady same = finished-lost is outbox whole (nothing is) steady
+  finished-by false is outbox whole sent front nothing count made steady same = finished-good is outbox whole sent front count made steady same
 
   -- the outbox ended
-  pub finished : (outbox : W) (whole : Bool) → (whole ≡ true → Appends (drain.contents old.outbox) (drain.contents outbox) (finish_text old)) → (whole ≡ false → AppendsFront (drain.contents old.outbox) (drain.contents outbox) (finish_text old)) → (old.failed ≡ true → (outbox ≡ old.outbox) × (whole ≡ false)) → drain.failures outbox ≡ counts_failure old.failed (not whole) (drain.failures old.outbox) → WrittenAndFlushed drain old.failed (not whole) old.outbox outbox (finish_text old) → StaysSteady drain old.outbox outbox → IsOutbox drain host start outbox whole unsent letters
+  pub finished : (outbox : W) (whole : Bool) → (whole ≡ true → Appends (drain.contents old.outbox) (drain.contents outbox) (finish_text old)) → (whole ≡ false → AppendsFront (drain.contents old.outbox) (drain.contents outbox) (finish_text old)) → (old.failed ≡ true → (outbox ≡ old.outbox) × (whole ≡ false)) → drain.failures outbox ≡ counts_failure old.failed (not whole) (drain.failures old.outbox) → WrittenAndFlushed drain old.failed (not whole) old.outbox outbox (finish_text old) → StaysSteady drain old.outbox outbox → drain.marked outbox ≡ drain.marked old.outbox → IsOutbox drain host start outbox whole unsent letters
   finished outbox whole = finished-by old.failed refl outbox whole

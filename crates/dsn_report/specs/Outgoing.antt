@@ -1,9 +1,10 @@
 -- Letters on their way to the outbox: what was written of them, and which could not be written.
-use Rattle.std.specs.Prelude.{◌≡◌, ℕ, Bool, true, false, not, List, [], ◌∷◌, ◌++◌, length, Option, if◌then◌else◌}
+use Rattle.std.specs.Prelude.{◌≡◌, ℕ, Bool, true, false, not, List, [], ◌∷◌, ◌++◌, length, Option, None, if◌then◌else◌}
 use Rattle.std.specs.Io.KnownBytes.{Appends}
 use Rattle.std.specs.List.{flat_map}
 use Rattle.dsn_device.specs.Failures.{counted}
 use Rattle.dsn_device.specs.Flushes.{flushed, flushed_times}
+use Rattle.dsn_device.specs.Marking.{marked_by}
 use Rattle.dsn_device.specs.Transfer.{AppendsPart}
 use Rattle.dsn_device.specs.declared.drain.Drain
 use Rattle.dsn_outcome.specs.Letter.{Letter}
@@ -14,6 +15,13 @@ use Rattle.dsn_report.specs.Poster.{Poster}
 pub record Outgoing (W : Type 0) : Type 0 where
   pub poster : Poster W
   pub unsent : List Letter
+
+-- nothing was posted so far, and nothing is written
+abbrev pub begun : {W : Type 0} → List ℕ → W → Outgoing W
+begun host outbox = record {
+  poster = record { host = host; outbox = outbox; greeted = false; failed = false };
+  unsent = [];
+}
 
 -- what is written of letters that are posted: the greeting comes with the first of them
 abbrev pub written_of : List ℕ → Bool → List Letter → List ℕ
@@ -27,8 +35,14 @@ pub record AppendsAtLeast (old new : Option (List ℕ)) (least text : List ℕ) 
   pub split : text ≡ (least ++ more) ++ unsent
   pub appended : Appends old new (least ++ more)
 
+-- the count of marked letters once these were marked, one after another
+abbrev pub marked_with : List Letter → Option ℕ → Option ℕ
+marked_with [] count = count
+marked_with (first ∷ rest) count = marked_with rest (marked_by true first.serial count)
+
 -- how an outbox failed that was flushed so many times before: within this text, and then it was not
--- flushed again; or at the one flush after all of it, which it can't where it flushes surely
+-- flushed again; at the one flush after all of it, which it can't where it flushes surely; or at the
+-- mark after that flush, which it can't either, nor where it marks no letters
 pub data FailedIn {W : Type 0} (drain : Drain.Ghosts W) (start end : W) (times : ℕ)
     (text : List ℕ) : Type 0 where
   in_text : AppendsPart (drain.contents start) (drain.contents end) text
@@ -37,6 +51,10 @@ pub data FailedIn {W : Type 0} (drain : Drain.Ghosts W) (start end : W) (times :
   at_flush : Appends (drain.contents start) (drain.contents end) text
       → drain.flushes end ≡ flushed (flushed_times times (drain.flushes start))
       → ¬ drain.flushes_surely start
+      → FailedIn drain start end times text
+  at_mark : Appends (drain.contents start) (drain.contents end) text
+      → drain.flushes end ≡ flushed (flushed_times times (drain.flushes start))
+      → ¬ (drain.marked start ≡ None) → ¬ drain.flushes_surely start
       → FailedIn drain start end times text
 
 -- whether there are letters
@@ -49,7 +67,7 @@ abbrev pub text_until : List ℕ → List Letter → List Letter → List ℕ
 text_until host posted [] = outbox_of host posted
 text_until host posted (first ∷ rest) = written_of host true (posted ++ first ∷ [])
 
--- while nothing failed, each letter is written
+-- while nothing failed, each letter is written, flushed and marked
 pub record AllWritten {W : Type 0} (drain : Drain.Ghosts W) (start : W) (out : Outgoing W)
     (letters : List Letter) : Type 0 where
   pub none_unsent : out.unsent ≡ []
@@ -59,10 +77,11 @@ pub record AllWritten {W : Type 0} (drain : Drain.Ghosts W) (start : W) (out : O
   pub good : drain.failures out.poster.outbox ≡ drain.failures start
   pub flushes : drain.flushes out.poster.outbox
       ≡ flushed_times (length letters) (drain.flushes start)
+  pub marked : drain.marked out.poster.outbox ≡ marked_with letters (drain.marked start)
   pub surely : drain.flushes_surely start → drain.flushes_surely out.poster.outbox
 
--- after a failure the letters before the failed one are written, each of them flushed, and a front of
--- it; the rest of them are kept
+-- after a failure the letters before the failed one are written, each of them flushed and marked, and
+-- a front of it; the rest of them are kept
 pub record FrontWritten {W : Type 0} (drain : Drain.Ghosts W) (start : W) (out : Outgoing W)
     (letters : List Letter) : Type 0 where
   pub posted : List Letter
@@ -75,6 +94,7 @@ pub record FrontWritten {W : Type 0} (drain : Drain.Ghosts W) (start : W) (out :
       (written_of out.poster.host true (posted ++ failed ∷ []))
   pub lost : FailedIn drain start out.poster.outbox (length posted)
       (written_of out.poster.host true (posted ++ failed ∷ []))
+  pub marked : drain.marked out.poster.outbox ≡ marked_with posted (drain.marked start)
   pub count : drain.failures out.poster.outbox ≡ counted true (drain.failures start)
 
 -- a device whose calls don't fail stays so, and its count of failures stays
@@ -94,8 +114,9 @@ pub record Delivered {W : Type 0} (drain : Drain.Ghosts W) (host : List ℕ) (st
 -- letters before those that are unsent, and a front of what follows; the device failed once where
 -- it isn't whole, and else not; a whole one was flushed once for each letter and once at QUIT,
 -- after all of its text, and another one once for each letter before those that are unsent, and
--- once more where it failed at a flush; where the device flushes surely, some of the text of all
--- letters is missing from one that isn't whole
+-- once more where it failed at a flush or at a mark; each letter before those that are unsent was
+-- marked, and no other; where the device flushes surely, some of the text of all letters is missing
+-- from one that isn't whole
 pub record IsOutbox {W : Type 0} (drain : Drain.Ghosts W) (host : List ℕ) (start end : W) (whole : Bool)
     (unsent letters : List Letter) : Type 0 where
   pub posted : List Letter
@@ -109,6 +130,7 @@ pub record IsOutbox {W : Type 0} (drain : Drain.Ghosts W) (host : List ℕ) (sta
   pub flushes : whole ≡ true
       → drain.flushes end ≡ flushed (flushed_times (length letters) (drain.flushes start))
   pub passed_on : whole ≡ true → drain.unflushed end ≡ false
+  pub marked : drain.marked end ≡ marked_with posted (drain.marked start)
   pub lost : whole ≡ false
       → FailedIn drain start end (length posted) (text_until host posted unsent)
   pub short : whole ≡ false → drain.flushes_surely start

@@ -1,7 +1,7 @@
 //! Lines on their way to a drain, one piece after another.
-ghost use Rattle.std.specs.Prelude.{◌≡◌, ◌<◌, ℕ, List, [], ◌∷◌, ◌++◌, codes, length};
+ghost use Rattle.std.specs.Prelude.{◌≡◌, ◌<◌, false, ℕ, List, [], ◌∷◌, ◌++◌, codes, length};
 ghost use Rattle.std.specs.List.{flat_map};
-ghost use Rattle.dsn_device.specs.QuietWriter.{Flushes};
+ghost use Rattle.dsn_device.specs.QuietWriter.{Flushes, MarksLetter};
 ghost use Rattle.dsn_report.specs.LineWriter.{IsBlock, Settled, Took, Wrote, sent_of_dotted};
 
 use crate::pending_bytes::PendingBytes;
@@ -47,6 +47,17 @@ impl<W: Drain> LineWriter<W> {
         ensures pending { self.new.pending ≡ self.old.pending }
     {
         self.writer.flush();
+    }
+
+    /// Has the drain mark the letter with this serial.
+    pub(crate) fn mark_letter(&mut self, serial: u64)
+        requires flushed { self.old.writer.failed ≡ false
+            → W.unflushed self.old.writer.drain ≡ false }
+        ensures marks { MarksLetter W.Drain self.old.writer self.new.writer serial }
+        ensures dots { self.new.dots ≡ self.old.dots }
+        ensures pending { self.new.pending ≡ self.old.pending }
+    {
+        self.writer.mark_letter(serial);
     }
 
     /// Writes lines with their CRLFs, from pieces of their text, of which each may reach over

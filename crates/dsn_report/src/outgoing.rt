@@ -1,7 +1,7 @@
 //! Letters on their way to the outbox.
-ghost use Rattle.std.specs.Prelude.{◌≡◌, ℕ, List, [], ◌∷◌, ◌++◌};
+ghost use Rattle.std.specs.Prelude.{◌≡◌, ◌+◌, ◌≤◌, ℕ, List, [], ◌∷◌, ◌++◌, length};
 ghost use Rattle.std.specs.Option.{option_to_list};
-ghost use Rattle.dsn_report.specs.Outgoing.{Delivered, IsOutbox};
+ghost use Rattle.dsn_report.specs.Outgoing.{Delivered, IsOutbox, begun};
 
 use crate::outbox_end::OutboxEnd;
 use crate::poster::{Ended, Poster};
@@ -28,7 +28,8 @@ impl<W> Model for Outgoing<W> {
 impl<W: Drain> Outgoing<W> {
     /// Nothing is written so far.
     pub fn new(site: Site, outbox: W) -> Self
-        ensures { Delivered W.Drain site outbox result [] }
+        ensures delivered { Delivered W.Drain site outbox result [] }
+        ensures new { result ≡ begun site outbox }
     {
         Outgoing {
             poster: Poster::new(site, outbox),
@@ -36,11 +37,19 @@ impl<W: Drain> Outgoing<W> {
         }
     }
 
+    /// Whether the outbox has failed.
+    pub fn has_failed(&self) -> bool
+        ensures { result ≡ self.now.poster.failed }
+    {
+        self.poster.has_failed()
+    }
+
     /// Posts a letter, or keeps it where the outbox fails or has failed.
     pub fn hand(&mut self, letter: Letter)
-        ensures { (host : List ℕ) (start : W) (letters : List _)
+        ensures delivered { (host : List ℕ) (start : W) (letters : List _)
             → Delivered W.Drain host start self.old letters
             → Delivered W.Drain host start self.new (letters ++ letter ∷ []) }
+        ensures few { length self.new.unsent ≤ length self.old.unsent + 1 }
     {
         if let Err(fault) = self.poster.post(letter) {
             self.unsent.push(fault.into_letter());
@@ -68,9 +77,10 @@ impl<W: Drain> Outgoing<W> {
 
     /// Ends the outbox.
     pub fn finish(self) -> OutboxEnd<W>
-        ensures { (host : List ℕ) (start : W) (letters : List _)
+        ensures outbox { (host : List ℕ) (start : W) (letters : List _)
             → Delivered W.Drain host start self letters
             → IsOutbox W.Drain host start result.outbox result.whole result.unsent letters }
+        ensures unsent { result.unsent ≡ self.unsent }
     {
         let Outgoing { poster, unsent } = self;
         let Ended { outbox, whole } = poster.finish();

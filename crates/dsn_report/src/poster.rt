@@ -2,7 +2,7 @@
 ghost use Rattle.std.specs.Prelude.{◌≡◌, true, false, not, IsTrue, IsFalse, Err, OnOk, OnErr, IfErr, is_err};
 ghost use Rattle.std.specs.Io.KnownBytes.{Appends};
 ghost use Rattle.dsn_device.specs.Transfer.{AppendsFront};
-ghost use Rattle.dsn_device.specs.UntilFailure.{WrittenAndFlushed, counts_failure};
+ghost use Rattle.dsn_device.specs.UntilFailure.{WrittenAndFlushed, WrittenAndMarked, counts_failure};
 ghost use Rattle.dsn_report.specs.Poster.{post_fault, post_text, finish_text};
 
 use crate::line_writer::LineWriter;
@@ -69,6 +69,13 @@ impl<W> Poster<W> {
         }
     }
 
+    /// Whether the outbox has failed.
+    pub fn has_failed(&self) -> bool
+        ensures { result ≡ self.now.failed }
+    {
+        self.lines.writer.has_failed()
+    }
+
     /// Gives the outbox back as it is: nothing more is written, and it isn't ended.
     pub fn into_outbox(self) -> W
         ensures { result ≡ self.outbox }
@@ -78,9 +85,9 @@ impl<W> Poster<W> {
 }
 
 impl<W: Drain> Poster<W> {
-    /// Writes the letter's notice, after the greeting if that isn't written, and then flushes the
-    /// outbox, once. `Write` comes where the outbox fails now, and `Failed` from every later call;
-    /// the letter comes back. It takes no memory.
+    /// Writes the letter's notice, after the greeting if that isn't written, then flushes the
+    /// outbox, once, and then has it mark the letter. `Write` comes where the outbox fails now, and
+    /// `Failed` from every later call; the letter comes back. It takes no memory.
     #[tactic(auto, unfolding(crate::specs::Poster::post_text))]
     pub fn post(&mut self, letter: Letter) -> Result<(), PostFault>
         ensures sent { OnOk result
@@ -89,8 +96,8 @@ impl<W: Drain> Poster<W> {
         ensures front { OnErr result
             (AppendsFront (W.contents self.old.outbox) (W.contents self.new.outbox)
             (post_text self.old letter)) }
-        ensures flushed { WrittenAndFlushed W.Drain self.old.failed self.new.failed self.old.outbox
-            self.new.outbox (post_text self.old letter) }
+        ensures marked { WrittenAndMarked W.Drain self.old.failed self.new.failed self.old.outbox
+            self.new.outbox (post_text self.old letter) letter.serial }
         ensures fault { IfErr result (λ fault. fault ≡ post_fault self.old.failed letter) }
         ensures failed { self.new.failed ≡ is_err result }
         ensures greeted { OnOk result (self.new.greeted ≡ true) }
@@ -113,6 +120,7 @@ impl<W: Drain> Poster<W> {
         send_letter(&mut self.lines, &self.site, &letter, self.greeted);
         self.greeted = true;
         self.lines.flush();
+        self.lines.mark_letter(letter.serial());
         if self.lines.writer.has_failed() {
             return Err(PostFault::Write(letter));
         }
@@ -129,6 +137,7 @@ impl<W: Drain> Poster<W> {
             → AppendsFront (W.contents self.outbox) (W.contents result.outbox) (finish_text self) }
         ensures flushed { WrittenAndFlushed W.Drain self.failed
             (not result.whole) self.outbox result.outbox (finish_text self) }
+        ensures marked { W.marked result.outbox ≡ W.marked self.outbox }
         ensures nothing { IsTrue self.failed
             → result ≡ record { outbox = self.outbox; whole = false } }
 

@@ -58,8 +58,19 @@ pub(crate) struct Serving {
     pub(crate) agents: u32,
     /// How many connections each agent serves, 1 to 1,000,000.
     pub(crate) max_use: u32,
-    /// What its watch is asked to do.
-    pub(crate) options: WatchOptions,
+    /// What its options ask for.
+    pub(crate) options: ServeOptions,
+}
+
+/// What the options of `serve` ask for.
+#[derive(Drop)]
+pub(crate) struct ServeOptions {
+    /// The folder of the journal, if there is to be one.
+    pub(crate) journal: Option<String>,
+    /// The path of the outbox, where it isn't standard output.
+    pub(crate) outbox: Option<String>,
+    /// What the run's watch is asked to do.
+    pub(crate) watch: WatchOptions,
 }
 
 /// The command that the arguments name.
@@ -113,29 +124,54 @@ fn serve_arguments(alloc: Global, mut words: Args) -> Result<Command, Refusal> {
 }
 
 /// The options of `serve`, each given once at most. They are the words before its last four, so
-/// that a socket, say, may have the name of an option.
-fn serve_options(words: &mut Args) -> Result<WatchOptions, Refusal> {
-    let mut options = WatchOptions {
-        idle_limit: None,
-        ends_on_fault: false,
-        logs: false,
+/// that a socket, say, may have the name of an option. A journal asks for an outbox by path.
+fn serve_options(words: &mut Args) -> Result<ServeOptions, Refusal> {
+    let mut options = ServeOptions {
+        journal: None,
+        outbox: None,
+        watch: WatchOptions {
+            idle_limit: None,
+            ends_on_fault: false,
+            logs: false,
+        },
     };
     for _ in SERVE_WORDS..words.len() {
         if words.len() <= SERVE_WORDS {
             break;
         }
         let option = words.next().ok_or(Refusal::Usage)?;
-        match option.as_str() {
-            "--idle" if options.idle_limit.is_none() => {
-                let seconds = words.next().ok_or(Refusal::Usage)?;
-                options.idle_limit = Some(number_of(&seconds, MOST_IDLE)?);
-            }
-            "--end-on-fault" if !options.ends_on_fault => options.ends_on_fault = true,
-            "--log" if !options.logs => options.logs = true,
-            _ => return Err(Refusal::Usage),
-        }
+        take_option(&mut options, option.as_str(), words)?;
+    }
+    // A letter is marked once a flush returned, so that flush has to wait for a disk.
+    if options.journal.is_some() && options.outbox.is_none() {
+        return Err(Refusal::Usage);
     }
     Ok(options)
+}
+
+/// Takes one option of `serve`, with its argument.
+fn take_option(options: &mut ServeOptions, option: &str, words: &mut Args) -> Result<(), Refusal> {
+    let watch = &mut options.watch;
+    match option {
+        "--journal" if options.journal.is_none() => options.journal = Some(path_of(words)?),
+        "--outbox" if options.outbox.is_none() => options.outbox = Some(path_of(words)?),
+        "--idle" if watch.idle_limit.is_none() => {
+            let seconds = words.next().ok_or(Refusal::Usage)?;
+            watch.idle_limit = Some(number_of(&seconds, MOST_IDLE)?);
+        }
+        "--end-on-fault" if !watch.ends_on_fault => watch.ends_on_fault = true,
+        "--log" if !watch.logs => watch.logs = true,
+        _ => return Err(Refusal::Usage),
+    }
+    Ok(())
+}
+
+/// The path that an option is given.
+fn path_of(words: &mut Args) -> Result<String, Refusal> {
+    match words.next() {
+        Some(path) if !path.is_empty() => Ok(path),
+        _ => Err(Refusal::Usage),
+    }
 }
 
 /// The argument `SOCKET` of `stop` and `send`.

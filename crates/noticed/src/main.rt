@@ -4,6 +4,8 @@
 mod arguments;
 mod batch_command;
 mod buffer;
+mod journal_files;
+mod outbox_writer;
 mod refusal;
 mod send_command;
 mod serve_command;
@@ -23,7 +25,7 @@ use stop_command::run_stop;
 
 /// The line that wrong arguments print on standard error.
 const USAGE: &str =
-    "usage: noticed batch HOST | serve [--idle SECONDS] [--end-on-fault] [--log] SOCKET HOST AGENTS MAX-USE | stop SOCKET | send SOCKET";
+    "usage: noticed batch HOST | serve [[--journal FOLDER] --outbox PATH] [--idle SECONDS] [--end-on-fault] [--log] SOCKET HOST AGENTS MAX-USE | stop SOCKET | send SOCKET";
 
 fn main(rt: HostRuntime) -> ExitCode {
     let done = match begin(&rt) {

@@ -1,10 +1,16 @@
 //! The command `serve`.
-use crate::arguments::Serving;
+use crate::arguments::{ServeOptions, Serving};
 use crate::buffer::{ROOM, let_go};
+use crate::journal_files::{open_folder, open_outbox, print_journal_fault, print_outbox_fault};
+use crate::outbox_writer::OutboxWriter;
 use crate::refusal::Refusal;
 use crate::socket_fault::{print_socket_error, print_socket_fault};
+use dsn_journal::FileDisk;
 use dsn_outcome::Plain;
-use noticed_lib::{ServeEnd, SocketWatch, Watch, WatchOptions, WatchedOutbox, serve_watched};
+use noticed_lib::{
+    JournalFolder, ServeEnd, SocketWatch, Watch, WatchOptions, WatchedOutbox, serve_journaled,
+    serve_watched,
+};
 use std::io;
 use std::io::BufWriter;
 use std::os::unix::net::UnixListener;
@@ -26,31 +32,67 @@ pub(crate) fn run_serve<R: Threads + Wait + Sync>(
         max_use,
         options,
     } = serving;
-    let writer = BufWriter::with_capacity(rt.alloc(), ROOM, rt.stdout()).map_err(
-        |_| Refusal::NoMemory,
-    )?;
+    let ServeOptions {
+        journal,
+        outbox,
+        watch: options,
+    } = options;
+    let outbox = match outbox_at(rt, outbox) {
+        Ok(outbox) => outbox,
+        Err(status) => return Ok(status),
+    };
+    let writer = BufWriter::with_capacity(rt.alloc(), ROOM, outbox).map_err(|_| Refusal::NoMemory)?;
+    let folder = match folder_at(rt, journal) {
+        Ok(folder) => folder,
+        Err(status) => return Ok(status),
+    };
     let (listener, watch) = match listen(rt, &socket, options) {
         Ok(listening) => listening,
         Err(error) => return Ok(print_socket_fault(rt, &socket, &error)),
     };
     print_start(rt, &watch, &socket, &host, agents, max_use);
-    let end = serve_watched(
-        waiting,
-        rt.alloc(),
-        &listener,
-        &watch,
-        site,
-        agents,
-        max_use,
-        Plain::new(WatchedOutbox::new(writer, &watch)),
-        &mut Plain::new(rt.stderr()),
-    );
+    let outbox = Plain::new(WatchedOutbox::new(writer, &watch));
+    let notes = &mut Plain::new(rt.stderr());
+    let alloc = rt.alloc();
+    let end = match folder {
+        None => serve_watched(
+            waiting, alloc, &listener, &watch, site, agents, max_use, outbox, notes,
+        ),
+        Some(folder) => serve_journaled(
+            waiting, alloc, &listener, &watch, site, agents, max_use, outbox, folder, notes,
+        ),
+    };
     let ServeEnd { outbox, status } = end;
     let_go(outbox.into_inner().into_inner());
     if let Some(error) = watch.accept_error() {
         print_socket_error(rt, &socket, &error);
     }
     Ok(status)
+}
+
+/// The outbox at this path, or standard output where there is none; else the status.
+fn outbox_at(rt: &HostRuntime, path: Option<String>) -> Result<OutboxWriter, u8> {
+    let Some(path) = path else {
+        return Ok(OutboxWriter::Standard(rt.stdout()));
+    };
+    match open_outbox(rt, &path) {
+        Ok(file) => Ok(OutboxWriter::Synced(file)),
+        Err(error) => Err(print_outbox_fault(rt, &path, &error)),
+    }
+}
+
+/// The disks of this folder, if there is to be a journal; else the status.
+fn folder_at<'a>(
+    rt: &'a HostRuntime,
+    folder: Option<String>,
+) -> Result<Option<JournalFolder<FileDisk<'a>, FileDisk<'a>>>, u8> {
+    let Some(folder) = folder else {
+        return Ok(None);
+    };
+    match open_folder(rt, &folder) {
+        Ok(disks) => Ok(Some(disks)),
+        Err(error) => Err(print_journal_fault(rt, &folder, &error)),
+    }
 }
 
 /// The socket at this path, and the watch over it.

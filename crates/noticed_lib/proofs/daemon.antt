@@ -1,3 +1,4 @@
 pub mod AgentLinesLemmas
+pub mod JournaledLemmas
 pub mod ServeLemmas
 mod SocketUsesExamples

@@ -1,4 +1,5 @@
 pub mod AgentLines
+pub mod Journaled
 pub mod Serve
 pub mod SocketUses
 pub mod WatchedOutbox

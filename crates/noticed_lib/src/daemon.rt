@@ -1,10 +1,13 @@
 //! The run of the daemon: a crew of agents that serve connections, and the notes of what came of
 //! it.
 mod agent_lines;
+mod journal_folder;
+mod journal_start;
 mod log_line;
 mod no_watch;
 mod run_notes;
 mod serve_end;
+mod serve_over_journal;
 mod serve_over_ports;
 mod serve_over_sockets;
 mod socket_port;
@@ -13,10 +16,12 @@ mod watch;
 mod watched_connection;
 mod watched_outbox;
 
+pub use journal_folder::JournalFolder;
 pub use no_watch::NoWatch;
 pub use serve_end::ServeEnd;
+pub use serve_over_journal::serve_ports_over;
 pub use serve_over_ports::serve_ports;
-pub use serve_over_sockets::{serve, serve_watched};
+pub use serve_over_sockets::{serve, serve_journaled, serve_watched};
 pub use socket_watch::{SocketWatch, WatchOptions};
 pub use watch::Watch;
 pub use watched_outbox::WatchedOutbox;

@@ -87,6 +87,10 @@ impl Drain for Peer<'_> {
         self.unflushed = false;
         Ok(())
     }
+
+    fn mark_letter(&mut self, _serial: u64) -> Result<(), Broken> {
+        Ok(())
+    }
 }
 
 impl Stream for Peer<'_> {

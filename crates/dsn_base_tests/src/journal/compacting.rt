@@ -4,12 +4,13 @@
 ghost use Rattle.std.specs.Prelude.{◌≤◌};
 ghost use Rattle.dsn_journal.specs.MemoryDisk.{memory_moment};
 
-use super::ledgers::{expect_plain, make_group, open_disk};
+use super::ledgers::{expect_plain, make_group, open_disk, refusal};
+use super::marks::disk_of_three;
 use crate::assert_same::same;
 use crate::book::books::histories::generated;
 use crate::book::books::plain::{Ask, PlainBook};
 use dsn_book::Limits;
-use dsn_journal::{MemoryDisk, Opened, open};
+use dsn_journal::{LedgerError, MemoryDisk, Opened, open};
 use dsn_outcome::{Key, Letter, Request};
 use std::alloc::Global;
 use std::process::Abort;
@@ -147,6 +148,39 @@ fn each_moment_of_many_compactions(rt: HostRuntime) -> Result<(), Fail> {
                 stop_at(&rt, alloc, limits, &disk, moment, lost, &asks, mark)?;
             }
         }
+    }
+    Ok(())
+}
+
+#[test]
+fn a_journal_is_put_away_once_all_its_letters_are_marked(rt: HostRuntime) -> Result<(), Fail> {
+    let alloc = rt.alloc();
+    let limits = Limits::new(6, 4, 100).ok_or("not limits")?;
+    for (opened_under, mark, done, base, sealed) in [
+        (0, 0, false, 0, 3),
+        (0, 2, false, 0, 3),
+        (2, 2, false, 0, 3),
+        (2, 4, false, 0, 3),
+        (3, u64::MAX, false, 0, 3),
+        (2, 3, true, 3, 0),
+        (3, 3, true, 3, 0),
+    ] {
+        let disk = disk_of_three(alloc, limits)?;
+        let Opened { mut ledger, .. } = open_disk(alloc, disk, limits, opened_under)?;
+        let first = ledger.compact_all_marked(alloc, mark);
+        // A second time it changes no more.
+        let again = ledger.compact_all_marked(alloc, mark);
+        same(&rt, (first, again), (Ok(done), Ok(done)));
+        let left = (ledger.base(), ledger.book().sealed());
+        same(&rt, left, (base, sealed));
+        let (behind, disk) = refusal(alloc, ledger.into_disk(), limits, 2);
+        let wanted = if done {
+            Some(LedgerError::MarkBehind)
+        } else {
+            None
+        };
+        same(&rt, behind, wanted);
+        same(&rt, open_disk(alloc, disk, limits, 3)?.letters.len(), 0);
     }
     Ok(())
 }

@@ -19,7 +19,7 @@ use std::snapshot::Snapshot;
 use std::test::Fail;
 
 /// How many bytes the disk of marks has: room for two of them, of 16 bytes each.
-const SIZE: usize = 40;
+pub(super) const SIZE: usize = 40;
 
 /// A folder of its own, and the file of marks in it.
 const FOLDER: &str = "dsn_journal_marks";
@@ -76,7 +76,7 @@ fn a_last_record_of_another_length_is_no_mark(rt: HostRuntime) -> Result<(), Fai
 }
 
 /// A disk with some requests that seal three letters.
-fn disk_of_three(alloc: Global, limits: Limits) -> Result<MemoryDisk, Fail> {
+pub(super) fn disk_of_three(alloc: Global, limits: Limits) -> Result<MemoryDisk, Fail> {
     let disk = MemoryDisk::new(alloc, vec![in alloc; 0; 4_000]?);
     let Opened { mut ledger, .. } = open_disk(alloc, disk, limits, 0)?;
     let mut group = make_group(alloc, &generated(alloc, 1, 40)?)?;
@@ -88,7 +88,7 @@ fn disk_of_three(alloc: Global, limits: Limits) -> Result<MemoryDisk, Fail> {
 }
 
 /// Opens a disk of marks.
-fn open_marks<D: Replaceable + Drop>(alloc: Global, disk: D) -> Result<Marks<D>, Fail> {
+pub(super) fn open_marks<D: Replaceable + Drop>(alloc: Global, disk: D) -> Result<Marks<D>, Fail> {
     let marks = match Marks::open(alloc, disk) {
         Ok(marks) => marks,
         Err(_left) => return Err(Fail::from("no marks")),

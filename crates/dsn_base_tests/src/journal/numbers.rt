@@ -38,6 +38,7 @@ fn what_is_not_opened_has_its_number(rt: HostRuntime) -> Result<(), Fail> {
 
 #[test]
 fn requests_that_are_not_kept_have_one_number(rt: HostRuntime) -> Result<(), Fail> {
+    same(&rt, NotKept::Memory.code(), 45);
     same(&rt, NotKept::Full.code(), 45);
     same(&rt, NotKept::Failed.code(), 45);
     Ok(())

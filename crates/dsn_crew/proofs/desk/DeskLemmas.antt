@@ -1,5 +1,5 @@
 -- Desks: what one more request, with its answer sent, leaves.
-use Rattle.std.proofs.Common.{◌≡◌, ◌≢◌, inl, ℕ, zero, suc, ◌+◌, ◌<◌, ◌≤◌, ◌==◌, Bool, true, false, cond, All, List, [], ◌∷◌, ◌++◌, length, map, filter, set, refl, ap, sym, ◌∙◌, subst, eq-eqb, ne_eqb, length-append, arith}
+use Rattle.std.proofs.Common.{◌≡◌, ◌≢◌, ℕ, zero, suc, ◌+◌, ◌<◌, ◌≤◌, ◌==◌, Bool, true, false, cond, All, List, [], ◌∷◌, ◌++◌, length, map, filter, set, refl, ap, sym, ◌∙◌, subst, eq-eqb, ne_eqb, length-append, arith}
 use Rattle.std.specs.Prelude.{◌↔◌, IfSome, IsTrue, Option, Some, None, is_some}
 use Rattle.std.specs.List.{slice_index_or}
 use Rattle.std.proofs.lemmas.List.{append-nil, get_or-set_same, get_or-set_other, set-get_or, length-set}
@@ -9,6 +9,7 @@ use Rattle.std.proofs.lemmas.Bool.{false≢true}
 use mathlib.Core.List.{IsPrefix}
 use native.Mathlib.Decide.{ℕ_discrete}
 use Rattle.dsn_book.specs.declared.keeper.Keeper.{Ghosts as Keeper}
+use Rattle.dsn_book.specs.declared.not_kept.NotKept.{NotKept}
 use Rattle.dsn_lane.specs.Halves.{Half, Out, Identity}
 use Rattle.dsn_lane.specs.Lane.{IsNumbered}
 use Rattle.dsn_outcome.specs.Agents.{from_agent}
@@ -16,7 +17,7 @@ use Rattle.dsn_outcome.specs.History.{Exchange, answer_of, answers_to, exchange_
 use Rattle.dsn_outcome.specs.Request.{Request, Body, Append, Flush, Discard, Forget, Bye}
 use Rattle.dsn_outcome.specs.declared.answer.Answer.{Answer}
 use Rattle.dsn_outcome.proofs.HistoryLaws.{answers_mine, answers_more, answers_other}
-use Rattle.dsn_crew.specs.desk.Desk.{BeginsWith, Desk, IsDesk, StandsAfter, AreAnswered, IsUnseen, desk_of, IsAnswerSent, IsStopped, answered_more, goodbyes, history, is_goodbye, next_exchange, places_of, seen_half, taken_request}
+use Rattle.dsn_crew.specs.desk.Desk.{BeginsWith, Desk, IsDesk, StandsAfter, AreAnswered, IsUnseen, desk_of, desk_seen, IsAnswerSent, answered_more, goodbyes, history, is_goodbye, next_exchange, places_of, refusal_behind, seen_half, taken_request}
 use Rattle.dsn_crew.specs.declared.desk.stop_cause.StopCause.{StopCause}
 use Rattle.dsn_crew.specs.agents.Place.{Place, place_at}
 use Rattle.dsn_crew.proofs.desk.EarlierLemmas.{more_after}
@@ -239,7 +240,7 @@ module _ {B : Type 0} (keeper : Keeper B) (desk : Desk B) (request : Request) (a
       -- the collector stands for one request more, after a history
       pub stands_on : (sent : Bool) (d : Half Answer) → IsAnswerSent sent desk.answers answer halves → keeper.has book (history keeper before desk ++ next_exchange keeper before desk request ∷ []) [] → (failed ≡ false → sent ≡ true) → StandsAfter keeper before new
       stands_on sent d is_sent book_is going_on = record {
-        has = inl (subst (λ (t : List Exchange). keeper.has book t []) (sym history_new) book_is);
+        has = subst (λ (t : List Exchange). keeper.has book t []) (sym history_new) book_is;
         sent = sent_new sent d is_sent;
         answered = λ well. answered_new d (subst (λ (it : Bool). IsAnswerSent it desk.answers answer halves) (going_on well) is_sent);
       }
@@ -247,9 +248,9 @@ module _ {B : Type 0} (keeper : Keeper B) (desk : Desk B) (request : Request) (a
     -- it keeps what every collector does
     pub keeps :
         ((a : ℕ) → IsNumbered (λ (r : Request). r.number) (from_agent (λ (r : Request). r.agent) a out.taken)) → (sent : Bool) (d : Half Answer) → IsAnswerSent sent desk.answers answer halves → (failed ≡ false → sent ≡ true) → keeper.limits book ≡ keeper.limits desk.start
-        → keeper.sealed book ≤ keeper.sealed desk.book + 1 → (keeper.may_refuse book → keeper.may_refuse desk.start)
+        → keeper.sealed book ≤ keeper.sealed desk.book + 1
         → ((before : List Exchange) → BeginsWith keeper desk.start before → (answer ≡ answer_of (next_exchange keeper before desk request)) × keeper.has book (history keeper before desk ++ next_exchange keeper before desk request ∷ []) []) → IsDesk keeper new
-    keeps numbered sent d is_sent going_on limits sealed refuses book_is =
+    keeps numbered sent d is_sent going_on limits sealed book_is =
         let same = long sent d is_sent in
         let first = asked.kept.first in
         let past = asked.kept.past in
@@ -268,21 +269,34 @@ module _ {B : Type 0} (keeper : Keeper B) (desk : Desk B) (request : Request) (a
           began = asked.kept.began;
           room = asked.kept.room;
           sealed = omega arith;
-          refuses = refuses;
+          kept = λ _. refl;
+          next = tt;
           counted = λ well a d' inside. counted_new (subst (λ (it : Bool). IsAnswerSent it desk.answers answer halves) (going_on well) is_sent) a d' (omega arith);
           stands = λ before begins. stands_on before (asked.kept.stands before begins) (book_is before begins).0 sent d is_sent (book_is before begins).1 going_on;
         }
 
 -- a collector that has not failed has no reason for it
-pub none_stopped : (refuses : Type 0) (stop : Option StopCause) (taken : List Request) → is_some stop ≡ false → IfSome stop (IsStopped refuses taken)
-none_stopped refuses None taken going = tt
-none_stopped refuses (Some stop) taken going = absurd (false≢true (sym going))
+pub none_stopped : (P : StopCause → Type 0) (stop : Option StopCause) → is_some stop ≡ false → IfSome stop P
+none_stopped P None going = tt
+none_stopped P (Some stop) going = absurd (false≢true (sym going))
 
--- of a collector that has not failed the whole half is seen
+-- of a collector that has not failed the whole half is seen, and nothing was left unkept
 pub seen_going : (stop : Option StopCause) (count : ℕ) (out : Out Request) → is_some stop ≡ false → seen_half stop count out ≡ out
 seen_going None count out going = refl
 seen_going (Some stop) count out going = absurd (false≢true (sym going))
 
+pub seen_whole : {B : Type 0} (start book : B) (stop : Option StopCause) (count : ℕ) (out : Out Request) (lines : List (Half Answer)) (missed : ℕ) → is_some stop ≡ false → desk_seen start book stop count out lines missed ≡ desk_of start book out lines missed (is_some stop)
+seen_whole start book None count out lines missed going = refl
+seen_whole start book (Some stop) count out lines missed going = absurd (false≢true (sym going))
+
 pub unseen_going : (stop : Option StopCause) (count : ℕ) (out : Out Request) → is_some stop ≡ false → IsUnseen stop count out
 unseen_going None count out going = tt
 unseen_going (Some stop) count out going = absurd (false≢true (sym going))
+
+-- the request behind all others that a half took is the one that was not kept
+behind_all : (why : NotKept) (taken : List Request) (request : Request) → refusal_behind why (length taken) (taken ++ request ∷ []) ≡ Some (record { request = request; why = why })
+behind_all why [] request = refl
+behind_all why (first ∷ taken) request = behind_all why taken request
+
+pub unkept_is : (why : NotKept) (count : ℕ) (old now : List Request) (request : Request) → count ≡ length old → now ≡ old ++ request ∷ [] → refusal_behind why count now ≡ Some (record { request = request; why = why })
+unkept_is why count old now request all more = (λ i. refusal_behind why (all i) (more i)) ∙ behind_all why old request

@@ -60,27 +60,27 @@ same_failed false = refl
 module _ {B : Type 0} (keeper : Keeper B) where
   stopped_start : (old new : Desk B) → HasStopped keeper old new → new.start ≡ old.start
   stopped_start old new (inl same) = ap (λ (desk : Desk B). desk.start) same
-  stopped_start old new (inr unkept) = ap (λ (desk : Desk B). desk.start) unkept.2
+  stopped_start old new (inr unkept) = ap (λ (desk : Desk B). desk.start) unkept.3
 
   stopped_requests : (old new : Desk B) → HasStopped keeper old new → new.requests ≡ old.requests
   stopped_requests old new (inl same) = ap (λ (desk : Desk B). desk.requests) same
-  stopped_requests old new (inr unkept) = ap (λ (desk : Desk B). desk.requests) unkept.2
+  stopped_requests old new (inr unkept) = ap (λ (desk : Desk B). desk.requests) unkept.3
 
   stopped_missed : (old new : Desk B) → HasStopped keeper old new → new.missed ≡ old.missed
   stopped_missed old new (inl same) = ap (λ (desk : Desk B). desk.missed) same
-  stopped_missed old new (inr unkept) = ap (λ (desk : Desk B). desk.missed) unkept.2
+  stopped_missed old new (inr unkept) = ap (λ (desk : Desk B). desk.missed) unkept.3
 
   stopped_failed : (old new : Desk B) → HasStopped keeper old new → new.failed ≡ true
   stopped_failed old new (inl same) = ap (λ (desk : Desk B). desk.failed) same
-  stopped_failed old new (inr unkept) = ap (λ (desk : Desk B). desk.failed) unkept.2
+  stopped_failed old new (inr unkept) = ap (λ (desk : Desk B). desk.failed) unkept.3
 
   stopped_answered : (before : List Exchange) (old new : Desk B) → HasStopped keeper old new → AreAnswered old.answers (history keeper before old) → AreAnswered new.answers (history keeper before new)
   stopped_answered before old new (inl same) is = subst (λ (desk : Desk B). AreAnswered desk.answers (history keeper before desk)) (sym same) is
-  stopped_answered before old new (inr unkept) is = subst (λ (desk : Desk B). AreAnswered desk.answers (history keeper before desk)) (sym unkept.2) is
+  stopped_answered before old new (inr unkept) is = subst (λ (desk : Desk B). AreAnswered desk.answers (history keeper before desk)) (sym unkept.3) is
 
   stopped_left : (old new : Desk B) → HasStopped keeper old new → AreLeft old old.requests.taken → AreLeft new new.requests.taken
   stopped_left old new (inl same) is = subst (λ (desk : Desk B). AreLeft desk desk.requests.taken) (sym same) is
-  stopped_left old new (inr unkept) is = subst (λ (desk : Desk B). AreLeft desk desk.requests.taken) (sym unkept.2) is
+  stopped_left old new (inr unkept) is = subst (λ (desk : Desk B). AreLeft desk desk.requests.taken) (sym unkept.3) is
 
   -- where nothing was moved and then nothing again, nothing was
   unmoved_then : (old mid new : Desk B) (result : Result (Unit {0}) DeskFault) → mid ≡ old → IsUnmoved keeper mid new result → IsUnmoved keeper old new result

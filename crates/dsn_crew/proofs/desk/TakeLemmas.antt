@@ -1,8 +1,8 @@
 -- A request that a collector takes, has kept, and carries out: what is known at each of these steps.
-use Rattle.std.proofs.Common.{◌≡◌, ◌⊎◌, inl, inr, ℕ, ◌+◌, ◌<◌, ◌≤◌, Bool, true, false, refl, List, [], ◌∷◌, ◌++◌, length, take, ap, sym, ◌∙◌, subst, true≢false, arith}
+use Rattle.std.proofs.Common.{◌≡◌, inr, ℕ, ◌+◌, ◌<◌, ◌≤◌, Bool, true, false, List, [], ◌∷◌, ◌++◌, length, take, ap, sym, ◌∙◌, subst, true≢false, arith}
 use Rattle.std.proofs.lemmas.List.{take_at}
 use Rattle.dsn_book.specs.declared.keeper.Keeper.{Ghosts as Keeper}
-use Rattle.std.specs.Prelude.{Option, is_some}
+use Rattle.std.specs.Prelude.{Option, Some, IfSome, is_some}
 use Rattle.dsn_lane.specs.Halves.{Half, Out}
 use Rattle.dsn_lane.specs.Lane.{IsNumbered}
 use Rattle.dsn_outcome.specs.Agents.{from_agent}
@@ -10,9 +10,9 @@ use Rattle.dsn_outcome.specs.History.{Exchange, answer_of, exchange_of, letter_o
 use Rattle.dsn_outcome.specs.Letter.{Letter}
 use Rattle.dsn_outcome.specs.Request.{Request}
 use Rattle.dsn_outcome.specs.declared.answer.Answer.{Answer}
-use Rattle.dsn_crew.specs.desk.Desk.{AreCounted, BeginsWith, Desk, IsAnswerSent, IsDesk, UnlessUnkept, carried_out, desk_of, history, next_exchange, seen_half, taken_request}
+use Rattle.dsn_crew.specs.desk.Desk.{AreCounted, BeginsWith, Desk, HasStopped, IsAnswerSent, IsDesk, IsNextOf, Refusal, StandsOrRefused, carried_out, desk_of, desk_seen, history, next_exchange, seen_half, taken_request}
 use Rattle.dsn_crew.specs.declared.desk.stop_cause.StopCause.{StopCause}
-use Rattle.dsn_crew.proofs.desk.DeskLemmas.{IsAsked, keeps, seen_going}
+use Rattle.dsn_crew.proofs.desk.DeskLemmas.{IsAsked, keeps, seen_going, seen_whole}
 
 -- ---- the half
 
@@ -32,51 +32,49 @@ took_one old new request same more = λ i. record { lane = same.0 i; first = sam
 
 -- ---- the collector
 
--- one that has not failed
-pub has_going : {B : Type 0} (keeper : Keeper B) (desk : Desk B) {P : Type 0} → UnlessUnkept keeper desk P → desk.failed ≡ false → P
-has_going keeper desk (inl is) going = is
-has_going keeper desk (inr unkept) going = absurd (true≢false (sym unkept.0 ∙ going))
+-- what a keeper stands for, once it has kept what it was asked to or refused it
+abbrev pub IsTied : {B : Type 0} → Keeper B → B → B → Option Refusal → Type 0
+IsTied keeper book new_book unkept = (t : List Exchange) → keeper.has book t [] → StandsOrRefused keeper unkept t new_book
 
--- another keeper has what this one has, or requests may be refused
-abbrev pub HasOrRefused : {B : Type 0} → Keeper B → B → B → B → Type 0
-HasOrRefused keeper start book new_book = ((t : List Exchange) → keeper.has book t [] → keeper.has new_book t []) ⊎ keeper.may_refuse start
+-- one that refused this request
+pub refused_tied : {B : Type 0} (keeper : Keeper B) (book new_book : B) (unkept : Option Refusal) (refusal : Refusal) → unkept ≡ Some refusal → keeper.refuses book (refusal.request ∷ []) refusal.why new_book → IsTied keeper book new_book unkept
+refused_tied keeper book new_book unkept refusal is refuses = λ t has. subst (λ (u : Option Refusal). StandsOrRefused keeper u t new_book) (sym is) (book, has, refuses)
 
-still_has : {B : Type 0} (keeper : Keeper B) (start book new_book : B) {t : List Exchange} → HasOrRefused keeper start book new_book → keeper.has book t [] → keeper.has new_book t [] ⊎ ((true ≡ true) × keeper.may_refuse start)
-still_has keeper start book new_book {t} (inl same) is = inl (same t is)
-still_has keeper start book new_book (inr may) is = inr (refl, may)
-
--- a collector by its parts
-abbrev pub desk_at : {B : Type 0} → B → B → Option StopCause → ℕ → Out Request → List (Half Answer) → ℕ → Desk B
-desk_at start book stop count out lines missed = desk_of start book (seen_half stop count out) lines missed (is_some stop)
+-- that request is the next of its agent
+pub refused_next : (unkept : Option Refusal) (refusal : Refusal) (agents : ℕ) (taken : List Request) → unkept ≡ Some refusal → refusal.request.agent < agents → refusal.request.number ≡ length (from_agent (λ (r : Request). r.agent) refusal.request.agent taken) → IfSome unkept (λ it. IsNextOf agents taken it.request)
+refused_next unkept refusal agents taken is from number = subst (λ (u : Option Refusal). IfSome u (λ it. IsNextOf agents taken it.request)) (sym is) (record { from = from; number = number })
 
 module _ {B : Type 0} (keeper : Keeper B) (start book : B) (stop : Option StopCause) (count : ℕ) (out : Out Request) (lines : List (Half Answer)) (missed : ℕ) (going : is_some stop ≡ false) where
   -- one that has not failed, with its whole half
-  pub whole_is : (desk : Desk B) → desk_at start book stop count out lines missed ≡ desk → desk_of start book out lines missed (is_some stop) ≡ desk
-  whole_is desk is = ap (λ (o : Out Request). desk_of start book o lines missed (is_some stop)) (sym (seen_going stop count out going)) ∙ is
+  pub whole_is : (desk : Desk B) → desk_seen start book stop count out lines missed ≡ desk → desk_of start book out lines missed (is_some stop) ≡ desk
+  whole_is desk is = sym (seen_whole start book stop count out lines missed going) ∙ is
 
-  pub desk_going : IsDesk keeper (desk_of start book out lines missed (is_some stop)) → IsDesk keeper (desk_at start book stop count out lines missed)
-  desk_going = subst (λ (o : Out Request). IsDesk keeper (desk_of start book o lines missed (is_some stop))) (sym (seen_going stop count out going))
+  pub desk_going : IsDesk keeper (desk_of start book out lines missed (is_some stop)) → IsDesk keeper (desk_seen start book stop count out lines missed)
+  desk_going = subst (IsDesk keeper) (sym (seen_whole start book stop count out lines missed going))
 
   -- its counts
   pub counts_here : (gone : ℕ) → AreCounted (seen_half stop count out).taken count gone → AreCounted out.taken count gone
   counts_here gone = subst (λ (o : Out Request). AreCounted o.taken count gone) (seen_going stop count out going)
 
-module _ {B : Type 0} (keeper : Keeper B) (start book : B) (stop : Option StopCause) (count : ℕ) (out : Out Request) (lines : List (Half Answer)) (missed : ℕ) (going : is_some stop ≡ false) (kept : IsDesk keeper (desk_at start book stop count out lines missed)) where
+module _ {B : Type 0} (keeper : Keeper B) (start book : B) (stop : Option StopCause) (count : ℕ) (out : Out Request) (lines : List (Half Answer)) (missed : ℕ) (going : is_some stop ≡ false) (kept : IsDesk keeper (desk_seen start book stop count out lines missed)) where
   pub desk_here : IsDesk keeper (desk_of start book out lines missed (is_some stop))
-  desk_here = subst (λ (o : Out Request). IsDesk keeper (desk_of start book o lines missed (is_some stop))) (seen_going stop count out going) kept
+  desk_here = subst (IsDesk keeper) (seen_whole start book stop count out lines missed going) kept
 
   -- what it stands for
   pub has_here : (before : List Exchange) → BeginsWith keeper start before → keeper.has book (history keeper before (desk_of start book out lines missed (is_some stop))) []
-  has_here before begins = has_going keeper (desk_of start book out lines missed (is_some stop)) (desk_here.stands before begins).has going
+  has_here before begins = (desk_here.stands before begins).has
 
   pub has_some : (t : List Exchange) × keeper.has book t []
   has_some = (_, has_here desk_here.began.0 desk_here.began.1)
 
   -- a collector that has failed, over another book
-  pub failed_desk : (new_book : B) (seen : Out Request) → HasOrRefused keeper start book new_book → seen ≡ out → keeper.limits new_book ≡ keeper.limits book → keeper.sealed new_book ≡ keeper.sealed book → (keeper.may_refuse new_book → keeper.may_refuse book)
-      → IsDesk keeper (desk_of start new_book seen lines missed true)
-  failed_desk new_book seen tied same limits sealed refuses =
-      subst (λ (o : Out Request). IsDesk keeper (desk_of start new_book o lines missed true)) (sym same)
+  abbrev pub failed_at : B → Out Request → Option Refusal → Desk B
+  failed_at new_book seen unkept = record { start = start; book = new_book; requests = seen; answers = lines; missed = missed; failed = true; unkept = unkept }
+
+  pub failed_desk : (new_book : B) (seen : Out Request) (unkept : Option Refusal) → IsTied keeper book new_book unkept → IfSome unkept (λ refusal. IsNextOf (length lines) out.taken refusal.request) → seen ≡ out → keeper.limits new_book ≡ keeper.limits book → keeper.sealed new_book ≡ keeper.sealed book
+      → IsDesk keeper (failed_at new_book seen unkept)
+  failed_desk new_book seen unkept tied next same limits sealed =
+      subst (λ (o : Out Request). IsDesk keeper (failed_at new_book o unkept)) (sym same)
       (record {
         first = desk_here.first;
         past = desk_here.past;
@@ -88,15 +86,21 @@ module _ {B : Type 0} (keeper : Keeper B) (start book : B) (stop : Option StopCa
         began = desk_here.began;
         room = desk_here.room;
         sealed = (let before = desk_here.sealed in omega (arith, sealed));
-        refuses = λ may. desk_here.refuses (refuses may);
+        kept = λ never. absurd (true≢false never);
+        next = next;
         counted = λ never. absurd (true≢false never);
         stands = λ before begins.
             let then = desk_here.stands before begins in record {
-              has = still_has keeper start book new_book tied (has_here before begins);
+              has = tied _ (has_here before begins);
               sent = then.sent;
               answered = λ never. absurd (true≢false never);
             };
       })
+
+  -- it has stopped, as its keeper refused a request
+  pub stopped_unkept : (new_book : B) (seen : Out Request) (unkept : Option Refusal) (refusal : Refusal) (desk : Desk B) → desk_of start book out lines missed (is_some stop) ≡ desk → seen ≡ out → unkept ≡ Some refusal → keeper.refuses book (refusal.request ∷ []) refusal.why new_book → HasStopped keeper desk (failed_at new_book seen unkept)
+  stopped_unkept new_book seen unkept refusal desk is same unkept_so refuses =
+      subst (λ (d : Desk B). HasStopped keeper d (failed_at new_book seen unkept)) is (inr (going, refusal, refuses, λ i. failed_at new_book (same i) (unkept_so i)))
 
   module _ (request : Request) (answer : Answer) (from : request.agent < out.past) (number : request.number ≡ length (from_agent (λ (r : Request). r.agent) request.agent out.taken)) (agent_is : answer.agent ≡ request.agent) (number_is : answer.number ≡ request.number) where
     pub asked : IsAsked keeper (desk_of start book out lines missed (is_some stop)) request answer
@@ -130,7 +134,7 @@ module _ {B : Type 0} (keeper : Keeper B) (start book : B) (stop : Option StopCa
         pub carried_on :
             (new_out : Out Request) (new_lines : List (Half Answer)) (new_failed : Bool) → new_out ≡ taken_request out request → ((a : ℕ) → IsNumbered (λ (r : Request). r.number) (from_agent (λ (r : Request). r.agent) a new_out.taken)) → (sent : Bool) (d : Half Answer)
             → IsAnswerSent sent lines answer new_lines → (new_failed ≡ false → sent ≡ true) → keeper.limits new_book ≡ keeper.limits kept_book → keeper.sealed kept_book ≡ keeper.sealed book → keeper.sealed new_book ≤ keeper.sealed kept_book + 1
-            → (keeper.may_refuse kept_book → keeper.may_refuse book) → (keeper.may_refuse new_book → keeper.may_refuse kept_book) → IsDesk keeper (desk_of start new_book new_out new_lines missed new_failed)
-        carried_on new_out new_lines new_failed taken numbered sent d is_sent going_on limits kept_sealed sealed kept_refuses refuses =
-            keeps keeper (desk_of start book out lines missed (is_some stop)) request answer asked new_book new_out new_lines missed new_failed taken numbered sent d is_sent going_on (limits ∙ limits_here) (omega arith) (λ may. desk_here.refuses (kept_refuses (refuses may)))
+            → IsDesk keeper (desk_of start new_book new_out new_lines missed new_failed)
+        carried_on new_out new_lines new_failed taken numbered sent d is_sent going_on limits kept_sealed sealed =
+            keeps keeper (desk_of start book out lines missed (is_some stop)) request answer asked new_book new_out new_lines missed new_failed taken numbered sent d is_sent going_on (limits ∙ limits_here) (omega arith)
             (λ before begins. (answer_says before begins, has_says before begins))

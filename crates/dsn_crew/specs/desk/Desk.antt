@@ -1,8 +1,9 @@
 -- Desks: what contracts see of the collector, and what each request that it takes comes to.
-use Rattle.std.specs.Prelude.{◌≡◌, ◌≢◌, ◌⊎◌, ℕ, ◌+◌, ◌^◌, ◌<◌, ◌≤◌, Bool, true, false, ◌==◌, ◌&&◌, ◌||◌, not, List, [], ◌∷◌, ◌++◌, length, map, filter, take, slice_set, All, Result, Ok, Err, is_err, Option, Some, None}
+use Rattle.std.specs.Prelude.{◌≡◌, ◌≢◌, ◌⊎◌, ℕ, zero, suc, ◌+◌, ◌^◌, ◌<◌, ◌≤◌, Bool, true, false, ◌==◌, ◌&&◌, ◌||◌, not, List, [], ◌∷◌, ◌++◌, length, map, filter, take, slice_set, All, Result, Ok, Err, is_err, Option, Some, None, IfSome, is_some}
 use mathlib.Core.List.{IsPrefix}
 use Rattle.std.specs.List.{slice_index_or}
 use Rattle.dsn_book.specs.declared.keeper.Keeper.{Ghosts as Keeper}
+use Rattle.dsn_book.specs.declared.not_kept.NotKept.{NotKept}
 use Rattle.dsn_book.specs.Step.{letters_in}
 use Rattle.dsn_lane.specs.Halves.{Half, Out}
 use Rattle.dsn_lane.specs.Lane.{IsNumbered, most_agents}
@@ -18,9 +19,15 @@ use Rattle.dsn_crew.specs.declared.desk.desk_fault.DeskFault.TheVariants.{Reques
 use Rattle.dsn_crew.specs.declared.desk.stop_cause.StopCause.{StopCause}
 use Rattle.dsn_crew.specs.declared.desk.stop_cause.StopCause.TheVariants.{Gone, Refused, Full, Unkept}
 
+-- a request that was not kept, and why
+pub record Refusal : Type 0 where
+  pub request : Request
+  pub why : NotKept
+
 -- the collector: what carried requests out when it began, and what does so now; the half by which it
 -- takes requests, with those that it has carried out; the halves by which it answers, agent by agent;
--- how many agents it has heard of that never start, and whether it failed
+-- how many agents it has heard of that never start, whether it failed, and the request that was not
+-- kept, where one wasn't
 pub record Desk (B : Type 0) : Type 0 where
   pub start : B
   pub book : B
@@ -28,6 +35,7 @@ pub record Desk (B : Type 0) : Type 0 where
   pub answers : List (Half Answer)
   pub missed : ℕ
   pub failed : Bool
+  pub unkept : Option Refusal
 
 abbrev pub is_goodbye : Body → Bool
 is_goodbye (Append id outcome) = false
@@ -49,7 +57,7 @@ all_gone desk =
 abbrev pub AreLeft : {B : Type 0} → Desk B → List Request → Type 0
 AreLeft desk requests = goodbyes requests + desk.missed ≢ length desk.answers
 
--- a collector by its parts
+-- a collector by its parts, for which nothing was left unkept
 abbrev pub desk_of :
     {B : Type 0} → B → B → Out Request → List (Half Answer) → ℕ → Bool → Desk B
 desk_of start book requests answers missed failed = record {
@@ -59,6 +67,7 @@ desk_of start book requests answers missed failed = record {
   answers = answers;
   missed = missed;
   failed = failed;
+  unkept = None;
 }
 
 -- a history that a run may begin with: nothing in it is answered to an agent of the run
@@ -90,6 +99,34 @@ IsUnseen (Some (Refused refused)) count out = Unit {0}
 IsUnseen (Some Full) count out = Unit {0}
 IsUnseen (Some (Unkept why)) count out = length out.taken ≡ count + 1
 
+-- the request behind so many, with why it was not kept
+abbrev pub refusal_behind : NotKept → ℕ → List Request → Option Refusal
+refusal_behind why count [] = None
+refusal_behind why zero (request ∷ requests) = Some (record { request = request; why = why })
+refusal_behind why (suc count) (request ∷ requests) = refusal_behind why count requests
+
+-- the request that was not kept, where one wasn't: the one that was taken and not carried out
+abbrev pub unkept_of : Option StopCause → ℕ → Out Request → Option Refusal
+unkept_of None count out = None
+unkept_of (Some (Gone gone)) count out = None
+unkept_of (Some (Refused refused)) count out = None
+unkept_of (Some Full) count out = None
+unkept_of (Some (Unkept why)) count out = refusal_behind why count out.taken
+
+-- what is seen of a collector by its parts, with why it has failed, how many requests it has
+-- carried out, and the half with all that was taken
+abbrev pub desk_seen :
+    {B : Type 0} → B → B → Option StopCause → ℕ → Out Request → List (Half Answer) → ℕ → Desk B
+desk_seen start book stop count out answers missed = record {
+  start = start;
+  book = book;
+  requests = seen_half stop count out;
+  answers = answers;
+  missed = missed;
+  failed = is_some stop;
+  unkept = unkept_of stop count out;
+}
+
 -- what the requests come to that it took, after the history that it began with; and so with these
 -- requests more
 abbrev pub history : {B : Type 0} → Keeper B → List Exchange → Desk B → List Exchange
@@ -110,25 +147,36 @@ AreAnswered halves exchanges =
     (a : ℕ) (d : Half Answer) → a < length halves
     → (slice_index_or halves a d).sent ≡ answers_to a exchanges
 
--- this holds of a collector, unless it has failed where requests may be refused: then one may not have
--- been kept, and what its keeper has isn't known
-abbrev pub UnlessUnkept : {B : Type 0} → Keeper B → Desk B → Type 0 → Type 0
-UnlessUnkept keeper desk P = P ⊎ ((desk.failed ≡ true) × keeper.may_refuse desk.start)
+-- a keeper stands for a history, and awaits nothing; where a request was not kept, it did so until
+-- it refused that request, and is what it says of that
+abbrev pub StandsOrRefused :
+    {B : Type 0} → Keeper B → Option Refusal → List Exchange → B → Type 0
+StandsOrRefused keeper None exchanges book = keeper.has book exchanges []
+StandsOrRefused {B} keeper (Some refusal) exchanges book =
+    (was : B) × keeper.has was exchanges []
+    × keeper.refuses was (refusal.request ∷ []) refusal.why book
 
--- a collector that began with a history: its book stands for what it took, and awaits nothing, unless a
--- request was not kept; what it sent each agent are the first of the answers which that history gives
--- the agent, and all of them unless it failed
+-- a collector that began with a history: its book stands for what it took, and awaits nothing, or
+-- did so until it refused a request; what it sent each agent are the first of the answers which
+-- that history gives the agent, and all of them unless it failed
 pub record StandsAfter {B : Type 0} (keeper : Keeper B) (before : List Exchange)
     (desk : Desk B) : Type 0 where
-  pub has : UnlessUnkept keeper desk (keeper.has desk.book (history keeper before desk) [])
+  pub has : StandsOrRefused keeper desk.unkept (history keeper before desk) desk.book
   pub sent : (a : ℕ) (d : Half Answer) → a < length desk.answers
       → IsPrefix (slice_index_or desk.answers a d).sent (answers_to a (history keeper before desk))
   pub answered : desk.failed ≡ false → AreAnswered desk.answers (history keeper before desk)
 
+-- the request is the next of one of so many agents, behind those that were carried out
+pub record IsNextOf (agents : ℕ) (taken : List Request) (request : Request) : Type 0 where
+  pub from : request.agent < agents
+  pub number : request.number
+      ≡ length (from_agent (λ (r : Request). r.agent) request.agent taken)
+
 -- what every collector keeps: each answer lane is of its agent, and the agents are numbered from 0,
 -- up to `most_agents`; what it took is of these agents, and numbered from 0 agent by agent; it
--- began with some history, and stands for that after whatever history it began with, under the limits
--- that it began with; unless it failed each agent was answered as often as it asked
+-- began with some history, and stands for that after whatever history it began with, under the
+-- limits that it began with; unless it failed each agent was answered as often as it asked, and no
+-- request was left unkept; and one that was is the next of its agent
 pub record IsDesk {B : Type 0} (keeper : Keeper B) (desk : Desk B) : Type 0 where
   pub first : desk.requests.first ≡ 0
   pub past : desk.requests.past ≡ length desk.answers
@@ -143,7 +191,9 @@ pub record IsDesk {B : Type 0} (keeper : Keeper B) (desk : Desk B) : Type 0 wher
   pub began : (before : List Exchange) × BeginsWith keeper desk.start before
   pub room : keeper.sealed desk.start < 2 ^ 63
   pub sealed : keeper.sealed desk.book ≤ keeper.sealed desk.start + length desk.requests.taken
-  pub refuses : keeper.may_refuse desk.book → keeper.may_refuse desk.start
+  pub kept : desk.failed ≡ false → desk.unkept ≡ None
+  pub next : IfSome desk.unkept
+      (λ refusal. IsNextOf (length desk.answers) desk.requests.taken refusal.request)
   pub counted : desk.failed ≡ false → (a : ℕ) (d : Half Answer) → a < length desk.answers
       → length (slice_index_or desk.answers a d).sent
       ≡ length (from_agent (λ (request : Request). request.agent) a desk.requests.taken)
@@ -158,13 +208,22 @@ AreCounted requests taken gone = (taken ≡ length requests) × (gone ≡ goodby
 abbrev pub most_taken : ℕ
 most_taken = 4294967295
 
+-- a collector whose keeper refused a request for this reason
+pub record HasRefused {B : Type 0} (keeper : Keeper B) (desk : Desk B)
+    (why : NotKept) : Type 0 where
+  pub request : Request
+  pub unkept : desk.unkept ≡ Some (record { request = request; why = why })
+  pub was : B
+  pub refuses : keeper.refuses was (request ∷ []) why desk.book
+
 -- why it has failed: a lane reported that its other side is gone; its sink handed a letter back; it
--- took all that it may; or a request was not kept, which can be where requests may be refused
-abbrev pub IsStopped : Type 0 → List Request → StopCause → Type 0
-IsStopped refuses taken (Gone gone) = Unit {0}
-IsStopped refuses taken (Refused refused) = Unit {0}
-IsStopped refuses taken Full = length taken ≡ most_taken
-IsStopped refuses taken (Unkept why) = refuses
+-- took all that it may; or its keeper refused a request
+abbrev pub IsStopped : {B : Type 0} → Keeper B → Desk B → StopCause → Type 0
+IsStopped keeper desk (Gone gone) = desk.unkept ≡ None
+IsStopped keeper desk (Refused refused) = desk.unkept ≡ None
+IsStopped keeper desk Full =
+    (desk.unkept ≡ None) × (length desk.requests.taken ≡ most_taken)
+IsStopped keeper desk (Unkept why) = HasRefused keeper desk why
 
 -- what holds nothing yet, and has room for a half of each agent
 abbrev pub HasRoom : List (Half Answer) → List (Half Request) → ℕ → Type 0
@@ -194,24 +253,24 @@ taken_request out request =
 
 -- a collector that failed, or not, with nothing else changed
 abbrev pub with_failed : {B : Type 0} → Desk B → Bool → Desk B
-with_failed desk failed =
-    desk_of desk.start desk.book desk.requests desk.answers desk.missed failed
+with_failed desk failed = record desk { failed = failed }
 
--- and where a request was not kept, so that its book is another one
-abbrev pub with_unkept : {B : Type 0} → Desk B → B → Desk B
-with_unkept desk book = desk_of desk.start book desk.requests desk.answers desk.missed true
+-- and where its keeper refused this request, and is now this one
+abbrev pub with_unkept : {B : Type 0} → Desk B → Refusal → B → Desk B
+with_unkept desk refusal book = record desk { book = book; failed = true; unkept = Some refusal }
 
--- a collector that failed with nothing else changed; or one that hadn't failed and does now, by a
--- request that was not kept, with only its book changed
+-- a collector that failed with nothing else changed; or one that hadn't failed and does now, as its
+-- keeper refused a request, with only its keeper changed, into what that says of it
 abbrev pub HasStopped : {B : Type 0} → Keeper B → Desk B → Desk B → Type 0
 HasStopped keeper old new =
     (new ≡ with_failed old true)
-    ⊎ ((old.failed ≡ false) × keeper.may_refuse old.start × (new ≡ with_unkept old new.book))
+    ⊎ ((old.failed ≡ false) × (refusal : Refusal)
+    × keeper.refuses old.book (refusal.request ∷ []) refusal.why new.book
+    × (new ≡ with_unkept old refusal new.book))
 
 -- a collector that hears of so many agents more that never start, with nothing else changed
 abbrev pub missing : {B : Type 0} → Desk B → ℕ → Desk B
-missing desk agents =
-    desk_of desk.start desk.book desk.requests desk.answers (desk.missed + agents) desk.failed
+missing desk agents = record desk { missed = desk.missed + agents }
 
 -- what taking one request comes to, after the history that the collector began with. Ok: it was
 -- answered as the history defines, and the letter is the one that it sealed. `Requests`: nothing was

@@ -22,8 +22,9 @@ use std::snapshot::Snapshot;
 use std::sync::Wait;
 
 /// The collector of a crew: it takes the agents' requests one after another, has each kept and
-/// carried out, and answers it. Contracts see its book, as it was at first and as it is, the requests
-/// that it took and carried out, what it answered each agent, and whether it failed.
+/// carried out, and answers it. Contracts see its book, as it was at first and as it is, the
+/// requests that it took and carried out, what it answered each agent, whether it failed, and the
+/// request that was not kept, where one wasn't.
 #[derive(Drop)]
 pub struct Desk<B: Keeper = Book> {
     start: Snapshot<B>,
@@ -40,21 +41,20 @@ pub struct Desk<B: Keeper = Book> {
 }
 
 impl<B: Keeper> Model for Desk<B> {
-    ghost use Rattle.std.specs.Prelude.{IfSome, is_some, vec_capacity};
-    ghost use Rattle.dsn_crew.specs.desk.Desk.{AreCounted, Desk, HasRoom, IsDesk, IsStopped, IsUnseen, desk_of, seen_half};
+    ghost use Rattle.std.specs.Prelude.{IfSome, vec_capacity};
+    ghost use Rattle.dsn_crew.specs.desk.Desk.{AreCounted, Desk, HasRoom, IsDesk, IsStopped, IsUnseen, desk_seen, seen_half};
 
     ghost Value = { Desk B };
 
-    ghost view = { λ d. desk_of d.start.value d.book (seen_half d.stop d.taken d.requests)
-        d.lines.items d.missed (is_some d.stop) };
+    ghost view = { λ d. desk_seen d.start.value d.book d.stop d.taken d.requests d.lines.items
+        d.missed };
 
     ghost invariant = { λ d. IsDesk B.Keeper
-        (desk_of d.start.value d.book (seen_half d.stop d.taken d.requests) d.lines.items d.missed
-        (is_some d.stop))
+        (desk_seen d.start.value d.book d.stop d.taken d.requests d.lines.items d.missed)
         × AreCounted (seen_half d.stop d.taken d.requests).taken d.taken d.gone
         × HasRoom d.lines.items d.room.items (vec_capacity d.room)
-        × IfSome d.stop (IsStopped (B.may_refuse d.start.value)
-        (seen_half d.stop d.taken d.requests).taken)
+        × IfSome d.stop (IsStopped B.Keeper
+        (desk_seen d.start.value d.book d.stop d.taken d.requests d.lines.items d.missed))
         × IsUnseen d.stop d.taken d.requests };
 }
 
@@ -99,12 +99,19 @@ impl<B: Keeper> Desk<B> {
     /// Why it has failed. It asks that it has.
     pub(crate) fn stopped(&self) -> StopCause
         requires { self.now.failed ≡ true }
-        ensures { IsStopped (B.may_refuse self.now.start) self.now.requests.taken result }
+        ensures { IsStopped B.Keeper self.now result }
     {
         match self.stop {
             Some(stop) => stop,
             None => unreachable!(),
         }
+    }
+
+    /// What carries its requests out. Its halves are given up, so that no agent waits for them.
+    pub(crate) fn into_book(self) -> B
+        ensures { result ≡ self.book }
+    {
+        self.book
     }
 
     /// Counts so many agents more as gone: agents whose threads could not be started, so that they
@@ -123,7 +130,8 @@ impl<B: Keeper> Desk<B> {
     /// It asks that not all agents said goodbye. `Requests` comes where no agent is left to ask,
     /// once 4,294,967,295 requests were taken, once the collector has failed, and where the request
     /// wasn't kept, which then isn't carried out; `Answers` where the agent that asked is gone. From
-    /// then on the collector has failed.
+    /// then on the collector has failed. Where a request wasn't kept, the keeper is what it says of
+    /// its refusal.
     pub fn take_one(&mut self, rt: &impl Wait) -> Result<Option<Letter>, DeskFault>
         requires some_left { all_gone self.old ≡ false }
         ensures taken { (before : List Exchange) → BeginsWith B.Keeper self.old.start before

@@ -1,4 +1,8 @@
 //! Why a collector has failed, as it keeps it.
+ghost use Rattle.std.specs.Prelude.{◌≡◌};
+ghost use Rattle.dsn_crew.specs.Breach.{stop_cause};
+
+use crate::crew_cause::CrewCause;
 use crate::desk::returned_letter::Refused;
 use dsn_book::NotKept;
 use dsn_lane::LaneGone;
@@ -14,4 +18,16 @@ pub(crate) enum StopCause {
     Full,
     /// A request was not kept, and so not carried out.
     Unkept(NotKept),
+}
+
+impl StopCause {
+    /// The cause that is named for it in a crew's fault.
+    pub(crate) fn cause(&self) -> CrewCause
+        ensures { result ≡ stop_cause self.now }
+    {
+        match self {
+            StopCause::Gone(_) | StopCause::Refused(_) | StopCause::Full => CrewCause::Lost,
+            StopCause::Unkept(why) => CrewCause::Unkept(*why),
+        }
+    }
 }

@@ -80,6 +80,10 @@ impl Drain for Memory<'_> {
         self.unflushed = false;
         Ok(())
     }
+
+    fn mark_letter(&mut self, _serial: u64) -> Result<(), Broken> {
+        Ok(())
+    }
 }
 
 impl Stream for Memory<'_> {

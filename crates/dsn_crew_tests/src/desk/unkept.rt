@@ -2,48 +2,14 @@
 
 use super::bodies::append;
 use crate::assert_same::same;
-use dsn_book::{Book, Keeper, Limits, NotKept, Step};
+use crate::refusing::Refusing;
+use dsn_book::{Book, Limits};
 use dsn_crew::{Agent, Desk, open_crew_over};
 use dsn_lane::LaneOut;
 use dsn_outcome::{Answer, Reply, Request};
 use std::alloc::Global;
 use std::sync::Wait;
 use std::test::Fail;
-
-/// A book beside something that keeps so many requests more, and refuses those after them.
-#[derive(Drop)]
-struct Refusing {
-    book: Book,
-    left: u32,
-}
-
-impl Keeper for Refusing {
-    ghost use Rattle.dsn_book.specs.Book.{Represents};
-
-    ghost limits = { λ keeper. keeper.book.limits };
-
-    ghost has = { λ keeper history _. Represents keeper.book history };
-
-    ghost sealed = { λ keeper. keeper.book.sealed };
-
-    ghost may_refuse = { λ _. Unit {0} };
-
-    fn limits(&self) -> Limits {
-        self.book.limits()
-    }
-
-    fn keep(&mut self, _requests: &[Request]) -> Result<(), NotKept> {
-        if self.left == 0 {
-            return Err(NotKept::Full);
-        }
-        self.left -= 1;
-        Ok(())
-    }
-
-    fn apply(&mut self, request: Request) -> Step {
-        self.book.apply(request)
-    }
-}
 
 /// Sends an append of the agent, and gives the half by which it is answered.
 fn send_append(rt: &impl Wait, alloc: Global, agent: Agent) -> Option<LaneOut<Answer>> {

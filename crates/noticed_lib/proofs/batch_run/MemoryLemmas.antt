@@ -1,12 +1,13 @@
 -- Runs over memory: a run over devices that tell their bytes is one over these bytes.
-use Rattle.std.proofs.Common.{◌≡◌, ℕ, Bool, List, [], subst}
-use Rattle.std.specs.Prelude.{Option, Some}
+use Rattle.std.proofs.Common.{◌≡◌, ℕ, Bool, List, [], ◌∷◌, refl, subst}
+use Rattle.std.specs.Prelude.{Option, None, Some}
 use Rattle.std.specs.Io.KnownBytes.{Appends}
 use Rattle.dsn_device.specs.declared.drain.Drain.{Ghosts as Drain}
 use Rattle.dsn_device.specs.declared.source.Source.{Ghosts as Source}
 use Rattle.dsn_frame.specs.declared.bodies.spoken.Spoken.{Spoken}
 use Rattle.dsn_outcome.specs.History.{Limits}
-use Rattle.dsn_report.specs.Outgoing.{FailedIn, in_text, at_flush}
+use Rattle.dsn_outcome.specs.Letter.{Letter}
+use Rattle.dsn_report.specs.Outgoing.{FailedIn, in_text, at_flush, at_mark, marked_with}
 use Rattle.noticed_lib.specs.batch_run.Batch.{NotesSent, IsBatch}
 use Rattle.noticed_lib.specs.batch_run.MemoryRun.{Memory, memory_source, memory_drain, no_bytes}
 use Rattle.noticed_lib.specs.declared.batch_run.batch_end.BatchEnd.{BatchEnd}
@@ -19,6 +20,11 @@ appends-known old new x y text old_is new_is appended =
 sent-known : (stopped lost : Bool) (old new : Option (List ℕ)) (x y : List ℕ) (answers : List Spoken) (ending : List ℕ) → old ≡ Some x → new ≡ Some y → NotesSent stopped lost old new answers ending → NotesSent stopped lost (Some x) (Some y) answers ending
 sent-known stopped lost old new x y answers ending old_is new_is sent =
     subst (λ (known : Option (List ℕ)). NotesSent stopped lost known (Some y) answers ending) old_is (subst (λ (known : Option (List ℕ)). NotesSent stopped lost old known answers ending) new_is sent)
+
+-- a device that marks no letters marks none of these
+none_marked : (letters : List Letter) → None ≡ marked_with letters None
+none_marked [] = refl
+none_marked (first ∷ rest) = none_marked rest
 
 -- a drain that tells its bytes, as memory
 abbrev pub memory_of : {W : Type 0} → Drain W → List ℕ → W → Memory
@@ -35,6 +41,7 @@ module _ {R W N : Type 0} (source : Source R) (outbox_drain : Drain W) (notes_dr
   failed-known : (times : ℕ) (text : List ℕ) → IsUnwritten outbox_drain start → outbox_drain.contents end.outbox ≡ Some outbox_bytes → FailedIn outbox_drain start end.outbox times text → FailedIn memory_drain no_bytes (memory_of outbox_drain outbox_bytes end.outbox) times text
   failed-known times text unwritten end_is (in_text part flushes) = in_text (rw (unwritten.contents, end_is) at part) (rw unwritten.flushes at flushes)
   failed-known times text unwritten end_is (at_flush whole flushes unsure) = absurd (unsure unwritten.surely)
+  failed-known times text unwritten end_is (at_mark whole flushes some unsure) = absurd (unsure unwritten.surely)
 
   pub in-memory : source.remaining input ≡ Some bytes → source.remaining now ≡ Some unread → source.failures input ≡ 0 → source.failures now ≡ 0
       → IsUnwritten outbox_drain start → outbox_drain.contents end.outbox ≡ Some outbox_bytes → IsUnwritten notes_drain notes → notes_drain.contents later ≡ Some notes_bytes
@@ -58,6 +65,7 @@ module _ {R W N : Type 0} (source : Source R) (outbox_drain : Drain W) (notes_dr
       count = rw unwritten.failures at batch.outbox.count;
       flushes = λ whole. rw unwritten.flushes at (batch.outbox.flushes whole);
       passed_on = batch.outbox.passed_on;
+      marked = none_marked batch.outbox.posted;
       lost = λ part. failed-known _ _ unwritten end_is (batch.outbox.lost part);
       short = λ part surely. rw (unwritten.contents, end_is) at (batch.outbox.short part unwritten.surely);
       steady = λ never. absurd never;

@@ -3,12 +3,10 @@ use Rattle.std.proofs.Common.{◌≡◌, ℕ, suc, ◌+◌, ◌<◌, ◌≤◌, 
 use Rattle.std.specs.Prelude.{Some}
 use Rattle.std.proofs.Math.Seq.{take-suc}
 use Rattle.std.proofs.lemmas.List.{length-take-le}
-use Rattle.dsn_crew.specs.Crew.{crew_cause_code}
 use Rattle.dsn_crew.specs.declared.agents.agent_line.AgentLine.{AgentLine}
-use Rattle.dsn_crew.specs.declared.crew_cause.CrewCause.{CrewCause}
 use Rattle.dsn_outcome.specs.Letter.{Letter}
 use Rattle.noticed_lib.specs.notes.Notes.{end_lines, fault_line, fault_lines, outbox_lines, open_lines, unsent_lines}
-use Rattle.noticed_lib.specs.daemon.AgentLines.{agent_line, agent_lines, agent_lines_from, crew_fault_lines}
+use Rattle.noticed_lib.specs.daemon.AgentLines.{agent_line, agent_lines, agent_lines_from, number_lines}
 
 -- one more agent is one more line, at the end
 agent_lines_from-more : (agent : ℕ) (lines : List AgentLine) (line : AgentLine) → agent_lines_from agent (lines ++ line ∷ []) ≡ agent_lines_from agent lines ++ agent_line (agent + length lines) line
@@ -34,6 +32,6 @@ agent_lines-take-more lines i d within =
     rw (add-one, take-suc lines i d within, more, long, from) refl
 
 -- a fault and the letters that were not written, and nothing more
-pub end_lines-fault : (cause : CrewCause) (unsent : List Letter) → end_lines (Some (crew_cause_code cause)) true unsent (Some []) ≡ crew_fault_lines cause unsent
-unfolding end_lines fault_lines outbox_lines open_lines crew_fault_lines
-end_lines-fault cause unsent = ap (λ text. fault_line (crew_cause_code cause) ++ text) (append-nil (unsent_lines unsent))
+pub end_lines-fault : (code : ℕ) (unsent : List Letter) → end_lines (Some code) true unsent (Some []) ≡ number_lines code unsent
+unfolding end_lines fault_lines outbox_lines open_lines number_lines
+end_lines-fault code unsent = ap (λ text. fault_line code ++ text) (append-nil (unsent_lines unsent))

@@ -1,18 +1,25 @@
 -- Serve: a run over ports of which nothing is seen but their uses.
-use Rattle.std.proofs.Common.{◌≡◌, ℕ, suc, ◌<◌, ◌⊎◌, List, [], ◌∷◌, All, length, replicate, false, inl, inr, refl, subst}
+use Rattle.std.proofs.Common.{◌≡◌, ℕ, suc, ◌<◌, ◌≤◌, ◌⊎◌, List, [], ◌∷◌, All, length, replicate, false, inl, inr, refl, subst, arith}
 use Rattle.std.proofs.lemmas.List.{length-replicate}
 use Rattle.std.proofs.lemmas.List.Elements.{All-cons, All-head, All-nil, All-tail}
 use Rattle.std.specs.Prelude.{None}
-use Rattle.dsn_book.specs.Book.{Book}
+use Rattle.dsn_book.specs.Keeper.{book_keeper}
+use Rattle.dsn_book.specs.declared.keeper.Keeper.{Ghosts as Keeper}
 use Rattle.dsn_crew.specs.agents.Agent.{LaneHalves}
 use Rattle.dsn_crew.specs.agents.Port.{AreOverPort, Given, all_given}
-use Rattle.dsn_crew.specs.Crew.{Account, AreAgentAccounts, IsAccount, IsAgentAccount, most_ports}
-use Rattle.dsn_crew.specs.declared.crew_cause.CrewCause.TheVariants.{PortCount}
+use Rattle.dsn_crew.specs.Crew.{Account, AreAgentAccounts, IsAccountAfter, IsAgentAccount, PostedBefore, most_ports, none_posted}
+use Rattle.dsn_crew.specs.declared.crew_cause.CrewCause.TheVariants.{PortCount, Unkept}
 use Rattle.dsn_crew.specs.declared.agents.agent_line.AgentLine.{AgentLine}
 use Rattle.dsn_crew.specs.declared.agents.port.Port.{Ghosts as Port}
 use Rattle.dsn_device.specs.declared.drain.Drain.{Ghosts as Drain}
-use Rattle.dsn_outcome.specs.History.{Limits, Exchange}
+use Rattle.dsn_journal.specs.MarkedOutbox.{MarkedOutbox}
+use Rattle.dsn_journal.specs.OpenLedger.{Ledger}
+use Rattle.dsn_journal.specs.declared.disk.Disk
+use Rattle.dsn_outcome.specs.History.{Limits, Exchange, history_of, sealed_letters}
+use Rattle.dsn_outcome.specs.Letter.{Letter}
 use Rattle.dsn_outcome.specs.Request.{Request}
+use Rattle.dsn_report.specs.Outgoing.{Outgoing}
+use Rattle.noticed_lib.specs.daemon.Journaled.{IsRunOver, IsServeOver, ledger_keeper, marking_drain}
 use Rattle.noticed_lib.specs.daemon.Serve.{IsServe, WritesFault}
 use Rattle.noticed_lib.specs.daemon.SocketUses.{IsWithin, socket_port}
 use Rattle.noticed_lib.specs.declared.daemon.serve_end.ServeEnd.{ServeEnd}
@@ -53,21 +60,23 @@ module _ {P S : Type 0} (port : Port P S) (untold : (one : P) → port.conns one
       agents-uses (suc agent) ports lines crew (All-tail Fits one ports fit) are.1,
     )
 
-  module _ {W N : Type 0} (drain : Drain W) (notes_device : Drain N) (host : List ℕ) (limits : Limits) (ports : List P) (fit : All Fits ports) (start : W) (notes later : N) (end : ServeEnd W) where
-    account-uses : (account : Account W Book) → IsAccount port drain host limits ports start account → IsAccount (socket_port may_end) drain host limits (replicate (length ports) uses) start account
-    account-uses account is = record {
-      agents = agents-uses limits [] account.taken 0 ports account.agents account.halves fit is.agents;
-      only = rw (length-replicate (length ports)) is.only;
-      book_limits = is.book_limits;
-      book = is.book;
-      count = is.count;
-      outbox = is.outbox;
-    }
+  -- so it is of a run that ended well, over whatever keeps its requests
+  account-uses : {B W : Type 0} (keeper : Keeper B) (drain : Drain W) (from : PostedBefore W) (limits : Limits) (before : List Exchange) (letters : List Letter) (ports : List P) (account : Account W B) → All Fits ports
+      → IsAccountAfter keeper port drain from limits before letters ports account → IsAccountAfter keeper (socket_port may_end) drain from limits before letters (replicate (length ports) uses) account
+  account-uses keeper drain from limits before letters ports account fit is = record {
+    agents = agents-uses limits before account.taken 0 ports account.agents account.halves fit is.agents;
+    only = rw (length-replicate (length ports)) is.only;
+    book_limits = is.book_limits;
+    book = is.book;
+    count = is.count;
+    outbox = is.outbox;
+  }
 
+  module _ {W N : Type 0} (drain : Drain W) (notes_device : Drain N) (host : List ℕ) (limits : Limits) (ports : List P) (fit : All Fits ports) (start : W) (notes later : N) (end : ServeEnd W) where
     pub serve-uses : IsServe port drain notes_device host limits ports start notes later end → IsServe (socket_port may_end) drain notes_device host limits (replicate (length ports) uses) start notes later end
     serve-uses (inl served) = inl (record {
       account = served.account;
-      crew = account-uses served.account served.crew;
+      crew = account-uses book_keeper drain (none_posted host start) limits [] (sealed_letters (history_of limits served.account.taken)) ports served.account fit served.crew;
       count = rw (length-replicate (length ports)) served.count;
       noted = served.noted;
     })
@@ -75,7 +84,37 @@ module _ {P S : Type 0} (port : Port P S) (untold : (one : P) → port.conns one
       fault = faulted.fault;
       crew = rw (length-replicate (length ports)) faulted.crew;
       counted = rw (length-replicate (length ports)) faulted.counted;
+      kept = faulted.kept;
       noted = faulted.noted;
+    })
+
+  -- and of a run over a journal
+  module _ {D M W N : Type 0} (disk : Disk.Ghosts D) (marks_disk : Disk.Ghosts M) (drain : Drain W) (notes_device : Drain N) (host : List ℕ) (limits : Limits) (ports : List P) (fit : All Fits ports) (journal : D) (marks : M) (outbox : W) (notes later : N) (end : ServeEnd W) where
+    run-uses : (ledger : Ledger D) (poster : Outgoing (MarkedOutbox W M)) → IsRunOver disk port drain notes_device ports ledger poster notes later end
+        → IsRunOver disk (socket_port may_end) drain notes_device (replicate (length ports) uses) ledger poster notes later end
+    run-uses ledger poster (inl served) = inl (record {
+      account = served.account;
+      crew = λ from by before with_it.
+          let has = served.crew from by before with_it in
+          record { letters = has.letters; sealed = has.sealed; is = account-uses (ledger_keeper disk) (marking_drain drain) from ledger.book.limits before has.letters ports served.account fit has.is };
+      count = rw (length-replicate (length ports)) served.count;
+      noted = served.noted;
+    })
+    run-uses ledger poster (inr faulted) = inr (record {
+      fault = faulted.fault;
+      crew = λ from by before with_it. rw (length-replicate (length ports)) (faulted.crew from by before with_it);
+      counted = rw (length-replicate (length ports)) faulted.counted;
+      noted = faulted.noted;
+    })
+
+    pub over-uses : IsServeOver disk marks_disk port drain notes_device host limits ports journal marks outbox notes later end
+        → IsServeOver disk marks_disk (socket_port may_end) drain notes_device host limits (replicate (length ports) uses) journal marks outbox notes later end
+    over-uses (inl none) = inl (record { code = none.code; why = none.why; back = none.back; noted = none.noted })
+    over-uses (inr started) = inr (record {
+      ledger = started.ledger;
+      poster = started.poster;
+      start = started.start;
+      run = run-uses started.ledger started.poster started.run;
     })
 
 -- ports that have these uses, and this watch, may give no more than these uses have it
@@ -96,8 +135,14 @@ module _ {P H : Type 0} (ends : H → Type 0) (watch_of : P → H) (left_of : P 
 -- a run that was refused for the number of its agents
 pub serve-refused : {W N : Type 0} (may_end : Type 0) (uses : ℕ) (drain : Drain W) (notes_device : Drain N) (host : List ℕ) (limits : Limits) (agents : ℕ) (start : W) (notes later : N) (end : ServeEnd W) → (agents ≡ 0) ⊎ (most_ports < agents) → WritesFault notes_device PortCount start [] notes later end → IsServe (socket_port may_end) drain notes_device host limits (replicate agents uses) start notes later end
 serve-refused may_end uses drain notes_device host limits agents start notes later end few noted = inr (record {
-  fault = record { cause = PortCount; outbox = start; unsent = []; taken = [] };
+  fault = record { cause = PortCount; outbox = start; unsent = []; book = None; taken = [] };
   crew = (refl, refl, refl);
   counted = (λ is. rw (length-replicate agents) few, λ is. refl);
+  kept = λ why same. let never : PortCount ≡ Unkept why = same in cc;
   noted = noted;
 })
+
+-- a crew's agents are not too few, nor too many
+pub no_crew : (agents : ℕ) → (1 ≤ agents) × (agents ≤ most_ports) → (agents ≡ 0) ⊎ (most_ports < agents) → ⊥
+no_crew agents crew (inl none) = omega (arith, crew.0, none)
+no_crew agents crew (inr more) = omega (arith, crew.1, more)

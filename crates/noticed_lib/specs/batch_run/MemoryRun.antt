@@ -35,6 +35,7 @@ memory_drain = record {
   failures = λ memory. memory.failures;
   flushes = λ memory. memory.flushes;
   unflushed = λ memory. memory.unflushed;
+  marked = λ memory. None;
   steady = λ memory. ⊥;
   flushes_surely = λ memory. Unit {0};
 }

@@ -1,12 +1,10 @@
 -- Agent lines: what the notes of the daemon's run say (this project's profile).
-use Rattle.std.specs.Prelude.{ℕ, suc, List, [], ◌∷◌, ◌++◌, codes, decimal, Option, Some, None, if◌then◌else◌}
+use Rattle.std.specs.Prelude.{ℕ, suc, Bool, List, [], ◌∷◌, ◌++◌, codes, decimal, Option, Some, None, if◌then◌else◌}
 use Rattle.std.specs.List.{list_any}
 use Rattle.dsn_text.specs.FaultCode.{socket_code}
-use Rattle.dsn_book.specs.Book.{Book}
 use Rattle.dsn_book.specs.declared.open_line.OpenLine.{OpenLine}
-use Rattle.dsn_crew.specs.Crew.{Account, crew_cause_code}
+use Rattle.dsn_crew.specs.Crew.{Account}
 use Rattle.dsn_crew.specs.declared.agents.agent_line.AgentLine.{AgentLine}
-use Rattle.dsn_crew.specs.declared.crew_cause.CrewCause.{CrewCause}
 use Rattle.dsn_outcome.specs.Letter.{Letter}
 use Rattle.noticed_lib.specs.notes.Notes.{end_lines, fault_line, unsent_lines}
 
@@ -30,12 +28,15 @@ agent_lines lines = agent_lines_from 0 lines
 abbrev pub port_fault : List AgentLine → Option ℕ
 port_fault lines = if list_any (λ line. line.port_failed) lines then Some socket_code else None
 
--- the lines of a run that ended well: those of the agents, and then how it ended
-unfoldable pub account_lines : {W : Type 0} → Account W Book → Option (List OpenLine) → List ℕ
-account_lines account logs =
-    agent_lines account.agents
-    ++ end_lines (port_fault account.agents) account.whole account.unsent logs
+-- the lines of a run of these agents that ended well: theirs, and then how it ended
+unfoldable pub run_lines : List AgentLine → Bool → List Letter → Option (List OpenLine) → List ℕ
+run_lines agents whole unsent logs =
+    agent_lines agents ++ end_lines (port_fault agents) whole unsent logs
 
--- the lines of a crew's fault
-unfoldable pub crew_fault_lines : CrewCause → List Letter → List ℕ
-crew_fault_lines cause unsent = fault_line (crew_cause_code cause) ++ unsent_lines unsent
+-- and so those of an account
+abbrev pub account_lines : {W B : Type 0} → Account W B → Option (List OpenLine) → List ℕ
+account_lines account logs = run_lines account.agents account.whole account.unsent logs
+
+-- the lines of a fault with this number, and of the letters that were not written
+unfoldable pub number_lines : ℕ → List Letter → List ℕ
+number_lines code unsent = fault_line code ++ unsent_lines unsent

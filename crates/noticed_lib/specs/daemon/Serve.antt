@@ -1,46 +1,69 @@
 -- Serve: what the daemon's run over ports comes to.
-use Rattle.std.specs.Prelude.{◌≡◌, ℕ, ◌<◌, ◌≤◌, ◌⊎◌, ◌↔◌, Bool, false, not, ◌||◌, List, [], length, Option, replicate, is_some, is_none, if◌then◌else◌}
+use Rattle.std.specs.Prelude.{◌≡◌, ◌≢◌, ℕ, ◌<◌, ◌≤◌, ◌⊎◌, ◌↔◌, Bool, false, not, ◌||◌, List, [], length, Option, replicate, is_some, is_none, if◌then◌else◌}
 use Rattle.dsn_book.specs.declared.open_line.OpenLine.{OpenLine}
 use Rattle.dsn_book.specs.Book.{Book}
-use Rattle.dsn_crew.specs.Crew.{Account, CrewFault, IsAccount, IsCrewFault, most_ports}
+use Rattle.dsn_book.specs.declared.not_kept.NotKept.{NotKept}
+use Rattle.dsn_crew.specs.Crew.{Account, CrewFault, IsAccount, IsCrewFault, crew_cause_code, most_ports}
+use Rattle.dsn_crew.specs.declared.agents.agent_line.AgentLine.{AgentLine}
 use Rattle.dsn_crew.specs.declared.crew_cause.CrewCause.{CrewCause}
-use Rattle.dsn_crew.specs.declared.crew_cause.CrewCause.TheVariants.{Refused, PortCount}
+use Rattle.dsn_crew.specs.declared.crew_cause.CrewCause.TheVariants.{Refused, PortCount, Unkept}
 use Rattle.dsn_crew.specs.declared.agents.port.Port.{Ghosts as Port}
 use Rattle.dsn_device.specs.UntilFailure.{WritesUntilFailure}
 use Rattle.dsn_device.specs.declared.drain.Drain.{Ghosts as Drain}
 use Rattle.dsn_outcome.specs.History.{Exchange, Limits, history_of}
 use Rattle.dsn_outcome.specs.Letter.{Letter}
 use Rattle.noticed_lib.specs.notes.OpenLogs.{AreOpenLines}
-use Rattle.noticed_lib.specs.daemon.AgentLines.{account_lines, crew_fault_lines, port_fault}
+use Rattle.noticed_lib.specs.daemon.AgentLines.{account_lines, number_lines, port_fault, run_lines}
 use Rattle.noticed_lib.specs.daemon.SocketUses.{socket_port}
 use Rattle.noticed_lib.specs.declared.daemon.serve_end.ServeEnd.{ServeEnd}
 
+-- the exit status of a run of these agents that ended well
+abbrev pub run_status : Bool → List AgentLine → Bool → Option (List OpenLine) → ℕ
+run_status lost agents whole logs =
+    if lost || (is_some (port_fault agents) || (not whole || is_none logs)) then 1 else 0
+
 -- the exit status of a run that ended well, by whether a line of the notes was lost
-abbrev pub account_status : {W : Type 0} → Bool → Account W Book → Option (List OpenLine) → ℕ
+abbrev pub account_status : {W B : Type 0} → Bool → Account W B → Option (List OpenLine) → ℕ
 account_status lost account logs =
-    if lost || (is_some (port_fault account.agents) || (not account.whole || is_none logs)) then 1
-    else 0
+    run_status lost account.agents account.whole logs
+
+-- what these agents did, whether the outbox is whole, and these letters, was written to the notes, with
+-- the logs that this history leaves open: each line, up to one that could not be written
+pub record WritesRun {N : Type 0} (notes_device : Drain N) (history : List Exchange)
+    (agents : List AgentLine) (whole : Bool) (unsent : List Letter) (notes later : N)
+    (status : ℕ) : Type 0 where
+  pub logs : Option (List OpenLine)
+  pub logs_are : AreOpenLines history logs
+  pub lost : Bool
+  pub noted : WritesUntilFailure notes_device false lost notes later
+      (run_lines agents whole unsent logs)
+  pub status_is : status ≡ run_status lost agents whole logs
 
 module _ {W N : Type 0} (notes_device : Drain N) where
   -- a run with this history and account was written to the notes: each line, up to one that could not
   -- be written
-  pub record WritesAccount (history : List Exchange) (account : Account W Book) (notes later : N)
-      (end : ServeEnd W) : Type 0 where
+  pub record WritesAccount {V B : Type 0} (history : List Exchange) (account : Account V B)
+      (outbox : W) (notes later : N) (end : ServeEnd W) : Type 0 where
     pub logs : Option (List OpenLine)
     pub logs_are : AreOpenLines history logs
     pub lost : Bool
     pub noted : WritesUntilFailure notes_device false lost notes later (account_lines account logs)
-    pub outbox_is : end.outbox ≡ account.outbox
+    pub outbox_is : end.outbox ≡ outbox
     pub status_is : end.status ≡ account_status lost account logs
 
-  -- a crew's fault was written to the notes: each line, up to one that could not be written
-  pub record WritesFault (cause : CrewCause) (outbox : W) (unsent : List Letter) (notes later : N)
+  -- the number of a fault was written to the notes, and the letters that were not written: each line,
+  -- up to one that could not be written
+  pub record WritesNumber (code : ℕ) (outbox : W) (unsent : List Letter) (notes later : N)
       (end : ServeEnd W) : Type 0 where
     pub lost : Bool
     pub noted : WritesUntilFailure notes_device false lost notes later
-        (crew_fault_lines cause unsent)
+        (number_lines code unsent)
     pub outbox_is : end.outbox ≡ outbox
     pub status_is : end.status ≡ 1
+
+  -- and so that of a crew's fault
+  abbrev pub WritesFault : CrewCause → W → List Letter → N → N → ServeEnd W → Type 0
+  WritesFault cause = WritesNumber (crew_cause_code cause)
 
 module _ {P S W N : Type 0} (port : Port P S) (drain : Drain W) (notes_device : Drain N)
     (host : List ℕ) (limits : Limits) (ports : List P) (start : W) (notes later : N)
@@ -51,14 +74,16 @@ module _ {P S W N : Type 0} (port : Port P S) (drain : Drain W) (notes_device : 
     pub account : Account W Book
     pub crew : IsAccount port drain host limits ports start account
     pub count : (1 ≤ length ports) × (length ports ≤ most_ports)
-    pub noted : WritesAccount notes_device (history_of limits account.taken) account notes later end
+    pub noted : WritesAccount notes_device (history_of limits account.taken) account account.outbox
+        notes later end
 
   -- a run whose crew ended with a fault: what is left of it, and its notes. The cause is PortCount
-  -- where there are not 1 to `most_ports` ports
+  -- where there are not 1 to `most_ports` ports, and never a request that was not kept
   pub record IsFaulted : Type 0 where
-    pub fault : CrewFault W
+    pub fault : CrewFault W Book
     pub crew : IsCrewFault drain host limits (length ports) start fault fault.cause
     pub counted : (fault.cause ≡ PortCount) ↔ ((length ports ≡ 0) ⊎ (most_ports < length ports))
+    pub kept : (why : NotKept) → fault.cause ≢ Unkept why
     pub noted : WritesFault notes_device fault.cause fault.outbox fault.unsent notes later end
 
   -- a run over these ports

@@ -1,18 +1,20 @@
 //! The notes of a run, and its exit status.
-ghost use Rattle.std.specs.Prelude.{◌≡◌, ◌||◌, not, List, is_some, if◌then◌else◌};
+ghost use Rattle.std.specs.Prelude.{◌≡◌, ◌||◌, not, true, List, [], is_some, if◌then◌else◌};
 ghost use Rattle.std.specs.List.{list_any};
 ghost use Rattle.dsn_book.specs.Book.{Represents};
 ghost use Rattle.dsn_device.specs.UntilFailure.{WritesUntilFailure};
 ghost use Rattle.dsn_outcome.specs.History.{Exchange};
+ghost use Rattle.dsn_journal.specs.OpenLedger.{AwaitsRequests};
 ghost use Rattle.noticed_lib.specs.daemon.AgentLines.{agent_lines, port_fault};
-ghost use Rattle.noticed_lib.specs.daemon.Serve.{WritesAccount, WritesFault};
+ghost use Rattle.noticed_lib.specs.daemon.Serve.{WritesAccount, WritesNumber, WritesRun};
 
 use crate::daemon::agent_lines::agent_line;
 use crate::daemon::serve_end::ServeEnd;
 use crate::notes::write_last_lines;
-use dsn_book::OpenLine;
-use dsn_crew::{Account, AgentLine, CrewCause};
+use dsn_book::Book;
+use dsn_crew::{Account, AgentLine};
 use dsn_device::{Drain, UntilFailure};
+use dsn_journal::{Disk, KeptBook, MarkedOutbox, Replaceable};
 use dsn_outcome::Letters;
 use dsn_text::fault_code;
 use std::alloc::Global;
@@ -24,7 +26,7 @@ pub(crate) fn write_account<W: Drop, N: Drain>(
     notes: &mut N,
 ) -> ServeEnd<W>
     ensures { (history : List Exchange) → Represents account.book history
-        → WritesAccount N.Drain history account notes.old notes.new result }
+        → WritesAccount N.Drain history account account.outbox notes.old notes.new result }
 {
     let Account {
         agents,
@@ -34,29 +36,81 @@ pub(crate) fn write_account<W: Drop, N: Drain>(
         book,
         ..
     } = account;
-    let logs = book.open_lines(alloc);
-    let mut writing = UntilFailure::new();
-    write_agents(notes, &mut writing, agents.as_slice());
-    let fault = port_fault(agents.as_slice());
-    drop(write_last_lines(notes, &mut writing, fault, whole, unsent, &logs));
-    let status = status_of(writing.failed, fault, whole, logs.is_ok());
+    let status = write_run(alloc, agents.as_slice(), whole, unsent, &book, notes);
     ServeEnd { outbox, status }
 }
 
-/// Writes the number of a crew's fault, and the letters that were not written.
+/// Writes the same of a run over a journal, whose outbox marked its letters. Then the journal forgets
+/// the closed keys, as a run without a journal does when it ends. Where it can't, they stay closed,
+/// and nothing is lost: so no note tells of it.
+///
+/// Requires that the journal's ledger awaits no request.
+pub(crate) fn write_kept_account<W: Drop, D: Disk + Drop, M: Replaceable + Drop, N: Drain>(
+    alloc: Global,
+    account: Account<MarkedOutbox<W, M>, KeptBook<D>>,
+    notes: &mut N,
+) -> ServeEnd<W>
+    requires none { account.book.settled ≡ true → AwaitsRequests D.Disk account.book [] }
+    ensures { (history : List Exchange) → Represents account.book.book history
+        → WritesAccount N.Drain history account account.outbox.outbox notes.old notes.new result }
+{
+    let Account {
+        agents,
+        unsent,
+        whole,
+        outbox,
+        book,
+        ..
+    } = account;
+    let mut ledger = book.into_ledger();
+    let status = write_run(
+        alloc,
+        agents.as_slice(),
+        whole,
+        unsent,
+        ledger.book(),
+        notes,
+    );
+    drop(ledger.forget_closed(alloc));
+    let (outbox, _marks) = outbox.into_parts();
+    ServeEnd { outbox, status }
+}
+
+/// Writes what each of these agents did, whether the outbox is whole, these letters, and the logs
+/// that the book has open. Returns the exit status.
+fn write_run<N: Drain>(
+    alloc: Global,
+    agents: &[AgentLine],
+    whole: bool,
+    unsent: Letters,
+    book: &Book,
+    notes: &mut N,
+) -> u8
+    ensures { (history : List Exchange) → Represents book.now history
+        → WritesRun N.Drain history agents.now whole unsent notes.old notes.new result }
+{
+    let logs = book.open_lines(alloc);
+    let mut writing = UntilFailure::new();
+    write_agents(notes, &mut writing, agents);
+    let fault = port_fault(agents);
+    drop(write_last_lines(notes, &mut writing, fault, whole, unsent, &logs));
+    status_of(writing.failed, fault, whole, logs.is_ok())
+}
+
+/// Writes the number of a fault, and the letters that were not written.
 pub(crate) fn write_fault<W, N: Drain>(
     alloc: Global,
-    cause: CrewCause,
+    code: u32,
     outbox: W,
     unsent: Letters,
     notes: &mut N,
 ) -> ServeEnd<W>
-    ensures { WritesFault N.Drain cause outbox unsent notes.old notes.new result }
+    ensures { WritesNumber N.Drain code outbox unsent notes.old notes.new result }
 {
     let mut writing = UntilFailure::new();
     // No more than these is written of it, so the outbox goes for whole, and no log for open.
     let no_logs = Ok(Vec::new(alloc));
-    let fault = Some(cause.code());
+    let fault = Some(code);
     drop(write_last_lines(notes, &mut writing, fault, true, unsent, &no_logs));
     ServeEnd { outbox, status: 1 }
 }

@@ -47,7 +47,7 @@ pub fn serve_ports<
                 unsent,
                 ..
             } = fault;
-            write_fault(alloc, cause, outbox, unsent, notes)
+            write_fault(alloc, cause.code(), outbox, unsent, notes)
         }
     }
 }

@@ -2,17 +2,21 @@
 ghost use Rattle.std.specs.Prelude.{◌≡◌, ◌≤◌, ◌<◌, ◌⊎◌, All, length, true, false, IfOk};
 ghost use Rattle.dsn_book.specs.Limits.{limits_of};
 ghost use Rattle.dsn_crew.specs.Crew.{most_ports};
+ghost use Rattle.noticed_lib.specs.daemon.Journaled.{IsSocketServeOver};
 ghost use Rattle.noticed_lib.specs.daemon.Serve.{IsSocketServe};
 
+use crate::daemon::journal_folder::JournalFolder;
 use crate::daemon::no_watch::NoWatch;
 use crate::daemon::run_notes::write_fault;
 use crate::daemon::serve_end::ServeEnd;
+use crate::daemon::serve_over_journal::serve_ports_over;
 use crate::daemon::serve_over_ports::serve_ports;
 use crate::daemon::socket_port::SocketPort;
 use crate::daemon::watch::Watch;
 use dsn_book::Limits;
 use dsn_crew::{CrewCause, NoGate};
 use dsn_device::Drain;
+use dsn_journal::Replaceable;
 use dsn_outcome::{Letters, NoMemory};
 use dsn_report::Site;
 use std::alloc::Global;
@@ -69,6 +73,49 @@ pub fn serve_watched<R: Threads + Wait + Sync, H: Watch + Sync, W: Drain + Drop 
     )
 }
 
+/// Serves as [`serve_watched`] does, over the disks of a journal's folder, as [`serve_ports_over`] has
+/// it. Where there are not 1 to 16 agents that is noted (43) before a disk is touched.
+pub fn serve_journaled<
+    R: Threads + Wait + Sync,
+    H: Watch + Sync,
+    W: Drain + Drop + Send,
+    D: Replaceable + Drop,
+    M: Replaceable + Drop + Send,
+    N: Drain,
+>(
+    rt: &R,
+    alloc: Global,
+    listener: &UnixListener,
+    watch: &H,
+    site: Site,
+    agents: u32,
+    max_use: u32,
+    outbox: W,
+    folder: JournalFolder<D, M>,
+    notes: &mut N,
+) -> ServeEnd<W>
+    ensures { IsSocketServeOver D.Disk M.Disk W.Drain N.Drain (H.may_end watch.now) site
+        (limits_of 4096 1000 1000000) agents max_use folder.journal folder.marks outbox notes.old
+        notes.new result }
+{
+    if !is_crew(agents) {
+        let code = CrewCause::PortCount.code();
+        return write_fault(alloc, code, outbox, Letters::new(), notes);
+    }
+    match socket_ports(alloc, listener, watch, agents, max_use) {
+        Ok(ports) => {
+            let program = Limits::of_program();
+            serve_ports_over(
+                rt, alloc, site, program, ports, outbox, folder, &NoGate, notes,
+            )
+        }
+        Err(NoMemory) => {
+            let code = CrewCause::Refused.code();
+            write_fault(alloc, code, outbox, Letters::new(), notes)
+        }
+    }
+}
+
 /// Serves what connects to `listener`, with these limits and under this watch.
 fn serve_socket<R: Threads + Wait + Sync, H: Watch + Sync, W: Drain + Drop + Send, N: Drain>(
     rt: &R,
@@ -86,11 +133,15 @@ fn serve_socket<R: Threads + Wait + Sync, H: Watch + Sync, W: Drain + Drop + Sen
         notes.old notes.new result }
 {
     if !is_crew(agents) {
-        return write_fault(alloc, CrewCause::PortCount, outbox, Letters::new(), notes);
+        let code = CrewCause::PortCount.code();
+        return write_fault(alloc, code, outbox, Letters::new(), notes);
     }
     match socket_ports(alloc, listener, watch, agents, max_use) {
         Ok(ports) => serve_ports(rt, alloc, site, limits, ports, outbox, &NoGate, notes),
-        Err(NoMemory) => write_fault(alloc, CrewCause::Refused, outbox, Letters::new(), notes),
+        Err(NoMemory) => {
+            let code = CrewCause::Refused.code();
+            write_fault(alloc, code, outbox, Letters::new(), notes)
+        }
     }
 }
 

@@ -4,13 +4,13 @@ use Rattle.dsn_lane.specs.Halves.{Identity}
 use Rattle.dsn_post.specs.LetterSink.{LetterSink}
 use Rattle.dsn_post.specs.Parcel.{Parcel}
 use Rattle.dsn_post.specs.Posting.{IsPosted, Posts}
-use Rattle.dsn_crew.proofs.CrewLemmas.{account_is, begins, collected_lane, ends_length, fault_is, handles_length, may_close, may_miss, missing_few, never_begun, no_count, sealed_few}
+use Rattle.dsn_crew.proofs.CrewLemmas.{account_is, begins, collected_lane, ends_length, fault_is, handles_length, left_few, may_close, may_miss, missing_few, never_begun, no_count, sealed_few}
 use Rattle.dsn_crew.proofs.crew_run.run_in.Goals as goal
 
 pub overflow_cast-count_missing : goal.overflow_cast-count_missing
 overflow_cast-count_missing g c =
     let room = c.in-Ok.ensures in
-    let few = missing_few g.B.Keeper g.P.Port g.W.Drain c.args.site c.args.book c.args.ports.items c.args.outbox _ _ _ room.opened (search rules) _ c.start_all-handles.ensures in
+    let few = missing_few g.B.Keeper g.P.Port c.args.book c.args.ports.items _ _ _ room.opened (search rules) _ c.start_all-handles.ensures in
     let count = c.count_missing.ensures in
     let most = c.requires.few in
     record { fits = omega arith }
@@ -18,28 +18,28 @@ overflow_cast-count_missing g c =
 pub miss-requires : goal.miss-requires
 miss-requires g c =
     let room = c.in-Ok.ensures in
-    let few = may_miss g.B.Keeper g.P.Port g.W.Drain c.args.site c.args.book c.args.ports.items c.args.outbox _ _ _ room.opened (search rules) _ c.start_all-handles.ensures in
+    let few = may_miss g.B.Keeper g.P.Port c.args.book c.args.ports.items _ _ _ room.opened (search rules) _ c.start_all-handles.ensures in
     let count = c.count_missing.ensures in
     record { left = omega arith }
 
 pub join_all-requires-clause-room : goal.join_all-requires-clause-room
 join_all-requires-clause-room g c κs within =
     let room = c.in-Ok.ensures in
-    let long = handles_length g.B.Keeper g.P.Port g.W.Drain c.args.site c.args.book c.args.ports.items c.args.outbox _ _ _ room.opened (search rules) _ c.start_all-handles.ensures in
+    let long = handles_length g.B.Keeper g.P.Port c.args.book c.args.ports.items _ _ _ room.opened (search rules) _ c.start_all-handles.ensures in
     let fits = room.slots.ends.1 in
     (room.slots.ends.0, omega arith)
 
 pub of-gathered-requires-clause-lines : goal.of-gathered-requires-clause-lines
 of-gathered-requires-clause-lines g c =
     let room = c.in-Ok.ensures in
-    let long = ends_length g.B.Keeper g.P.Port g.W.Drain c.args.site c.args.book c.args.ports.items c.args.outbox _ _ _ room.opened (search rules) _ c.start_all-handles.ensures _ c.join_all.ensures in
+    let long = ends_length g.B.Keeper g.P.Port c.args.book c.args.ports.items _ _ _ room.opened (search rules) _ c.start_all-handles.ensures _ c.join_all.ensures in
     let fits = room.slots.lines.1 in
     (room.slots.lines.0, omega arith)
 
 pub of-gathered-requires-clause-finished : goal.of-gathered-requires-clause-finished
 of-gathered-requires-clause-finished g c =
     let room = c.in-Ok.ensures in
-    let long = ends_length g.B.Keeper g.P.Port g.W.Drain c.args.site c.args.book c.args.ports.items c.args.outbox _ _ _ room.opened (search rules) _ c.start_all-handles.ensures _ c.join_all.ensures in
+    let long = ends_length g.B.Keeper g.P.Port c.args.book c.args.ports.items _ _ _ room.opened (search rules) _ c.start_all-handles.ensures _ c.join_all.ensures in
     let fits = room.slots.finished.1 in
     (room.slots.finished.0, omega arith)
 
@@ -47,48 +47,57 @@ pub end_posting-posted-requires : goal.end_posting-posted-requires
 end_posting-posted-requires g c =
     let room = c.in-Ok.ensures in
     let same = c.in-Ok-start_posting.ensures.sink in
-    let lane = collected_lane g.B.Keeper g.P.Port g.W.Drain c.args.site c.args.book c.args.ports.items c.args.outbox _ _ _ room.opened (search rules) _ c.start_all-handles.ensures _ c.join_all.ensures _ _ c.miss.ensures.missed _ _ (ap (λ (sink : LetterSink). sink.letters) same ∙ room.sink) c.requires.begins.0 _ (c.by-collected.ensures c.requires.begins.0 (begins g.B.Keeper g.P.Port g.W.Drain c.args.site c.args.book c.args.ports.items c.args.outbox _ _ _ room.opened (search rules) _ c.start_all-handles.ensures _ c.join_all.ensures _ _ c.miss.ensures.missed c.requires.begins.0 c.requires.begins.1)) in
-    record { lane = ap (λ (posts : Posts g.row.W.Denot). posts.lane) c.in-Ok-start_posting.ensures.promise ∙ (ap (λ (sink : LetterSink). sink.lane) (sym same) ∙ sym lane) }
+    let lane = collected_lane g.B.Keeper g.P.Port c.args.book c.args.ports.items _ _ _ room.opened (search rules) _ c.start_all-handles.ensures _ c.join_all.ensures _ _ c.miss.ensures.missed _ _ (ap (λ (sink : LetterSink). sink.letters) same ∙ room.sink) c.requires.begins.0 _ (c.by-collected.ensures c.requires.begins.0 (begins g.B.Keeper g.P.Port c.args.book c.args.ports.items _ _ _ room.opened (search rules) _ c.start_all-handles.ensures _ c.join_all.ensures _ _ c.miss.ensures.missed c.requires.begins.0 c.requires.begins.1)) in
+    record {
+      lane = ap (λ (posts : Posts g.row.W.Denot). posts.lane) c.in-Ok-start_posting.ensures.promise ∙ (ap (λ (sink : LetterSink). sink.lane) (sym same) ∙ sym lane);
+      all_sent = ap (λ (posts : Posts g.row.W.Denot). posts.begun.unsent) c.in-Ok-start_posting.ensures.promise ∙ c.requires.all_sent;
+    }
 
 pub conclude-requires : goal.conclude-requires
 conclude-requires g c =
     let room = c.in-Ok.ensures in
     let same = c.in-Ok-start_posting.ensures.sink in
-    record { unlost = c.end_posting-posted.ensures.unlost; close = may_close g.B.Keeper g.P.Port g.W.Drain c.args.site c.args.book c.args.ports.items c.args.outbox _ _ _ room.opened (search rules) _ c.start_all-handles.ensures _ c.join_all.ensures _ _ c.miss.ensures.missed _ _ (ap (λ (sink : LetterSink). sink.letters) same ∙ room.sink) c.requires.begins.0 _ _ (c.by-collected.ensures c.requires.begins.0 (begins g.B.Keeper g.P.Port g.W.Drain c.args.site c.args.book c.args.ports.items c.args.outbox _ _ _ room.opened (search rules) _ c.start_all-handles.ensures _ c.join_all.ensures _ _ c.miss.ensures.missed c.requires.begins.0 c.requires.begins.1)) c.of-gathered.ensures }
+    record { unlost = c.end_posting-posted.ensures.unlost; close = may_close g.B.Keeper g.P.Port c.args.book c.args.ports.items _ _ _ room.opened (search rules) _ c.start_all-handles.ensures _ c.join_all.ensures _ _ c.miss.ensures.missed _ _ (ap (λ (sink : LetterSink). sink.letters) same ∙ room.sink) c.requires.begins.0 _ _ (c.by-collected.ensures c.requires.begins.0 (begins g.B.Keeper g.P.Port c.args.book c.args.ports.items _ _ _ room.opened (search rules) _ c.start_all-handles.ensures _ c.join_all.ensures _ _ c.miss.ensures.missed c.requires.begins.0 c.requires.begins.1)) c.of-gathered.ensures }
 
 pub returns-clause-account : goal.returns-clause-account
-returns-clause-account g c = λ before with_it.
+returns-clause-account g c = λ from by before with_it.
     let room = c.in-Ok.ensures in
     let same = c.in-Ok-start_posting.ensures.sink in
-    let lane = collected_lane g.B.Keeper g.P.Port g.W.Drain c.args.site c.args.book c.args.ports.items c.args.outbox _ _ _ room.opened (search rules) _ c.start_all-handles.ensures _ c.join_all.ensures _ _ c.miss.ensures.missed _ _ (ap (λ (sink : LetterSink). sink.letters) same ∙ room.sink) c.requires.begins.0 _ (c.by-collected.ensures c.requires.begins.0 (begins g.B.Keeper g.P.Port g.W.Drain c.args.site c.args.book c.args.ports.items c.args.outbox _ _ _ room.opened (search rules) _ c.start_all-handles.ensures _ c.join_all.ensures _ _ c.miss.ensures.missed c.requires.begins.0 c.requires.begins.1)) in
+    let lane = collected_lane g.B.Keeper g.P.Port c.args.book c.args.ports.items _ _ _ room.opened (search rules) _ c.start_all-handles.ensures _ c.join_all.ensures _ _ c.miss.ensures.missed _ _ (ap (λ (sink : LetterSink). sink.letters) same ∙ room.sink) c.requires.begins.0 _ (c.by-collected.ensures c.requires.begins.0 (begins g.B.Keeper g.P.Port c.args.book c.args.ports.items _ _ _ room.opened (search rules) _ c.start_all-handles.ensures _ c.join_all.ensures _ _ c.miss.ensures.missed c.requires.begins.0 c.requires.begins.1)) in
     let waiting = ap (λ (it : Identity Parcel). it.capacity) (lane ∙ ap (λ (sink : LetterSink). sink.lane) same) ∙ room.waiting in
     let posted =
-    subst (λ (posts : Posts g.row.W.Denot). IsPosted g.W.Drain posts.site posts.outbox c.by-collected.new.sink.lane.capacity c.by-collected.new.sink.letters c.end_posting-posted.result) c.in-Ok-start_posting.ensures.promise c.end_posting-posted.ensures in
-    let post = subst (λ (most : ℕ). IsPosted g.W.Drain c.args.site c.args.outbox most c.by-collected.new.sink.letters c.end_posting-posted.result) waiting posted in
-    account_is g.B.Keeper g.P.Port g.W.Drain c.args.site c.args.book c.args.ports.items c.args.outbox _ _ _ room.opened (search rules) _ c.start_all-handles.ensures _ c.join_all.ensures _ _ c.miss.ensures.missed _ _ (ap (λ (sink : LetterSink). sink.letters) same ∙ room.sink) before _ post with_it _ _ _ (c.by-collected.ensures before (begins g.B.Keeper g.P.Port g.W.Drain c.args.site c.args.book c.args.ports.items c.args.outbox _ _ _ room.opened (search rules) _ c.start_all-handles.ensures _ c.join_all.ensures _ _ c.miss.ensures.missed before with_it)) c.of-gathered.ensures c.conclude.ensures
+    subst (λ (posts : Posts g.row.W.Denot). IsPosted g.W.Drain posts.begun c.by-collected.new.sink.lane.capacity c.by-collected.new.sink.letters c.end_posting-posted.result) c.in-Ok-start_posting.ensures.promise c.end_posting-posted.ensures in
+    let post = subst (λ (most : ℕ). IsPosted g.W.Drain c.args.outgoing most c.by-collected.new.sink.letters c.end_posting-posted.result) waiting posted in
+    account_is g.B.Keeper g.P.Port c.args.book c.args.ports.items _ _ _ room.opened (search rules) _ c.start_all-handles.ensures _ c.join_all.ensures _ _ c.miss.ensures.missed _ _ (ap (λ (sink : LetterSink). sink.letters) same ∙ room.sink) before g.W.Drain from c.args.outgoing by _ post with_it _ _ _ (c.by-collected.ensures before (begins g.B.Keeper g.P.Port c.args.book c.args.ports.items _ _ _ room.opened (search rules) _ c.start_all-handles.ensures _ c.join_all.ensures _ _ c.miss.ensures.missed before with_it)) c.of-gathered.ensures c.conclude.ensures
 
 pub returns-clause-fault : goal.returns-clause-fault
-returns-clause-fault g c = λ before with_it.
+returns-clause-fault g c = λ from by before with_it.
     let room = c.in-Ok.ensures in
     let same = c.in-Ok-start_posting.ensures.sink in
-    let lane = collected_lane g.B.Keeper g.P.Port g.W.Drain c.args.site c.args.book c.args.ports.items c.args.outbox _ _ _ room.opened (search rules) _ c.start_all-handles.ensures _ c.join_all.ensures _ _ c.miss.ensures.missed _ _ (ap (λ (sink : LetterSink). sink.letters) same ∙ room.sink) c.requires.begins.0 _ (c.by-collected.ensures c.requires.begins.0 (begins g.B.Keeper g.P.Port g.W.Drain c.args.site c.args.book c.args.ports.items c.args.outbox _ _ _ room.opened (search rules) _ c.start_all-handles.ensures _ c.join_all.ensures _ _ c.miss.ensures.missed c.requires.begins.0 c.requires.begins.1)) in
+    let lane = collected_lane g.B.Keeper g.P.Port c.args.book c.args.ports.items _ _ _ room.opened (search rules) _ c.start_all-handles.ensures _ c.join_all.ensures _ _ c.miss.ensures.missed _ _ (ap (λ (sink : LetterSink). sink.letters) same ∙ room.sink) c.requires.begins.0 _ (c.by-collected.ensures c.requires.begins.0 (begins g.B.Keeper g.P.Port c.args.book c.args.ports.items _ _ _ room.opened (search rules) _ c.start_all-handles.ensures _ c.join_all.ensures _ _ c.miss.ensures.missed c.requires.begins.0 c.requires.begins.1)) in
     let waiting = ap (λ (it : Identity Parcel). it.capacity) (lane ∙ ap (λ (sink : LetterSink). sink.lane) same) ∙ room.waiting in
     let posted =
-    subst (λ (posts : Posts g.row.W.Denot). IsPosted g.W.Drain posts.site posts.outbox c.by-collected.new.sink.lane.capacity c.by-collected.new.sink.letters c.end_posting-posted.result) c.in-Ok-start_posting.ensures.promise c.end_posting-posted.ensures in
-    let post = subst (λ (most : ℕ). IsPosted g.W.Drain c.args.site c.args.outbox most c.by-collected.new.sink.letters c.end_posting-posted.result) waiting posted in
-    fault_is g.B.Keeper g.P.Port g.W.Drain c.args.site c.args.book c.args.ports.items c.args.outbox _ _ _ room.opened (search rules) _ c.start_all-handles.ensures _ c.join_all.ensures _ _ c.miss.ensures.missed _ _ (ap (λ (sink : LetterSink). sink.letters) same ∙ room.sink) before _ post _ _ _ (c.by-collected.ensures before (begins g.B.Keeper g.P.Port g.W.Drain c.args.site c.args.book c.args.ports.items c.args.outbox _ _ _ room.opened (search rules) _ c.start_all-handles.ensures _ c.join_all.ensures _ _ c.miss.ensures.missed before with_it)) c.conclude.ensures
+    subst (λ (posts : Posts g.row.W.Denot). IsPosted g.W.Drain posts.begun c.by-collected.new.sink.lane.capacity c.by-collected.new.sink.letters c.end_posting-posted.result) c.in-Ok-start_posting.ensures.promise c.end_posting-posted.ensures in
+    let post = subst (λ (most : ℕ). IsPosted g.W.Drain c.args.outgoing most c.by-collected.new.sink.letters c.end_posting-posted.result) waiting posted in
+    fault_is g.B.Keeper g.P.Port c.args.book c.args.ports.items _ _ _ room.opened (search rules) _ c.start_all-handles.ensures _ c.join_all.ensures _ _ c.miss.ensures.missed _ _ (ap (λ (sink : LetterSink). sink.letters) same ∙ room.sink) before g.W.Drain from c.args.outgoing by _ post with_it _ _ _ (c.by-collected.ensures before (begins g.B.Keeper g.P.Port c.args.book c.args.ports.items _ _ _ room.opened (search rules) _ c.start_all-handles.ensures _ c.join_all.ensures _ _ c.miss.ensures.missed before with_it)) c.conclude.ensures
 
 pub returns-clause-sealed : goal.returns-clause-sealed
 returns-clause-sealed g c =
     let room = c.in-Ok.ensures in
     let same = c.in-Ok-start_posting.ensures.sink in
-    sealed_few g.B.Keeper g.P.Port g.W.Drain c.args.site c.args.book c.args.ports.items c.args.outbox _ _ _ room.opened (search rules) _ c.start_all-handles.ensures _ c.join_all.ensures _ _ c.miss.ensures.missed _ _ (ap (λ (sink : LetterSink). sink.letters) same ∙ room.sink) c.requires.begins.0 _ _ _ _ (c.by-collected.ensures c.requires.begins.0 (begins g.B.Keeper g.P.Port g.W.Drain c.args.site c.args.book c.args.ports.items c.args.outbox _ _ _ room.opened (search rules) _ c.start_all-handles.ensures _ c.join_all.ensures _ _ c.miss.ensures.missed c.requires.begins.0 c.requires.begins.1)) c.conclude.ensures
+    sealed_few g.B.Keeper g.P.Port c.args.book c.args.ports.items _ _ _ room.opened (search rules) _ c.start_all-handles.ensures _ c.join_all.ensures _ _ c.miss.ensures.missed _ _ (ap (λ (sink : LetterSink). sink.letters) same ∙ room.sink) c.requires.begins.0 _ _ _ _ (c.by-collected.ensures c.requires.begins.0 (begins g.B.Keeper g.P.Port c.args.book c.args.ports.items _ _ _ room.opened (search rules) _ c.start_all-handles.ensures _ c.join_all.ensures _ _ c.miss.ensures.missed c.requires.begins.0 c.requires.begins.1)) c.conclude.ensures
+
+pub returns-clause-left : goal.returns-clause-left
+returns-clause-left g c =
+    let room = c.in-Ok.ensures in
+    let same = c.in-Ok-start_posting.ensures.sink in
+    left_few g.B.Keeper g.P.Port c.args.book c.args.ports.items _ _ _ room.opened (search rules) _ c.start_all-handles.ensures _ c.join_all.ensures _ _ c.miss.ensures.missed _ _ (ap (λ (sink : LetterSink). sink.letters) same ∙ room.sink) c.requires.begins.0 _ _ _ _ (c.by-collected.ensures c.requires.begins.0 (begins g.B.Keeper g.P.Port c.args.book c.args.ports.items _ _ _ room.opened (search rules) _ c.start_all-handles.ensures _ c.join_all.ensures _ _ c.miss.ensures.missed c.requires.begins.0 c.requires.begins.1)) c.conclude.ensures
 
 pub returns-clause-counted : goal.returns-clause-counted
 returns-clause-counted g c = no_count g.B.Keeper _ _ _ _ c.conclude.ensures
 
 pub returns-in_default-clause-fault : goal.returns-in_default-clause-fault
-returns-in_default-clause-fault g c = λ before with_it. never_begun g.W.Drain c.args.site _ before _ _ _ _ c.unbegun.ensures (search rules)
+returns-in_default-clause-fault g c = λ from by before with_it. never_begun g.B.Keeper g.W.Drain from _ before _ _ _ (by.outbox ∙ sym c.into_outbox.ensures) c.unbegun.ensures
 
 pub returns-in-Err-clause-fault : goal.returns-in-Err-clause-fault
-returns-in-Err-clause-fault g c = λ before with_it. never_begun g.W.Drain c.args.site _ before _ _ _ _ c.unbegun-in-Err.ensures (search rules)
+returns-in-Err-clause-fault g c = λ from by before with_it. never_begun g.B.Keeper g.W.Drain from _ before _ _ _ (by.outbox ∙ sym c.in-Err.ensures.refused) c.unbegun-in-Err.ensures

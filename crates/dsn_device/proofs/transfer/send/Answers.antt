@@ -12,6 +12,7 @@ loop-unsent-preserved g c =
     record {
       sent = (done ++ take n c.loop-unsent.unsent.now, split-moved _ done _ n split, Appends-trans _ _ _ _ _ appended took.bytes);
       unread = Keeps-trans _ _ _ c.loop-unsent.invariant.unread took.unread;
+      marked = took.marked ∙ c.loop-unsent.invariant.marked;
       no_flush = took.no_flush ∙ c.loop-unsent.invariant.no_flush;
       count = grind (arith, nat_tests, took.count);
       surely = λ h. took.surely (c.loop-unsent.invariant.surely h);

@@ -9,6 +9,7 @@ invariant-loop-unsent g l = record {
   unread : Keeps (g.D.Drain.left l.initial.drain) (g.D.Drain.left l.drain);
   no_flush : g.D.Drain.flushes l.drain ≡ g.D.Drain.flushes l.initial.drain;
   count : g.D.Drain.failures l.drain ≡ g.D.Drain.failures l.initial.drain;
+  marked : g.D.Drain.marked l.drain ≡ g.D.Drain.marked l.initial.drain;
   surely : g.D.Drain.flushes_surely l.initial.drain → g.D.Drain.flushes_surely l.drain;
   steady : g.D.Drain.steady l.initial.drain → g.D.Drain.steady l.drain;
 }

@@ -3,12 +3,12 @@ use Rattle.std.proofs.Common.{rules, ap, length, ◌<◌, ◌∙◌, subst, arit
 use mathlib.Core.List.{IsPrefix}
 use Rattle.dsn_lane.specs.Halves.{Identity}
 use Rattle.dsn_post.specs.Parcel.{Parcel}
-use Rattle.dsn_post.proofs.PostingLemmas.{none_lost, unsent_within, whole_exactly}
+use Rattle.dsn_post.proofs.PostingLemmas.{left_within, none_lost, whole_exactly}
 use Rattle.dsn_post.proofs.posting_end.end_posting.Goals as goal
 
 pub overflow_cast-result : goal.overflow_cast-result
 overflow_cast-result g c =
-    let within = unsent_within _ _ _ _ _ _ _ (c.finish-outbox.ensures _ _ _ c.join-outgoing.ensures.delivered) in
+    let within = left_within _ _ _ _ c.finish-outbox.ensures.unsent c.requires.all_sent c.join-outgoing.ensures.few in
     let few : c.join-outgoing.result.handed < 4294967296 = search rules in
     let count = c.join-outgoing.ensures.count in
     let left = c.len.ensures in
@@ -16,14 +16,13 @@ overflow_cast-result g c =
 
 pub overflow_sub-result : goal.overflow_sub-result
 overflow_sub-result g c =
-    let within = unsent_within _ _ _ _ _ _ _ (c.finish-outbox.ensures _ _ _ c.join-outgoing.ensures.delivered) in
+    let within = left_within _ _ _ _ c.finish-outbox.ensures.unsent c.requires.all_sent c.join-outgoing.ensures.few in
     let count = c.join-outgoing.ensures.count in
     let left = c.len.ensures in omega arith
 
 pub returns : goal.returns
 returns g c =
-    let outbox = c.finish-outbox.ensures _ _ _ c.join-outgoing.ensures.delivered in
-    let within = unsent_within _ _ _ _ _ _ _ outbox in
+    let within = left_within _ _ _ _ c.finish-outbox.ensures.unsent c.requires.all_sent c.join-outgoing.ensures.few in
     let few : c.join-outgoing.result.handed < 4294967296 = search rules in
     let first = c.close.ensures.first in
     let letters_are = c.mark-sink.ensures.1 in record {
@@ -34,5 +33,5 @@ returns g c =
       whole = whole_exactly c.join-outgoing.result.end _ _ _ (c.join-outgoing.ensures.ended) (λ marked. c.close.ensures.marked marked ∙ letters_are) _ c.into_lost-lost.ensures _ (search rules);
       unlost = none_lost _ _ (search rules);
       count = (let count = c.join-outgoing.ensures.count in let left = c.len.ensures in omega arith);
-      outbox = outbox;
+      outbox = λ host start first before. c.finish-outbox.ensures.outbox host start _ (c.join-outgoing.ensures.delivered host start first before);
     }

@@ -2,9 +2,10 @@
 use denote.Exit.{no}
 use denote.Param.Send.{param_send, arg_send}
 use mir.Syntax.{named}
-use Rattle.std.proofs.Common.{rules, sym, ◌∙◌, subst}
-use Rattle.dsn_post.specs.Posting.{IsPosting, IsUntouched}
-use Rattle.dsn_post.proofs.PostingLemmas.{none_first, untouched}
+use Rattle.std.proofs.Common.{rules, ap, ◌∙◌}
+use Rattle.dsn_report.specs.Outgoing.{Outgoing}
+use Rattle.dsn_post.specs.Posting.{IsPosting}
+use Rattle.dsn_post.proofs.PostingLemmas.{none_first}
 use Rattle.dsn_post.proofs.SendLemmas.{posting_send, posts_send}
 use Rattle.dsn_post.proofs.posting_start.start_posting.Goals as goal
 
@@ -17,6 +18,6 @@ spawn_with-requires-send-T g c κs within = param_send 3 _ (arg_send _ no _ (pos
 
 pub returns-in-Err-clause-refused : goal.returns-in-Err-clause-refused
 returns-in-Err-clause-refused g c =
-    let posting : IsPosting g.W.Drain c.args.site c.args.outbox c.args.source.lane c.spawn_with-outgoing.result = search rules in
+    let posting : IsPosting g.W.Drain c.args.outgoing c.args.source.lane c.spawn_with-outgoing.result = search rules in
     let none = none_first _ _ c.close.ensures.first (c.mark-sink.ensures.1 ∙ c.requires.sink) in
-    subst (IsUntouched g.W.Drain c.args.outbox) (sym c.into_outbox.ensures) (untouched g.W.Drain c.args.site c.args.outbox _ _ none posting.delivered)
+    c.into_outbox.ensures ∙ ap (λ (out : Outgoing g.row.W.Denot). out.poster.outbox) (posting.idle none)

@@ -6,8 +6,8 @@ use Rattle.dsn_journal.specs.OpenLedger.{AwaitsRequests}
 use Rattle.dsn_journal.specs.contracts.memory_disk.MemoryDiskDisk.TheImpl as memory
 use Rattle.dsn_base_tests.proofs.journal.kept_books.kept_twice.Goals as goal
 
-pub carry_two-answered-requires-clause-has : goal.carry_two-answered-requires-clause-has
-carry_two-answered-requires-clause-has c =
+pub carry_two-carried-requires-clause-has : goal.carry_two-carried-requires-clause-has
+carry_two-carried-requires-clause-has c =
     let ledger = c.new-keeper.result in
     let none : AwaitsRequests memory.ghosts ledger [] = search rules in
     let settled : ledger.settled ≡ true = search rules in

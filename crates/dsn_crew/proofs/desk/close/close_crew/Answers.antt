@@ -12,8 +12,8 @@ use Rattle.dsn_outcome.specs.declared.answer.Answer.{Answer}
 use Rattle.dsn_outcome.specs.Request.{Request}
 use Rattle.dsn_crew.specs.agents.Agent.{LaneHalves, IsFinished}
 use Rattle.dsn_crew.specs.agents.Place.{Place, place_at, place_of}
-use Rattle.dsn_crew.specs.desk.Desk.{BeginsWith, Desk, IsDesk, UnlessUnkept, history}
-use Rattle.dsn_crew.proofs.desk.TakeLemmas.{desk_here, has_going, whole_is}
+use Rattle.dsn_crew.specs.desk.Desk.{BeginsWith, Desk, IsDesk, history}
+use Rattle.dsn_crew.proofs.desk.TakeLemmas.{desk_here, has_here, whole_is}
 use Rattle.dsn_crew.proofs.desk.CloseLemmas.{IsAnswered, all_heard, all_of_crew, as_many, closed_more, going_on, kept_all, kept_more, lines_answered, none_left, paired, room_of_one_lane}
 use Rattle.dsn_crew.proofs.desk.close.close_crew.Goals as goal
 
@@ -84,10 +84,11 @@ returns-clause-only g c = all_of_crew g.B.Keeper c.args.desk c.args.crew.items (
 
 pub returns-clause-has : goal.returns-clause-has
 returns-clause-has g c = λ before begins.
-    let tied : UnlessUnkept g.B.Keeper c.args.desk (g.B.Keeper.has c.desk.inside.book (history g.B.Keeper before c.args.desk) []) =
-    subst (λ (desk : Desk _). (b : List Exchange) → BeginsWith g.B.Keeper desk.start b → UnlessUnkept g.B.Keeper desk (g.B.Keeper.has c.desk.inside.book (history g.B.Keeper b desk) [])) c.desk.view_is (λ b is. (c.desk.invariant.0.stands b is).has) before begins in
+    let going : is_some c.desk.inside.stop ≡ false = ap (λ (desk : Desk _). desk.failed) c.desk.view_is ∙ going_on c.args.desk c.requires.gone in
+    let is = whole_is g.B.Keeper c.desk.inside.start.value c.desk.inside.book c.desk.inside.stop c.desk.inside.taken c.desk.inside.requests c.desk.inside.lines.items c.desk.inside.missed going c.args.desk c.desk.view_is in
+    let has = has_here g.B.Keeper c.desk.inside.start.value c.desk.inside.book c.desk.inside.stop c.desk.inside.taken c.desk.inside.requests c.desk.inside.lines.items c.desk.inside.missed going c.desk.invariant.0 in
     subst (λ book. g.B.Keeper.has book (history g.B.Keeper before c.args.desk) []) (sym (ap (λ shut. shut.book) c.new.ensures))
-    (has_going g.B.Keeper c.args.desk tied (going_on c.args.desk c.requires.gone))
+    (subst (λ (desk : Desk _). (b : List Exchange) → BeginsWith g.B.Keeper desk.start b → g.B.Keeper.has c.desk.inside.book (history g.B.Keeper b desk) []) is has before begins)
 
 pub returns-clause-finished : goal.returns-clause-finished
 returns-clause-finished g c = c.loop-finished.invariant.finished (none_left IsFinished _ (search rules))

@@ -17,5 +17,6 @@ returns-in-Err g c = inr (record {
   fault = c.in-Err.fault;
   crew = c.in-Err.ensures.fault;
   counted = c.in-Err.ensures.refused;
-  noted = subst (λ (fault : CrewFault _). WritesFault g.N.Drain fault.cause fault.outbox fault.unsent c.args.notes.now c.write_fault.new.notes c.write_fault.result) c.fault.view_is c.write_fault.ensures;
+  kept = c.in-Err.ensures.kept;
+  noted = subst (λ (fault : CrewFault _ _). WritesFault g.N.Drain fault.cause fault.outbox fault.unsent c.args.notes.now c.write_fault.new.notes c.write_fault.result) c.fault.view_is (rw c.code.ensures at c.write_fault.ensures);
 })

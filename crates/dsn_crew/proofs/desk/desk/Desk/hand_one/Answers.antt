@@ -1,6 +1,6 @@
 -- One request is a run of one.
-use Rattle.std.proofs.Common.{rules, ◌≡◌, inl, false, refl, ap, ◌∙◌, subst, sym, true}
-use Rattle.std.specs.Prelude.{Ok, Option, is_some}
+use Rattle.std.proofs.Common.{rules, ◌≡◌, false, refl, ap, ◌∙◌, subst, sym, true}
+use Rattle.std.specs.Prelude.{Ok, None, Option, is_some}
 use Rattle.dsn_outcome.specs.Letter.{Letter}
 use Rattle.dsn_crew.proofs.desk.RunLemmas.{took_fault, took_handed, took_lost, took_none}
 use Rattle.dsn_crew.proofs.desk.TakeLemmas.{counts_here, failed_desk, whole_is}
@@ -30,14 +30,14 @@ returns-in-Err-offer-clause-run g c =
 pub invariant_of-self : goal.invariant_of-self
 invariant_of-self g c =
     let going : is_some c.self.inside.stop ≡ false = ap (λ (desk : Desk _). desk.failed) c.self.view_is ∙ c.in-Ok.ensures.failed in (
-      failed_desk g.B.Keeper c.self.inside.start.value c.self.inside.book c.self.inside.stop c.self.inside.taken c.self.inside.requests c.self.inside.lines.items c.self.inside.missed going c.self.invariant.0 c.self.inside.book c.self.inside.requests (inl (λ t is. is)) refl refl refl (λ may. may),
+      failed_desk g.B.Keeper c.self.inside.start.value c.self.inside.book c.self.inside.stop c.self.inside.taken c.self.inside.requests c.self.inside.lines.items c.self.inside.missed going c.self.invariant.0 c.self.inside.book c.self.inside.requests None (λ t is. is) tt refl refl refl,
       counts_here g.B.Keeper c.self.inside.start.value c.self.inside.book c.self.inside.stop c.self.inside.taken c.self.inside.requests c.self.inside.lines.items c.self.inside.missed going c.self.inside.gone c.self.invariant.1,
       c.self.invariant.2,
-      tt,
+      refl,
       tt,
     )
 
 pub returns-in-Err-offer-clause-kept : goal.returns-in-Err-offer-clause-kept
 returns-in-Err-offer-clause-kept g c =
     let going : is_some c.self.inside.stop ≡ false = ap (λ (desk : Desk _). desk.failed) c.self.view_is ∙ c.in-Ok.ensures.failed in
-    failed_desk g.B.Keeper c.self.inside.start.value c.self.inside.book c.self.inside.stop c.self.inside.taken c.self.inside.requests c.self.inside.lines.items c.self.inside.missed going c.self.invariant.0 c.self.inside.book c.self.inside.requests (inl (λ t is. is)) refl refl refl (λ may. may)
+    failed_desk g.B.Keeper c.self.inside.start.value c.self.inside.book c.self.inside.stop c.self.inside.taken c.self.inside.requests c.self.inside.lines.items c.self.inside.missed going c.self.invariant.0 c.self.inside.book c.self.inside.requests None (λ t is. is) tt refl refl refl

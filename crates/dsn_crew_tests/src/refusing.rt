@@ -1,0 +1,41 @@
+//! A keeper that keeps some requests and refuses those after them, for tests.
+
+use dsn_book::{Book, Keeper, Limits, NotKept, Step};
+use dsn_outcome::Request;
+
+/// A book beside something that keeps so many requests more, and refuses those after them.
+#[derive(Drop)]
+pub(crate) struct Refusing {
+    pub(crate) book: Book,
+    pub(crate) left: u32,
+}
+
+impl Keeper for Refusing {
+    ghost use Rattle.std.specs.Prelude.{◌≡◌};
+    ghost use Rattle.dsn_book.specs.Book.{Represents};
+    ghost use Rattle.dsn_book.specs.declared.not_kept.NotKept.TheVariants.{Full};
+
+    ghost limits = { λ keeper. keeper.book.limits };
+
+    ghost has = { λ keeper history _. Represents keeper.book history };
+
+    ghost sealed = { λ keeper. keeper.book.sealed };
+
+    ghost refuses = { λ old _ why new. (why ≡ Full) × (old.left ≡ 0) × (new ≡ old) };
+
+    fn limits(&self) -> Limits {
+        self.book.limits()
+    }
+
+    fn keep(&mut self, _requests: &[Request]) -> Result<(), NotKept> {
+        if self.left == 0 {
+            return Err(NotKept::Full);
+        }
+        self.left -= 1;
+        Ok(())
+    }
+
+    fn apply(&mut self, request: Request) -> Step {
+        self.book.apply(request)
+    }
+}

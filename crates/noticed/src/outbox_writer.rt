@@ -1,0 +1,30 @@
+//! Where the outbox of `serve` is written.
+use std::fs::File;
+use std::io;
+use std::io::Write;
+use std::rt::Stdout;
+
+/// Where notices go.
+#[derive(Drop)]
+pub(crate) enum OutboxWriter {
+    /// Standard output. A flush passes on what was written, and waits for no disk.
+    Standard(Stdout),
+    /// A file. A flush waits until what was written is on the disk.
+    Synced(File),
+}
+
+impl Write for OutboxWriter {
+    fn write(&mut self, text: &[u8]) -> io::Result<usize> {
+        match self {
+            OutboxWriter::Standard(stdout) => stdout.write(text),
+            OutboxWriter::Synced(file) => file.write(text),
+        }
+    }
+
+    fn flush(&mut self) -> io::Result<()> {
+        match self {
+            OutboxWriter::Standard(stdout) => stdout.flush(),
+            OutboxWriter::Synced(file) => file.sync_data(),
+        }
+    }
+}

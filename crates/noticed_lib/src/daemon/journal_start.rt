@@ -1,0 +1,149 @@
+//! The start of a run over a journal.
+ghost use Rattle.std.specs.Prelude.{◌≡◌, ◌≤◌, ◌<◌, ◌^◌, ◌+◌, List, [], true, IfErr, IfOk};
+ghost use Rattle.dsn_outcome.specs.History.{Exchange};
+ghost use Rattle.dsn_report.specs.Outgoing.{Delivered};
+ghost use Rattle.dsn_journal.specs.InPlace.{IsLedgerInPlaceOf};
+ghost use Rattle.dsn_journal.specs.OpenLedger.{AwaitsRequests};
+ghost use Rattle.dsn_journal.specs.Records.{recovered};
+ghost use Rattle.noticed_lib.specs.daemon.Journaled.{BeginsAnew, IsNoStart, IsNoStartOverLedger, IsStartOver, IsStartOverLedger};
+
+use crate::daemon::journal_folder::JournalFolder;
+use dsn_book::Limits;
+use dsn_device::Drain;
+use dsn_journal::{
+    Disk, KeptBook, Ledger, MarkedOutbox, Marks, Opened, Replaceable,
+    ledgers_have_earlier_histories, open,
+};
+use dsn_outcome::Letter;
+use dsn_report::{Outgoing, Site};
+use dsn_text::fault_code;
+use std::alloc::Global;
+
+/// What a run over a journal begins with, once all letters of earlier runs were posted.
+#[derive(Drop)]
+pub(crate) struct JournalStart<W, D: Disk, M: Replaceable> {
+    /// The poster, which has posted them.
+    pub(crate) outgoing: Outgoing<MarkedOutbox<W, M>>,
+    /// What keeps the run's requests.
+    pub(crate) keeper: KeptBook<D>,
+}
+
+/// Why a run over a journal didn't begin.
+#[derive(Drop)]
+pub(crate) struct NotStarted<W> {
+    /// The number of the fault.
+    pub(crate) code: u32,
+    /// The outbox.
+    pub(crate) outbox: W,
+}
+
+impl<W> NotStarted<W> {
+    /// The fault with this number, after letters were posted or not.
+    fn after<M: Replaceable + Drop>(
+        code: u32,
+        outgoing: Outgoing<MarkedOutbox<W, M>>,
+    ) -> NotStarted<W>
+    where
+        W: Drain,
+        ensures { result.code ≡ code }
+    {
+        let (outbox, _marks) = outgoing.into_outbox().into_parts();
+        NotStarted { code, outbox }
+    }
+}
+
+/// Opens the marks and the ledger of a folder, posts the letters of earlier runs that no mark
+/// counts, and puts the journal away for a shorter one.
+///
+/// The numbers are those of [`Marks::open`] and of [`open`]; then 31 where the outbox fails, or a
+/// letter could not be marked; then those of a journal that could not be put away.
+pub(crate) fn start_over<W: Drain, D: Replaceable + Drop, M: Replaceable + Drop>(
+    alloc: Global,
+    site: Site,
+    limits: Limits,
+    outbox: W,
+    folder: JournalFolder<D, M>,
+) -> Result<JournalStart<W, D, M>, NotStarted<W>>
+    ensures start { IfOk result (λ start. IsStartOver D.Disk M.Disk W.Drain site limits
+        folder.journal folder.marks outbox start.keeper start.outgoing) }
+    ensures fault { IfErr result
+        (λ not. IsNoStart D.Disk M.Disk limits folder.journal folder.marks not.code) }
+{
+    let JournalFolder { journal, marks } = folder;
+    let marks = match Marks::open(alloc, marks) {
+        Ok(marks) => marks,
+        Err(left) => {
+            let code = left.cause.code();
+            return Err(NotStarted { code, outbox });
+        }
+    };
+    let mark = marks.mark();
+    match open(alloc, journal, limits, mark) {
+        Ok(opened) => {
+            let outbox = MarkedOutbox::new(alloc, outbox, marks);
+            start_over_ledger(alloc, site, outbox, opened, mark)
+        }
+        Err(left) => {
+            let code = left.cause.code();
+            Err(NotStarted { code, outbox })
+        }
+    }
+}
+
+/// Posts the letters of a ledger that was opened under this mark, and puts its journal away.
+fn start_over_ledger<W: Drain, D: Replaceable + Drop, M: Replaceable + Drop>(
+    alloc: Global,
+    site: Site,
+    outbox: MarkedOutbox<W, M>,
+    opened: Opened<D>,
+    mark: u64,
+) -> Result<JournalStart<W, D, M>, NotStarted<W>>
+    requires awaits { AwaitsRequests D.Disk opened.ledger [] }
+    requires settled { opened.ledger.settled ≡ true }
+    ensures start { IfOk result (λ start. IsStartOverLedger D.Disk W.Drain site outbox
+        opened.letters.items opened.ledger start.keeper start.outgoing) }
+    ensures fault { IfErr result (λ not. IsNoStartOverLedger not.code) }
+{
+    let Opened {
+        mut ledger,
+        letters,
+    } = opened;
+    let all = mark.saturating_add(letters.len() as u64);
+    let outgoing = post_first(site, outbox, letters);
+    if outgoing.has_failed() {
+        return Err(NotStarted::after(fault_code::OUTBOX_WRITE, outgoing));
+    }
+    match ledger.compact_all_marked(alloc, all) {
+        Ok(true) => Ok(JournalStart {
+            outgoing,
+            keeper: keeper_over(alloc, ledger),
+        }),
+        Ok(false) => Err(NotStarted::after(fault_code::JOURNAL_FULL, outgoing)),
+        Err(error) => Err(NotStarted::after(error.code(), outgoing)),
+    }
+}
+
+/// Posts letters, one after another.
+fn post_first<X: Drain>(site: Site, outbox: X, letters: Vec<Letter>) -> Outgoing<X>
+    ensures { Delivered X.Drain site outbox result letters.items }
+{
+    let mut outgoing = Outgoing::new(site, outbox);
+    for letter in letters {
+        outgoing.hand(letter);
+    }
+    outgoing
+}
+
+/// What keeps requests on this ledger.
+fn keeper_over<D: Disk>(alloc: Global, ledger: Ledger<D>) -> KeptBook<D>
+    requires awaits { AwaitsRequests D.Disk ledger [] }
+    requires settled { ledger.settled ≡ true }
+    ensures ledger { result ≡ ledger }
+    ensures begins { BeginsAnew D.Disk ledger }
+{
+    ledgers_have_earlier_histories();
+    // A book's limits allow it a key and an outcome, as the law asks.
+    let limits = ledger.book().limits();
+    let (_logs, _entries) = (limits.logs(), limits.entries());
+    KeptBook::new(alloc, ledger)
+}

@@ -1,0 +1,95 @@
+//! The run of the daemon over a journal.
+ghost use Rattle.std.specs.Prelude.{All};
+ghost use Rattle.noticed_lib.specs.daemon.Journaled.{IsRunOver, IsServeOver, MayRunOver};
+
+use crate::daemon::journal_folder::JournalFolder;
+use crate::daemon::journal_start::{JournalStart, NotStarted, start_over};
+use crate::daemon::run_notes::{write_fault, write_kept_account};
+use crate::daemon::serve_end::ServeEnd;
+use dsn_book::Limits;
+use dsn_crew::{CrewFault, Gate, Port, run_crew_over};
+use dsn_device::Drain;
+use dsn_journal::Replaceable;
+use dsn_outcome::Letters;
+use dsn_report::Site;
+use std::alloc::Global;
+use std::sync::Wait;
+use std::thread::Threads;
+
+/// Serves these ports as [`serve_ports`](crate::serve_ports) does, over a journal: each request is
+/// kept on its disk before it is carried out and answered, and each letter is marked once its notice
+/// was written to `outbox` and flushed. It begins with what the disk holds: the open logs and the
+/// closed keys, and the letters that no mark counts, which are posted first.
+///
+/// Beside what [`serve_ports`](crate::serve_ports) notes, the number of a fault comes for a request
+/// that was not kept (45), which ends the run; and of a run that does not begin: for a disk that
+/// can't be opened (9, 71 to 77), and where one of the first letters could not be written or marked
+/// (31).
+pub fn serve_ports_over<
+    R: Threads + Wait + Sync,
+    P: Port + Drop + Send,
+    W: Drain + Drop + Send,
+    D: Replaceable + Drop,
+    M: Replaceable + Drop + Send,
+    G: Gate + Sync,
+    N: Drain,
+>(
+    rt: &R,
+    alloc: Global,
+    site: Site,
+    limits: Limits,
+    ports: Vec<P>,
+    outbox: W,
+    folder: JournalFolder<D, M>,
+    gate: &G,
+    notes: &mut N,
+) -> ServeEnd<W>
+    requires asked { All P.may_be_asked ports.items }
+    ensures { IsServeOver D.Disk M.Disk P.Port W.Drain N.Drain site limits ports.items
+        folder.journal folder.marks outbox notes.old notes.new result }
+{
+    match start_over(alloc, site, limits, outbox, folder) {
+        Ok(start) => run_over(rt, alloc, start, ports, gate, notes),
+        Err(NotStarted { code, outbox }) => {
+            write_fault(alloc, code, outbox, Letters::new(), notes)
+        }
+    }
+}
+
+/// Serves these ports over what was begun.
+fn run_over<
+    R: Threads + Wait + Sync,
+    P: Port + Drop + Send,
+    W: Drain + Drop + Send,
+    D: Replaceable + Drop,
+    M: Replaceable + Drop + Send,
+    G: Gate + Sync,
+    N: Drain,
+>(
+    rt: &R,
+    alloc: Global,
+    start: JournalStart<W, D, M>,
+    ports: Vec<P>,
+    gate: &G,
+    notes: &mut N,
+) -> ServeEnd<W>
+    requires asked { All P.may_be_asked ports.items }
+    requires start { MayRunOver D.Disk W.Drain start.keeper start.outgoing }
+    ensures { IsRunOver D.Disk P.Port W.Drain N.Drain ports.items start.keeper start.outgoing
+        notes.old notes.new result }
+{
+    let JournalStart { outgoing, keeper } = start;
+    match run_crew_over(rt, alloc, keeper, ports, outgoing, gate) {
+        Ok(account) => write_kept_account(alloc, account, notes),
+        Err(fault) => {
+            let CrewFault {
+                cause,
+                outbox,
+                unsent,
+                ..
+            } = fault;
+            let (outbox, _marks) = outbox.into_parts();
+            write_fault(alloc, cause.code(), outbox, unsent, notes)
+        }
+    }
+}

@@ -5,6 +5,7 @@
 #
 # Each run has an outbox of its own, the file `outbox`, which this account alone may read (mode 0600). That of the run
 # before is moved to outbox.TIME, if it has something. The socket is for the account and its group (mode 0770).
+# With the options `--journal FOLDER --outbox outbox` each run takes up what the run before left (FOLDER has to exist).
 # After a run that ended with status 0 the next begins at once. After another this script ends with the run's status,
 # and the supervisor starts it anew after some seconds.
 #
@@ -40,6 +41,8 @@ while [ -z "$stopping" ]; do
     rm -f -- "$socket" || exit 1
     if [ -s outbox ]; then mv outbox "outbox.$(date +%s.%N)" || exit 1; fi
     rm -f outbox || exit 1
+    # The name is on the disk before anything is written to the file that a journal counts as done.
+    : >> outbox && sync . || exit 1
     (trap '' TERM INT HUP && umask 007 && exec "$program" serve "$@" "$socket" "$host" "$agents" "$uses") >> outbox &
     daemon=$!
     # A signal may have come before `daemon` was set.

@@ -6,7 +6,7 @@ from pathlib import Path
 sys.path.insert(0, str(Path(__file__).parent / "support"))
 from running import EXAMPLES, Checks, Ran, empty_outbox, run  # noqa: E402
 
-USAGE = b"usage: noticed batch HOST | serve [--idle SECONDS] [--end-on-fault] [--log] SOCKET HOST AGENTS MAX-USE | stop SOCKET | send SOCKET\n"
+USAGE = b"usage: noticed batch HOST | serve [[--journal FOLDER] --outbox PATH] [--idle SECONDS] [--end-on-fault] [--log] SOCKET HOST AGENTS MAX-USE | stop SOCKET | send SOCKET\n"
 PATH = b"the path of the socket must have 1 to 107 bytes\n"
 HOST = "mx.example.net"
 SOCKET = "/nonexistent/noticed.socket"
@@ -58,7 +58,15 @@ WRONG = {
     "serve with two idle limits": ["serve", "--idle", "1", "--idle", "1", SOCKET, HOST, "2", "1"],
     "serve with an idle limit without seconds": ["serve", "--idle", SOCKET, HOST, "2", "1"],
     "serve with an idle limit in one word": ["serve", "--idle=1", SOCKET, HOST, "2", "1"],
+    "serve with an outbox and no path": ["serve", "--outbox", SOCKET, HOST, "2", "1"],
+    "serve with a journal whose folder is no UTF-8": ["serve", "--journal", b"/\xff", "--outbox", "/nonexistent/o", SOCKET, HOST, "2", "1"],
     "serve with an option and no socket": ["serve", "--end-on-fault", "--log", HOST, "2"],
+    "serve with a journal and no outbox": ["serve", "--journal", "/nonexistent", SOCKET, HOST, "2", "1"],
+    "serve with two journals": ["serve", "--journal", "/nonexistent", "--journal", "/nonexistent", "--outbox", "/nonexistent/o", SOCKET, HOST, "2", "1"],
+    "serve with two outboxes": ["serve", "--outbox", "/nonexistent/o", "--outbox", "/nonexistent/o", SOCKET, HOST, "2", "1"],
+    "serve with a journal without a folder": ["serve", "--outbox", "/nonexistent/o", "--journal", SOCKET, HOST, "2", "1"],
+    "serve with an empty folder": ["serve", "--journal", "", "--outbox", "/nonexistent/o", SOCKET, HOST, "2", "1"],
+    "serve with an empty outbox": ["serve", "--outbox", "", SOCKET, HOST, "2", "1"],
     "SERVE in capitals": ["SERVE", SOCKET, HOST, "2", "1"],
     "stop with nothing": ["stop"],
     "stop with a word too many": ["stop", SOCKET, HOST],
@@ -90,6 +98,7 @@ RIGHT = {
     "a host like an option": ["serve", SOCKET, "--help", "2", "1"],
     "an idle limit": ["serve", "--idle", "86400", SOCKET, HOST, "2", "1"],
     "all options": ["serve", "--log", "--idle", "1", "--end-on-fault", SOCKET, HOST, "2", "1"],
+    "an outbox": ["serve", "--outbox", "/dev/null", SOCKET, HOST, "2", "1"],
     "a socket like an option": ["send", "--help"],
     "a client": ["send", SOCKET],
     "a stop": ["stop", SOCKET],

@@ -1,7 +1,7 @@
 #!/usr/bin/env python3
 """Runs what docs/DEPLOY.md describes, in a folder of this script's own: examples/noticed-run.sh, which runs one daemon
 after another, each on a new outbox; messages written in words and sent by `noticed send`; and the feeder, which follows
-the outbox and hands each notice to a submission program."""
+the outbox and hands each notice to a submission program. The same with a journal."""
 import signal
 import subprocess
 import sys
@@ -41,9 +41,9 @@ def one_run(checks: Checks, room: Path, message: str):
     checks.true(f"{message}: the notice", notice.startswith(b"From: Mail Delivery System <MAILER-DAEMON@") and b"\n    no such user\n" in notice)
 
 
-def two_runs(checks: Checks, room: Path):
+def two_runs(checks: Checks, room: Path, options: list):
     """Two daemons one after another, and a third that is stopped before its first client."""
-    words = ["sh", str(EXAMPLES / "noticed-run.sh"), program(), "socket", HOST, "1", "2", "--log"]
+    words = ["sh", str(EXAMPLES / "noticed-run.sh"), program(), "socket", HOST, "1", "2", "--log", *options]
     with (room / "notes").open("wb") as notes, subprocess.Popen(words, cwd=room, stdin=subprocess.DEVNULL, stderr=notes) as running:
         try:
             for runs, message in ((1, "M1"), (2, "M2")):
@@ -58,21 +58,28 @@ def two_runs(checks: Checks, room: Path):
     checks.equal("faults", [it for it in told if it.startswith((b"fault ", b"open ", b"unsent "))], [])
 
 
-def main():
-    checks = Checks("deploy: two daemons one after another, their clients, and the feeder that follows their outboxes")
+def followed(checks: Checks, options: list):
+    """The runs, with a feeder that follows their outboxes."""
     with tempfile.TemporaryDirectory(prefix="noticed-") as name:
         room = Path(name)
+        (room / "journal").mkdir(mode=0o700)
         (room / "submit").write_text(SUBMIT)
         (room / "submit").chmod(0o755)
         words = [*FEED, "--follow", "outbox", "./submit"]
         with subprocess.Popen(words, cwd=room, stderr=subprocess.PIPE) as feeding:
             try:
-                two_runs(checks, room)
+                two_runs(checks, room, options)
             finally:
                 feeding.send_signal(signal.SIGTERM)
             said = feeding.communicate(timeout=PATIENCE)[1]
         checks.equal("the feeder", (feeding.returncode, said), (0, b"2 handed in, 0 left out\n"))
         checks.equal("outboxes", len(list(room.glob("outbox*"))), 3)
+
+
+def main():
+    checks = Checks("deploy: two daemons one after another, their clients, and the feeder that follows their outboxes")
+    followed(checks, [])
+    followed(checks, ["--journal", "journal", "--outbox", "outbox"])
     checks.done()
 
 

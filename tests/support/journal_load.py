@@ -1,0 +1,439 @@
+"""A load on daemons over one journal, each with an outbox of its own, which are killed one after another: clients of which some are hostile, and
+the model of what the journal must have kept. Of each key it has the worlds that may be: one, where each request about it was
+answered; and where one was sent and not answered, that with it and that without. What is answered, what the journal has and
+what the outbox has takes worlds away, and one must be left."""
+import contextlib
+import hashlib
+import random
+import re
+import socket
+import struct
+import sys
+import threading
+import time
+from pathlib import Path
+
+from daemon_and_clients import Daemon, heard
+from formats import journal
+from formats.bodies import APPEND, DISCARD, FLUSH, Request, decoded
+from formats.logs import CLOSED, FORGOTTEN, NOT_CLOSED, Letter, Limits, Logs
+from formats.notices import SERVICE_LETTERS, mail
+from formats.sessions import Fault, answer, answers
+from hostile import LETTERS_AND_DIGITS, Hostile
+from running import HOST, Checks, Ran, frames_module, run
+
+FRAMES = frames_module()
+CLIENTS, HOSTILE = 16, 4  # clients, and how many of them are hostile
+SWITCH = 0.0002  # seconds that one of them may keep the others waiting
+GREETING = f"EHLO {HOST}\r\n".encode()
+END = b"\r\n.\r\n"
+MESSAGE_ID = re.compile(rb"^Message-ID: <([BDT])\.([0-9A-Za-z]+)\.\d+\.(\d+)@", re.M)
+OPEN_LINE = re.compile(rb"^open ([BDT]) (\w+) (\d+)$", re.M)
+SERVICE_OF = {letter: service for service, letter in SERVICE_LETTERS.items()}
+FREE = ((), ())  # the world of a key that was never used: no log, no letters
+
+
+def applied(world: tuple, request: Request) -> tuple:
+    """What a request does to the log of its key, and to the letters that were made of it: reply and value, and the world then."""
+    log, letters = world
+    logs = Logs(Limits())
+    if log is None or log:
+        logs.held[request.key] = log if log is None else list(log)
+    reply, value, letter = logs.apply(request)
+    after = logs.held.get(request.key, [])
+    more = ((letter.draft, letter.outcomes),) if letter else ()
+    return (reply, value), (after if after is None else tuple(after), letters + more)
+
+
+class Model:
+    """What was asked and answered, by key, and the letters that the outbox has had."""
+
+    def __init__(self, checks: Checks):
+        self.checks, self.lock = checks, threading.RLock()
+        self.worlds, self.found = {}, {}
+        self.sums, self.last, self.repeats, self.cut, self.asked = [], b"", 0, 0, 0
+
+    def of(self, key: tuple) -> set:
+        """The worlds of a key."""
+        return self.worlds.get(key, {FREE})
+
+    def narrow(self, about: str, key: tuple, left: set):
+        """Takes the worlds away that these leave."""
+        self.checks.true(f"{about} of {key}, where {self.of(key)}", left)
+        if left and left != {FREE}:
+            self.worlds[key] = left
+        elif left:
+            self.worlds.pop(key, None)
+
+    def answered(self, request: Request, given: tuple):
+        """A request was answered so."""
+        with self.lock:
+            self.asked += 1
+            ends = [applied(it, request) for it in self.of(request.key)]
+            self.narrow(f"{given} answered {request}", request.key, {after for said, after in ends if said == given})
+
+    def unanswered(self, requests: list):
+        """These were sent one after another, and some of the first ones may have been carried out."""
+        with self.lock:
+            chains = {}
+            for it in requests:
+                chain = chains.get(it.key) or self.of(it.key)
+                chains[it.key] = {applied(world, it)[1] for world in chain}
+                self.worlds[it.key] = self.of(it.key) | chains[it.key]
+
+    def letter(self, text: bytes, is_first: bool):
+        """The outbox has this letter next, as the first of a run or a later one."""
+        service, queue_id, serial = MESSAGE_ID.search(text).groups()
+        key, serial, digest = (SERVICE_OF[service], queue_id), int(serial), hashlib.sha256(text).digest()
+        if serial == len(self.sums):
+            self.sums.append(digest)
+            self.found.setdefault(key, []).append((serial, text))
+            return
+        self.repeats += 1
+        self.checks.true(f"letter {serial} comes again as the first of a run, and is the last of {len(self.sums)}", is_first and serial == len(self.sums) - 1)
+        self.checks.equal(f"letter {serial}, again", digest, self.sums[serial] if serial < len(self.sums) else None)
+
+    def check_letters(self):
+        """All letters that were made stand in the outbox, and no others."""
+        for key in [*self.worlds, *(set(self.found) - set(self.worlds))]:
+            found = self.found.get(key, [])
+            left = set()
+            for log, letters in self.of(key):
+                if len(letters) == len(found) and all(text == mail(HOST.encode(), Letter(key, *it, serial)) for it, (serial, text) in zip(letters, found)):
+                    left.add((log, ()))
+            self.narrow(f"{len(found)} letters", key, left)
+        self.found.clear()
+
+    def check_logs(self, about: str, held: dict, forgets: bool = False):
+        """These logs are held, by their keys: those that may be. After a clean end closed keys may be forgotten."""
+        for key in set(self.worlds) | set(held):
+            has = held.get(key, ())
+            has = has if has is None else tuple(has)
+            left = {it for it in self.of(key) if it[0] == has}
+            if forgets and has == () and not left:
+                left = {((), letters) for log, letters in self.of(key) if log is None}
+            self.narrow(f"{about}: {has}", key, left)
+
+    def check_open_lines(self, notes: bytes):
+        """The notes of a clean end name the logs that may be open, with so many outcomes, and no others."""
+        told = {(SERVICE_OF[it[0]], it[1]): int(it[2]) for it in OPEN_LINE.findall(notes)}
+        for key in set(self.worlds) | set(told):
+            self.narrow(f"open {told.get(key, 0)}", key, {it for it in self.of(key) if len(it[0] or ()) == told.get(key, 0)})
+
+
+class Outbox:
+    """The outboxes of all runs, each in its turn at one path: one begins with a greeting, and may be cut within a letter."""
+
+    def __init__(self, path: Path, model: Model):
+        self.path, self.model, self.at, self.greeted, self.first, self.cut = path, model, 0, False, True, b""
+
+    def read(self) -> bytes:
+        """Takes the letters that are whole, and what stands after them."""
+        with contextlib.suppress(FileNotFoundError), self.path.open("rb") as it:
+            it.seek(self.at)
+            text = it.read()
+            if not self.greeted and text.startswith(GREETING):
+                text, self.greeted, self.at = text[len(GREETING) :], True, self.at + len(GREETING)
+            while self.greeted and (end := text.find(END)) >= 0:
+                self.take(text[: end + len(END)])
+                text = text[end + len(END) :]
+            return text
+        return b""
+
+    def take(self, letter: bytes):
+        """Takes a letter; the first one of a run is that which the run before was cut in."""
+        if self.cut:
+            self.model.checks.true(f"a letter that was cut after {len(self.cut)} bytes comes again", letter.startswith(self.cut))
+        self.model.letter(letter, self.first)
+        self.at, self.first, self.cut = self.at + len(letter), False, b""
+
+    def end_run(self) -> bytes:
+        """Reads to the end of a run that was ended, and gives what stands after its last letter. The file is put away, as whoever
+        starts a daemon has to: one that has something is refused."""
+        rest = self.read()
+        checks = self.model.checks
+        if rest and rest != b"QUIT\r\n":
+            checks.true(f"{rest[:100]} is a front of a letter", rest.startswith(b"MAIL FROM:<>\r\n"[: len(rest)]) if self.greeted else GREETING.startswith(rest))
+            self.model.cut += 1
+            self.cut = rest if self.greeted else b""
+        self.path.unlink(missing_ok=True)
+        self.at, self.greeted, self.first = 0, False, True
+        return rest
+
+
+class Client:
+    """A client that keeps to the rules, but leaves now and then: its keys are its own."""
+
+    def __init__(self, place: int, model: Model, dice: random.Random):
+        self.place, self.model, self.dice = place, model, dice
+        self.made, self.open, self.closed, self.aside = 0, [], [], []
+
+    def begin(self):
+        """Takes up again what it left in a run that has ended."""
+        self.open += self.aside
+        self.aside = []
+
+    def new_key(self) -> tuple:
+        """A key that was never used."""
+        self.made += 1
+        return self.dice.choice([1, 2, 3]), b"M%dx%d" % (self.place, self.made)
+
+    def request(self, number: int) -> bytes:
+        """The frame of a request."""
+        if len(self.closed) > 8:
+            return FRAMES.forget(number, *self.closed[0])
+        if self.closed and self.dice.random() < 0.05:
+            return self.append(number, self.dice.choice(self.closed))
+        if len(self.open) < 2 or len(self.open) < 4 and self.dice.random() < 0.3:
+            self.open.append(self.new_key())
+            return self.append(number, self.open[-1])
+        key, kind = self.dice.choice(self.open), self.dice.random()
+        if kind < 0.6:
+            return self.append(number, key)
+        if kind > 0.95:
+            return FRAMES.discard(number, *key)
+        header = b"Subject: %d\n" % number * self.dice.choice([0, 0, 0, 2, 60])
+        return FRAMES.flush(number, *key, b"" if kind > 0.92 else b"ann%d@example.com" % self.place, self.dice.randrange(1 << 31), header=header)
+
+    def append(self, number: int, key: tuple) -> bytes:
+        """The frame of an append."""
+        action, status = {1: (1, b"5.1.1"), 2: (2, b"4.4.1"), 3: (3, b"2.0.0")}[key[0]]
+        return FRAMES.append(number, *key, b"bob%d@example.org" % self.dice.randrange(1000), action, status, diagnostic=b"550 no" * self.dice.choice([0, 1, 40]))
+
+    def note(self, request: Request, given: tuple):
+        """Takes an answer in."""
+        self.model.answered(request, given)
+        key, reply = request.key, given[0]
+        is_closed = reply == CLOSED or request.kind in (FLUSH, DISCARD)
+        for has, wants in ((self.open, reply == NOT_CLOSED or request.kind == APPEND and reply != CLOSED), (self.closed, is_closed)):
+            while key in has:
+                has.remove(key)
+            has += [key] if wants else []
+        if reply == FORGOTTEN and self.dice.random() < 0.2:
+            self.open.append(key)
+
+    def leave_open(self, requests: list):
+        """Requests that nobody answered: their keys rest until the run has ended."""
+        self.model.unanswered(requests)
+        for key in {it.key for it in requests}:
+            self.open, self.closed = [it for it in self.open if it != key], [it for it in self.closed if it != key]
+            self.aside.append(key)
+
+    def converse(self, stream: socket.socket, ends: threading.Event):
+        """One connection."""
+        number = 0
+        for _ in range(self.dice.randrange(1, 30)):
+            if ends.is_set():
+                return
+            frames = [self.request(number + it) for it in range(self.dice.choice([1, 1, 2, 4, 8]))]
+            requests, end = [decoded(it[4:]) for it in frames], self.dice.random()
+            if end < 0.02:
+                with contextlib.suppress(OSError):
+                    stream.sendall(frames[0][: self.dice.randrange(1, len(frames[0]))])
+                return
+            got = b""
+            with contextlib.suppress(OSError):
+                stream.sendall(b"".join(frames))
+                got = heard(stream, 14 * len(frames)) if end > 0.04 else b""
+            whole = [struct.unpack(">IBBII", got[at : at + 14]) for at in range(0, len(got) - 13, 14)]
+            for it, (_, _, reply, place, value) in zip(requests, whole):
+                self.model.checks.equal("an answer's number", place, number)
+                self.note(it, (reply, value))
+                number += 1
+            if len(whole) < len(requests):
+                self.leave_open(requests[len(whole) :])
+                return
+
+
+class Recorded(Logs):
+    """The logs of one session, and its last request."""
+
+    def __init__(self):
+        super().__init__(Limits())
+        self.request = None
+
+    def apply(self, request: Request):
+        self.request = request
+        return super().apply(request)
+
+
+class HostileClient:
+    """A client that sends what no client may, on keys of its own that are new in each session, and leaves when it likes."""
+
+    def __init__(self, place: int, model: Model, dice: random.Random):
+        self.place, self.model, self.dice = place, model, dice
+        self.keys = []
+
+    def begin(self):
+        """A run begins."""
+
+    def session(self) -> tuple:
+        """The bytes of a session, and its answers as a plain reading gives them, each with its request if it has one."""
+        hostile = Hostile(self.dice)
+        hostile.keys = [(self.dice.choice([1, 2, 3]), b"HH%d" % self.place + hostile.bytes_of(LETTERS_AND_DIGITS, 16)) for _ in range(3)]
+        given, logs, wanted = hostile.session(), Recorded(), []
+        with contextlib.suppress(Fault):
+            for it in answers(given, logs, []):
+                wanted.append((answer(*it), logs.request))
+                logs.request = None
+        return given, wanted
+
+    def converse(self, stream: socket.socket, ends: threading.Event):
+        """One connection."""
+        given, wanted = self.session()
+        self.keys += {it.key for _, it in wanted if it}
+        end, got = self.dice.random(), b""
+        with contextlib.suppress(OSError):
+            stream.sendall(given)
+            if end < 0.7:
+                stream.shutdown(socket.SHUT_WR)
+            if end < 0.6:
+                while more := stream.recv(4096):
+                    got += more
+            elif end > 0.9:
+                stream.settimeout(0.2)  # it says nothing more, and stays for a while
+                while more := stream.recv(4096):
+                    got += more
+        count = len(got) // 14
+        self.model.checks.equal("answers to a hostile session", got[: 14 * count], b"".join(it for it, _ in wanted[:count]))
+        for it, request in wanted[:count]:
+            if request:
+                self.model.answered(request, struct.unpack(">IBBII", it)[2::2])
+        self.model.unanswered([it for _, it in wanted[count:] if it])
+
+    def let_go(self, ask):
+        """Closes its logs and forgets them, once their run has ended; no more of them than a table holds are so held at once."""
+        for key in self.keys:
+            for frame in (FRAMES.discard(0, *key), FRAMES.forget(0, *key)):
+                ask(frame)
+        self.keys = []
+
+
+class Load:
+    """A journal's folder, an outbox, and daemons over both, one after another. The journal's file has so many bytes, or is the
+    daemon's own."""
+
+    def __init__(self, checks: Checks, room: Path, dice: random.Random, size: int = 0, hostile: int = HOSTILE):
+        self.checks, self.room, self.dice, self.model = checks, room, dice, Model(checks)
+        self.folder, self.runs, self.full = room / "journal", 0, 0
+        self.folder.mkdir(mode=0o700)
+        if size:
+            (self.folder / "journal").write_bytes(bytes(size))
+        self.outbox = Outbox(room / "outbox", self.model)
+        self.clients = [Client(it, self.model, dice) for it in range(CLIENTS - hostile)]
+        self.hostile = [HostileClient(it, self.model, dice) for it in range(hostile)]
+
+    def daemon(self, **how) -> Daemon:
+        """A daemon over both."""
+        self.runs += 1
+        return Daemon(16, 1_000_000, options=("--journal", self.folder, "--outbox", self.room / "outbox"), **how)
+
+    def serves(self, daemon: Daemon, forgets: bool = False) -> bool:
+        """Waits until a daemon serves: by then all letters of earlier runs stand in the outbox, and the journal has all that was
+        answered. False where it ended before."""
+        try:
+            with daemon.connect() as it:
+                it.sendall(FRAMES.forget(0, 1, b"NEVER"))
+                if heard(it, 14) != answer(0, NOT_CLOSED, 0):
+                    return False
+        except OSError:
+            return False
+        self.model.checks.equal("after the first letters", self.outbox.read(), b"")
+        self.model.check_letters()
+        self.check_journal(forgets)
+        return True
+
+    def check_journal(self, forgets: bool):
+        """Holds what the journal keeps against the model."""
+        kept = journal.requests((self.folder / "journal").read_bytes())
+        self.model.check_logs("kept", journal.replayed(kept, Limits()).held, forgets)
+
+    def clean(self, daemon: Daemon):
+        """Lets the keys of the hostile clients go."""
+        with daemon.connect() as stream:
+            place = 0
+
+            def ask(frame: bytes):
+                nonlocal place
+                request = decoded(frame[4:])
+                if request.key not in self.model.worlds:
+                    return
+                numbered = FRAMES.discard(place, *request.key) if request.kind == DISCARD else FRAMES.forget(place, *request.key)
+                stream.sendall(numbered)
+                got = heard(stream, 14)
+                if len(got) == 14:
+                    self.model.answered(request, struct.unpack(">IBBII", got)[2::2])
+                else:
+                    self.model.unanswered([request])
+                place += 1
+
+            with contextlib.suppress(OSError):
+                for it in self.hostile:
+                    it.let_go(ask)
+
+    def work(self, daemon: Daemon, seconds: float, end):
+        """The clients ask for so long, and until the daemon was ended."""
+        sys.setswitchinterval(SWITCH)
+        ends = threading.Event()
+        threads = [threading.Thread(target=self.talk, args=(it, daemon, ends)) for it in self.clients + self.hostile]
+        for it in threads:
+            it.start()
+        time.sleep(seconds)
+        end(ends)
+        for it in threads:
+            it.join()
+
+    def talk(self, client, daemon: Daemon, ends: threading.Event):
+        """One connection of a client after another."""
+        client.begin()
+        while not ends.is_set():
+            try:
+                stream = daemon.connect()
+            except OSError:
+                return
+            with stream:
+                client.converse(stream, ends)
+
+    def flush_all(self, daemon: Daemon):
+        """Flushes each log that is open."""
+        with daemon.connect() as stream:
+            keys = sorted(key for key, worlds in self.model.worlds.items() if any(log for log, _ in worlds))
+            for place, key in enumerate(keys):
+                frame = FRAMES.flush(place, *key)
+                stream.sendall(frame)
+                got = heard(stream, 14)
+                self.checks.equal("a flush is answered", len(got), 14)
+                self.model.answered(decoded(frame[4:]), struct.unpack(">IBBII", got)[2::2])
+
+    def is_ended_by(self, ran: Ran, status: int) -> bool:
+        """Whether a run was ended by this status, or by a journal that was full: counts these."""
+        is_full = ran.status == 1 and ran.notes.startswith(b"fault 45\n")
+        self.full += is_full
+        return is_full or ran.status == status
+
+    def ends_well(self, seconds: float):
+        """A load of so many seconds without a kill, and a clean end; then a last start, which still has all that was open."""
+        with self.daemon() as daemon:
+            self.checks.true("the run after the last kill serves", self.serves(daemon))
+            self.work(daemon, seconds, threading.Event.set)
+            self.stop(daemon)
+        with self.daemon() as daemon:
+            self.checks.true("the last run serves", self.serves(daemon, forgets=True))
+            self.flush_all(daemon)
+            self.stop(daemon)
+        self.model.check_letters()
+
+    def stop(self, daemon: Daemon):
+        """Ends a daemon in order: its status, the end of its outbox, and its open logs."""
+        self.checks.equal("noticed stop", run(["stop", daemon.path]).status, 0)
+        ended = daemon.end()
+        self.checks.equal("a clean end", ended.status, 0)
+        self.checks.equal("the outbox ends", self.outbox.end_run(), b"QUIT\r\n")
+        self.model.check_letters()
+        self.model.check_open_lines(ended.notes)
+
+    def told(self, what: str):
+        """Prints what came of it."""
+        it = self.model
+        print(f"  {what}: {self.runs} runs, {it.asked} requests answered, {len(it.sums)} notices, {it.repeats} of them twice, {it.cut} cut, "
+              f"{self.full} runs ended by a full journal")

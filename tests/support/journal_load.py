@@ -424,10 +424,15 @@ class Load:
         self.model.check_letters()
 
     def stop(self, daemon: Daemon):
-        """Ends a daemon in order: its status, the end of its outbox, and its open logs."""
-        self.checks.equal("noticed stop", run(["stop", daemon.path]).status, 0)
+        """Ends a daemon in order: its status, the end of its outbox, and its open logs. One that a full journal ended before names no
+        logs, and the next run writes what its outbox lacks."""
+        stopped = run(["stop", daemon.path]).status
         ended = daemon.end()
-        self.checks.equal("a clean end", ended.status, 0)
+        self.checks.true(f"a clean end, {ended.status}", self.is_ended_by(ended, 0))
+        self.checks.true(f"noticed stop, {stopped}", stopped == 0 or ended.status != 0)
+        if ended.status != 0:
+            self.outbox.end_run()
+            return
         self.checks.equal("the outbox ends", self.outbox.end_run(), b"QUIT\r\n")
         self.model.check_letters()
         self.model.check_open_lines(ended.notes)

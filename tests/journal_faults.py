@@ -2,7 +2,8 @@
 """Runs `noticed serve --journal` where something is wrong with its folder, a file of it or its outbox: another daemon has it, it isn't
 there, it can't be written, it is another program's, damaged, older or of another journal, or a write or a sync fails, once or for
 good (by a small library that is preloaded, tests/support/power.c, compiled here with gcc). Each has its number and status, what
-can't be opened stays as it was, and what was answered before is there once the next daemon starts."""
+can't be opened stays as it was, and what was answered before is there once the next daemon starts. Of runs that nothing is wrong
+with, that a clean end forgets which keys are closed, and a kill doesn't."""
 import contextlib
 import os
 import re
@@ -186,6 +187,20 @@ def outboxes(checks: Checks, room: Path):
     checks.equal("an outbox is its owner's alone", place.outbox.stat().st_mode & 0o777, 0o600)
 
 
+def ends(checks: Checks, room: Path):
+    """A clean end forgets which keys are closed, and a kill doesn't. Both keep the open logs."""
+    for what, uses, reply in (("a clean end", 1, answer(1)), ("a kill", 2, answer(2))):
+        place = Place(room, what)
+        with place.daemon(uses=uses) as it:
+            exchange(it, append(0, b"K1") + flush(1, b"K1") + append(2, b"K2"), 3)
+            if uses > 1:
+                it.running.kill()
+            it.end()
+        with place.daemon() as it:
+            checks.equal(f"after {what}", exchange(it, append(0, b"K1") + append(1, b"K2"), 2), reply + answer(1, 1, 1))
+            checks.equal(f"after {what}: the next daemon", it.end().status, 0)
+
+
 def calls(checks: Checks, room: Path, library: Path):
     """Each write and sync of a file fails in turn, of a start and of a run. A run whose request can't be kept ends with 45, and no
     answer is given that isn't true of the next daemon."""
@@ -249,7 +264,7 @@ def main():
     checks = Checks("journal_faults: folders, files and outboxes that fail a daemon with a journal")
     with tempfile.TemporaryDirectory(prefix="noticed-faults-") as name:
         room = Path(name)
-        for check in (folders, not_allowed, files, outboxes):
+        for check in (folders, not_allowed, files, outboxes, ends):
             check(checks, room)
         calls(checks, room, built(room, "power"))
     checks.done()

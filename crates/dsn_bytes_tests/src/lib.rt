@@ -10,6 +10,8 @@ mod frame;
 #[cfg(test)]
 mod postfix_log;
 #[cfg(test)]
+mod postfix_plan;
+#[cfg(test)]
 mod postfix_queue;
 #[cfg(test)]
 mod postfix_request;

@@ -30,7 +30,7 @@ const APPEND_VERIFY: &[u8] =
     b"nrequest\00\0flags\0512\0queue_id\018980A7F57D\0original_recipient\0eve@example.org\0recipient\0eve@example.org\0offset\0274\0dsn_orig_rcpt\0rfc822;eve@example.org\0notify_flags\00\0status\02.1.5\0diag_type\0smtp\0diag_text\0250 2.1.5 ok\0mta_type\0dns\0mta_mname\0127.0.0.1\0action\0deliverable\0reason\0delivery via 127.0.0.1[127.0.0.1]:2626: 250 2.1.5 ok\0\0";
 
 /// `flush-bounce.bin`.
-const FLUSH_BOUNCE: &[u8] =
+pub(crate) const FLUSH_BOUNCE: &[u8] =
     b"nrequest\01\0flags\00\0queue_name\0active\0queue_id\06BB87A7E6A1\0encoding\0\0smtputf8\00\0sender\0ann@example.com\0envelope_id\0QQ314159\0ret_flags\02\0\0";
 
 /// `flush-clean.bin`.
@@ -38,27 +38,27 @@ const FLUSH_CLEAN: &[u8] =
     b"nrequest\01\0flags\01\0queue_name\0incoming\0queue_id\06C7FDA7F585\0encoding\0\0smtputf8\00\0sender\0ann@example.com\0envelope_id\0\0ret_flags\00\0\0";
 
 /// `flush-defer.bin`.
-const FLUSH_DEFER: &[u8] =
+pub(crate) const FLUSH_DEFER: &[u8] =
     b"nrequest\01\0flags\02\0queue_name\0active\0queue_id\06FF65A7E6C1\0encoding\0\0smtputf8\00\0sender\0ann@example.com\0envelope_id\0\0ret_flags\00\0\0";
 
 /// `flush-null.bin`.
-const FLUSH_NULL: &[u8] =
+pub(crate) const FLUSH_NULL: &[u8] =
     b"nrequest\01\0flags\00\0queue_name\0active\0queue_id\0717F3A7E6D1\0encoding\0\0smtputf8\00\0sender\0\0envelope_id\0\0ret_flags\00\0\0";
 
 /// `flush-utf8.bin`.
-const FLUSH_UTF8: &[u8] =
+pub(crate) const FLUSH_UTF8: &[u8] =
     b"nrequest\01\0flags\00\0queue_name\0active\0queue_id\073D45A7E6E1\0encoding\0\0smtputf8\07\0sender\0\xc3\xa4nn@example.com\0envelope_id\0\0ret_flags\00\0\0";
 
 /// `warn.bin`.
-const WARN: &[u8] =
+pub(crate) const WARN: &[u8] =
     b"nrequest\02\0flags\00\0queue_name\0active\0queue_id\06FF65A7E6C1\0encoding\0\0smtputf8\00\0sender\0ann@example.com\0envelope_id\0\0ret_flags\00\0\0";
 
 /// `verp.bin`.
-const VERP: &[u8] =
+pub(crate) const VERP: &[u8] =
     b"nrequest\03\0flags\00\0queue_name\0active\0queue_id\06CE9CA7E022\0encoding\0\0smtputf8\00\0sender\0list@example.com\0envelope_id\0\0ret_flags\00\0verp_delimiters\0+=\0\0";
 
 /// `trace.bin`.
-const TRACE: &[u8] =
+pub(crate) const TRACE: &[u8] =
     b"nrequest\05\0flags\00\0queue_name\0active\0queue_id\06E0BEA7E6B1\0encoding\0\0smtputf8\00\0sender\0ann@example.com\0envelope_id\0\0ret_flags\01\0\0";
 
 /// What is asked, as a word.

@@ -13,18 +13,22 @@ mod LogSpaces
 mod LogWritten
 mod LoggedExamples
 mod MessageExamples
+mod MessageTextExamples
 mod MessageFactsLemmas
+pub mod MessageTextLemmas
+mod NoticePlanExamples
 mod QueueExamples
 mod QueueListingLemmas
 mod QueueRecipientLemmas
 mod QueueWalkLemmas
 mod RecipientExamples
-mod WantedExamples
 mod RequestExamples
 pub mod AttributeLaws
 pub mod AttributeLemmas
 pub mod FieldReadings
 pub mod ListLaws
+pub mod NoticePlanLaws
+pub mod NoticePlanLemmas
 pub mod NumberLemmas
 pub mod RequestLaws
 pub mod StatusLaws

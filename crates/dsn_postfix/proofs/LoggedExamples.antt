@@ -6,7 +6,7 @@ use Rattle.std.specs.Fmt.{digits}
 use Rattle.dsn_text.specs.declared.service.Service.TheVariants.{Bounce, Defer, Trace}
 use Rattle.dsn_postfix.specs.Attribute.{attribute_bytes, number_in}
 use Rattle.dsn_postfix.specs.LogRecord.{logged_bytes, said_of_recipient, said_of_delivery, unsayable_field}
-use Rattle.dsn_postfix.specs.LoggedAppend.{logged_as, unlogged_field, unlogged_of}
+use Rattle.dsn_postfix.specs.LoggedAppend.{logged_as, logged_of, unlogged_field, unlogged_of}
 use Rattle.dsn_postfix.specs.PostfixRequest.{postfix_request_bytes}
 use Rattle.dsn_postfix.specs.QuotedAddress.{local_part, needs_no_quotes}
 use Rattle.dsn_postfix.specs.RequestReading.{append_only_at, append_request_at, own_request_at, postfix_request_at, recipient_at, report_at, tested_at, attribute_at, value_number_at}
@@ -66,11 +66,11 @@ unfolding digits postfix_request_bytes attribute_bytes
 differing_is_written = refl
 
 differing_is_logged : logged_bytes (logged_as Bounce (append_of said_recipient said_report)) ≡ file_bytes
-unfolding digits logged_as logged_bytes said_of_recipient said_of_delivery
+unfolding digits logged_of logged_bytes said_of_recipient said_of_delivery
 differing_is_logged = refl
 
 differing_is_sayable : unlogged_field Bounce (append_of said_recipient said_report) ≡ None
-unfolding logged_as needs_no_quotes unlogged_of unsayable_field
+unfolding logged_of needs_no_quotes unlogged_of unsayable_field
 differing_is_sayable = refl
 
 -- what bounce(8) leaves out: an original recipient that is the recipient but for case, an offset of -1, flags that are no
@@ -110,7 +110,7 @@ scant_is_logged : logged_as Defer (append_of scant_recipient scant_report) ≡ r
   mta_name = [];
   reason = codes "(description unavailable)";
 }
-unfolding logged_as
+unfolding logged_of
 scant_is_logged = refl
 
 -- the null recipient
@@ -118,11 +118,11 @@ abbrev null_recipient : ReportedRecipient
 null_recipient = record { original = []; address = []; offset = 9; dsn_original = []; notify = 0 }
 
 null_is_logged : (logged_as Trace (append_of null_recipient said_report)).recipient ≡ codes "<>"
-unfolding logged_as
+unfolding logged_of
 null_is_logged = refl
 
 null_is_sayable : unlogged_field Trace (append_of null_recipient said_report) ≡ None
-unfolding logged_as needs_no_quotes unlogged_of unsayable_field
+unfolding logged_of needs_no_quotes unlogged_of unsayable_field
 null_is_sayable = refl
 
 -- the first field that no line can say
@@ -130,23 +130,23 @@ abbrev to : List ℕ → List ℕ → ReportedRecipient
 to original address = record { original = original; address = address; offset = 9; dsn_original = []; notify = 0 }
 
 quoted_recipient : unlogged_field Bounce (append_of (to (codes "a b@example.org") (codes "b c@example.org")) said_report) ≡ Some Recipient
-unfolding logged_as needs_no_quotes unlogged_of unsayable_field
+unfolding logged_of needs_no_quotes unlogged_of unsayable_field
 quoted_recipient = refl
 
 quoted_original : unlogged_field Bounce (append_of (to (codes "a b@example.org") (codes "b@example.org")) said_report) ≡ Some OriginalRecipient
-unfolding logged_as needs_no_quotes unlogged_of unsayable_field
+unfolding logged_of needs_no_quotes unlogged_of unsayable_field
 quoted_original = refl
 
 -- the recipient's fault comes first, whatever it is
 line_feed_in_recipient : unlogged_field Bounce (append_of (to (codes "a b@example.org") (codes "b@example\n.org")) said_report) ≡ Some Recipient
-unfolding logged_as needs_no_quotes unlogged_of unsayable_field
+unfolding logged_of needs_no_quotes unlogged_of unsayable_field
 line_feed_in_recipient = refl
 
 abbrev two_lines : DeliveryReport
 two_lines = record { status = codes "5.1.1"; diagnostic_type = []; diagnostic = []; mta_type = []; mta = []; action = codes "failed"; reason = codes "no\nroom" }
 
 line_feed_in_reason : unlogged_field Bounce (append_of said_recipient two_lines) ≡ Some Reason
-unfolding logged_as needs_no_quotes unlogged_of unsayable_field
+unfolding logged_of needs_no_quotes unlogged_of unsayable_field
 line_feed_in_reason = refl
 
 -- ---- which addresses need no quotes: the local part ends at the last `@`, and is atoms with dots between them

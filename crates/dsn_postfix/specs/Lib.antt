@@ -7,6 +7,9 @@ pub mod LogParts
 pub mod LogRecord
 pub mod LoggedAppend
 pub mod MessageFacts
+pub mod MessageText
+pub mod NoticePlan
+pub mod PlannedNotice
 pub mod PostfixAnswer
 pub mod PostfixRequest
 pub mod QueueListing

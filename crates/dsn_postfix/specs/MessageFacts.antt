@@ -8,8 +8,8 @@ use Rattle.dsn_postfix.specs.LogRecord.{written_number}
 use Rattle.dsn_postfix.specs.QueueListing.{BrokenOff, QueueEnding, RecordsFrom, WholeFile}
 use Rattle.dsn_postfix.specs.QueueRecord.{PlacedBytes}
 use Rattle.dsn_postfix.specs.QueueWalk.{QueueReading}
+use Rattle.dsn_postfix.specs.declared.broken_message.BrokenMessage.{BrokenMessage}
 use Rattle.dsn_postfix.specs.declared.message_facts.MessageFacts.{MessageFacts}
-use Rattle.dsn_postfix.specs.declared.queue_broken.QueueBroken.{QueueBroken}
 
 -- ---- what one record says
 
@@ -87,12 +87,12 @@ message_facts_in facts = record {
   return_flags = facts.return_flags;
 }
 
--- a file that ends has what its records say; of another nothing is said
-abbrev pub ReadsMessage : Result MessageFacts QueueBroken → List PlacedBytes → QueueEnding → Type 0
+-- a file has what its records say: all of them, or those before it can't be read on
+abbrev pub ReadsMessage : Result MessageFacts BrokenMessage → List PlacedBytes → QueueEnding → Type 0
 ReadsMessage result records ending =
     MatchResult result
     (λ facts. (ending ≡ WholeFile) × (message_facts_in facts ≡ said_of_message records))
-    (λ broken. ending ≡ BrokenOff)
+    (λ broken. (ending ≡ BrokenOff) × (message_facts_in broken.before ≡ said_of_message records))
 
 -- ---- after some records
 

@@ -5,6 +5,8 @@
 mod attribute_reader;
 mod attribute_text;
 mod attribute_writer;
+mod broken_message;
+mod cant_say;
 mod decode;
 mod encode;
 mod laws;
@@ -18,8 +20,12 @@ mod log_write_error;
 mod log_writer;
 mod logged_append;
 mod message_facts;
+mod message_text;
+mod notice_plan;
 mod number;
 mod placed_record;
+mod plan_fault;
+mod planned_notice;
 mod postfix_answer;
 mod postfix_request;
 mod postfix_version;
@@ -33,16 +39,21 @@ mod quoted_address;
 mod recipient_state;
 mod request_fault;
 mod request_reading;
+mod returned_part;
 mod said_before;
+mod told_recipients;
 mod verp_delimiters;
 mod wanted;
+mod whole_records;
 
 pub use attribute_text::AttributeText;
+pub use broken_message::BrokenMessage;
+pub use cant_say::CantSay;
 pub use decode::decode_postfix_request;
 pub use encode::encode_postfix_request;
 pub use laws::{
-    lists_are_read_as_written, log_files_are_read_whole, queue_files_have_one_list,
-    written_logs_are_read_back,
+    lists_are_read_as_written, log_files_are_read_whole, notices_tell_each_once,
+    queue_files_have_one_list, written_logs_are_read_back,
 };
 pub use log_entry::{DamagedEntry, LogEntry};
 pub use log_field::LogField;
@@ -51,7 +62,11 @@ pub use log_record::LogRecord;
 pub use log_write_error::LogWriteError;
 pub use logged_append::logged_as;
 pub use message_facts::MessageFacts;
+pub use message_text::text_of_message;
+pub use notice_plan::plan_notices;
 pub use placed_record::PlacedRecord;
+pub use plan_fault::PlanFault;
+pub use planned_notice::PlannedNotice;
 pub use postfix_answer::{decode_status, encode_announcement, encode_status};
 pub use postfix_request::{
     AppendRequest, DeliveryReport, NoticeRequest, PostfixRequest, ReportedRecipient,
@@ -64,4 +79,5 @@ pub use queue_record::QueueRecord;
 pub use queued_recipient::QueuedRecipient;
 pub use recipient_state::RecipientState;
 pub use request_fault::RequestFault;
+pub use returned_part::ReturnedPart;
 pub use verp_delimiters::VerpDelimiters;

@@ -8,10 +8,10 @@ ghost use Rattle.dsn_postfix.specs.QueueListing.{QueueEnding, RecordsFrom};
 ghost use Rattle.dsn_postfix.specs.QueueRecord.{PlacedBytes, placed_bytes_in};
 ghost use Rattle.dsn_postfix.specs.QueueWalk.{first_place};
 
+use crate::broken_message::BrokenMessage;
 use crate::log_line::{first_byte, value_named};
 use crate::log_record::written_number;
 use crate::placed_record::PlacedRecord;
-use crate::queue_broken::QueueBroken;
 use crate::queue_reader::{MOST_JUMPS, next_step};
 use crate::queue_step::QueueStep;
 
@@ -99,9 +99,9 @@ impl<'a> MessageFacts<'a> {
         }
     }
 
-    /// What all records of a queue file say of its message, from all bytes of it. Returns
-    /// `QueueBroken` if the file can't be read to its last record.
-    pub fn read(file: &'a [u8]) -> Result<MessageFacts<'a>, QueueBroken>
+    /// What all records of a queue file say of its message, from all bytes of it. Returns what those
+    /// before the break say if the file can't be read to its last record.
+    pub fn read(file: &'a [u8]) -> Result<MessageFacts<'a>, BrokenMessage<'a>>
         ensures { (records : List PlacedBytes) (ending : QueueEnding)
             → RecordsFrom file.now (first_place file.now) records ending
             → ReadsMessage result records ending }
@@ -130,7 +130,7 @@ impl<'a> MessageFacts<'a> {
                     left = fewer;
                 }
                 QueueStep::End => return Ok(facts),
-                QueueStep::Broken => return Err(QueueBroken),
+                QueueStep::Broken => return Err(BrokenMessage { before: facts }),
                 QueueStep::Pointer(_, _) => unreachable!(),
             }
         }

@@ -34,4 +34,5 @@ returns-in-Broken c records ending come =
     let text = λ (text : Bor (List ℕ)). text.now in
     let here : QueuePlace = record { rest = c.loop-found.here.now; jumps = c.loop-found.left } in
     let before : SaidOfMessage = record { arrival = c.loop-found.arrival; sender = option_map text c.loop-found.sender; envelope_id = option_map text c.loop-found.envelope_id; return_flags = c.loop-found.return_flags } in
-    (no_more_said c.args.file.now here BrokenOff before (said_of_message records) ending c.in-Broken.ensures.steps (c.loop-found.invariant.left (said_of_message records) ending (record { records = records; come = come; are = refl }))).0
+    let ends = no_more_said c.args.file.now here BrokenOff before (said_of_message records) ending c.in-Broken.ensures.steps (c.loop-found.invariant.left (said_of_message records) ending (record { records = records; come = come; are = refl })) in
+    (ends.0, sym ends.1)

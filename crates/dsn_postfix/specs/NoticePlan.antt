@@ -1,0 +1,252 @@
+-- The notices that a request has of a log: each recipient whom the request's NOTIFY rules want stands in one,
+-- once, in the log's order.
+use Rattle.std.specs.Prelude.{◌≡◌, ◌==◌, ◌<◌, ◌≤◌, ◌&&◌, ◌||◌, not, nat_lt, Bool, true, false, ℕ, zero, suc, List, [], ◌∷◌, take, drop, length, map, codes, Option, Some, None, Result, Ok, Err, if◌then◌else◌}
+use Rattle.std.specs.List.{AllByRecursion, flat_map, list_all, list_any}
+use Rattle.std.specs.Str.{bytes_eq}
+use Rattle.dsn_text.specs.declared.service.Service.{Service}
+use Rattle.dsn_text.specs.declared.service.Service.TheVariants.{Bounce, Defer, Trace as TraceLog}
+use Rattle.dsn_postfix.specs.LogFile.{DamagedLog, LoggedEntry, SaidLog, log_entries}
+use Rattle.dsn_postfix.specs.LogRecord.{LoggedFields}
+use Rattle.dsn_postfix.specs.LoggedAppend.{logged_of, unlogged_of}
+use Rattle.dsn_postfix.specs.PlannedNotice.{NoticeFacts}
+use Rattle.dsn_postfix.specs.QueueRecipients.{RecipientFacts}
+use Rattle.dsn_postfix.specs.Wanted.{is_no_sender, wants}
+use Rattle.dsn_postfix.specs.declared.cant_say.CantSay.{CantSay}
+use Rattle.dsn_postfix.specs.declared.cant_say.CantSay.TheVariants.{NoLog, DamagedPart, NeedsSmtputf8, Unlogged, UnknownAction}
+use Rattle.dsn_postfix.specs.declared.log_field.LogField.{LogField}
+use Rattle.dsn_postfix.specs.declared.plan_fault.PlanFault.{PlanFault}
+use Rattle.dsn_postfix.specs.declared.plan_fault.PlanFault.TheVariants.{NoMemory, Unsaid}
+use Rattle.dsn_postfix.specs.declared.postfix_request.NoticeRequest.{NoticeRequest}
+use Rattle.dsn_postfix.specs.declared.postfix_request.PostfixRequest.{PostfixRequest}
+use Rattle.dsn_postfix.specs.declared.postfix_request.PostfixRequest.TheVariants.{Append, Flush, Warn, Verp, One, Trace}
+use Rattle.dsn_postfix.specs.declared.recipient_state.RecipientState.{RecipientState}
+use Rattle.dsn_postfix.specs.declared.recipient_state.RecipientState.TheVariants.{Waiting, Done, Removed}
+use Rattle.dsn_postfix.specs.declared.returned_part.ReturnedPart.{ReturnedPart}
+use Rattle.dsn_postfix.specs.declared.returned_part.ReturnedPart.TheVariants.{Whole, Header}
+
+-- ---- the records of a request
+
+abbrev pub onto_records : LoggedFields → Result (List LoggedFields) CantSay → Result (List LoggedFields) CantSay
+onto_records fields (Ok records) = Ok (fields ∷ records)
+onto_records fields (Err reason) = Err reason
+
+-- the records of a log in which nothing is damaged, or the place of the first damage
+abbrev pub whole_records : List LoggedEntry → Result (List LoggedFields) CantSay
+whole_records [] = Ok []
+whole_records (SaidLog fields ∷ entries) = onto_records fields (whole_records entries)
+whole_records (DamagedLog part ∷ entries) = Err (DamagedPart part.place)
+
+-- a notice of failure without its log would be lost in silence: Postfix 3.7 says there that no report is
+-- available. A warning or a report of deliveries without a log tells of nobody
+abbrev pub needed_records : Service → Option (List ℕ) → Result (List LoggedFields) CantSay
+needed_records service None = Err NoLog
+needed_records service (Some file) = whole_records (log_entries service file)
+
+abbrev pub records_if_any : Service → Option (List ℕ) → Result (List LoggedFields) CantSay
+records_if_any service None = Ok []
+records_if_any service (Some file) = whole_records (log_entries service file)
+
+abbrev pub record_alone : Option LogField → LoggedFields → Result (List LoggedFields) CantSay
+record_alone None fields = Ok (fields ∷ [])
+record_alone (Some field) fields = Err (Unlogged field)
+
+-- a request about one recipient has no log: its record is the recipient's own
+abbrev pub records_asked : Service → PostfixRequest → Option (List ℕ) → Result (List LoggedFields) CantSay
+records_asked service (Append append) log = Ok []
+records_asked service (Flush notice) log = needed_records service log
+records_asked service (Warn notice) log = records_if_any service log
+records_asked service (Verp notice delimiters) log = needed_records service log
+records_asked service (One notice recipient report) log =
+    record_alone (unlogged_of recipient.address (logged_of service recipient report)) (logged_of service recipient report)
+records_asked service (Trace notice) log = records_if_any service log
+
+-- ---- whom notices tell of
+
+-- records are of one recipient where they name one record of the queue file and one address: addresses
+-- that an alias stands for may have its place
+abbrev pub is_same_recipient : LoggedFields → LoggedFields → Bool
+is_same_recipient one other =
+    nat_lt 0 one.offset && (one.offset == other.offset && bytes_eq one.recipient other.recipient)
+
+abbrev pub is_over : RecipientState → Bool
+is_over Waiting = false
+is_over Done = true
+is_over Removed = true
+
+-- the queue file says that the recipient whose record stands at a place is done
+abbrev pub is_done_at : ℕ → RecipientFacts → Bool
+is_done_at place recipient = recipient.place == place && is_over recipient.state
+
+abbrev pub is_done_in : List RecipientFacts → ℕ → Bool
+is_done_in queued offset = nat_lt 0 offset && list_any (is_done_at offset) queued
+
+-- a log of recipients that are tried again says nothing of one that is done: it was delivered or taken
+-- out, or it was told. The other logs have recipients because they are done
+abbrev pub is_past : Service → List RecipientFacts → ℕ → Bool
+is_past Bounce queued offset = false
+is_past Defer queued offset = is_done_in queued offset
+is_past TraceLog queued offset = false
+
+-- a recipient that a later record names again is told by the last one
+abbrev pub is_told : Service → PostfixRequest → List RecipientFacts → LoggedFields → List LoggedFields → Bool
+is_told service request queued fields later =
+    wants request fields.notify_flags && not (is_past service queued fields.offset || list_any (is_same_recipient fields) later)
+
+abbrev pub with_action : List ℕ → LoggedFields → LoggedFields
+with_action action fields = record {
+  recipient = fields.recipient;
+  original_recipient = fields.original_recipient;
+  offset = fields.offset;
+  dsn_original = fields.dsn_original;
+  notify_flags = fields.notify_flags;
+  status = fields.status;
+  action = action;
+  diagnostic_type = fields.diagnostic_type;
+  diagnostic_text = fields.diagnostic_text;
+  mta_type = fields.mta_type;
+  mta_name = fields.mta_name;
+  reason = fields.reason;
+}
+
+-- a notice of failure says of each that it failed, also where a message expired and its log has delays
+abbrev pub told_as : PostfixRequest → LoggedFields → LoggedFields
+told_as (Append append) fields = fields
+told_as (Flush notice) fields = with_action (codes "failed") fields
+told_as (Warn notice) fields = fields
+told_as (Verp notice delimiters) fields = with_action (codes "failed") fields
+told_as (One notice recipient report) fields = with_action (codes "failed") fields
+told_as (Trace notice) fields = fields
+
+-- those whom the notices tell of, of some records, in their order
+abbrev pub told_of : Service → PostfixRequest → List RecipientFacts → List LoggedFields → List LoggedFields
+told_of service request queued [] = []
+told_of service request queued (fields ∷ later) =
+    if is_told service request queued fields later
+    then told_as request fields ∷ told_of service request queued later
+    else told_of service request queued later
+
+-- ---- notices
+
+-- the actions of RFC 3464 section 2.3.3. A report of what would be done has others
+abbrev pub is_known_action : List ℕ → Bool
+is_known_action action =
+    bytes_eq action (codes "failed")
+    || (bytes_eq action (codes "delayed")
+    || (bytes_eq action (codes "delivered")
+    || (bytes_eq action (codes "relayed") || bytes_eq action (codes "expanded"))))
+
+abbrev pub has_known_action : LoggedFields → Bool
+has_known_action fields = is_known_action fields.action
+
+-- at most so many in a notice, as many as there are but in the last one; there are no more notices than
+-- recipients
+abbrev pub portions_within : {X : Type 0} → ℕ → ℕ → List X → List (List X)
+portions_within zero most xs = []
+portions_within (suc count) most [] = []
+portions_within (suc count) most (x ∷ xs) = take most (x ∷ xs) ∷ portions_within count most (drop most (x ∷ xs))
+
+abbrev pub portions : {X : Type 0} → ℕ → List X → List (List X)
+portions most xs = portions_within (length xs) most xs
+
+-- a notice tells of at most 1,000 recipients, and of one alone where it has a return path of its own
+abbrev pub most_told : PostfixRequest → ℕ
+most_told (Append append) = 1000
+most_told (Flush notice) = 1000
+most_told (Warn notice) = 1000
+most_told (Verp notice delimiters) = 1
+most_told (One notice recipient report) = 1000
+most_told (Trace notice) = 1000
+
+-- what kind of notice it is: of failure, of delay, or of deliveries
+abbrev pub kind_of_notice : PostfixRequest → Service
+kind_of_notice (Append append) = Bounce
+kind_of_notice (Flush notice) = Bounce
+kind_of_notice (Warn notice) = Defer
+kind_of_notice (Verp notice delimiters) = Bounce
+kind_of_notice (One notice recipient report) = Bounce
+kind_of_notice (Trace notice) = TraceLog
+
+-- a notice of failure gives back what the sender asked for, the whole message where that wasn't said
+-- (RFC 3461 section 4.3); the others give back the header
+abbrev pub returned_if_failed : Service → ℕ → ReturnedPart
+returned_if_failed Bounce returns = if returns == 2 then Header else Whole
+returned_if_failed Defer returns = Header
+returned_if_failed TraceLog returns = Header
+
+abbrev pub delimiters_of : PostfixRequest → Option (List ℕ)
+delimiters_of (Append append) = None
+delimiters_of (Flush notice) = None
+delimiters_of (Warn notice) = None
+delimiters_of (Verp notice delimiters) = Some delimiters
+delimiters_of (One notice recipient report) = None
+delimiters_of (Trace notice) = None
+
+abbrev pub notice_about : PostfixRequest → NoticeRequest → List LoggedFields → NoticeFacts
+notice_about request notice outcomes = record {
+  to = notice.sender;
+  delimiters = delimiters_of request;
+  service = kind_of_notice request;
+  returned = returned_if_failed (kind_of_notice request) notice.returns;
+  outcomes = outcomes;
+}
+
+abbrev pub notices_telling : PostfixRequest → NoticeRequest → List LoggedFields → Result (List NoticeFacts) CantSay
+notices_telling request notice told =
+    if list_all has_known_action told
+    then Ok (map (notice_about request notice) (portions (most_told request) told))
+    else Err UnknownAction
+
+abbrev pub notices_with : Service → PostfixRequest → NoticeRequest → List RecipientFacts → Result (List LoggedFields) CantSay → Result (List NoticeFacts) CantSay
+notices_with service request notice queued (Err reason) = Err reason
+notices_with service request notice queued (Ok records) =
+    notices_telling request notice (told_of service request queued records)
+
+abbrev pub notices_asked : List ℕ → Service → PostfixRequest → List RecipientFacts → Option (List ℕ) → Option NoticeRequest → Result (List NoticeFacts) CantSay
+notices_asked double_bounce service request queued log None = Ok []
+notices_asked double_bounce service request queued log (Some notice) =
+    if is_no_sender double_bounce notice.sender then Ok []
+    else (if notice.smtputf8 == 0
+    then notices_with service request notice queued (records_asked service request log)
+    else Err NeedsSmtputf8)
+
+-- what a request for notices says, if it is one
+abbrev pub notice_asked : PostfixRequest → Option NoticeRequest
+notice_asked (Append append) = None
+notice_asked (Flush notice) = Some notice
+notice_asked (Warn notice) = Some notice
+notice_asked (Verp notice delimiters) = Some notice
+notice_asked (One notice recipient report) = Some notice
+notice_asked (Trace notice) = Some notice
+
+-- the notices of a request to a service, from its log's file and from the queue file's recipients; or why
+-- they can't be said
+unfoldable pub notices_of : List ℕ → Service → PostfixRequest → List RecipientFacts → Option (List ℕ) → Result (List NoticeFacts) CantSay
+notices_of double_bounce service request queued log =
+    notices_asked double_bounce service request queued log (notice_asked request)
+
+-- ---- the program's answer
+
+-- it is what is planned, or memory was refused
+abbrev pub IsPlanFault : {X : Type 0} → Result X CantSay → PlanFault → Type 0
+IsPlanFault planned NoMemory = Unit {0}
+IsPlanFault planned (Unsaid reason) = planned ≡ Err reason
+
+-- ---- what is true of them
+
+-- no recipient is named by two records
+abbrev pub NamesEachOnce : List LoggedFields → Type 0
+NamesEachOnce [] = Unit {0}
+NamesEachOnce (fields ∷ later) = (list_any (is_same_recipient fields) later ≡ false) × NamesEachOnce later
+
+-- of whom notices tell, one after another
+abbrev pub outcomes_of : List NoticeFacts → List LoggedFields
+outcomes_of notices = flat_map (λ (notice : NoticeFacts). notice.outcomes) notices
+
+-- a notice tells of somebody, and of no more than it may
+abbrev pub TellsOfSome : ℕ → NoticeFacts → Type 0
+TellsOfSome most notice = (0 < length notice.outcomes) × (length notice.outcomes ≤ most)
+
+pub record TellEachOnce (service : Service) (request : PostfixRequest) (queued : List RecipientFacts) (records : List LoggedFields) (notices : List NoticeFacts) : Type 0 where
+  pub told : outcomes_of notices ≡ told_of service request queued records
+  pub once : NamesEachOnce (outcomes_of notices)
+  pub some : AllByRecursion (TellsOfSome (most_told request)) notices

@@ -1,0 +1,23 @@
+//! Why no notice can be made of a log, so that Postfix's own service has to make it.
+use crate::log_field::LogField;
+use thiserror::Error;
+
+/// Why the notices of a request can't be said.
+#[derive(Clone, Copy, Debug, Drop, PartialEq, Eq, Error)]
+pub enum CantSay {
+    /// The log of a notice of failure is missing: nobody knows of whom to tell.
+    #[error("the log is missing")]
+    NoLog,
+    /// What stands at this place of the log, in bytes, is no whole record.
+    #[error("the log is damaged at byte {0}")]
+    DamagedPart(u64),
+    /// The message needs SMTPUTF8 (RFC 6531).
+    #[error("the message needs SMTPUTF8")]
+    NeedsSmtputf8,
+    /// This field of the request's recipient can't be said.
+    #[error("a field of the recipient can't be said")]
+    Unlogged(LogField),
+    /// What became of a recipient is no action of RFC 3464 section 2.3.3.
+    #[error("an action that RFC 3464 does not know")]
+    UnknownAction,
+}

@@ -1,0 +1,237 @@
+//! The notices that a request has of a log.
+ghost use Rattle.std.specs.Prelude.{◌≡◌, ◌<◌, Ok, drop, map, take, IfOk, MatchResult};
+ghost use Rattle.std.specs.Option.{option_map};
+ghost use Rattle.dsn_postfix.specs.LogRecord.{logged_fields_in};
+ghost use Rattle.dsn_postfix.specs.LoggedAppend.{logged_of, unlogged_of};
+ghost use Rattle.dsn_postfix.specs.NoticePlan.{IsPlanFault, delimiters_of, kind_of_notice, most_told, notice_about, notice_asked, notices_of, portions, record_alone, records_asked, returned_if_failed};
+ghost use Rattle.dsn_postfix.specs.PlannedNotice.{notice_facts_in};
+ghost use Rattle.dsn_postfix.specs.QueueRecipients.{recipient_facts_in};
+ghost use Rattle.dsn_postfix.specs.Wanted.{is_no_sender};
+
+use crate::cant_say::CantSay;
+use crate::log_record::LogRecord;
+use crate::logged_append::logged_of;
+use crate::plan_fault::PlanFault;
+use crate::planned_notice::PlannedNotice;
+use crate::postfix_request::{DeliveryReport, NoticeRequest, PostfixRequest, ReportedRecipient};
+use crate::queued_recipient::QueuedRecipient;
+use crate::returned_part::ReturnedPart;
+use crate::told_recipients::{have_known_actions, told_of};
+use crate::whole_records::whole_records;
+use dsn_text::Service;
+use std::alloc::{AllocError, Global};
+
+/// Whether a message has no sender who is to be told: nobody, or who sends notices about notices.
+fn is_no_sender(double_bounce: &[u8], sender: &[u8]) -> bool
+    ensures { result ≡ is_no_sender double_bounce.now sender.now }
+{
+    sender.is_empty() || sender.eq_ignore_ascii_case(double_bounce)
+}
+
+/// The record of what a request reports of its recipient, alone.
+fn record_alone<'a>(
+    alloc: Global,
+    service: Service,
+    recipient: &ReportedRecipient<'a>,
+    report: &DeliveryReport<'a>,
+) -> Result<Vec<LogRecord<'a>>, PlanFault>
+    ensures { MatchResult result
+        (λ records. record_alone (unlogged_of recipient.now.address
+        (logged_of service recipient.now report.now)) (logged_of service recipient.now report.now)
+        ≡ Ok (map logged_fields_in records.items))
+        (λ fault. IsPlanFault (record_alone (unlogged_of recipient.now.address
+        (logged_of service recipient.now report.now)) (logged_of service recipient.now report.now))
+        fault) }
+{
+    match logged_of(service, recipient, report) {
+        Ok(found) => {
+            let mut records = Vec::new(alloc);
+            records.push(found)?;
+            Ok(records)
+        }
+        Err(field) => Err(PlanFault::Unsaid(CantSay::Unlogged(field))),
+    }
+}
+
+/// The records that a request's notices are of.
+fn records_asked<'a>(
+    alloc: Global,
+    service: Service,
+    request: &PostfixRequest<'a>,
+    log: Option<&'a [u8]>,
+) -> Result<Vec<LogRecord<'a>>, PlanFault>
+    ensures { MatchResult result
+        (λ records. records_asked service request.now (option_map (λ file. file.now) log.entry)
+        ≡ Ok (map logged_fields_in records.items))
+        (λ fault. IsPlanFault
+        (records_asked service request.now (option_map (λ file. file.now) log.entry)) fault) }
+{
+    match request {
+        PostfixRequest::Append(_) => Ok(Vec::new(alloc)),
+        PostfixRequest::Flush(_) | PostfixRequest::Verp(..) => match log {
+            Some(file) => whole_records(alloc, service, file),
+            None => Err(PlanFault::Unsaid(CantSay::NoLog)),
+        },
+        PostfixRequest::Warn(_) | PostfixRequest::Trace(_) => match log {
+            Some(file) => whole_records(alloc, service, file),
+            None => Ok(Vec::new(alloc)),
+        },
+        PostfixRequest::One(_, recipient, report) => {
+            record_alone(alloc, service, recipient, report)
+        }
+    }
+}
+
+impl<'a> PostfixRequest<'a> {
+    /// What a request for notices says, if it is one.
+    fn notice_asked(&self) -> Option<&NoticeRequest<'a>>
+        ensures { option_map (λ notice. notice.now) result ≡ notice_asked self.now }
+    {
+        match self {
+            PostfixRequest::Append(_) => None,
+            PostfixRequest::Flush(notice)
+            | PostfixRequest::Warn(notice)
+            | PostfixRequest::Verp(notice, _)
+            | PostfixRequest::One(notice, _, _)
+            | PostfixRequest::Trace(notice) => Some(notice),
+        }
+    }
+
+    /// Of how many a notice tells at most.
+    fn most_told(&self) -> usize
+        ensures most { result ≡ most_told self.now }
+        ensures some { 0 < result }
+    {
+        match self {
+            PostfixRequest::Verp(..) => 1,
+            _ => 1000,
+        }
+    }
+
+    /// What kind of notice it asks for.
+    fn kind_of_notice(&self) -> Service
+        ensures { result ≡ kind_of_notice self.now }
+    {
+        match self {
+            PostfixRequest::Warn(_) => Service::Defer,
+            PostfixRequest::Trace(_) => Service::Trace,
+            _ => Service::Bounce,
+        }
+    }
+
+    /// The delimiters by which a recipient stands in the address of a notice.
+    fn delimiters(&self) -> Option<&'a [u8]>
+        ensures { option_map (λ text. text.now) result ≡ delimiters_of self.now }
+    {
+        match self {
+            PostfixRequest::Verp(_, delimiters) => Some(delimiters.bytes()),
+            _ => None,
+        }
+    }
+}
+
+/// What a kind of notice gives back.
+fn returned_if_failed(kind: Service, returns: u32) -> ReturnedPart
+    ensures { result ≡ returned_if_failed kind returns }
+{
+    match kind {
+        Service::Bounce if returns != 2 => ReturnedPart::Whole,
+        _ => ReturnedPart::Header,
+    }
+}
+
+/// A notice of a request that tells of some recipients.
+fn notice_about<'a>(
+    request: &PostfixRequest<'a>,
+    notice: &NoticeRequest<'a>,
+    outcomes: Vec<LogRecord<'a>>,
+) -> PlannedNotice<'a>
+    ensures { notice_facts_in result ≡ notice_about request.now notice.now
+        (map logged_fields_in outcomes.entry.items) }
+{
+    let kind = request.kind_of_notice();
+    PlannedNotice {
+        to: notice.sender.bytes(),
+        delimiters: request.delimiters(),
+        service: kind,
+        returned: returned_if_failed(kind, notice.returns),
+        outcomes,
+    }
+}
+
+/// The first so many of some records, or all of them.
+fn first_portion<'b, 'a>(most: usize, told: &'b [LogRecord<'a>]) -> &'b [LogRecord<'a>]
+    ensures { result.now ≡ take most told.now }
+{
+    &told[..most.min(told.len())]
+}
+
+/// Some records without the first so many.
+fn other_portions<'b, 'a>(most: usize, told: &'b [LogRecord<'a>]) -> &'b [LogRecord<'a>]
+    ensures { result.now ≡ drop most told.now }
+{
+    &told[most.min(told.len())..]
+}
+
+/// The notices of a request that tell of all recipients of a list, each of at most so many.
+fn notices_telling<'a>(
+    alloc: Global,
+    request: &PostfixRequest<'a>,
+    notice: &NoticeRequest<'a>,
+    told: &[LogRecord<'a>],
+) -> Result<Vec<PlannedNotice<'a>>, AllocError>
+    ensures { IfOk result (λ notices. map notice_facts_in notices.items
+        ≡ map (notice_about request.now notice.now)
+        (portions (most_told request.now) (map logged_fields_in told.now))) }
+{
+    let most = request.most_told();
+    let mut notices = Vec::new(alloc);
+    let mut rest = told;
+    while !rest.is_empty() {
+        let mut outcomes = Vec::new(alloc);
+        outcomes.extend_from_slice(first_portion(most, rest))?;
+        notices.push(notice_about(request, notice, outcomes))?;
+        rest = other_portions(most, rest);
+    }
+    Ok(notices)
+}
+
+/// The notices that a request to a service has, from the queue file's recipients and the bytes of
+/// the log's file, if there is one. Each recipient of the log that the request's NOTIFY rules want
+/// stands in exactly one of them, once, in the log's order, with what the log's last record of it
+/// says; no other stands there. In a log of deferred recipients one that is done isn't told. A
+/// notice of failure has the action `failed`, whatever the log's. A message from nobody, or from
+/// the double-bounce address, has no notice. `Unsaid` comes where notices can't be said, `NoMemory`
+/// only where memory for them was refused.
+#[tactic(auto, unfolding(crate::specs::NoticePlan::notices_of))]
+pub fn plan_notices<'a>(
+    alloc: Global,
+    double_bounce: &[u8],
+    service: Service,
+    request: &PostfixRequest<'a>,
+    queued: &[QueuedRecipient<'_>],
+    log: Option<&'a [u8]>,
+) -> Result<Vec<PlannedNotice<'a>>, PlanFault>
+    ensures { MatchResult result
+        (λ notices. notices_of double_bounce.now service request.now
+        (map recipient_facts_in queued.now) (option_map (λ file. file.now) log.entry)
+        ≡ Ok (map notice_facts_in notices.items))
+        (λ fault. IsPlanFault (notices_of double_bounce.now service request.now
+        (map recipient_facts_in queued.now) (option_map (λ file. file.now) log.entry)) fault) }
+{
+    let Some(notice) = request.notice_asked() else {
+        return Ok(Vec::new(alloc));
+    };
+    if is_no_sender(double_bounce, notice.sender.bytes()) {
+        return Ok(Vec::new(alloc));
+    }
+    if notice.smtputf8 != 0 {
+        return Err(PlanFault::Unsaid(CantSay::NeedsSmtputf8));
+    }
+    let records = records_asked(alloc, service, request, log)?;
+    let told = told_of(alloc, service, request, queued, &records)?;
+    if !have_known_actions(&told) {
+        return Err(PlanFault::Unsaid(CantSay::UnknownAction));
+    }
+    Ok(notices_telling(alloc, request, notice, &told)?)
+}

@@ -1,0 +1,20 @@
+//! A notice that is to be made.
+use crate::log_record::LogRecord;
+use crate::returned_part::ReturnedPart;
+use dsn_text::Service;
+
+/// A notice that is to be made: to whom it goes, what it gives back, and of whom it tells.
+#[derive(Debug, Drop)]
+pub struct PlannedNotice<'a> {
+    /// The sender of the message, to whom the notice goes.
+    pub to: &'a [u8],
+    /// The two bytes by which the recipient stands in the address of the notice, where the sender
+    /// wanted that (VERP).
+    pub delimiters: Option<&'a [u8]>,
+    /// What kind of notice it is: of failure, of delay, or of deliveries.
+    pub service: Service,
+    /// What it gives back of the message.
+    pub returned: ReturnedPart,
+    /// Of whom it tells, in the log's order, with what became of each.
+    pub outcomes: Vec<LogRecord<'a>>,
+}

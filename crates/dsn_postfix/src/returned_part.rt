@@ -1,0 +1,10 @@
+//! What a notice gives back of the message that it is about.
+
+/// What a notice gives back (RFC 3461 section 4.3).
+#[derive(Clone, Copy, Debug, PartialEq, Eq)]
+pub enum ReturnedPart {
+    /// The message.
+    Whole,
+    /// Its header.
+    Header,
+}

@@ -1,5 +1,6 @@
 pub mod BookLemmas
 pub mod CaseLemmas
+pub mod CrashLemmas
 pub mod EntryLemmas
 mod Examples
 pub mod HalvingLemmas

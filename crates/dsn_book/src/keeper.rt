@@ -1,7 +1,8 @@
 //! What carries out the requests of a crew.
 ghost use Rattle.std.specs.Prelude.{◌≡◌, ◌+◌, ◌-◌, ◌^◌, ◌<◌, ◌≤◌, List, [], ◌∷◌, ◌++◌, OnOk, IfErr};
+ghost use Rattle.dsn_book.specs.Crash.{LeavesThroughout, ReopensAfterSome};
 ghost use Rattle.dsn_book.specs.Step.{letters_in};
-ghost use Rattle.dsn_outcome.specs.History.{Exchange, answer_of, exchange_of, letter_of};
+ghost use Rattle.dsn_outcome.specs.History.{Exchange, answer_of, exchange_of, history_after, letter_of};
 ghost use Rattle.dsn_outcome.specs.Request.{Request};
 
 use crate::book::Book;
@@ -13,6 +14,9 @@ use dsn_outcome::Request;
 /// What carries requests out, each once it is kept: a book alone, for which nothing is to be kept, or
 /// one beside a journal. It stands for a history, as a book does, and carries a request out as that
 /// history says.
+///
+/// It has a clock: its clauses say what a crash may leave at each moment, within a call and between
+/// two. What it stands for is among what a crash leaves, with each request that it has kept.
 pub trait Keeper {
     ghost use Rattle.std.specs.Prelude.{ℕ, List};
     ghost use Rattle.dsn_outcome.specs.History.{Limits, Exchange};
@@ -32,6 +36,15 @@ pub trait Keeper {
     // That it may refuse to keep these requests, for this reason, and what it is after that.
     ghost refuses: { Self → List Request → NotKept → Self → Type 0 };
 
+    // The moment, as a number that doesn't fall.
+    ghost moment: { Self → ℕ };
+
+    // What a crash at some moment from that one on might have left, during a call or between two.
+    ghost left_since: { Self → ℕ → List ℕ → Type 0 };
+
+    // That a later run which finds these bytes, under these limits, stands for this history.
+    ghost reopens: { Limits → List ℕ → List Exchange → Type 0 };
+
     /// Its limits.
     fn limits(&self) -> Limits
         ensures { result ≡ limits self.now };
@@ -45,6 +58,9 @@ pub trait Keeper {
         ensures has { OnOk result ((t : List Exchange) → has self.old t []
             → has self.new t requests.now) }
         ensures refused { IfErr result (λ why. refuses self.old requests.now why self.new) }
+        ensures any_moment { (t : List Exchange) → has self.old t []
+            → LeavesThroughout moment left_since self.old self.new
+            (ReopensAfterSome reopens (limits self.old) t requests.now) }
         ensures limits { limits self.new ≡ limits self.old }
         ensures sealed { sealed self.new ≡ sealed self.old };
 
@@ -66,10 +82,17 @@ pub trait Keeper {
         ensures has { (t : List Exchange) (rest : List Request)
             → has self.old t (request ∷ rest)
             → has self.new (t ++ exchange_of (limits self.old) t request ∷ []) rest }
+        ensures no_moment { (moment self.new ≡ moment self.old) × ((t : ℕ) (left : List ℕ)
+            → left_since self.new t left → left_since self.old t left) }
         ensures sealed { sealed self.new ≤ sealed self.old + 1 };
+
+    // A crash now leaves what it stands for, with the requests that are kept.
+    ghost leaves_kept: { (keeper : Self) (t : List Exchange) (requests : List Request)
+        (left : List ℕ) → has keeper t requests → left_since keeper (moment keeper) left
+        → reopens (limits keeper) left (history_after (limits keeper) t requests) };
 }
 
-/// A book keeps nothing: what it is asked may be carried out at once.
+/// A book keeps nothing: what it is asked may be carried out at once, and a crash leaves nothing.
 impl Keeper for Book {
     ghost use Rattle.dsn_book.specs.Book.{Represents};
 
@@ -80,6 +103,14 @@ impl Keeper for Book {
     ghost sealed = { λ book. book.sealed };
 
     ghost refuses = { λ _ _ _ _. ⊥ };
+
+    ghost moment = { λ _. 0 };
+
+    ghost left_since = { λ _ _ _. ⊥ };
+
+    ghost reopens = { λ _ _ _. ⊥ };
+
+    ghost leaves_kept = { λ _ _ _ _ _ left. absurd left };
 
     fn limits(&self) -> Limits {
         self.limits()

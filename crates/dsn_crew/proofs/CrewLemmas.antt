@@ -6,11 +6,11 @@ use Rattle.std.specs.declared.thread.PromisedHandle.{PromisedHandle}
 use Rattle.std.proofs.KnownBytes.{Appends-nil}
 use Rattle.std.specs.List.{AllZip, flat_map, slice_index_or}
 use Rattle.std.proofs.lemmas.List.{append-nil, length-map}
-use Rattle.std.proofs.lemmas.List.Elements.{All-head, All-tail}
+use Rattle.std.proofs.lemmas.List.Elements.{All-cons, All-head, All-nil, All-tail}
 use Rattle.std.proofs.lemmas.List.Filters.{length-filter_both}
 use Rattle.std.proofs.lemmas.Slice.Zip.{AllZip-long}
 use Rattle.dsn_book.specs.Book.{Book, Represents}
-use Rattle.dsn_book.specs.Keeper.{book_keeper}
+use Rattle.dsn_book.specs.Keeper.{MayCrash, book_keeper}
 use Rattle.dsn_book.specs.declared.keeper.Keeper.{Ghosts as Keeper}
 use Rattle.dsn_book.specs.declared.not_kept.NotKept.{NotKept}
 use Rattle.dsn_book.specs.Step.{letters_in}
@@ -35,8 +35,8 @@ use Rattle.dsn_crew.specs.desk.Close.{IsHeard}
 use Rattle.dsn_crew.specs.Breach.{stop_cause}
 use Rattle.dsn_crew.specs.CollectorResult.{IsCollectorResult}
 use Rattle.dsn_crew.specs.Conclude.{Concludes, MayClose, account_of, fault_of, missing_cause}
-use Rattle.dsn_crew.specs.Crew.{Account, AreAgentAccounts, AreSealedAfter, CrewFault, HasAccount, HasFault, IsAccount, IsAccountAfter, IsAgentAccount, IsBrokenOff, IsCrewFault, IsFaultWith, IsHandedBack, IsPostedBy, PostedBefore, StandsAtFault, none_posted}
-use Rattle.dsn_crew.specs.desk.Desk.{BeginsWith, Desk, IsDesk, IsNextOf, IsRun, IsStopped, Refusal, StandsOrRefused, all_gone, goodbyes, history, letter_kept, missing as missing_more, places_of}
+use Rattle.dsn_crew.specs.Crew.{Account, AreAgentAccounts, AreSealedAfter, CrewFault, HasAccount, HasFault, IsAccount, IsAccountAfter, IsAgentAccount, IsBrokenOff, IsCrewFault, IsFaultWith, IsHandedBack, IsPostedBy, MayCrashWithin, PostedBefore, StandsAtFault, none_posted}
+use Rattle.dsn_crew.specs.desk.Desk.{BeginsWith, Desk, IsDesk, IsNextOf, IsRun, IsStopped, Refusal, StandsOrRefused, all_gone, goodbyes, history, letter_kept, missing as missing_more, places_of, refused_in}
 use Rattle.dsn_crew.specs.AgentsResult.{AreEnded, IsAgentsResult}
 use Rattle.dsn_crew.specs.desk.Open.{IsOpened, opened_agent}
 use Rattle.dsn_crew.specs.agents.Place.{place_at, place_of}
@@ -324,6 +324,15 @@ module _ {B : Type 0} (keeper : Keeper B) (desk : Desk B) (exchanges : List Exch
   missing_stands agents true has = has
   missing_stands agents false has = has
 
+-- the request that was not kept, where one wasn't
+one_refused : (unkept : Option Refusal) → length (refused_in unkept) ≤ 1
+one_refused None = omega arith
+one_refused (Some refusal) = omega arith
+
+all_refused : (P : Request → Type 0) (unkept : Option Refusal) → IfSome unkept (λ refusal. P refusal.request) → All P (refused_in unkept)
+all_refused P None next = All-nil P
+all_refused P (Some refusal) next = All-cons P refusal.request [] next (All-nil P)
+
 -- ---- the whole
 
 module _ {B P S : Type 0} (keeper : Keeper B) (port : Port P S) (book : B) (ports : List P) (count : ℕ) (agents : List Agent) (desk : Desk B) (opened : IsOpened keeper book count agents desk) (count_is : count ≡ length ports) (handles : List (Option (PromisedHandle PortEnd (Serves P)))) (started : AreStarted agents ports handles) where
@@ -398,6 +407,48 @@ module _ {B P S : Type 0} (keeper : Keeper B) (port : Port P S) (book : B) (port
         left_few (Whole new) (gathered.Lost unheard) posted (Err fault) has faulted = few_of _ _ new new.book posted fault faulted refl (has.0.start ∙ start_is) has.2
         left_few (Failed left stop held new) all posted (Err fault) has faulted = few_of _ _ new.value left posted fault faulted has.5 (has.1.start ∙ start_is) has.3
 
+        lines_of : (new : Desk B) → places_of new ≡ places_of begun → length new.answers ≡ length ports
+        lines_of new places =
+            sym (length-map new.answers (place_at new.requests.lane))
+            ∙ (ap length (places ∙ ap places_of begun_is)
+            ∙ (length-map desk.answers (place_at desk.requests.lane) ∙ (opened.count ∙ count_is)))
+
+        -- what a crash leaves at each moment of its run
+        crash_of : (new : Desk B) → BeginsWith keeper book before → new.start ≡ book → IsDesk keeper new → MayCrash keeper book new.book limits before (new.requests.taken ++ refused_in new.unkept)
+        crash_of new with_it start_was kept =
+            subst (λ (b : B). MayCrash keeper b new.book (keeper.limits b) before (new.requests.taken ++ refused_in new.unkept)) start_was
+            (kept.stands before (subst (λ (b : B). BeginsWith keeper b before) (sym start_was) with_it)).crash
+
+        pub crash_at_end : {W : Type 0} (collected : CollectorResult B) (all : AgentsResult) (posted : Posted W) (result : Result (Account W B) (CrewFault W B)) → BeginsWith keeper book before → IsCollectorResult keeper before begun sink after collected → Concludes keeper collected all posted result → IfOk result (λ account. MayCrash keeper book account.book limits before account.taken)
+        crash_at_end collected all posted (Err fault) with_it has ends_so = tt
+        crash_at_end (Whole new) (gathered.All lines crew) posted (Ok account) with_it has closed =
+            subst (λ (it : Account _ B). MayCrash keeper book it.book limits before it.taken) (sym closed.account_is)
+            (subst (λ (requests : List Request). MayCrash keeper book new.book limits before requests) (append-nil new.requests.taken)
+            (subst (λ (u : Option Refusal). MayCrash keeper book new.book limits before (new.requests.taken ++ refused_in u)) (has.2.kept (going_on new has.1)) (crash_of new with_it (has.0.start ∙ start_is) has.2)))
+        crash_at_end (Whole new) gathered.Missing posted (Ok account) with_it has closed = absurd closed
+        crash_at_end (Whole new) (gathered.Lost unheard) posted (Ok account) with_it has closed = absurd closed
+        crash_at_end (Failed book stop held new) all posted (Ok account) with_it has closed = absurd closed
+
+        crash_left : {W : Type 0} (cause : CrewCause) (held : List Letter) (new : Desk B) (left : B) (posted : Posted W) (fault : CrewFault W B) → fault ≡ fault_of cause held left new posted → left ≡ new.book → BeginsWith keeper book before → places_of new ≡ places_of begun → new.start ≡ book → IsDesk keeper new
+            → IfSome fault.book (MayCrashWithin keeper book limits before (length ports) fault.taken)
+        crash_left cause held new left posted fault fault_is left_is with_it places start_was kept =
+            subst (λ (it : CrewFault _ B). IfSome it.book (MayCrashWithin keeper book limits before (length ports) it.taken)) (sym fault_is)
+            (subst (MayCrashWithin keeper book limits before (length ports) new.requests.taken) (sym left_is)
+            (record {
+              refused = refused_in new.unkept;
+              one = one_refused new.unkept;
+              next = all_refused (IsNextOf (length ports) new.requests.taken) new.unkept (subst (λ (k : ℕ). IfSome new.unkept (λ refusal. IsNextOf k new.requests.taken refusal.request)) (lines_of new places) kept.next);
+              at_each_moment = crash_of new with_it start_was kept;
+            }))
+
+        pub crash_at_fault : {W : Type 0} (collected : CollectorResult B) (all : AgentsResult) (posted : Posted W) (result : Result (Account W B) (CrewFault W B)) → BeginsWith keeper book before → IsCollectorResult keeper before begun sink after collected → Concludes keeper collected all posted result
+            → IfErr result (λ fault. IfSome fault.book (MayCrashWithin keeper book limits before (length ports) fault.taken))
+        crash_at_fault collected all posted (Ok account) with_it has ends_so = tt
+        crash_at_fault (Whole new) (gathered.All lines crew) posted (Err fault) with_it has faulted = crash_left _ _ new new.book posted fault faulted.1 refl with_it has.0.places (has.0.start ∙ start_is) has.2
+        crash_at_fault (Whole new) gathered.Missing posted (Err fault) with_it has faulted = crash_left _ _ new new.book posted fault faulted refl with_it has.0.places (has.0.start ∙ start_is) has.2
+        crash_at_fault (Whole new) (gathered.Lost unheard) posted (Err fault) with_it has faulted = crash_left _ _ new new.book posted fault faulted refl with_it has.0.places (has.0.start ∙ start_is) has.2
+        crash_at_fault (Failed left stop held new) all posted (Err fault) with_it has faulted = crash_left _ _ new.value left posted fault faulted has.5 with_it has.1.places (has.1.start ∙ start_is) has.3
+
         module _ {W : Type 0} (drain : Drain W) (from : PostedBefore W) (poster : Outgoing W) (by : IsPostedBy drain from poster) (posted : Posted W) (post : IsPosted drain poster 16 after.letters posted) where
           module _ (new : Desk B) {result : Result (Unit {0}) DeskFault} (run : IsRun keeper before TakesLetter begun new sink after result) where
             limits_are : keeper.limits new.start ≡ limits
@@ -411,10 +462,7 @@ module _ {B P S : Type 0} (keeper : Keeper B) (port : Port P S) (book : B) (port
             }
 
             lines_length : length new.answers ≡ length ports
-            lines_length =
-                sym (length-map new.answers (place_at new.requests.lane))
-                ∙ (ap length (run.places ∙ ap places_of begun_is)
-                ∙ (length-map desk.answers (place_at desk.requests.lane) ∙ (opened.count ∙ count_is)))
+            lines_length = lines_of new run.places
 
           -- where the run ended well the sink took them all
           all_sealed : (new : Desk B) → IsRun keeper before TakesLetter begun new sink after (Ok tt) → AreSealedAfter before (history_after limits before new.requests.taken) after.letters

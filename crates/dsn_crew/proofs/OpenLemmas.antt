@@ -4,6 +4,7 @@ use Rattle.std.specs.List.{slice_index_or}
 use Rattle.std.proofs.lemmas.List.{append-nil, map-append}
 use Rattle.std.proofs.lemmas.List.Elements.{All-nil}
 use native.Mathlib.Decide.{ℕ_discrete}
+use Rattle.dsn_book.specs.Keeper.{MayCrash}
 use Rattle.dsn_book.specs.declared.keeper.Keeper.{Ghosts as Keeper}
 use Rattle.dsn_lane.specs.Halves.{Half, Identity, Out, fresh_halves}
 use Rattle.dsn_lane.specs.Lane.{IsNumbered}
@@ -17,11 +18,12 @@ use Rattle.dsn_crew.specs.desk.Desk.{BeginsWith, Desk, IsDesk, desk_of}
 use Rattle.dsn_crew.specs.desk.Close.{AreCrew}
 use Rattle.dsn_crew.specs.desk.Open.{AreLines, IsLine, IsOpened, opened_agent}
 use Rattle.dsn_crew.specs.agents.Place.{place_at, place_of}
+use Rattle.dsn_crew.proofs.desk.CrashLemmas.{LeavesKept, none_done}
 
 -- a collector that has taken nothing
-pub new_desk : {B : Type 0} (keeper : Keeper B) (book : B) (requests : Out Request) (halves : List (Half Answer)) → (before : List Exchange) × BeginsWith keeper book before → keeper.sealed book < 2 ^ 63 → requests.first ≡ 0 → requests.past ≡ length halves → requests.taken ≡ [] → AreLines halves → length halves ≤ 16 → IsDesk keeper (desk_of book book requests halves 0 false)
+pub new_desk : {B : Type 0} (keeper : Keeper B) (book : B) (requests : Out Request) (halves : List (Half Answer)) → LeavesKept keeper → (before : List Exchange) × BeginsWith keeper book before → keeper.sealed book < 2 ^ 63 → requests.first ≡ 0 → requests.past ≡ length halves → requests.taken ≡ [] → AreLines halves → length halves ≤ 16 → IsDesk keeper (desk_of book book requests halves 0 false)
 unfolding history_after
-new_desk keeper book requests halves began small first past taken lines few = record {
+new_desk keeper book requests halves law began small first past taken lines few = record {
   first = first;
   past = past;
   few = few;
@@ -43,6 +45,7 @@ new_desk keeper book requests halves began small first past taken lines few = re
         has = subst (λ (q : List Request). keeper.has book (history_after (keeper.limits book) before q) []) (sym taken) begins.0;
         sent = λ a d inside. ([], append-nil (slice_index_or halves a d).sent ∙ none a d inside);
         answered = λ _. none;
+        crash = subst (λ (q : List Request). MayCrash keeper book book (keeper.limits book) before (q ++ [])) (sym taken) (none_done keeper book book book (keeper.limits book) before [] law refl begins.0);
       };
 }
 

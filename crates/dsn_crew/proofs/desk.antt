@@ -1,4 +1,5 @@
 pub mod CloseLemmas
+pub mod CrashLemmas
 pub mod DeskLemmas
 pub mod EarlierLemmas
 pub mod Rules

@@ -1,5 +1,5 @@
 -- Of private parts: the cause that is named for what ended a run, and what shows it.
-use Rattle.std.specs.Prelude.{List, Option, Some, None}
+use Rattle.std.specs.Prelude.{Option, Some, None}
 use Rattle.std.specs.declared.snapshot.Snapshot.{Snapshot}
 use Rattle.dsn_book.specs.declared.keeper.Keeper.{Ghosts as Keeper}
 use Rattle.dsn_crew.specs.desk.Desk.{Desk, IsStopped}

@@ -1,8 +1,8 @@
 -- Crews: what a run of a whole crew comes to, and what its fault says.
-use Rattle.std.specs.Prelude.{◌≡◌, ◌≢◌, ℕ, suc, ◌+◌, ◌<◌, ◌≤◌, ◌⊎◌, Bool, false, List, [], ◌∷◌, ◌++◌, All, length, Option, Some, None, IfSome, is_some, true}
+use Rattle.std.specs.Prelude.{◌≡◌, ◌≢◌, ℕ, suc, ◌+◌, ◌<◌, ◌≤◌, ◌⊎◌, Bool, false, List, [], ◌∷◌, ◌++◌, All, length, Option, Some, IfSome, is_some, true}
 use Rattle.std.specs.List.{flat_map}
 use Rattle.dsn_book.specs.Book.{Book}
-use Rattle.dsn_book.specs.Keeper.{book_keeper}
+use Rattle.dsn_book.specs.Keeper.{MayCrash, book_keeper}
 use Rattle.dsn_book.specs.NotKept.{unkept_code}
 use Rattle.dsn_book.specs.declared.keeper.Keeper.{Ghosts as Keeper}
 use Rattle.dsn_book.specs.declared.not_kept.NotKept.{NotKept}
@@ -246,3 +246,13 @@ pub record HasFault {B W : Type 0} (keeper : Keeper B) (drain : Drain W)
       IfSome fault.book
       (IsHandedBack keeper limits agents fault.taken (history_after limits before fault.taken)
       fault.cause)
+
+-- What a crash leaves at each moment of a run over so many agents that ended with a fault: what a
+-- later run stands by for the history with the first of the requests that were taken, and of one
+-- behind them, where that was not kept. It is the next of its agent
+pub record MayCrashWithin {B : Type 0} (keeper : Keeper B) (start : B) (limits : Limits)
+    (before : List Exchange) (agents : ℕ) (taken : List Request) (book : B) : Type 0 where
+  pub refused : List Request
+  pub one : length refused ≤ 1
+  pub next : All (IsNextOf agents taken) refused
+  pub at_each_moment : MayCrash keeper start book limits before (taken ++ refused)

@@ -1,9 +1,10 @@
 //! A whole crew, from its first thread to its last.
 ghost use Rattle.std.specs.Prelude.{◌≡◌, ◌≢◌, ◌+◌, ◌≤◌, ◌<◌, ◌^◌, ◌↔◌, ◌⊎◌, List, [], All, length, IfErr, IfOk, IfSome};
 ghost use Rattle.dsn_book.specs.Book.{Represents};
+ghost use Rattle.dsn_book.specs.Keeper.{MayCrash};
 ghost use Rattle.dsn_book.specs.declared.not_kept.NotKept.{NotKept};
 ghost use Rattle.dsn_outcome.specs.History.{Exchange, history_of};
-ghost use Rattle.dsn_crew.specs.Crew.{HasAccount, HasFault, IsAccount, IsCrewFault, IsPostedBy, PostedBefore, most_ports};
+ghost use Rattle.dsn_crew.specs.Crew.{HasAccount, HasFault, IsAccount, IsCrewFault, IsPostedBy, MayCrashWithin, PostedBefore, most_ports};
 ghost use Rattle.dsn_crew.specs.desk.Desk.{BeginsWith};
 
 use crate::agent_memory::AgentMemory;
@@ -96,7 +97,11 @@ fn empty_book(alloc: Global, limits: Limits, ports: usize) -> Result<Book, Breac
 ///
 /// Beside what it says there, `Unkept` (45) comes where a request was not kept; neither that
 /// request nor a later one is carried out or answered then. At a fault of a run that began, what
-/// carried the requests out is handed back. It asks that fewer than 2^63 letters were sealed
+/// carried the requests out is handed back.
+///
+/// At each moment of the run a crash leaves what a later run stands by for the history with the
+/// first of the requests that were taken, and no other. Each request is among them before its answer
+/// is sent. It asks that fewer than 2^63 letters were sealed
 /// before, that there is a history to begin with, after which no request is awaited, and that no
 /// letter is unsent.
 pub fn run_crew_over<
@@ -129,6 +134,11 @@ pub fn run_crew_over<
         (HasFault B.Keeper W.Drain from (B.limits book) before (length ports.items)) }
     ensures left { IfErr result (λ fault. IfSome fault.book
         (λ left. B.sealed left ≤ B.sealed book + length fault.taken)) }
+    ensures crash { (before : List Exchange) → BeginsWith B.Keeper book before → IfOk result
+        (λ account. MayCrash B.Keeper book account.book (B.limits book) before account.taken) }
+    ensures crash_at_fault { (before : List Exchange) → BeginsWith B.Keeper book before
+        → IfErr result (λ fault. IfSome fault.book (MayCrashWithin B.Keeper book (B.limits book)
+        before (length ports.items) fault.taken)) }
     ensures refused { IfErr result
         (λ fault. (fault.cause ≡ CrewCause.PortCount)
         ↔ ((length ports.items ≡ 0) ⊎ (most_ports < length ports.items))) }
@@ -181,6 +191,11 @@ fn run_in<
         (HasFault B.Keeper W.Drain from (B.limits book) before (length ports.items)) }
     ensures left { IfErr result (λ fault. IfSome fault.book
         (λ left. B.sealed left ≤ B.sealed book + length fault.taken)) }
+    ensures crash { (before : List Exchange) → BeginsWith B.Keeper book before → IfOk result
+        (λ account. MayCrash B.Keeper book account.book (B.limits book) before account.taken) }
+    ensures crash_at_fault { (before : List Exchange) → BeginsWith B.Keeper book before
+        → IfErr result (λ fault. IfSome fault.book (MayCrashWithin B.Keeper book (B.limits book)
+        before (length ports.items) fault.taken)) }
     ensures counted { IfErr result (λ fault. fault.cause ≢ CrewCause.PortCount) }
 {
     let Ok(room) = CrewMemory::take(rt, alloc, book, ports.len() as u32) else {

@@ -23,6 +23,14 @@ impl Keeper for Refusing {
 
     ghost refuses = { λ old _ why new. (why ≡ Full) × (old.left ≡ 0) × (new ≡ old) };
 
+    ghost moment = { λ _. 0 };
+
+    ghost left_since = { λ _ _ _. ⊥ };
+
+    ghost reopens = { λ _ _ _. ⊥ };
+
+    ghost leaves_kept = { λ _ _ _ _ _ left. absurd left };
+
     fn limits(&self) -> Limits {
         self.book.limits()
     }

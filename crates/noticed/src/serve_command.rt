@@ -8,8 +8,8 @@ use crate::socket_fault::{print_socket_error, print_socket_fault};
 use dsn_journal::FileDisk;
 use dsn_outcome::Plain;
 use noticed_lib::{
-    JournalFolder, ServeEnd, SocketWatch, Watch, WatchOptions, WatchedOutbox, serve_journaled,
-    serve_watched,
+    JournalFolder, JournaledEnd, ServeEnd, SocketWatch, Watch, WatchOptions, WatchedOutbox,
+    serve_journaled, serve_watched,
 };
 use std::io;
 use std::io::BufWriter;
@@ -58,9 +58,12 @@ pub(crate) fn run_serve<R: Threads + Wait + Sync>(
         None => serve_watched(
             waiting, alloc, &listener, &watch, site, agents, max_use, outbox, notes,
         ),
-        Some(folder) => serve_journaled(
-            waiting, alloc, &listener, &watch, site, agents, max_use, outbox, folder, notes,
-        ),
+        Some(folder) => {
+            let JournaledEnd { end, journal: _ } = serve_journaled(
+                waiting, alloc, &listener, &watch, site, agents, max_use, outbox, folder, notes,
+            );
+            end
+        }
     };
     let ServeEnd { outbox, status } = end;
     let_go(outbox.into_inner().into_inner());

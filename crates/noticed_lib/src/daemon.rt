@@ -3,6 +3,7 @@
 mod agent_lines;
 mod journal_folder;
 mod journal_start;
+mod journaled_end;
 mod log_line;
 mod no_watch;
 mod run_notes;
@@ -17,6 +18,7 @@ mod watched_connection;
 mod watched_outbox;
 
 pub use journal_folder::JournalFolder;
+pub use journaled_end::JournaledEnd;
 pub use no_watch::NoWatch;
 pub use serve_end::ServeEnd;
 pub use serve_over_journal::serve_ports_over;

@@ -10,8 +10,8 @@ mod notes;
 pub use batch_run::{BatchEnd, MemoryRun, batch, batch_bytes};
 pub use client::{SendEnd, SendFault, send, sends_are_sessions_of_a_client};
 pub use daemon::{
-    JournalFolder, NoWatch, ServeEnd, SocketWatch, Watch, WatchOptions, WatchedOutbox, serve,
-    serve_journaled, serve_ports, serve_ports_over, serve_watched,
+    JournalFolder, JournaledEnd, NoWatch, ServeEnd, SocketWatch, Watch, WatchOptions,
+    WatchedOutbox, serve, serve_journaled, serve_ports, serve_ports_over, serve_watched,
 };
 pub use dsn_book::Limits;
 pub use dsn_frame::Spoken;

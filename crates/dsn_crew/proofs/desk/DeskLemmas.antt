@@ -17,9 +17,11 @@ use Rattle.dsn_outcome.specs.History.{Exchange, answer_of, answers_to, exchange_
 use Rattle.dsn_outcome.specs.Request.{Request, Body, Append, Flush, Discard, Forget, Bye}
 use Rattle.dsn_outcome.specs.declared.answer.Answer.{Answer}
 use Rattle.dsn_outcome.proofs.HistoryLaws.{answers_mine, answers_more, answers_other}
-use Rattle.dsn_crew.specs.desk.Desk.{BeginsWith, Desk, IsDesk, StandsAfter, AreAnswered, IsUnseen, desk_of, desk_seen, IsAnswerSent, answered_more, goodbyes, history, is_goodbye, next_exchange, places_of, refusal_behind, seen_half, taken_request}
+use Rattle.dsn_crew.specs.desk.Desk.{BeginsWith, Desk, IsDesk, Refusal, StandsAfter, refused_in, AreAnswered, IsUnseen, desk_of, desk_seen, IsAnswerSent, answered_more, goodbyes, history, is_goodbye, next_exchange, places_of, refusal_behind, seen_half, taken_request}
 use Rattle.dsn_crew.specs.declared.desk.stop_cause.StopCause.{StopCause}
 use Rattle.dsn_crew.specs.agents.Place.{Place, place_at}
+use Rattle.dsn_book.specs.Keeper.{MayCrash}
+use Rattle.dsn_crew.proofs.desk.CrashLemmas.{done_on}
 use Rattle.dsn_crew.proofs.desk.EarlierLemmas.{more_after}
 
 -- ---- the halves of the answer lanes
@@ -238,18 +240,21 @@ module _ {B : Type 0} (keeper : Keeper B) (desk : Desk B) (request : Request) (a
           )
 
       -- the collector stands for one request more, after a history
-      pub stands_on : (sent : Bool) (d : Half Answer) → IsAnswerSent sent desk.answers answer halves → keeper.has book (history keeper before desk ++ next_exchange keeper before desk request ∷ []) [] → (failed ≡ false → sent ≡ true) → StandsAfter keeper before new
-      stands_on sent d is_sent book_is going_on = record {
+      pub stands_on : (sent : Bool) (d : Half Answer) → IsAnswerSent sent desk.answers answer halves → keeper.has book (history keeper before desk ++ next_exchange keeper before desk request ∷ []) [] → MayCrash keeper desk.book book (keeper.limits desk.start) (history keeper before desk) (request ∷ []) → (failed ≡ false → sent ≡ true) → StandsAfter keeper before new
+      stands_on sent d is_sent book_is crash going_on = record {
         has = subst (λ (t : List Exchange). keeper.has book t []) (sym history_new) book_is;
         sent = sent_new sent d is_sent;
         answered = λ well. answered_new d (subst (λ (it : Bool). IsAnswerSent it desk.answers answer halves) (going_on well) is_sent);
+        crash =
+            subst (λ (requests : List Request). MayCrash keeper desk.start book (keeper.limits desk.start) before requests) (sym (append-nil out.taken ∙ ap (λ (o : Out Request). o.taken) taken))
+            (done_on keeper desk.start desk.book book (keeper.limits desk.start) before desk.requests.taken (request ∷ []) (subst (λ (u : Option Refusal). MayCrash keeper desk.start desk.book (keeper.limits desk.start) before (desk.requests.taken ++ refused_in u)) (asked.kept.kept asked.going) stands.crash) crash);
       }
 
     -- it keeps what every collector does
     pub keeps :
         ((a : ℕ) → IsNumbered (λ (r : Request). r.number) (from_agent (λ (r : Request). r.agent) a out.taken)) → (sent : Bool) (d : Half Answer) → IsAnswerSent sent desk.answers answer halves → (failed ≡ false → sent ≡ true) → keeper.limits book ≡ keeper.limits desk.start
         → keeper.sealed book ≤ keeper.sealed desk.book + 1
-        → ((before : List Exchange) → BeginsWith keeper desk.start before → (answer ≡ answer_of (next_exchange keeper before desk request)) × keeper.has book (history keeper before desk ++ next_exchange keeper before desk request ∷ []) []) → IsDesk keeper new
+        → ((before : List Exchange) → BeginsWith keeper desk.start before → (answer ≡ answer_of (next_exchange keeper before desk request)) × keeper.has book (history keeper before desk ++ next_exchange keeper before desk request ∷ []) [] × MayCrash keeper desk.book book (keeper.limits desk.start) (history keeper before desk) (request ∷ [])) → IsDesk keeper new
     keeps numbered sent d is_sent going_on limits sealed book_is =
         let same = long sent d is_sent in
         let first = asked.kept.first in
@@ -272,7 +277,7 @@ module _ {B : Type 0} (keeper : Keeper B) (desk : Desk B) (request : Request) (a
           kept = λ _. refl;
           next = tt;
           counted = λ well a d' inside. counted_new (subst (λ (it : Bool). IsAnswerSent it desk.answers answer halves) (going_on well) is_sent) a d' (omega arith);
-          stands = λ before begins. stands_on before (asked.kept.stands before begins) (book_is before begins).0 sent d is_sent (book_is before begins).1 going_on;
+          stands = λ before begins. stands_on before (asked.kept.stands before begins) (book_is before begins).0 sent d is_sent (book_is before begins).1 (book_is before begins).2 going_on;
         }
 
 -- a collector that has not failed has no reason for it

@@ -1,17 +1,21 @@
 -- A request that a collector takes, has kept, and carries out: what is known at each of these steps.
-use Rattle.std.proofs.Common.{◌≡◌, inr, ℕ, ◌+◌, ◌<◌, ◌≤◌, Bool, true, false, List, [], ◌∷◌, ◌++◌, length, take, ap, sym, ◌∙◌, subst, true≢false, arith}
+use Rattle.std.proofs.Common.{◌≡◌, inr, ℕ, ◌+◌, ◌<◌, ◌≤◌, Bool, true, false, List, [], ◌∷◌, ◌++◌, length, take, ap, sym, ◌∙◌, subst, refl, true≢false, arith}
 use Rattle.std.proofs.lemmas.List.{take_at}
+use Rattle.dsn_book.specs.Keeper.{MayCrash}
 use Rattle.dsn_book.specs.declared.keeper.Keeper.{Ghosts as Keeper}
-use Rattle.std.specs.Prelude.{Option, Some, IfSome, is_some}
+use Rattle.dsn_book.proofs.CrashLemmas.{stood_still}
+use Rattle.std.specs.Prelude.{Option, None, Some, IfSome, is_some}
 use Rattle.dsn_lane.specs.Halves.{Half, Out}
 use Rattle.dsn_lane.specs.Lane.{IsNumbered}
 use Rattle.dsn_outcome.specs.Agents.{from_agent}
-use Rattle.dsn_outcome.specs.History.{Exchange, answer_of, exchange_of, letter_of}
+use Rattle.dsn_outcome.specs.History.{Exchange, answer_of, exchange_of, history_after, letter_of}
 use Rattle.dsn_outcome.specs.Letter.{Letter}
 use Rattle.dsn_outcome.specs.Request.{Request}
 use Rattle.dsn_outcome.specs.declared.answer.Answer.{Answer}
-use Rattle.dsn_crew.specs.desk.Desk.{AreCounted, BeginsWith, Desk, HasStopped, IsAnswerSent, IsDesk, IsNextOf, Refusal, StandsOrRefused, carried_out, desk_of, desk_seen, history, next_exchange, seen_half, taken_request}
+use Rattle.dsn_crew.specs.desk.Desk.{AreCounted, BeginsWith, Desk, HasStopped, IsAnswerSent, IsDesk, IsNextOf, MayBeSent, Refusal, StandsOrRefused, carried_out, refused_in, desk_of, desk_seen, history, next_exchange, seen_half, taken_request}
 use Rattle.dsn_crew.specs.declared.desk.stop_cause.StopCause.{StopCause}
+use Rattle.dsn_crew.proofs.desk.CrashLemmas.{LeavesKept, done_on, none_done}
+use Rattle.dsn_crew.proofs.desk.EarlierLemmas.{more_after}
 use Rattle.dsn_crew.proofs.desk.DeskLemmas.{IsAsked, keeps, seen_going, seen_whole}
 
 -- ---- the half
@@ -32,13 +36,20 @@ took_one old new request same more = λ i. record { lane = same.0 i; first = sam
 
 -- ---- the collector
 
--- what a keeper stands for, once it has kept what it was asked to or refused it
+-- what a keeper stands for, once it has kept what it was asked to or refused it, and what a crash
+-- leaves at each moment of that
 abbrev pub IsTied : {B : Type 0} → Keeper B → B → B → Option Refusal → Type 0
-IsTied keeper book new_book unkept = (t : List Exchange) → keeper.has book t [] → StandsOrRefused keeper unkept t new_book
+IsTied keeper book new_book unkept = (t : List Exchange) → keeper.has book t [] → StandsOrRefused keeper unkept t new_book × MayCrash keeper book new_book (keeper.limits book) t (refused_in unkept)
+
+-- one that was asked nothing
+pub unmoved_tied : {B : Type 0} (keeper : Keeper B) (book : B) → LeavesKept keeper → IsTied keeper book book None
+unmoved_tied keeper book law = λ t has. (has, none_done keeper book book book (keeper.limits book) t [] law refl has)
 
 -- one that refused this request
-pub refused_tied : {B : Type 0} (keeper : Keeper B) (book new_book : B) (unkept : Option Refusal) (refusal : Refusal) → unkept ≡ Some refusal → keeper.refuses book (refusal.request ∷ []) refusal.why new_book → IsTied keeper book new_book unkept
-refused_tied keeper book new_book unkept refusal is refuses = λ t has. subst (λ (u : Option Refusal). StandsOrRefused keeper u t new_book) (sym is) (book, has, refuses)
+pub refused_tied : {B : Type 0} (keeper : Keeper B) (book new_book : B) (unkept : Option Refusal) (refusal : Refusal) → unkept ≡ Some refusal → keeper.refuses book (refusal.request ∷ []) refusal.why new_book
+    → ((t : List Exchange) → keeper.has book t [] → MayCrash keeper book new_book (keeper.limits book) t (refusal.request ∷ [])) → IsTied keeper book new_book unkept
+refused_tied keeper book new_book unkept refusal is refuses crash =
+    λ t has. subst (λ (u : Option Refusal). StandsOrRefused keeper u t new_book × MayCrash keeper book new_book (keeper.limits book) t (refused_in u)) (sym is) ((book, has, refuses), crash t has)
 
 -- that request is the next of its agent
 pub refused_next : (unkept : Option Refusal) (refusal : Refusal) (agents : ℕ) (taken : List Request) → unkept ≡ Some refusal → refusal.request.agent < agents → refusal.request.number ≡ length (from_agent (λ (r : Request). r.agent) refusal.request.agent taken) → IfSome unkept (λ it. IsNextOf agents taken it.request)
@@ -91,9 +102,11 @@ module _ {B : Type 0} (keeper : Keeper B) (start book : B) (stop : Option StopCa
         counted = λ never. absurd (true≢false never);
         stands = λ before begins.
             let then = desk_here.stands before begins in record {
-              has = tied _ (has_here before begins);
+              has = (tied _ (has_here before begins)).0;
               sent = then.sent;
               answered = λ never. absurd (true≢false never);
+              crash = done_on keeper start book new_book (keeper.limits start) before out.taken (refused_in unkept) then.crash
+                  (subst (λ l. MayCrash keeper book new_book l (history keeper before (desk_of start book out lines missed (is_some stop))) (refused_in unkept)) desk_here.limits (tied _ (has_here before begins)).1);
             };
       })
 
@@ -130,11 +143,29 @@ module _ {B : Type 0} (keeper : Keeper B) (start book : B) (stop : Option StopCa
             subst (λ l. keeper.has new_book (history keeper before (desk_of start book out lines missed (is_some stop)) ++ exchange_of l (history keeper before (desk_of start book out lines missed (is_some stop))) request ∷ []) []) limits_here
             (has _ [] (kept_has _ (has_here before begins)))
 
+        -- what a crash leaves meanwhile
+        crash_says : ((t : List Exchange) → keeper.has book t [] → MayCrash keeper book kept_book (keeper.limits book) t (request ∷ [])) → (keeper.moment new_book ≡ keeper.moment kept_book) × ((t : ℕ) (left : List ℕ) → keeper.left_since new_book t left → keeper.left_since kept_book t left) → (before : List Exchange) → BeginsWith keeper start before
+            → MayCrash keeper book new_book (keeper.limits start) (history keeper before (desk_of start book out lines missed (is_some stop))) (request ∷ [])
+        crash_says crash still before begins =
+            stood_still keeper.moment keeper.left_since book kept_book new_book _ still.0 still.1
+            (subst (λ l. MayCrash keeper book kept_book l (history keeper before (desk_of start book out lines missed (is_some stop))) (request ∷ [])) desk_here.limits (crash _ (has_here before begins)))
+
+        -- the answer may be sent
+        pub may_be_sent : (taken : List Request) → taken ≡ out.taken ++ request ∷ [] → (before : List Exchange) → BeginsWith keeper start before → MayBeSent keeper (keeper.limits start) before taken new_book answer
+        may_be_sent taken is before begins = record {
+          earlier = out.taken;
+          last = request;
+          taken_are = is;
+          has = subst (λ h. keeper.has new_book h []) (sym (ap (history_after (keeper.limits start) before) is ∙ more_after (keeper.limits start) before out.taken request)) (has_says before begins);
+          answers = answer_says before begins;
+        }
+
         -- the collector keeps what it does, with the request more, and its answer sent or lost
         pub carried_on :
-            (new_out : Out Request) (new_lines : List (Half Answer)) (new_failed : Bool) → new_out ≡ taken_request out request → ((a : ℕ) → IsNumbered (λ (r : Request). r.number) (from_agent (λ (r : Request). r.agent) a new_out.taken)) → (sent : Bool) (d : Half Answer)
+            ((t : List Exchange) → keeper.has book t [] → MayCrash keeper book kept_book (keeper.limits book) t (request ∷ [])) → (keeper.moment new_book ≡ keeper.moment kept_book) × ((t : ℕ) (left : List ℕ) → keeper.left_since new_book t left → keeper.left_since kept_book t left)
+            → (new_out : Out Request) (new_lines : List (Half Answer)) (new_failed : Bool) → new_out ≡ taken_request out request → ((a : ℕ) → IsNumbered (λ (r : Request). r.number) (from_agent (λ (r : Request). r.agent) a new_out.taken)) → (sent : Bool) (d : Half Answer)
             → IsAnswerSent sent lines answer new_lines → (new_failed ≡ false → sent ≡ true) → keeper.limits new_book ≡ keeper.limits kept_book → keeper.sealed kept_book ≡ keeper.sealed book → keeper.sealed new_book ≤ keeper.sealed kept_book + 1
             → IsDesk keeper (desk_of start new_book new_out new_lines missed new_failed)
-        carried_on new_out new_lines new_failed taken numbered sent d is_sent going_on limits kept_sealed sealed =
+        carried_on crash still new_out new_lines new_failed taken numbered sent d is_sent going_on limits kept_sealed sealed =
             keeps keeper (desk_of start book out lines missed (is_some stop)) request answer asked new_book new_out new_lines missed new_failed taken numbered sent d is_sent going_on (limits ∙ limits_here) (omega arith)
-            (λ before begins. (answer_says before begins, has_says before begins))
+            (λ before begins. (answer_says before begins, has_says before begins, crash_says crash still before begins))

@@ -2,13 +2,14 @@
 use Rattle.std.specs.Prelude.{◌≡◌, ◌≢◌, ◌⊎◌, ℕ, zero, suc, ◌+◌, ◌^◌, ◌<◌, ◌≤◌, Bool, true, false, ◌==◌, ◌&&◌, ◌||◌, not, List, [], ◌∷◌, ◌++◌, length, map, filter, take, slice_set, All, Result, Ok, Err, is_err, Option, Some, None, IfSome, is_some}
 use mathlib.Core.List.{IsPrefix}
 use Rattle.std.specs.List.{slice_index_or}
+use Rattle.dsn_book.specs.Keeper.{MayCrash}
 use Rattle.dsn_book.specs.declared.keeper.Keeper.{Ghosts as Keeper}
 use Rattle.dsn_book.specs.declared.not_kept.NotKept.{NotKept}
 use Rattle.dsn_book.specs.Step.{letters_in}
 use Rattle.dsn_lane.specs.Halves.{Half, Out}
 use Rattle.dsn_lane.specs.Lane.{IsNumbered, most_agents}
 use Rattle.dsn_outcome.specs.Agents.{from_agent}
-use Rattle.dsn_outcome.specs.History.{Exchange, answer_of, answers_to, exchange_of, history_after, letter_of, sealed_letters}
+use Rattle.dsn_outcome.specs.History.{Limits, Exchange, answer_of, answers_to, exchange_of, history_after, letter_of, sealed_letters}
 use Rattle.dsn_outcome.specs.Letter.{Letter}
 use Rattle.dsn_outcome.specs.Request.{Request, Body, Append, Flush, Discard, Forget, Bye}
 use Rattle.dsn_outcome.specs.declared.answer.Answer.{Answer}
@@ -156,15 +157,34 @@ StandsOrRefused {B} keeper (Some refusal) exchanges book =
     (was : B) × keeper.has was exchanges []
     × keeper.refuses was (refusal.request ∷ []) refusal.why book
 
+-- the request that was not kept, where one wasn't
+abbrev pub refused_in : Option Refusal → List Request
+refused_in None = []
+refused_in (Some refusal) = refusal.request ∷ []
+
 -- a collector that began with a history: its book stands for what it took, and awaits nothing, or
 -- did so until it refused a request; what it sent each agent are the first of the answers which
--- that history gives the agent, and all of them unless it failed
+-- that history gives the agent, and all of them unless it failed. At each moment since it began a
+-- crash leaves the history with the first of the requests that it took, and of the one behind them
+-- that was not kept
 pub record StandsAfter {B : Type 0} (keeper : Keeper B) (before : List Exchange)
     (desk : Desk B) : Type 0 where
   pub has : StandsOrRefused keeper desk.unkept (history keeper before desk) desk.book
   pub sent : (a : ℕ) (d : Half Answer) → a < length desk.answers
       → IsPrefix (slice_index_or desk.answers a d).sent (answers_to a (history keeper before desk))
   pub answered : desk.failed ≡ false → AreAnswered desk.answers (history keeper before desk)
+  pub crash : MayCrash keeper desk.start desk.book (keeper.limits desk.start) before
+      (desk.requests.taken ++ refused_in desk.unkept)
+
+-- an answer that may be sent after a history: it is that of the last request which was taken, and what
+-- carries requests out stands for the history with all that were taken, so that a crash leaves them
+pub record MayBeSent {B : Type 0} (keeper : Keeper B) (limits : Limits) (before : List Exchange)
+    (taken : List Request) (book : B) (answer : Answer) : Type 0 where
+  pub earlier : List Request
+  pub last : Request
+  pub taken_are : taken ≡ earlier ++ last ∷ []
+  pub has : keeper.has book (history_after limits before taken) []
+  pub answers : answer ≡ answer_of (exchange_of limits (history_after limits before earlier) last)
 
 -- the request is the next of one of so many agents, behind those that were carried out
 pub record IsNextOf (agents : ℕ) (taken : List Request) (request : Request) : Type 0 where

@@ -6,7 +6,7 @@ ghost use Rattle.dsn_lane.specs.Lane.{most_agents, most_sent};
 ghost use Rattle.dsn_outcome.specs.History.{Exchange};
 ghost use Rattle.dsn_outcome.specs.declared.answer.Answer.{Answer};
 ghost use Rattle.dsn_crew.specs.desk.Open.{AreLines};
-ghost use Rattle.dsn_crew.specs.desk.Desk.{BeginsWith, IsAnswerSent, HasRoom, IsDesk, IsRun, IsRequestTaken, IsStopped, all_gone, desk_of, goodbyes, missing, most_taken, places_of, with_failed};
+ghost use Rattle.dsn_crew.specs.desk.Desk.{BeginsWith, IsAnswerSent, HasRoom, IsDesk, IsRun, IsRequestTaken, IsStopped, MayBeSent, all_gone, desk_of, goodbyes, missing, most_taken, places_of, with_failed};
 
 use crate::desk::answer_lane::AnswerLane;
 use crate::desk::desk_fault::DeskFault;
@@ -165,7 +165,14 @@ impl<B: Keeper> Desk<B> {
         let agent = request.agent;
         self.gone += u32::from(request.body.is_bye());
         let Step { answer, letter } = self.book.apply(request);
-        match send_answer(rt, &mut self.lines, answer) {
+        match send_answer(
+            rt,
+            &mut self.lines,
+            &self.start,
+            &self.requests,
+            &self.book,
+            answer,
+        ) {
             Ok(()) => Ok(letter),
             Err(gone) => {
                 self.stop = Some(StopCause::Gone(gone));
@@ -231,8 +238,22 @@ impl<B: Keeper> Desk<B> {
     }
 }
 
-/// Sends an answer over the lane of its agent, or says what the lane reported where the agent is gone.
-fn send_answer(rt: &impl Wait, lines: &mut Vec<AnswerLane>, answer: Answer) -> Result<(), LaneGone>
+/// Sends an answer over the lane of its agent, or says what the lane reported where the agent is
+/// gone.
+///
+/// Requires that the answer is of the last request that was taken, and that `_book` stands for the
+/// history with all of them. So a crash leaves each of them: [`Keeper`] says what it leaves.
+fn send_answer<B: Keeper>(
+    rt: &impl Wait,
+    lines: &mut Vec<AnswerLane>,
+    _start: &Snapshot<B>,
+    _requests: &LaneOut<Request>,
+    _book: &B,
+    answer: Answer,
+) -> Result<(), LaneGone>
+    requires kept { (before : List Exchange) → BeginsWith B.Keeper _start.now.value before
+        → MayBeSent B.Keeper (B.limits _start.now.value) before _requests.now.taken _book.now
+        answer }
     requires within { answer.agent < length lines.old.items }
     requires agent { (d : Half Answer)
         → (slice_index_or lines.old.items answer.agent d).agent ≡ answer.agent }

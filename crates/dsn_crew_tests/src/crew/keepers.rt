@@ -138,3 +138,51 @@ fn what_a_crew_answers_is_found_again(rt: HostRuntime) -> Result<(), Fail> {
     same(&rt, met, [true; 4]);
     Ok(())
 }
+
+/// The disk of a ledger over a new disk of 192 bytes, over which a crew took two appends.
+fn run_over_disk<R: Threads + Wait + Sync>(rt: &R, alloc: Global) -> Result<MemoryDisk, Fail> {
+    let limits = Limits::new(8, 8, 8).ok_or("limits")?;
+    let disk = MemoryDisk::new(alloc, vec![in alloc; 0; 192]?);
+    let ledger = open_disk(alloc, disk, limits)?;
+    if !ledger.is_settled() || ledger.base() > 0 || ledger.book().sealed() > 1_000 {
+        return Err(Fail::from("not new"));
+    }
+    ledgers_have_one_history();
+    ledgers_have_earlier_histories();
+    let keeper = KeptBook::new(alloc, ledger);
+    let (cause, left) = run_keeper(rt, alloc, keeper)?;
+    if cause.is_some() {
+        return Err(Fail::from("a fault"));
+    }
+    Ok(left.into_ledger().into_disk())
+}
+
+/// How many outcomes are in the log that these bytes leave open.
+fn outcomes_left(alloc: Global, bytes: Vec<u8>) -> Result<u32, Fail> {
+    let limits = Limits::new(8, 8, 8).ok_or("limits")?;
+    let ledger = open_disk(alloc, MemoryDisk::new(alloc, bytes), limits)?;
+    let logs = ledger.book().open_lines(alloc)?;
+    Ok(logs.first().map_or(0, |log| log.count))
+}
+
+// At each moment of a run a crash leaves the first of the requests, and never fewer later on.
+#[test]
+fn crash_leaves_the_first_of_what_a_crew_took(rt: HostRuntime) -> Result<(), Fail> {
+    let alloc = rt.alloc();
+    let disk = run_over_disk(&rt, alloc)?;
+    let mut met = [false; 3];
+    for lost in [0u64, u64::MAX, 0x5555_5555_5555_5555] {
+        let mut before = 0u32;
+        for moment in 0..disk.moment() {
+            let left = outcomes_left(alloc, disk.crashed(moment, lost)?)?;
+            if left < before || left as usize >= met.len() {
+                return Err(Fail::from("not the first of them"));
+            }
+            met[left as usize] = true;
+            before = left;
+        }
+    }
+    let last = outcomes_left(alloc, disk.crashed(disk.moment(), u64::MAX)?)?;
+    same(&rt, (last, met), (2, [true; 3]));
+    Ok(())
+}

@@ -1,22 +1,37 @@
 -- Runs over a journal: a ledger that awaits nothing is one to begin with.
-use Rattle.std.proofs.Common.{◌≡◌, ℕ, ◌<◌, true, List, [], ◌∷◌, ◌++◌, length, arith, refl, sym, subst, ◌∙◌}
+use Rattle.std.proofs.Common.{◌≡◌, ◌⊎◌, inl, inr, ⊎_elim, ℕ, ◌+◌, ◌-◌, ◌^◌, ◌<◌, ◌≤◌, Bool, true, List, [], ◌∷◌, ◌++◌, length, arith, refl, sym, subst, ap, lt_of_not-le, ◌∙◌}
+use Rattle.std.specs.Prelude.{IsErrOf, Result, min}
+use Rattle.std.proofs.Math.Nat.{min-eq_left}
 use Rattle.std.proofs.lemmas.List.{append-nil}
 use Rattle.dsn_device.specs.declared.drain.Drain.{Ghosts as Drain}
 use Rattle.dsn_outcome.specs.History.{Limits, Exchange, answers_to}
 use Rattle.dsn_outcome.specs.Letter.{Letter}
+use Rattle.dsn_outcome.specs.Request.{Request}
+use Rattle.dsn_book.specs.Keeper.{MayCrash}
 use Rattle.dsn_crew.specs.desk.Desk.{BeginsWith}
 use Rattle.dsn_journal.specs.EarlierRuns.{HaveHistoryOfLedger, of_earlier_run}
-use Rattle.dsn_journal.specs.Header.{StandsForFile, with_header}
+use Rattle.dsn_journal.specs.Compacted.{compacted}
+use Rattle.dsn_journal.specs.Header.{SayHistory, StandsForFile, base_limit, with_header}
 use Rattle.dsn_journal.specs.InPlace.{AreRecordsInPlaceOf, IsLedgerInPlaceOf}
-use Rattle.dsn_journal.specs.Ledger.{earlier_agent}
+use Rattle.dsn_journal.specs.Journal.{IsSettled}
+use Rattle.dsn_journal.specs.KeptBook.{HasKept, ledger_keeper}
+use Rattle.dsn_journal.specs.Ledger.{AreKept, earlier_agent, records_of}
 use Rattle.dsn_journal.specs.OpenLedger.{AwaitsInPlaceOf, AwaitsRequests, Ledger}
 use Rattle.dsn_journal.specs.MarkedOutbox.{MarkedOutbox}
 use Rattle.dsn_journal.specs.Marks.{SayMark}
 use Rattle.dsn_journal.specs.Posting.{AreToPost}
-use Rattle.dsn_journal.specs.Records.{recovered}
+use Rattle.dsn_journal.specs.Moments.{LeavesOnly}
+use Rattle.dsn_journal.specs.Opening.{IsLeftByOpening}
+use Rattle.dsn_journal.specs.Records.{StandsForSome, encoded, recovered}
 use Rattle.dsn_journal.specs.declared.disk.Disk
-use Rattle.dsn_report.specs.Outgoing.{Outgoing}
-use Rattle.noticed_lib.specs.daemon.Journaled.{BeginsAnew, IsNoStart, IsNoStartOverLedger, IsStartOver, IsStartOverLedger, ledger_keeper, no_outbox, not_put_away, of_journal, of_letters, of_outbox, too_many_letters}
+use Rattle.dsn_journal.specs.declared.journal_error.JournalError.TheVariants.{Memory, Full}
+use Rattle.dsn_journal.specs.declared.keep_error.KeepError.{KeepError}
+use Rattle.dsn_journal.specs.declared.keep_error.KeepError.TheVariants.{Unsettled, Journal}
+use Rattle.dsn_journal.proofs.KeptBooks.{has_kept, nothing_kept, some_kept}
+use Rattle.dsn_journal.proofs.LedgersInPlace.{headed}
+use Rattle.dsn_journal.proofs.Moments.{joined, weaker}
+use Rattle.dsn_report.specs.Outgoing.{Delivered, Outgoing}
+use Rattle.noticed_lib.specs.daemon.Journaled.{BeginsAnew, HasPostedFirst, IsNoStart, IsNoStartOverLedger, IsPostedFirst, IsStartOver, IsStartOverLedger, StartsWith, WhyNoStart, marking_drain, no_outbox, not_put_away, of_journal, of_letters, of_outbox, too_many_letters}
 
 -- letters before no others are all of them
 pub none_left : {A : Type 0} (all done rest : List A) → all ≡ done ++ rest → length rest ≡ 0 → done ≡ all
@@ -24,25 +39,25 @@ none_left all done [] split none = sym (split ∙ append-nil done)
 none_left all done (first ∷ rest) split none = absurd (omega (arith, none))
 
 module _ {D : Type 0} (disk : Disk.Ghosts D) (ledger : Ledger D) (settled : ledger.settled ≡ true) (awaits : AwaitsRequests disk ledger []) where
-  has : (long : List Exchange) → IsLedgerInPlaceOf ledger.book ledger.base (recovered (disk.seen ledger.journal.disk)) long → (ledger.settled ≡ true) × AwaitsInPlaceOf disk ledger [] long
-  has long in_place = (
-    settled,
-    record {
-      many = awaits.many;
-      front = recovered (disk.seen ledger.journal.disk);
-      in_place = in_place;
-      kept = awaits.kept;
-      file = sym (append-nil (recovered (disk.seen ledger.journal.disk)));
-    },
-  )
+  has : IsSettled disk ledger.journal.disk ledger.journal.used → (long : List Exchange) → IsLedgerInPlaceOf ledger.book ledger.base (recovered (disk.seen ledger.journal.disk)) long → HasKept disk ledger long []
+  has durable long in_place =
+      has_kept disk ledger long []
+      (record {
+        many = awaits.many;
+        front = recovered (disk.seen ledger.journal.disk);
+        in_place = in_place;
+        kept = awaits.kept;
+        file = sym (append-nil (recovered (disk.seen ledger.journal.disk)));
+      })
+      settled durable
 
   -- its book and its base stand for all of its file
   pub stands_for_all : StandsForFile ledger.book ledger.base (recovered (disk.seen ledger.journal.disk))
   stands_for_all = subst (StandsForFile ledger.book ledger.base) (sym (awaits.file ∙ append-nil awaits.front)) awaits.stands
 
-  module _ (earlier : (long : List Exchange) → IsLedgerInPlaceOf ledger.book ledger.base (recovered (disk.seen ledger.journal.disk)) long → IsLedgerInPlaceOf ledger.book ledger.base (recovered (disk.seen ledger.journal.disk)) (of_earlier_run long)) (unanswered : (agent : ℕ) (long : List Exchange) → agent < earlier_agent → answers_to agent (of_earlier_run long) ≡ []) where
+  module _ (durable : IsSettled disk ledger.journal.disk ledger.journal.used) (earlier : (long : List Exchange) → IsLedgerInPlaceOf ledger.book ledger.base (recovered (disk.seen ledger.journal.disk)) long → IsLedgerInPlaceOf ledger.book ledger.base (recovered (disk.seen ledger.journal.disk)) (of_earlier_run long)) (unanswered : (agent : ℕ) (long : List Exchange) → agent < earlier_agent → answers_to agent (of_earlier_run long) ≡ []) where
     each : (long : List Exchange) → IsLedgerInPlaceOf ledger.book ledger.base (recovered (disk.seen ledger.journal.disk)) long → BeginsWith (ledger_keeper disk) ledger (of_earlier_run long)
-    each long in_place = (has (of_earlier_run long) (earlier long in_place), λ agent few. unanswered agent long few)
+    each long in_place = (has durable (of_earlier_run long) (earlier long in_place), λ agent few. unanswered agent long few)
 
     pub begins_anew : HaveHistoryOfLedger ledger.book ledger.base (recovered (disk.seen ledger.journal.disk)) → BeginsAnew disk ledger
     begins_anew some = record { some = (of_earlier_run some.long, each some.long some.in_place); each = each }
@@ -59,29 +74,113 @@ none_awaited disk ledger history awaits = record {
 
 -- what an opened ledger's start comes to, over the disks and the outbox that were given
 module _ {D M W : Type 0} (disk : Disk.Ghosts D) (marks_disk : Disk.Ghosts M) (drain : Drain W) (host : List ℕ) (limits : Limits) (journal : D) (marks : M) (outbox : W) (marked : MarkedOutbox W M) (letters : List Letter) (opened ledger : Ledger D) (poster : Outgoing (MarkedOutbox W M)) where
-  pub start_is : marked.outbox ≡ outbox → SayMark (recovered (marks_disk.seen marks)) marked.marks.mark
-      → opened.book.limits ≡ limits
+  -- all letters that were handed out were given to the poster
+  pub first_is : marked.outbox ≡ outbox → SayMark (recovered (marks_disk.seen marks)) marked.marks.mark
       → recovered (disk.seen opened.journal.disk) ≡ with_header limits (recovered (disk.seen journal))
-      → ((long : List Exchange) → AreRecordsInPlaceOf limits (recovered (disk.seen opened.journal.disk)) long → IsLedgerInPlaceOf opened.book opened.base (recovered (disk.seen opened.journal.disk)) long)
       → AreToPost limits marked.marks.mark (recovered (disk.seen opened.journal.disk)) letters
-      → IsStartOverLedger disk drain host marked letters opened ledger poster
-      → IsStartOver disk marks_disk drain host limits journal marks outbox ledger poster
-  start_is outbox_is mark_is limits_are same in_place to_post start = record {
-    limits_are = start.limits_are ∙ limits_are;
-    few = start.few;
-    all_sent = start.all_sent;
-    begins = start.begins;
-    begins_with = λ long records. start.begins_with long (in_place long (subst (λ rs. AreRecordsInPlaceOf limits rs long) (sym same) records));
+      → Delivered (marking_drain drain) host marked poster letters
+      → IsPostedFirst disk marks_disk drain host limits journal marks outbox poster
+  first_is outbox_is mark_is same to_post delivered = record {
     from = record { host = host; start = marked; first = letters; outbox = poster.poster.outbox };
-    posted = record { delivered = start.delivered; outbox = refl };
+    posted = record { delivered = delivered; outbox = refl };
     host_is = refl;
     outbox_is = outbox_is;
     mark_is = mark_is;
     first_are = subst (λ rs. AreToPost limits marked.marks.mark rs letters) same to_post;
   }
 
+  -- a file as it is once it is opened
+  opened_with : (left : List ℕ) (long : List Exchange) → StartsWith limits (disk.seen journal) long → IsLeftByOpening limits (disk.seen journal) left → StartsWith limits left long
+  opened_with left long starts by =
+      ⊎_elim
+      (λ same. subst (λ (rs : List (List ℕ)). AreRecordsInPlaceOf limits (with_header limits rs) long) (sym same) starts)
+      (λ same. subst (λ (rs : List (List ℕ)). AreRecordsInPlaceOf limits rs long) (sym (ap (with_header limits) same ∙ headed limits (with_header limits (recovered (disk.seen journal))) long starts)) starts)
+      by.opens
+
+  -- what a crash leaves until the run begins
+  crash_is : opened.book.limits ≡ limits
+      → recovered (disk.seen opened.journal.disk) ≡ with_header limits (recovered (disk.seen journal))
+      → ((long : List Exchange) → AreRecordsInPlaceOf limits (recovered (disk.seen opened.journal.disk)) long → IsLedgerInPlaceOf opened.book opened.base (recovered (disk.seen opened.journal.disk)) long)
+      → LeavesOnly disk journal opened.journal.disk (λ left. disk.may_leave journal left ⊎ IsLeftByOpening limits (disk.seen journal) left)
+      → IsStartOverLedger disk drain host marked letters opened ledger poster
+      → (long : List Exchange) → StartsWith limits (disk.seen journal) long → LeavesOnly disk journal ledger.journal.disk (λ left. disk.may_leave journal left ⊎ StartsWith limits left long)
+  crash_is limits_are same in_place opening start long starts =
+      joined disk journal opened.journal.disk ledger.journal.disk _
+      (weaker disk journal opened.journal.disk _ _ (λ left or. ⊎_elim (λ was. inl was) (λ by. inr (opened_with left long starts by)) or) opening)
+      (weaker disk opened.journal.disk ledger.journal.disk _ _
+      (λ left reopens. let records = subst (λ l. AreRecordsInPlaceOf l (recovered left) long) limits_are reopens in
+      inr (subst (λ rs. AreRecordsInPlaceOf limits rs long) (sym (headed limits (recovered left) long records)) records))
+      (start.crash long (in_place long (subst (λ rs. AreRecordsInPlaceOf limits rs long) (sym same) starts))))
+
+  pub start_is : marked.outbox ≡ outbox → SayMark (recovered (marks_disk.seen marks)) marked.marks.mark
+      → opened.book.limits ≡ limits
+      → recovered (disk.seen opened.journal.disk) ≡ with_header limits (recovered (disk.seen journal))
+      → ((long : List Exchange) → AreRecordsInPlaceOf limits (recovered (disk.seen opened.journal.disk)) long → IsLedgerInPlaceOf opened.book opened.base (recovered (disk.seen opened.journal.disk)) long)
+      → AreToPost limits marked.marks.mark (recovered (disk.seen opened.journal.disk)) letters
+      → LeavesOnly disk journal opened.journal.disk (λ left. disk.may_leave journal left ⊎ IsLeftByOpening limits (disk.seen journal) left)
+      → IsStartOverLedger disk drain host marked letters opened ledger poster
+      → IsStartOver disk marks_disk drain host limits journal marks outbox ledger poster
+  start_is outbox_is mark_is limits_are same in_place to_post opening start = record {
+    limits_are = start.limits_are ∙ limits_are;
+    few = start.few;
+    all_sent = start.all_sent;
+    begins = start.begins;
+    begins_with = λ long records. start.begins_with long (in_place long (subst (λ rs. AreRecordsInPlaceOf limits rs long) (sym same) records));
+    crash = crash_is limits_are same in_place opening start;
+    first = first_is outbox_is mark_is same to_post start.delivered;
+  }
+
+-- where so many letters aren't all that a mark may count, they are too many
+pub many_sealed : (sealed all : ℕ) → all ≡ min sealed (2 ^ 64 - 1) → ((sealed ≡ all) × (all < base_limit) → ⊥) → base_limit ≤ sealed
+many_sealed sealed all is none =
+    let more : base_limit < sealed + 1 =
+    lt_of_not-le (λ (few : sealed + 1 ≤ base_limit). let same : min sealed (2 ^ 64 - 1) ≡ sealed = min-eq_left (omega (arith, few)) in none (omega (arith, is, same), omega (arith, few, is, same))) in
+    omega (arith, more)
+
 -- why a start over an opened ledger came to nothing is why the start did
-pub no_start : {D M : Type 0} (disk : Disk.Ghosts D) (marks_disk : Disk.Ghosts M) (limits : Limits) (journal : D) (marks : M) (code : ℕ) → IsNoStartOverLedger code → IsNoStart disk marks_disk limits journal marks code
-no_start disk marks_disk limits journal marks code (of_outbox is) = no_outbox is
-no_start disk marks_disk limits journal marks code (of_journal cause is) = not_put_away cause is
-no_start disk marks_disk limits journal marks code (of_letters is) = too_many_letters is
+module _ {D M W : Type 0} (disk : Disk.Ghosts D) (marks_disk : Disk.Ghosts M) (drain : Drain W) (host : List ℕ) (limits : Limits) (journal : D) (marks : M) (outbox back : W) (opened : Ledger D) (code : ℕ)
+    (limits_are : opened.book.limits ≡ limits) (same : recovered (disk.seen opened.journal.disk) ≡ with_header limits (recovered (disk.seen journal))) (size : length (disk.seen opened.journal.disk) ≡ length (disk.seen journal))
+    (file : StandsForFile opened.book opened.base (recovered (disk.seen opened.journal.disk))) where
+  stands : StandsForFile opened.book opened.base (with_header limits (recovered (disk.seen journal)))
+  stands = subst (StandsForFile opened.book opened.base) same file
+
+  no_start_for : (failed : Bool) → WhyNoStart disk opened failed code → HasPostedFirst disk marks_disk drain host limits journal marks outbox failed back → IsNoStart disk marks_disk drain host limits journal marks outbox back code
+  no_start_for failed (of_outbox is code_is) posted = no_outbox code_is (subst (λ f. HasPostedFirst disk marks_disk drain host limits journal marks outbox f back) is posted)
+  no_start_for failed (of_journal is cause code_is settled longer) posted =
+      not_put_away cause code_is settled
+      (λ full. record { book = opened.book; base = opened.base; stands = stands; limits_are = limits_are; longer = subst (λ n. n < length (encoded (compacted opened.book opened.base []))) size (longer full) })
+      (subst (λ f. HasPostedFirst disk marks_disk drain host limits journal marks outbox f back) is posted)
+  no_start_for failed (of_letters is code_is many) posted =
+      too_many_letters code_is
+      (record {
+        base = opened.base;
+        history = stands.history;
+        said = subst (λ l. SayHistory l opened.base (with_header limits (recovered (disk.seen journal))) stands.history) limits_are stands.said;
+        many = subst (λ n. base_limit ≤ opened.base + n) stands.stands.sealed many;
+      })
+      (subst (λ f. HasPostedFirst disk marks_disk drain host limits journal marks outbox f back) is posted)
+
+  pub no_start : (marked : MarkedOutbox W M) (letters : List Letter) → marked.outbox ≡ outbox → SayMark (recovered (marks_disk.seen marks)) marked.marks.mark
+      → AreToPost limits marked.marks.mark (recovered (disk.seen opened.journal.disk)) letters
+      → IsNoStartOverLedger disk drain host marked letters opened back code → IsNoStart disk marks_disk drain host limits journal marks outbox back code
+  no_start marked letters outbox_is mark_is to_post none =
+      no_start_for none.poster.poster.failed none.why
+      (record {
+        poster = none.poster;
+        first = first_is disk marks_disk drain host limits journal marks outbox marked letters opened opened none.poster outbox_is mark_is same to_post none.delivered;
+        failed_is = refl;
+        back_is = none.back_is;
+      })
+
+-- at each moment of a call that lets the closed keys go, or doesn't, a crash leaves the history with the first of the requests
+-- that let them go
+pub forgot : {D : Type 0} (disk : Disk.Ghosts D) (ledger new : Ledger D) (before : List Exchange) (kept : HasKept disk ledger before []) (requests : List Request)
+    → ((left : List ℕ) → disk.left_since ledger.journal.disk (disk.moment ledger.journal.disk) left → disk.may_leave ledger.journal.disk left) → (result : Result (Unit {0}) KeepError)
+    → IsErrOf result Unsettled ⊎ (IsErrOf result (Journal Memory) ⊎ (IsErrOf result (Journal Full) ⊎ AreKept requests))
+    → (IsErrOf result Unsettled ⊎ (IsErrOf result (Journal Memory) ⊎ IsErrOf result (Journal Full)) → new ≡ ledger)
+    → LeavesOnly disk ledger.journal.disk new.journal.disk (StandsForSome (recovered (disk.seen ledger.journal.disk)) (records_of requests))
+    → MayCrash (ledger_keeper disk) ledger new ledger.book.limits before requests
+forgot disk ledger new before kept requests only_now result bodies unchanged run =
+    ⊎_elim (λ unsettled. nothing_kept disk ledger before kept requests new only_now (unchanged (inl unsettled)))
+    (λ more. ⊎_elim (λ memory. nothing_kept disk ledger before kept requests new only_now (unchanged (inr (inl memory))))
+    (λ last. ⊎_elim (λ full. nothing_kept disk ledger before kept requests new only_now (unchanged (inr (inr full)))) (λ are. some_kept disk ledger before kept requests new are run) last) more) bodies

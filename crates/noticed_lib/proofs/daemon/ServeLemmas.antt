@@ -2,7 +2,7 @@
 use Rattle.std.proofs.Common.{◌≡◌, ℕ, suc, ◌<◌, ◌≤◌, ◌⊎◌, List, [], ◌∷◌, All, length, replicate, false, inl, inr, refl, subst, arith}
 use Rattle.std.proofs.lemmas.List.{length-replicate}
 use Rattle.std.proofs.lemmas.List.Elements.{All-cons, All-head, All-nil, All-tail}
-use Rattle.std.specs.Prelude.{None}
+use Rattle.std.specs.Prelude.{Option, None}
 use Rattle.dsn_book.specs.Keeper.{book_keeper}
 use Rattle.dsn_book.specs.declared.keeper.Keeper.{Ghosts as Keeper}
 use Rattle.dsn_crew.specs.agents.Agent.{LaneHalves}
@@ -19,7 +19,8 @@ use Rattle.dsn_outcome.specs.History.{Limits, Exchange, history_of, sealed_lette
 use Rattle.dsn_outcome.specs.Letter.{Letter}
 use Rattle.dsn_outcome.specs.Request.{Request}
 use Rattle.dsn_report.specs.Outgoing.{Outgoing}
-use Rattle.noticed_lib.specs.daemon.Journaled.{IsRunOver, IsServeOver, ledger_keeper, marking_drain}
+use Rattle.noticed_lib.specs.daemon.Journaled.{IsRunOver, IsServeOver, marking_drain}
+use Rattle.dsn_journal.specs.KeptBook.{ledger_keeper}
 use Rattle.noticed_lib.specs.daemon.Serve.{IsServe, WritesFault}
 use Rattle.noticed_lib.specs.daemon.SocketUses.{IsWithin, socket_port}
 use Rattle.noticed_lib.specs.declared.daemon.serve_end.ServeEnd.{ServeEnd}
@@ -89,9 +90,9 @@ module _ {P S : Type 0} (port : Port P S) (untold : (one : P) → port.conns one
     })
 
   -- and of a run over a journal
-  module _ {D M W N : Type 0} (disk : Disk.Ghosts D) (marks_disk : Disk.Ghosts M) (drain : Drain W) (notes_device : Drain N) (host : List ℕ) (limits : Limits) (ports : List P) (fit : All Fits ports) (journal : D) (marks : M) (outbox : W) (notes later : N) (end : ServeEnd W) where
-    run-uses : (ledger : Ledger D) (poster : Outgoing (MarkedOutbox W M)) → IsRunOver disk port drain notes_device ports ledger poster notes later end
-        → IsRunOver disk (socket_port may_end) drain notes_device (replicate (length ports) uses) ledger poster notes later end
+  module _ {D M W N : Type 0} (disk : Disk.Ghosts D) (marks_disk : Disk.Ghosts M) (drain : Drain W) (notes_device : Drain N) (host : List ℕ) (limits : Limits) (ports : List P) (fit : All Fits ports) (journal : D) (marks : M) (outbox : W) (notes later : N) (end : ServeEnd W) (last : Option D) where
+    run-uses : (ledger : Ledger D) (poster : Outgoing (MarkedOutbox W M)) → IsRunOver disk port drain notes_device ports ledger poster notes later end last
+        → IsRunOver disk (socket_port may_end) drain notes_device (replicate (length ports) uses) ledger poster notes later end last
     run-uses ledger poster (inl served) = inl (record {
       account = served.account;
       crew = λ from by before with_it.
@@ -99,17 +100,21 @@ module _ {P S : Type 0} (port : Port P S) (untold : (one : P) → port.conns one
           record { letters = has.letters; sealed = has.sealed; is = account-uses (ledger_keeper disk) (marking_drain drain) from ledger.book.limits before has.letters ports served.account fit has.is };
       count = rw (length-replicate (length ports)) served.count;
       noted = served.noted;
+      crash = served.crash;
+      forgets = served.forgets;
     })
     run-uses ledger poster (inr faulted) = inr (record {
       fault = faulted.fault;
       crew = λ from by before with_it. rw (length-replicate (length ports)) (faulted.crew from by before with_it);
       counted = rw (length-replicate (length ports)) faulted.counted;
       noted = faulted.noted;
+      last_is = faulted.last_is;
+      crash = rw (length-replicate (length ports)) faulted.crash;
     })
 
-    pub over-uses : IsServeOver disk marks_disk port drain notes_device host limits ports journal marks outbox notes later end
-        → IsServeOver disk marks_disk (socket_port may_end) drain notes_device host limits (replicate (length ports) uses) journal marks outbox notes later end
-    over-uses (inl none) = inl (record { code = none.code; why = none.why; back = none.back; noted = none.noted })
+    pub over-uses : IsServeOver disk marks_disk port drain notes_device host limits ports journal marks outbox notes later end last
+        → IsServeOver disk marks_disk (socket_port may_end) drain notes_device host limits (replicate (length ports) uses) journal marks outbox notes later end last
+    over-uses (inl none) = inl (record { code = none.code; back = none.back; why = none.why; noted = none.noted; none_left = none.none_left })
     over-uses (inr started) = inr (record {
       ledger = started.ledger;
       poster = started.poster;

@@ -1,30 +1,37 @@
 -- Runs over a journal: what one begins with, and what it comes to.
-use Rattle.std.specs.Prelude.{◌≡◌, ◌≢◌, ◌⊎◌, ◌↔◌, ℕ, ◌+◌, ◌^◌, ◌<◌, ◌≤◌, true, List, [], drop, length, replicate, Some}
-use Rattle.dsn_book.specs.Book.{Represents}
-use Rattle.dsn_book.specs.declared.keeper.Keeper.{Ghosts as Keeper}
-use Rattle.dsn_outcome.specs.History.{Limits, Exchange}
+use Rattle.std.specs.Prelude.{◌≡◌, ◌≢◌, ◌⊎◌, ◌↔◌, ℕ, ◌+◌, ◌^◌, ◌<◌, ◌≤◌, Bool, true, false, List, [], ◌++◌, drop, length, replicate, Option, None, Some, IfSome}
+use Rattle.std.specs.Option.{option_map}
+use Rattle.dsn_book.specs.Book.{Book, Represents}
+use Rattle.dsn_book.specs.Keeper.{MayCrash}
+use Rattle.dsn_outcome.specs.History.{Limits, Exchange, sealed_letters}
 use Rattle.dsn_outcome.specs.Letter.{Letter}
-use Rattle.dsn_crew.specs.Crew.{Account, CrewFault, HasAccount, HasFault, IsPostedBy, PostedBefore, most_ports}
+use Rattle.dsn_crew.specs.Crew.{Account, CrewFault, HasAccount, HasFault, IsPostedBy, MayCrashWithin, PostedBefore, most_ports}
 use Rattle.dsn_crew.specs.declared.crew_cause.CrewCause.TheVariants.{PortCount, Refused}
 use Rattle.dsn_crew.specs.declared.agents.port.Port.{Ghosts as Port}
 use Rattle.dsn_crew.specs.desk.Desk.{BeginsWith}
 use Rattle.dsn_device.specs.declared.drain.Drain.{Ghosts as Drain}
+use Rattle.dsn_journal.specs.Compacted.{compacted}
 use Rattle.dsn_journal.specs.EarlierRuns.{of_earlier_run}
-use Rattle.dsn_journal.specs.Header.{HasOtherHeader, with_header}
-use Rattle.dsn_journal.specs.InPlace.{AreRecordsInPlaceOf, IsLedgerInPlaceOf}
+use Rattle.dsn_journal.specs.Forgetting.{lets_go}
+use Rattle.dsn_journal.specs.Header.{HasOtherHeader, SayHistory, StandsForFile, base_limit, with_header}
+use Rattle.dsn_journal.specs.InPlace.{AreRecordsInPlaceOf, IsLedgerInPlaceOf, ReopensTo}
 use Rattle.dsn_journal.specs.KeepError.{keep_error_code}
-use Rattle.dsn_journal.specs.KeptBook.{Refuses}
+use Rattle.dsn_journal.specs.KeptBook.{HasKept, ledger_keeper}
 use Rattle.dsn_journal.specs.Ledger.{AreDamaged}
 use Rattle.dsn_journal.specs.LedgerError.{ledger_error_code}
 use Rattle.dsn_journal.specs.MarkedOutbox.{MarkedOutbox}
 use Rattle.dsn_journal.specs.Marks.{IsForeignToMarks, SayMark, SayNoMark}
 use Rattle.dsn_journal.specs.MarksError.{marks_error_code}
+use Rattle.dsn_journal.specs.Moments.{LeavesOnly}
 use Rattle.dsn_journal.specs.Opening.{CountsTooFew, IsForeign}
-use Rattle.dsn_journal.specs.OpenLedger.{AwaitsInPlaceOf, Ledger}
+use Rattle.dsn_journal.specs.OpenLedger.{Ledger}
 use Rattle.dsn_journal.specs.Posting.{AreToPost, CountsTooMany}
-use Rattle.dsn_journal.specs.Records.{recovered}
+use Rattle.dsn_journal.specs.Records.{encoded, recovered}
 use Rattle.dsn_journal.specs.declared.disk.Disk
+use Rattle.dsn_journal.specs.declared.journal_error.JournalError.TheVariants.{Full}
 use Rattle.dsn_journal.specs.declared.keep_error.KeepError.{KeepError}
+use Rattle.dsn_journal.specs.declared.keep_error.KeepError.TheVariants as not_kept_for
+use Rattle.dsn_journal.specs.declared.keep_error.KeepError.TheVariants.{Unsettled}
 use Rattle.dsn_journal.specs.declared.ledger_error.LedgerError.{LedgerError}
 use Rattle.dsn_journal.specs.declared.ledger_error.LedgerError.TheVariants as no_ledger_for
 use Rattle.dsn_journal.specs.declared.marks_error.MarksError.{MarksError}
@@ -35,15 +42,10 @@ use Rattle.noticed_lib.specs.daemon.SocketUses.{socket_port}
 use Rattle.noticed_lib.specs.daemon.Serve.{WritesAccount, WritesFault, WritesNumber}
 use Rattle.noticed_lib.specs.declared.daemon.serve_end.ServeEnd.{ServeEnd}
 
--- what contracts see of a ledger as what keeps a crew's requests
-abbrev pub ledger_keeper : {D : Type 0} → Disk.Ghosts D → Keeper (Ledger D)
-ledger_keeper disk = record {
-  limits = λ ledger. ledger.book.limits;
-  has = λ ledger history requests. (ledger.settled ≡ true)
-      × AwaitsInPlaceOf disk ledger requests history;
-  sealed = λ ledger. ledger.base + ledger.book.sealed;
-  refuses = Refuses disk;
-}
+-- a history that a start over this file begins with, as one of earlier runs
+abbrev pub StartsWith : Limits → List ℕ → List Exchange → Type 0
+StartsWith limits file long =
+    AreRecordsInPlaceOf limits (with_header limits (recovered file)) long
 
 -- a run may begin with a ledger: after some history of earlier runs, and after each that it is in
 -- place of, as one of earlier runs
@@ -68,7 +70,7 @@ marking_drain drain = record {
 
 -- what a run begins with whose ledger was opened, with these letters that were still to be posted: they
 -- were posted, none of them is unsent, fewer than 2^63 letters were sealed, and each history that the
--- ledger was in place of is one to begin with
+-- ledger was in place of is one to begin with, and what a crash leaves at each moment until then
 pub record IsStartOverLedger {D M W : Type 0} (disk : Disk.Ghosts D) (drain : Drain W)
     (host : List ℕ) (outbox : MarkedOutbox W M) (letters : List Letter) (opened ledger : Ledger D)
     (poster : Outgoing (MarkedOutbox W M)) : Type 0 where
@@ -80,20 +82,16 @@ pub record IsStartOverLedger {D M W : Type 0} (disk : Disk.Ghosts D) (drain : Dr
   pub begins_with : (long : List Exchange)
       → IsLedgerInPlaceOf opened.book opened.base (recovered (disk.seen opened.journal.disk)) long
       → BeginsWith (ledger_keeper disk) ledger (of_earlier_run long)
+  pub crash : (long : List Exchange)
+      → IsLedgerInPlaceOf opened.book opened.base (recovered (disk.seen opened.journal.disk)) long
+      → LeavesOnly disk opened.journal.disk ledger.journal.disk
+      (λ left. ReopensTo opened.book.limits left long)
 
--- what a run begins with whose disks and outbox were given: each history that the journal's records are
--- in place of is one to begin with; and all letters of these records that the mark of the marks doesn't
--- count were posted
-pub record IsStartOver {D M W : Type 0} (disk : Disk.Ghosts D) (marks_disk : Disk.Ghosts M)
+-- a poster that was given all letters of the journal's records that the mark of the marks doesn't count,
+-- over this outbox, and no other
+pub record IsPostedFirst {D M W : Type 0} (disk : Disk.Ghosts D) (marks_disk : Disk.Ghosts M)
     (drain : Drain W) (host : List ℕ) (limits : Limits) (journal : D) (marks : M) (outbox : W)
-    (ledger : Ledger D) (poster : Outgoing (MarkedOutbox W M)) : Type 0 where
-  pub limits_are : ledger.book.limits ≡ limits
-  pub few : ledger.base + ledger.book.sealed < 2 ^ 63
-  pub all_sent : poster.unsent ≡ []
-  pub begins : (before : List Exchange) × BeginsWith (ledger_keeper disk) ledger before
-  pub begins_with : (long : List Exchange)
-      → AreRecordsInPlaceOf limits (with_header limits (recovered (disk.seen journal))) long
-      → BeginsWith (ledger_keeper disk) ledger (of_earlier_run long)
+    (poster : Outgoing (MarkedOutbox W M)) : Type 0 where
   pub from : PostedBefore (MarkedOutbox W M)
   pub posted : IsPostedBy (marking_drain drain) from poster
   pub host_is : from.host ≡ host
@@ -102,16 +100,59 @@ pub record IsStartOver {D M W : Type 0} (disk : Disk.Ghosts D) (marks_disk : Dis
   pub first_are : AreToPost limits from.start.marks.mark
       (with_header limits (recovered (disk.seen journal))) from.first
 
--- why a run did not begin, by the number of its fault: its marks or its ledger were not opened, for
--- this cause; or the outbox failed while the first letters were posted, the journal could not be put
--- away, or 2^63 letters were sealed
-pub data IsNoStart {D M : Type 0} (disk : Disk.Ghosts D) (marks_disk : Disk.Ghosts M)
-    (limits : Limits) (journal : D) (marks : M) (code : ℕ) : Type 0 where
-  no_marks : (cause : MarksError) → code ≡ marks_error_code cause
+-- it has failed, or not, and its outbox is handed back
+pub record HasPostedFirst {D M W : Type 0} (disk : Disk.Ghosts D) (marks_disk : Disk.Ghosts M)
+    (drain : Drain W) (host : List ℕ) (limits : Limits) (journal : D) (marks : M) (outbox : W)
+    (failed : Bool) (back : W) : Type 0 where
+  pub poster : Outgoing (MarkedOutbox W M)
+  pub first : IsPostedFirst disk marks_disk drain host limits journal marks outbox poster
+  pub failed_is : poster.poster.failed ≡ failed
+  pub back_is : back ≡ poster.poster.outbox.outbox
+
+-- records by which 2^63 letters or more were sealed in all
+pub record SealTooMany (limits : Limits) (records : List (List ℕ)) : Type 0 where
+  pub base : ℕ
+  pub history : List Exchange
+  pub said : SayHistory limits base records history
+  pub many : base_limit ≤ base + length (sealed_letters history)
+
+-- a file that has no room for the shorter records that would take the place of its own
+pub record HasNoRoomForShorter (limits : Limits) (file : List ℕ) : Type 0 where
+  pub book : Book
+  pub base : ℕ
+  pub stands : StandsForFile book base (with_header limits (recovered file))
+  pub limits_are : book.limits ≡ limits
+  pub longer : length file < length (encoded (compacted book base []))
+
+-- what a run begins with whose disks and outbox were given: each history that the journal's records are
+-- in place of is one to begin with; and all letters of these records that the mark of the marks doesn't
+-- count were posted. At each moment until then a crash leaves what it might have left before, or a file
+-- that a later start begins with the same history
+pub record IsStartOver {D M W : Type 0} (disk : Disk.Ghosts D) (marks_disk : Disk.Ghosts M)
+    (drain : Drain W) (host : List ℕ) (limits : Limits) (journal : D) (marks : M) (outbox : W)
+    (ledger : Ledger D) (poster : Outgoing (MarkedOutbox W M)) : Type 0 where
+  pub limits_are : ledger.book.limits ≡ limits
+  pub few : ledger.base + ledger.book.sealed < 2 ^ 63
+  pub all_sent : poster.unsent ≡ []
+  pub begins : (before : List Exchange) × BeginsWith (ledger_keeper disk) ledger before
+  pub begins_with : (long : List Exchange) → StartsWith limits (disk.seen journal) long
+      → BeginsWith (ledger_keeper disk) ledger (of_earlier_run long)
+  pub crash : (long : List Exchange) → StartsWith limits (disk.seen journal) long
+      → LeavesOnly disk journal ledger.journal.disk
+      (λ left. disk.may_leave journal left ⊎ StartsWith limits left long)
+  pub first : IsPostedFirst disk marks_disk drain host limits journal marks outbox poster
+
+-- why a run did not begin, by the number of its fault, and the outbox that is handed back: its marks or
+-- its ledger were not opened, for this cause, and the outbox is as it was; or the outbox failed while the
+-- first letters were posted, the journal could not be put away, or 2^63 letters were sealed
+pub data IsNoStart {D M W : Type 0} (disk : Disk.Ghosts D) (marks_disk : Disk.Ghosts M)
+    (drain : Drain W) (host : List ℕ) (limits : Limits) (journal : D) (marks : M) (outbox back : W)
+    (code : ℕ) : Type 0 where
+  no_marks : (cause : MarksError) → code ≡ marks_error_code cause → back ≡ outbox
       → (cause ≡ no_marks_for.Foreign → IsForeignToMarks (marks_disk.seen marks))
       → (cause ≡ no_marks_for.Damaged → SayNoMark (recovered (marks_disk.seen marks)))
-      → IsNoStart disk marks_disk limits journal marks code
-  no_ledger : (cause : LedgerError) (mark : ℕ) → code ≡ ledger_error_code cause
+      → IsNoStart disk marks_disk drain host limits journal marks outbox back code
+  no_ledger : (cause : LedgerError) (mark : ℕ) → code ≡ ledger_error_code cause → back ≡ outbox
       → SayMark (recovered (marks_disk.seen marks)) mark
       → (cause ≡ no_ledger_for.Foreign → IsForeign limits (disk.seen journal))
       → (cause ≡ no_ledger_for.OtherHeader
@@ -121,18 +162,48 @@ pub data IsNoStart {D M : Type 0} (disk : Disk.Ghosts D) (marks_disk : Disk.Ghos
       → CountsTooMany limits mark (with_header limits (recovered (disk.seen journal))))
       → (cause ≡ no_ledger_for.MarkBehind
       → CountsTooFew limits mark (with_header limits (recovered (disk.seen journal))))
-      → IsNoStart disk marks_disk limits journal marks code
-  no_outbox : code ≡ outbox_write_code → IsNoStart disk marks_disk limits journal marks code
-  not_put_away : (cause : KeepError) → code ≡ keep_error_code cause
-      → IsNoStart disk marks_disk limits journal marks code
+      → IsNoStart disk marks_disk drain host limits journal marks outbox back code
+  no_outbox : code ≡ outbox_write_code
+      → HasPostedFirst disk marks_disk drain host limits journal marks outbox true back
+      → IsNoStart disk marks_disk drain host limits journal marks outbox back code
+  not_put_away : (cause : KeepError) → code ≡ keep_error_code cause → cause ≢ Unsettled
+      → (cause ≡ not_kept_for.Journal Full → HasNoRoomForShorter limits (disk.seen journal))
+      → HasPostedFirst disk marks_disk drain host limits journal marks outbox false back
+      → IsNoStart disk marks_disk drain host limits journal marks outbox back code
   too_many_letters : code ≡ journal_full_code
-      → IsNoStart disk marks_disk limits journal marks code
+      → SealTooMany limits (with_header limits (recovered (disk.seen journal)))
+      → HasPostedFirst disk marks_disk drain host limits journal marks outbox false back
+      → IsNoStart disk marks_disk drain host limits journal marks outbox back code
 
--- and so of one whose ledger was opened
-pub data IsNoStartOverLedger (code : ℕ) : Type 0 where
-  of_outbox : code ≡ outbox_write_code → IsNoStartOverLedger code
-  of_journal : (cause : KeepError) → code ≡ keep_error_code cause → IsNoStartOverLedger code
-  of_letters : code ≡ journal_full_code → IsNoStartOverLedger code
+-- and so of one whose ledger was opened, with these letters to post, by this poster
+pub data WhyNoStart {D : Type 0} (disk : Disk.Ghosts D) (opened : Ledger D) (failed : Bool)
+    (code : ℕ) : Type 0 where
+  of_outbox : failed ≡ true → code ≡ outbox_write_code → WhyNoStart disk opened failed code
+  of_journal : failed ≡ false → (cause : KeepError) → code ≡ keep_error_code cause
+      → cause ≢ Unsettled
+      → (cause ≡ not_kept_for.Journal Full → length (disk.seen opened.journal.disk)
+      < length (encoded (compacted opened.book opened.base [])))
+      → WhyNoStart disk opened failed code
+  of_letters : failed ≡ false → code ≡ journal_full_code
+      → base_limit ≤ opened.base + opened.book.sealed → WhyNoStart disk opened failed code
+
+pub record IsNoStartOverLedger {D M W : Type 0} (disk : Disk.Ghosts D) (drain : Drain W)
+    (host : List ℕ) (outbox : MarkedOutbox W M) (letters : List Letter) (opened : Ledger D)
+    (back : W) (code : ℕ) : Type 0 where
+  pub poster : Outgoing (MarkedOutbox W M)
+  pub delivered : Delivered (marking_drain drain) host outbox poster letters
+  pub back_is : back ≡ poster.poster.outbox.outbox
+  pub why : WhyNoStart disk opened poster.poster.failed code
+
+-- a ledger that let its closed keys go, or couldn't, and then its disk: at each moment a crash leaves
+-- its history with the first of the requests that let them go
+pub record IsForgottenIn {D : Type 0} (disk : Disk.Ghosts D) (ledger : Ledger D)
+    (last : Option D) : Type 0 where
+  pub left : Ledger D
+  pub last_is : last ≡ Some left.journal.disk
+  pub crash : (before : List Exchange) → HasKept disk ledger before []
+      → MayCrash (ledger_keeper disk) ledger left ledger.book.limits before
+      (lets_go ledger.book.entries)
 
 -- a ledger and a poster that a run may begin with: the poster has posted what came before the run
 pub record MayRunOver {D M W : Type 0} (disk : Disk.Ghosts D) (drain : Drain W) (ledger : Ledger D)
@@ -145,9 +216,11 @@ pub record MayRunOver {D M W : Type 0} (disk : Disk.Ghosts D) (drain : Drain W) 
 
 module _ {D M P S W N : Type 0} (disk : Disk.Ghosts D) (port : Port P S) (drain : Drain W)
     (notes_device : Drain N) (ports : List P) (ledger : Ledger D)
-    (poster : Outgoing (MarkedOutbox W M)) (notes later : N) (end : ServeEnd W) where
+    (poster : Outgoing (MarkedOutbox W M)) (notes later : N) (end : ServeEnd W)
+    (last : Option D) where
   -- a run of a crew that ended well, over this ledger and after what was posted before: all that is
-  -- true of the crew, and its notes
+  -- true of the crew, and its notes. At each moment of it a crash leaves the history with the first of
+  -- the requests that were taken; and then, behind all of them, of those that let the closed keys go
   pub record IsServedOver : Type 0 where
     pub account : Account (MarkedOutbox W M) (Ledger D)
     pub crew : (from : PostedBefore (MarkedOutbox W M))
@@ -158,8 +231,12 @@ module _ {D M P S W N : Type 0} (disk : Disk.Ghosts D) (port : Port P S) (drain 
     pub count : (1 ≤ length ports) × (length ports ≤ most_ports)
     pub noted : (history : List Exchange) → Represents account.book.book history
         → WritesAccount notes_device history account account.outbox.outbox notes later end
+    pub crash : (before : List Exchange) → BeginsWith (ledger_keeper disk) ledger before
+        → MayCrash (ledger_keeper disk) ledger account.book ledger.book.limits before account.taken
+    pub forgets : IsForgottenIn disk account.book last
 
-  -- and one whose crew ended with a fault
+  -- and one whose crew ended with a fault: at each moment of it a crash leaves the history with the
+  -- first of the requests that were taken, and of one behind them that was not kept
   pub record IsFaultedOver : Type 0 where
     pub fault : CrewFault (MarkedOutbox W M) (Ledger D)
     pub crew : (from : PostedBefore (MarkedOutbox W M))
@@ -170,6 +247,10 @@ module _ {D M P S W N : Type 0} (disk : Disk.Ghosts D) (port : Port P S) (drain 
     pub counted : (fault.cause ≡ PortCount) ↔ ((length ports ≡ 0) ⊎ (most_ports < length ports))
     pub noted : WritesFault notes_device fault.cause fault.outbox.outbox fault.unsent notes later
         end
+    pub last_is : last ≡ option_map (λ left. left.journal.disk) fault.book
+    pub crash : (before : List Exchange) → BeginsWith (ledger_keeper disk) ledger before
+        → IfSome fault.book (MayCrashWithin (ledger_keeper disk) ledger ledger.book.limits before
+        (length ports) fault.taken)
 
   abbrev pub IsRunOver : Type 0
   IsRunOver = IsServedOver ⊎ IsFaultedOver
@@ -177,13 +258,14 @@ module _ {D M P S W N : Type 0} (disk : Disk.Ghosts D) (port : Port P S) (drain 
 module _ {D M P S W N : Type 0} (disk : Disk.Ghosts D) (marks_disk : Disk.Ghosts M)
     (port : Port P S) (drain : Drain W) (notes_device : Drain N) (host : List ℕ) (limits : Limits)
     (ports : List P) (journal : D) (marks : M) (outbox : W) (notes later : N)
-    (end : ServeEnd W) where
+    (end : ServeEnd W) (last : Option D) where
   -- a run that did not begin: its notes have a number alone, and this is why
   pub record IsNotStarted : Type 0 where
     pub code : ℕ
-    pub why : IsNoStart disk marks_disk limits journal marks code
     pub back : W
+    pub why : IsNoStart disk marks_disk drain host limits journal marks outbox back code
     pub noted : WritesNumber notes_device code back [] notes later end
+    pub none_left : last ≡ None
 
   -- a run over a ledger that the disk held, after the letters that were still to be posted
   pub record IsStarted : Type 0 where
@@ -191,6 +273,7 @@ module _ {D M P S W N : Type 0} (disk : Disk.Ghosts D) (marks_disk : Disk.Ghosts
     pub poster : Outgoing (MarkedOutbox W M)
     pub start : IsStartOver disk marks_disk drain host limits journal marks outbox ledger poster
     pub run : IsRunOver disk port drain notes_device ports ledger poster notes later end
+        last
 
   -- a run over these ports, these disks and this outbox
   abbrev pub IsServeOver : Type 0
@@ -202,10 +285,10 @@ module _ {D M P S W N : Type 0} (disk : Disk.Ghosts D) (marks_disk : Disk.Ghosts
 pub record IsSocketServeOver {D M W N : Type 0} (disk : Disk.Ghosts D) (marks_disk : Disk.Ghosts M)
     (drain : Drain W) (notes_device : Drain N) (may_end : Type 0) (host : List ℕ) (limits : Limits)
     (agents uses : ℕ) (journal : D) (marks : M) (outbox : W) (notes later : N)
-    (end : ServeEnd W) : Type 0 where
+    (end : ServeEnd W) (last : Option D) : Type 0 where
   pub crew : (1 ≤ agents) × (agents ≤ most_ports)
       → IsServeOver disk marks_disk (socket_port may_end) drain notes_device host limits
-      (replicate agents uses) journal marks outbox notes later end
-      ⊎ WritesFault notes_device Refused outbox [] notes later end
+      (replicate agents uses) journal marks outbox notes later end last
+      ⊎ (WritesFault notes_device Refused outbox [] notes later end × (last ≡ Some journal))
   pub none : (agents ≡ 0) ⊎ (most_ports < agents)
-      → WritesFault notes_device PortCount outbox [] notes later end
+      → WritesFault notes_device PortCount outbox [] notes later end × (last ≡ Some journal)

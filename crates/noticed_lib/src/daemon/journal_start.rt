@@ -4,6 +4,7 @@ ghost use Rattle.dsn_outcome.specs.History.{Exchange};
 ghost use Rattle.dsn_report.specs.Outgoing.{Delivered};
 ghost use Rattle.dsn_journal.specs.InPlace.{IsLedgerInPlaceOf};
 ghost use Rattle.dsn_journal.specs.OpenLedger.{AwaitsRequests};
+ghost use Rattle.dsn_journal.specs.Posting.{AreToPost};
 ghost use Rattle.dsn_journal.specs.Records.{recovered};
 ghost use Rattle.noticed_lib.specs.daemon.Journaled.{BeginsAnew, IsNoStart, IsNoStartOverLedger, IsStartOver, IsStartOverLedger};
 
@@ -12,7 +13,7 @@ use dsn_book::Limits;
 use dsn_device::Drain;
 use dsn_journal::{
     Disk, KeptBook, Ledger, MarkedOutbox, Marks, Opened, Replaceable,
-    ledgers_have_earlier_histories, open,
+    ledgers_have_earlier_histories, ledgers_have_one_history, open,
 };
 use dsn_outcome::Letter;
 use dsn_report::{Outgoing, Site};
@@ -45,7 +46,8 @@ impl<W> NotStarted<W> {
     ) -> NotStarted<W>
     where
         W: Drain,
-        ensures { result.code ≡ code }
+        ensures code { result.code ≡ code }
+        ensures outbox { result.outbox ≡ outgoing.poster.outbox.outbox }
     {
         let (outbox, _marks) = outgoing.into_outbox().into_parts();
         NotStarted { code, outbox }
@@ -66,8 +68,8 @@ pub(crate) fn start_over<W: Drain, D: Replaceable + Drop, M: Replaceable + Drop>
 ) -> Result<JournalStart<W, D, M>, NotStarted<W>>
     ensures start { IfOk result (λ start. IsStartOver D.Disk M.Disk W.Drain site limits
         folder.journal folder.marks outbox start.keeper start.outgoing) }
-    ensures fault { IfErr result
-        (λ not. IsNoStart D.Disk M.Disk limits folder.journal folder.marks not.code) }
+    ensures fault { IfErr result (λ not. IsNoStart D.Disk M.Disk W.Drain site limits
+        folder.journal folder.marks outbox not.outbox not.code) }
 {
     let JournalFolder { journal, marks } = folder;
     let marks = match Marks::open(alloc, marks) {
@@ -100,10 +102,16 @@ fn start_over_ledger<W: Drain, D: Replaceable + Drop, M: Replaceable + Drop>(
 ) -> Result<JournalStart<W, D, M>, NotStarted<W>>
     requires awaits { AwaitsRequests D.Disk opened.ledger [] }
     requires settled { opened.ledger.settled ≡ true }
+    requires letters { AreToPost opened.ledger.book.limits mark
+        (recovered (D.seen opened.ledger.journal.disk)) opened.letters.items }
+    requires posted { opened.ledger.base ≤ mark }
+    requires sealed { mark ≤ opened.ledger.base + opened.ledger.book.sealed }
     ensures start { IfOk result (λ start. IsStartOverLedger D.Disk W.Drain site outbox
         opened.letters.items opened.ledger start.keeper start.outgoing) }
-    ensures fault { IfErr result (λ not. IsNoStartOverLedger not.code) }
+    ensures fault { IfErr result (λ not. IsNoStartOverLedger D.Disk W.Drain site outbox
+        opened.letters.items opened.ledger not.outbox not.code) }
 {
+    ledgers_have_one_history();
     let Opened {
         mut ledger,
         letters,

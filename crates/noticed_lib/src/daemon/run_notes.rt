@@ -6,9 +6,11 @@ ghost use Rattle.dsn_device.specs.UntilFailure.{WritesUntilFailure};
 ghost use Rattle.dsn_outcome.specs.History.{Exchange};
 ghost use Rattle.dsn_journal.specs.OpenLedger.{AwaitsRequests};
 ghost use Rattle.noticed_lib.specs.daemon.AgentLines.{agent_lines, port_fault};
+ghost use Rattle.noticed_lib.specs.daemon.Journaled.{IsForgottenIn};
 ghost use Rattle.noticed_lib.specs.daemon.Serve.{WritesAccount, WritesNumber, WritesRun};
 
 use crate::daemon::agent_lines::agent_line;
+use crate::daemon::journaled_end::JournaledEnd;
 use crate::daemon::serve_end::ServeEnd;
 use crate::notes::write_last_lines;
 use dsn_book::Book;
@@ -44,15 +46,18 @@ pub(crate) fn write_account<W: Drop, N: Drain>(
 /// the closed keys, as a run without a journal does when it ends. Where it can't, they stay closed,
 /// and nothing is lost: so no note tells of it.
 ///
-/// Requires that the journal's ledger awaits no request.
+/// At each moment a crash leaves the history of the journal's ledger, with the first of the requests
+/// that let the keys go. Requires that the ledger awaits no request.
 pub(crate) fn write_kept_account<W: Drop, D: Disk + Drop, M: Replaceable + Drop, N: Drain>(
     alloc: Global,
     account: Account<MarkedOutbox<W, M>, KeptBook<D>>,
     notes: &mut N,
-) -> ServeEnd<W>
+) -> JournaledEnd<W, D>
     requires none { account.book.settled ≡ true → AwaitsRequests D.Disk account.book [] }
-    ensures { (history : List Exchange) → Represents account.book.book history
-        → WritesAccount N.Drain history account account.outbox.outbox notes.old notes.new result }
+    ensures notes { (history : List Exchange) → Represents account.book.book history
+        → WritesAccount N.Drain history account account.outbox.outbox notes.old notes.new
+        result.end }
+    ensures crash { IsForgottenIn D.Disk account.book result.journal }
 {
     let Account {
         agents,
@@ -73,7 +78,10 @@ pub(crate) fn write_kept_account<W: Drop, D: Disk + Drop, M: Replaceable + Drop,
     );
     drop(ledger.forget_closed(alloc));
     let (outbox, _marks) = outbox.into_parts();
-    ServeEnd { outbox, status }
+    JournaledEnd {
+        end: ServeEnd { outbox, status },
+        journal: Some(ledger.into_disk()),
+    }
 }
 
 /// Writes what each of these agents did, whether the outbox is whole, these letters, and the logs

@@ -1,15 +1,16 @@
 //! The run of the daemon over a journal.
-ghost use Rattle.std.specs.Prelude.{All};
+ghost use Rattle.std.specs.Prelude.{◌≡◌, All};
+ghost use Rattle.std.specs.Option.{option_map};
 ghost use Rattle.noticed_lib.specs.daemon.Journaled.{IsRunOver, IsServeOver, MayRunOver};
 
 use crate::daemon::journal_folder::JournalFolder;
 use crate::daemon::journal_start::{JournalStart, NotStarted, start_over};
+use crate::daemon::journaled_end::JournaledEnd;
 use crate::daemon::run_notes::{write_fault, write_kept_account};
-use crate::daemon::serve_end::ServeEnd;
 use dsn_book::Limits;
 use dsn_crew::{CrewFault, Gate, Port, run_crew_over};
 use dsn_device::Drain;
-use dsn_journal::Replaceable;
+use dsn_journal::{Disk, KeptBook, Replaceable};
 use dsn_outcome::Letters;
 use dsn_report::Site;
 use std::alloc::Global;
@@ -25,6 +26,10 @@ use std::thread::Threads;
 /// that was not kept (45), which ends the run; and of a run that does not begin: for a disk that
 /// can't be opened (9, 71 to 77), and where one of the first letters could not be written or marked
 /// (31).
+///
+/// At each moment a crash leaves a journal that a later start begins with the history from before
+/// this run, and the first of the requests that were taken, and no other. Each request is among them
+/// before its answer is sent. Of the marks no more is said than each call of [`MarkedOutbox`](dsn_journal::MarkedOutbox) does.
 pub fn serve_ports_over<
     R: Threads + Wait + Sync,
     P: Port + Drop + Send,
@@ -43,16 +48,17 @@ pub fn serve_ports_over<
     folder: JournalFolder<D, M>,
     gate: &G,
     notes: &mut N,
-) -> ServeEnd<W>
+) -> JournaledEnd<W, D>
     requires asked { All P.may_be_asked ports.items }
     ensures { IsServeOver D.Disk M.Disk P.Port W.Drain N.Drain site limits ports.items
-        folder.journal folder.marks outbox notes.old notes.new result }
+        folder.journal folder.marks outbox notes.old notes.new result.end result.journal }
 {
     match start_over(alloc, site, limits, outbox, folder) {
         Ok(start) => run_over(rt, alloc, start, ports, gate, notes),
-        Err(NotStarted { code, outbox }) => {
-            write_fault(alloc, code, outbox, Letters::new(), notes)
-        }
+        Err(NotStarted { code, outbox }) => JournaledEnd {
+            end: write_fault(alloc, code, outbox, Letters::new(), notes),
+            journal: None,
+        },
     }
 }
 
@@ -72,11 +78,11 @@ fn run_over<
     ports: Vec<P>,
     gate: &G,
     notes: &mut N,
-) -> ServeEnd<W>
+) -> JournaledEnd<W, D>
     requires asked { All P.may_be_asked ports.items }
     requires start { MayRunOver D.Disk W.Drain start.keeper start.outgoing }
     ensures { IsRunOver D.Disk P.Port W.Drain N.Drain ports.items start.keeper start.outgoing
-        notes.old notes.new result }
+        notes.old notes.new result.end result.journal }
 {
     let JournalStart { outgoing, keeper } = start;
     match run_crew_over(rt, alloc, keeper, ports, outgoing, gate) {
@@ -86,10 +92,24 @@ fn run_over<
                 cause,
                 outbox,
                 unsent,
+                book,
                 ..
             } = fault;
             let (outbox, _marks) = outbox.into_parts();
-            write_fault(alloc, cause.code(), outbox, unsent, notes)
+            JournaledEnd {
+                end: write_fault(alloc, cause.code(), outbox, unsent, notes),
+                journal: disk_of(book),
+            }
         }
+    }
+}
+
+/// The disk of what kept a run's requests.
+fn disk_of<D: Disk + Drop>(book: Option<KeptBook<D>>) -> Option<D>
+    ensures { result ≡ option_map (λ left. left.journal.disk) book }
+{
+    match book {
+        Some(book) => Some(book.into_ledger().into_disk()),
+        None => None,
     }
 }

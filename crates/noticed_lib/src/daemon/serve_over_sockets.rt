@@ -6,6 +6,7 @@ ghost use Rattle.noticed_lib.specs.daemon.Journaled.{IsSocketServeOver};
 ghost use Rattle.noticed_lib.specs.daemon.Serve.{IsSocketServe};
 
 use crate::daemon::journal_folder::JournalFolder;
+use crate::daemon::journaled_end::JournaledEnd;
 use crate::daemon::no_watch::NoWatch;
 use crate::daemon::run_notes::write_fault;
 use crate::daemon::serve_end::ServeEnd;
@@ -93,14 +94,16 @@ pub fn serve_journaled<
     outbox: W,
     folder: JournalFolder<D, M>,
     notes: &mut N,
-) -> ServeEnd<W>
+) -> JournaledEnd<W, D>
     ensures { IsSocketServeOver D.Disk M.Disk W.Drain N.Drain (H.may_end watch.now) site
         (limits_of 4096 1000 1000000) agents max_use folder.journal folder.marks outbox notes.old
-        notes.new result }
+        notes.new result.end result.journal }
 {
     if !is_crew(agents) {
         let code = CrewCause::PortCount.code();
-        return write_fault(alloc, code, outbox, Letters::new(), notes);
+        let end = write_fault(alloc, code, outbox, Letters::new(), notes);
+        let journal = Some(folder.journal);
+        return JournaledEnd { end, journal };
     }
     match socket_ports(alloc, listener, watch, agents, max_use) {
         Ok(ports) => {
@@ -111,7 +114,9 @@ pub fn serve_journaled<
         }
         Err(NoMemory) => {
             let code = CrewCause::Refused.code();
-            write_fault(alloc, code, outbox, Letters::new(), notes)
+            let end = write_fault(alloc, code, outbox, Letters::new(), notes);
+            let journal = Some(folder.journal);
+            JournaledEnd { end, journal }
         }
     }
 }

@@ -4,7 +4,7 @@ use Rattle.dsn_lane.specs.Halves.{Identity}
 use Rattle.dsn_post.specs.LetterSink.{LetterSink}
 use Rattle.dsn_post.specs.Parcel.{Parcel}
 use Rattle.dsn_post.specs.Posting.{IsPosted, Posts}
-use Rattle.dsn_crew.proofs.CrewLemmas.{account_is, begins, collected_lane, ends_length, fault_is, handles_length, left_few, may_close, may_miss, missing_few, never_begun, no_count, sealed_few}
+use Rattle.dsn_crew.proofs.CrewLemmas.{account_is, begins, collected_lane, crash_at_end, crash_at_fault, ends_length, fault_is, handles_length, left_few, may_close, may_miss, missing_few, never_begun, no_count, sealed_few}
 use Rattle.dsn_crew.proofs.crew_run.run_in.Goals as goal
 
 pub overflow_cast-count_missing : goal.overflow_cast-count_missing
@@ -92,6 +92,18 @@ returns-clause-left g c =
     let room = c.in-Ok.ensures in
     let same = c.in-Ok-start_posting.ensures.sink in
     left_few g.B.Keeper g.P.Port c.args.book c.args.ports.items _ _ _ room.opened (search rules) _ c.start_all-handles.ensures _ c.join_all.ensures _ _ c.miss.ensures.missed _ _ (ap (λ (sink : LetterSink). sink.letters) same ∙ room.sink) c.requires.begins.0 _ _ _ _ (c.by-collected.ensures c.requires.begins.0 (begins g.B.Keeper g.P.Port c.args.book c.args.ports.items _ _ _ room.opened (search rules) _ c.start_all-handles.ensures _ c.join_all.ensures _ _ c.miss.ensures.missed c.requires.begins.0 c.requires.begins.1)) c.conclude.ensures
+
+pub returns-clause-crash : goal.returns-clause-crash
+returns-clause-crash g c = λ before with_it.
+    let room = c.in-Ok.ensures in
+    let same = c.in-Ok-start_posting.ensures.sink in
+    crash_at_end g.B.Keeper g.P.Port c.args.book c.args.ports.items _ _ _ room.opened (search rules) _ c.start_all-handles.ensures _ c.join_all.ensures _ _ c.miss.ensures.missed _ _ (ap (λ (sink : LetterSink). sink.letters) same ∙ room.sink) before _ _ _ _ with_it (c.by-collected.ensures before (begins g.B.Keeper g.P.Port c.args.book c.args.ports.items _ _ _ room.opened (search rules) _ c.start_all-handles.ensures _ c.join_all.ensures _ _ c.miss.ensures.missed before with_it)) c.conclude.ensures
+
+pub returns-clause-crash_at_fault : goal.returns-clause-crash_at_fault
+returns-clause-crash_at_fault g c = λ before with_it.
+    let room = c.in-Ok.ensures in
+    let same = c.in-Ok-start_posting.ensures.sink in
+    crash_at_fault g.B.Keeper g.P.Port c.args.book c.args.ports.items _ _ _ room.opened (search rules) _ c.start_all-handles.ensures _ c.join_all.ensures _ _ c.miss.ensures.missed _ _ (ap (λ (sink : LetterSink). sink.letters) same ∙ room.sink) before _ _ _ _ with_it (c.by-collected.ensures before (begins g.B.Keeper g.P.Port c.args.book c.args.ports.items _ _ _ room.opened (search rules) _ c.start_all-handles.ensures _ c.join_all.ensures _ _ c.miss.ensures.missed before with_it)) c.conclude.ensures
 
 pub returns-clause-counted : goal.returns-clause-counted
 returns-clause-counted g c = no_count g.B.Keeper _ _ _ _ c.conclude.ensures

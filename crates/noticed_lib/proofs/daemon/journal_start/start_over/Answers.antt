@@ -1,11 +1,11 @@
-use Rattle.std.proofs.Common.{◌≡◌, ◌∙◌, ℕ, ap, sym, subst}
+use Rattle.std.proofs.Common.{◌≡◌, ◌∙◌, ℕ, ap, refl, sym, subst}
 use Rattle.std.proofs.lemmas.Result.{IfErr-weaker, IfOk-weaker}
 use Rattle.dsn_journal.specs.Marks.{SayMark}
 use Rattle.dsn_journal.specs.MarkedOutbox.{MarkedOutbox}
 use Rattle.dsn_journal.specs.Posting.{AreToPost}
 use Rattle.dsn_journal.specs.Records.{recovered}
-use Rattle.noticed_lib.specs.daemon.Journaled.{IsNoStartOverLedger, no_ledger, no_marks}
-use Rattle.noticed_lib.proofs.daemon.JournaledLemmas.{no_start, start_is}
+use Rattle.noticed_lib.specs.daemon.Journaled.{no_ledger, no_marks}
+use Rattle.noticed_lib.proofs.daemon.JournaledLemmas.{no_start, stands_for_all, start_is}
 use Rattle.noticed_lib.proofs.daemon.journal_start.start_over.Goals as goal
 
 pub returns-in-Ok-open-clause-start : goal.returns-in-Ok-open-clause-start
@@ -16,19 +16,31 @@ returns-in-Ok-open-clause-start g c =
     (λ start is.
     start_is g.D.Disk g.M.Disk g.W.Drain c.args.site c.args.limits c.args.folder.journal c.args.folder.marks c.args.outbox c.new-outbox.result _ c.in-Ok-open.opened.ledger start.keeper start.outgoing
     (ap (λ (it : MarkedOutbox _ _). it.outbox) c.new-outbox.ensures) (subst (SayMark _) (sym mark_is) c.in-Ok.ensures.mark)
-    opened.limits opened.same opened.ledger (subst (λ (m : ℕ). AreToPost c.args.limits m (recovered (g.D.Disk.seen c.in-Ok-open.opened.ledger.journal.disk)) c.in-Ok-open.opened.letters.items) (c.mark-mark.ensures.mark ∙ sym mark_is) opened.letters) is)
+    opened.limits opened.same opened.ledger (subst (λ (m : ℕ). AreToPost c.args.limits m (recovered (g.D.Disk.seen c.in-Ok-open.opened.ledger.journal.disk)) c.in-Ok-open.opened.letters.items) (c.mark-mark.ensures.mark ∙ sym mark_is) opened.letters) opened.any_moment is)
     c.start_over_ledger.ensures.start
+
+pub start_over_ledger-requires-clause-letters : goal.start_over_ledger-requires-clause-letters
+start_over_ledger-requires-clause-letters g c =
+    let opened = c.in-Ok-open.ensures in
+    subst (λ l. AreToPost l c.mark-mark.result (recovered (g.D.Disk.seen c.in-Ok-open.opened.ledger.journal.disk)) c.in-Ok-open.opened.letters.items) (sym opened.limits) opened.letters
 
 pub returns-in-Ok-open-clause-fault : goal.returns-in-Ok-open-clause-fault
 returns-in-Ok-open-clause-fault g c =
-    IfErr-weaker c.start_over_ledger.result (λ left. IsNoStartOverLedger left.code) _
-    (λ left why. no_start g.D.Disk g.M.Disk c.args.limits c.args.folder.journal c.args.folder.marks left.code why) c.start_over_ledger.ensures.fault
+    let opened = c.in-Ok-open.ensures in
+    let mark_is : c.new-outbox.result.marks.mark ≡ c.in-Ok.marks.mark = ap (λ (it : MarkedOutbox _ _). it.marks.mark) c.new-outbox.ensures in
+    IfErr-weaker c.start_over_ledger.result _ _
+    (λ left why.
+    no_start g.D.Disk g.M.Disk g.W.Drain c.args.site c.args.limits c.args.folder.journal c.args.folder.marks c.args.outbox left.outbox c.in-Ok-open.opened.ledger left.code opened.limits opened.same opened.size
+    (stands_for_all g.D.Disk c.in-Ok-open.opened.ledger opened.settled opened.stands) c.new-outbox.result _
+    (ap (λ (it : MarkedOutbox _ _). it.outbox) c.new-outbox.ensures) (subst (SayMark _) (sym mark_is) c.in-Ok.ensures.mark)
+    (subst (λ (m : ℕ). AreToPost c.args.limits m (recovered (g.D.Disk.seen c.in-Ok-open.opened.ledger.journal.disk)) c.in-Ok-open.opened.letters.items) (c.mark-mark.ensures.mark ∙ sym mark_is) opened.letters) why)
+    c.start_over_ledger.ensures.fault
 
 pub returns-in-Err-clause-fault : goal.returns-in-Err-clause-fault
-returns-in-Err-clause-fault g c = no_marks c.in-Err.left.cause c.code-code.ensures c.in-Err.ensures.foreign c.in-Err.ensures.damaged
+returns-in-Err-clause-fault g c = no_marks c.in-Err.left.cause c.code-code.ensures refl c.in-Err.ensures.foreign c.in-Err.ensures.damaged
 
 pub returns-in-Err-open-clause-fault : goal.returns-in-Err-open-clause-fault
 returns-in-Err-open-clause-fault g c =
     let mark = subst (SayMark (recovered (g.M.Disk.seen c.args.folder.marks))) (sym c.mark-mark.ensures.mark) c.in-Ok.ensures.mark in
     let left = c.in-Err-open.ensures in
-    no_ledger c.in-Err-open.left.cause c.mark-mark.result c.code-code-in-Err-open.ensures mark left.foreign left.other left.damaged left.ahead left.behind
+    no_ledger c.in-Err-open.left.cause c.mark-mark.result c.code-code-in-Err-open.ensures refl mark left.foreign left.other left.damaged left.ahead left.behind

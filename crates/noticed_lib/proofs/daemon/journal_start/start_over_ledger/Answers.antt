@@ -1,6 +1,9 @@
-use Rattle.std.proofs.Common.{◌∙◌, ap, sym, arith}
+use Rattle.std.proofs.Common.{rules, ◌≡◌, ◌∙◌, ◌+◌, ◌-◌, ◌^◌, true≢false, ap, sym, arith}
+use Rattle.std.specs.Prelude.{Err, min}
+use Rattle.dsn_journal.specs.Records.{recovered}
 use Rattle.dsn_book.specs.Book.{Book}
-use Rattle.noticed_lib.specs.daemon.Journaled.{of_journal}
+use Rattle.noticed_lib.specs.daemon.Journaled.{of_journal, of_letters, of_outbox}
+use Rattle.noticed_lib.proofs.daemon.JournaledLemmas.{many_sealed, stands_for_all}
 use Rattle.noticed_lib.proofs.daemon.journal_start.start_over_ledger.Goals as goal
 
 pub returns-in-Ok-true-clause-start : goal.returns-in-Ok-true-clause-start
@@ -16,7 +19,35 @@ returns-in-Ok-true-clause-start g c =
       all_sent = (c.post_first-outgoing.ensures.while_good (sym c.has_failed.ensures ∙ c.if-has_failed.false)).none_unsent;
       begins = anew.some;
       begins_with = λ long in_place. anew.each long (compacted.ledger long in_place);
+      crash = compacted.in_place c.requires.settled;
     })
 
+pub returns-then-has_failed-clause-fault : goal.returns-then-has_failed-clause-fault
+returns-then-has_failed-clause-fault g c = record {
+  poster = c.post_first-outgoing.result;
+  delivered = c.post_first-outgoing.ensures;
+  back_is = c.after.ensures.outbox;
+  why = of_outbox (sym c.has_failed.ensures ∙ c.if-has_failed.true) c.after.ensures.code;
+}
+
+pub returns-in-Ok-false-clause-fault : goal.returns-in-Ok-false-clause-fault
+returns-in-Ok-false-clause-fault g c =
+    let ledger = c.args.opened.ledger in
+    let sealed = c.ledgers_have_one_history.ensures.count ledger.book ledger.base c.args.mark (recovered (g.D.Disk.seen ledger.journal.disk)) c.args.opened.letters.items (stands_for_all g.D.Disk ledger c.requires.settled c.requires.awaits) c.requires.letters c.requires.posted c.requires.sealed in
+    let all : c.saturating_add-all.result ≡ min (ledger.base + ledger.book.sealed) (2 ^ 64 - 1) = search rules in
+    record {
+      poster = c.post_first-outgoing.result;
+      delivered = c.post_first-outgoing.ensures;
+      back_is = c.after-in-Ok-false.ensures.outbox;
+      why = of_letters (sym c.has_failed.ensures ∙ c.if-has_failed.false) c.after-in-Ok-false.ensures.code
+          (many_sealed (ledger.base + ledger.book.sealed) c.saturating_add-all.result all (λ both. true≢false (sym (c.in-Ok-false.ensures.all.1 both) ∙ c.in-Ok-false.field-0-test)));
+    }
+
 pub returns-in-Err-clause-fault : goal.returns-in-Err-clause-fault
-returns-in-Err-clause-fault g c = of_journal c.in-Err.error (c.after-in-Err.ensures ∙ c.code.ensures)
+returns-in-Err-clause-fault g c = record {
+  poster = c.post_first-outgoing.result;
+  delivered = c.post_first-outgoing.ensures;
+  back_is = c.after-in-Err.ensures.outbox;
+  why = of_journal (sym c.has_failed.ensures ∙ c.if-has_failed.false) c.in-Err.error (c.after-in-Err.ensures.code ∙ c.code.ensures)
+      (λ unsettled. true≢false (sym c.requires.settled ∙ c.in-Err.ensures.unsettled.0 (ap Err unsettled))) (λ full. c.in-Err.ensures.full (ap Err full));
+}

@@ -1,4 +1,3 @@
-use Rattle.std.proofs.Common.{refl}
 use Rattle.std.proofs.lemmas.Result.{IfOk-weaker}
 use Rattle.dsn_device.proofs.UntilFailureLemmas.{writes-as, writes-then}
 use Rattle.noticed_lib.proofs.notes.OpenLogsLemmas.{AreOpenLines-listed, is_none-listed}

@@ -3,7 +3,7 @@ use Rattle.std.proofs.Common.{rules, ◌≡◌, false, refl, ap, ◌∙◌, subs
 use Rattle.std.specs.Prelude.{Ok, None, Option, is_some}
 use Rattle.dsn_outcome.specs.Letter.{Letter}
 use Rattle.dsn_crew.proofs.desk.RunLemmas.{took_fault, took_handed, took_lost, took_none}
-use Rattle.dsn_crew.proofs.desk.TakeLemmas.{counts_here, failed_desk, whole_is}
+use Rattle.dsn_crew.proofs.desk.TakeLemmas.{counts_here, failed_desk, unmoved_tied, whole_is}
 use Rattle.dsn_crew.specs.desk.Desk.{BeginsWith, Desk, IsRequestTaken, with_failed}
 use Rattle.dsn_crew.proofs.desk.desk.Desk.hand_one.Goals as goal
 
@@ -30,7 +30,7 @@ returns-in-Err-offer-clause-run g c =
 pub invariant_of-self : goal.invariant_of-self
 invariant_of-self g c =
     let going : is_some c.self.inside.stop ≡ false = ap (λ (desk : Desk _). desk.failed) c.self.view_is ∙ c.in-Ok.ensures.failed in (
-      failed_desk g.B.Keeper c.self.inside.start.value c.self.inside.book c.self.inside.stop c.self.inside.taken c.self.inside.requests c.self.inside.lines.items c.self.inside.missed going c.self.invariant.0 c.self.inside.book c.self.inside.requests None (λ t is. is) tt refl refl refl,
+      failed_desk g.B.Keeper c.self.inside.start.value c.self.inside.book c.self.inside.stop c.self.inside.taken c.self.inside.requests c.self.inside.lines.items c.self.inside.missed going c.self.invariant.0 c.self.inside.book c.self.inside.requests None (unmoved_tied g.B.Keeper _ g.met.B.Keeper.leaves_kept) tt refl refl refl,
       counts_here g.B.Keeper c.self.inside.start.value c.self.inside.book c.self.inside.stop c.self.inside.taken c.self.inside.requests c.self.inside.lines.items c.self.inside.missed going c.self.inside.gone c.self.invariant.1,
       c.self.invariant.2,
       refl,
@@ -40,4 +40,4 @@ invariant_of-self g c =
 pub returns-in-Err-offer-clause-kept : goal.returns-in-Err-offer-clause-kept
 returns-in-Err-offer-clause-kept g c =
     let going : is_some c.self.inside.stop ≡ false = ap (λ (desk : Desk _). desk.failed) c.self.view_is ∙ c.in-Ok.ensures.failed in
-    failed_desk g.B.Keeper c.self.inside.start.value c.self.inside.book c.self.inside.stop c.self.inside.taken c.self.inside.requests c.self.inside.lines.items c.self.inside.missed going c.self.invariant.0 c.self.inside.book c.self.inside.requests None (λ t is. is) tt refl refl refl
+    failed_desk g.B.Keeper c.self.inside.start.value c.self.inside.book c.self.inside.stop c.self.inside.taken c.self.inside.requests c.self.inside.lines.items c.self.inside.missed going c.self.invariant.0 c.self.inside.book c.self.inside.requests None (unmoved_tied g.B.Keeper _ g.met.B.Keeper.leaves_kept) tt refl refl refl

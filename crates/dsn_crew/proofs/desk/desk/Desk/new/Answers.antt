@@ -7,7 +7,7 @@ use Rattle.dsn_crew.proofs.desk.desk.Desk.new.Goals as goal
 pub invariant_of-result : goal.invariant_of-result
 invariant_of-result g c = (
   subst (λ start. IsDesk g.B.Keeper (desk_of start c.args.book c.args.requests c.args.lines.items 0 false)) (sym c.of.ensures)
-      (new_desk g.B.Keeper _ _ _ c.requires.begins c.requires.few c.requires.requests.0 c.requires.requests.1 c.requires.requests.2 c.requires.lines.0 c.requires.lines.1),
+      (new_desk g.B.Keeper _ _ _ g.met.B.Keeper.leaves_kept c.requires.begins c.requires.few c.requires.requests.0 c.requires.requests.1 c.requires.requests.2 c.requires.lines.0 c.requires.lines.1),
   (search rules, ap goodbyes (sym c.requires.requests.2)),
   c.requires.room,
   tt,
@@ -17,4 +17,4 @@ invariant_of-result g c = (
 pub returns-clause-kept : goal.returns-clause-kept
 returns-clause-kept g c =
     subst (λ start. IsDesk g.B.Keeper (desk_of start c.args.book c.args.requests c.args.lines.items 0 false)) (sym c.of.ensures)
-    (new_desk g.B.Keeper _ _ _ c.requires.begins c.requires.few c.requires.requests.0 c.requires.requests.1 c.requires.requests.2 c.requires.lines.0 c.requires.lines.1)
+    (new_desk g.B.Keeper _ _ _ g.met.B.Keeper.leaves_kept c.requires.begins c.requires.few c.requires.requests.0 c.requires.requests.1 c.requires.requests.2 c.requires.lines.0 c.requires.lines.1)

@@ -5,7 +5,7 @@ use Rattle.dsn_lane.specs.Halves.{Half, Out}
 use Rattle.dsn_outcome.specs.declared.answer.Answer.{Answer}
 use Rattle.dsn_outcome.specs.History.{Exchange, letter_of}
 use Rattle.dsn_crew.proofs.desk.DeskLemmas.{IsAsked, counted_more, first_half, goodbyes_fit, goodbyes_more, line_agent, line_number, none_stopped, seen_going, small, sent_places, sent_none, sent_room, unkept_is, unseen_going, within}
-use Rattle.dsn_crew.proofs.desk.TakeLemmas.{asked, carried_on, counts_here, desk_going, failed_desk, has_some, letter_says, refused_next, refused_tied, stopped_unkept, took_nothing, took_one, took_unkept, whole_is}
+use Rattle.dsn_crew.proofs.desk.TakeLemmas.{asked, carried_on, counts_here, desk_going, failed_desk, has_some, letter_says, may_be_sent, refused_next, refused_tied, stopped_unkept, unmoved_tied, took_nothing, took_one, took_unkept, whole_is}
 use Rattle.dsn_crew.specs.desk.Desk.{IsAnswerSent, desk_of, goodbyes, history, next_exchange, places_of, taken_request}
 use Rattle.dsn_crew.specs.agents.Place.{place_at}
 use Rattle.dsn_crew.proofs.desk.desk.Desk.take_one.Goals as goal
@@ -14,7 +14,7 @@ pub invariant_of-self-in-Err : goal.invariant_of-self-in-Err
 invariant_of-self-in-Err g c =
     let counted = counts_here g.B.Keeper c.self.inside.start.value c.self.inside.book c.self.inside.stop c.self.inside.taken c.self.inside.requests c.self.inside.lines.items c.self.inside.missed (search rules) c.self.inside.gone c.self.invariant.1 in
     let same = took_nothing c.self.inside.requests c.take.new.self c.take.ensures.same (search rules) in (
-      failed_desk g.B.Keeper c.self.inside.start.value c.self.inside.book c.self.inside.stop c.self.inside.taken c.self.inside.requests c.self.inside.lines.items c.self.inside.missed (search rules) c.self.invariant.0 c.self.inside.book c.take.new.self None (λ t is. is) tt same refl refl,
+      failed_desk g.B.Keeper c.self.inside.start.value c.self.inside.book c.self.inside.stop c.self.inside.taken c.self.inside.requests c.self.inside.lines.items c.self.inside.missed (search rules) c.self.invariant.0 c.self.inside.book c.take.new.self None (unmoved_tied g.B.Keeper _ g.met.B.Keeper.leaves_kept) tt same refl refl,
       (counted.0 ∙ ap (λ (o : Out _). length o.taken) (sym same), counted.1 ∙ ap (λ (o : Out _). goodbyes o.taken) (sym same)),
       c.self.invariant.2,
       refl,
@@ -24,14 +24,14 @@ invariant_of-self-in-Err g c =
 pub returns-in-Err-clause-kept : goal.returns-in-Err-clause-kept
 returns-in-Err-clause-kept g c =
     let same = took_nothing c.self.inside.requests c.take.new.self c.take.ensures.same (search rules) in
-    failed_desk g.B.Keeper c.self.inside.start.value c.self.inside.book c.self.inside.stop c.self.inside.taken c.self.inside.requests c.self.inside.lines.items c.self.inside.missed (search rules) c.self.invariant.0 c.self.inside.book c.take.new.self None (λ t is. is) tt same refl refl
+    failed_desk g.B.Keeper c.self.inside.start.value c.self.inside.book c.self.inside.stop c.self.inside.taken c.self.inside.requests c.self.inside.lines.items c.self.inside.missed (search rules) c.self.invariant.0 c.self.inside.book c.take.new.self None (unmoved_tied g.B.Keeper _ g.met.B.Keeper.leaves_kept) tt same refl refl
 
 pub invariant_of-self-in-Err-keep : goal.invariant_of-self-in-Err-keep
 invariant_of-self-in-Err-keep g c =
     let counted = counts_here g.B.Keeper c.self.inside.start.value c.self.inside.book c.self.inside.stop c.self.inside.taken c.self.inside.requests c.self.inside.lines.items c.self.inside.missed (search rules) c.self.inside.gone c.self.invariant.1 in
     let same = took_unkept c.self.inside.taken c.self.inside.requests c.take.new.self c.in-Ok.request c.take.ensures.same counted.0 c.in-Ok.ensures.item in
     let is = unkept_is c.in-Err-keep.why c.self.inside.taken c.self.inside.requests.taken c.take.new.self.taken c.in-Ok.request counted.0 c.in-Ok.ensures.item in (
-      failed_desk g.B.Keeper c.self.inside.start.value c.self.inside.book c.self.inside.stop c.self.inside.taken c.self.inside.requests c.self.inside.lines.items c.self.inside.missed (search rules) c.self.invariant.0 c.keep.new.self _ _ (refused_tied g.B.Keeper c.self.inside.book c.keep.new.self _ _ is (search rules)) (refused_next _ _ _ _ is (search rules) (search rules)) same c.keep.ensures.limits c.keep.ensures.sealed,
+      failed_desk g.B.Keeper c.self.inside.start.value c.self.inside.book c.self.inside.stop c.self.inside.taken c.self.inside.requests c.self.inside.lines.items c.self.inside.missed (search rules) c.self.invariant.0 c.keep.new.self _ _ (refused_tied g.B.Keeper c.self.inside.book c.keep.new.self _ _ is (search rules) (search rules)) (refused_next _ _ _ _ is (search rules) (search rules)) same c.keep.ensures.limits c.keep.ensures.sealed,
       (counted.0 ∙ ap (λ (o : Out _). length o.taken) (sym same), counted.1 ∙ ap (λ (o : Out _). goodbyes o.taken) (sym same)),
       c.self.invariant.2,
       record { request = c.in-Ok.request; unkept = is; was = c.self.inside.book; refuses = search rules },
@@ -43,7 +43,7 @@ returns-in-Err-keep-clause-kept g c =
     let counted = counts_here g.B.Keeper c.self.inside.start.value c.self.inside.book c.self.inside.stop c.self.inside.taken c.self.inside.requests c.self.inside.lines.items c.self.inside.missed (search rules) c.self.inside.gone c.self.invariant.1 in
     let same = took_unkept c.self.inside.taken c.self.inside.requests c.take.new.self c.in-Ok.request c.take.ensures.same counted.0 c.in-Ok.ensures.item in
     let is = unkept_is c.in-Err-keep.why c.self.inside.taken c.self.inside.requests.taken c.take.new.self.taken c.in-Ok.request counted.0 c.in-Ok.ensures.item in
-    failed_desk g.B.Keeper c.self.inside.start.value c.self.inside.book c.self.inside.stop c.self.inside.taken c.self.inside.requests c.self.inside.lines.items c.self.inside.missed (search rules) c.self.invariant.0 c.keep.new.self _ _ (refused_tied g.B.Keeper c.self.inside.book c.keep.new.self _ _ is (search rules)) (refused_next _ _ _ _ is (search rules) (search rules)) same c.keep.ensures.limits c.keep.ensures.sealed
+    failed_desk g.B.Keeper c.self.inside.start.value c.self.inside.book c.self.inside.stop c.self.inside.taken c.self.inside.requests c.self.inside.lines.items c.self.inside.missed (search rules) c.self.invariant.0 c.keep.new.self _ _ (refused_tied g.B.Keeper c.self.inside.book c.keep.new.self _ _ is (search rules) (search rules)) (refused_next _ _ _ _ is (search rules) (search rules)) same c.keep.ensures.limits c.keep.ensures.sealed
 
 pub returns-in-Err-keep-clause-taken : goal.returns-in-Err-keep-clause-taken
 returns-in-Err-keep-clause-taken g c =
@@ -108,7 +108,7 @@ invariant_of-self-in-Ok-send_answer g c =
     let more = counted_more _ _ _ c.in-Ok.request counted.0 c.in-Ok.ensures.item in
     let bye = goodbyes_more c.self.inside.gone c.from.result c.is_bye.result c.self.inside.requests.taken c.take.new.self.taken c.in-Ok.request counted.1 c.in-Ok.ensures.item (search rules) (search rules) in
     let seen = seen_going c.self.inside.stop (c.self.inside.taken + 1) c.take.new.self (search rules) in (
-      desk_going g.B.Keeper c.self.inside.start.value c.apply-letter.new.self c.self.inside.stop (c.self.inside.taken + 1) c.take.new.self c.send_answer.new.lines.items c.self.inside.missed (search rules) (carried_on g.B.Keeper c.self.inside.start.value c.self.inside.book c.self.inside.stop c.self.inside.taken c.self.inside.requests c.self.inside.lines.items c.self.inside.missed (search rules) c.self.invariant.0 c.in-Ok.request c.apply-letter.result.answer (search rules) (search rules) c.apply-letter.ensures.asked.0 c.apply-letter.ensures.asked.1 c.keep.new.self c.keep.ensures.limits (search rules) c.apply-letter.ensures.answer c.apply-letter.new.self c.apply-letter.ensures.has c.take.new.self c.send_answer.new.lines.items (is_some c.self.inside.stop) (took_one _ _ _ c.in-Ok.ensures.same c.in-Ok.ensures.item) c.in-Ok.ensures.numbered true d is_sent (λ _. refl) c.apply-letter.ensures.limits c.keep.ensures.sealed c.apply-letter.ensures.sealed),
+      desk_going g.B.Keeper c.self.inside.start.value c.apply-letter.new.self c.self.inside.stop (c.self.inside.taken + 1) c.take.new.self c.send_answer.new.lines.items c.self.inside.missed (search rules) (carried_on g.B.Keeper c.self.inside.start.value c.self.inside.book c.self.inside.stop c.self.inside.taken c.self.inside.requests c.self.inside.lines.items c.self.inside.missed (search rules) c.self.invariant.0 c.in-Ok.request c.apply-letter.result.answer (search rules) (search rules) c.apply-letter.ensures.asked.0 c.apply-letter.ensures.asked.1 c.keep.new.self c.keep.ensures.limits (search rules) c.apply-letter.ensures.answer c.apply-letter.new.self c.apply-letter.ensures.has (search rules) c.apply-letter.ensures.no_moment c.take.new.self c.send_answer.new.lines.items (is_some c.self.inside.stop) (took_one _ _ _ c.in-Ok.ensures.same c.in-Ok.ensures.item) c.in-Ok.ensures.numbered true d is_sent (λ _. refl) c.apply-letter.ensures.limits c.keep.ensures.sealed c.apply-letter.ensures.sealed),
       (more ∙ ap (λ (o : Out _). length o.taken) (sym seen), bye ∙ ap (λ (o : Out _). goodbyes o.taken) (sym seen)),
       (search rules, sent_room true _ _ c.apply-letter.result.answer _ d is_sent c.self.invariant.2.1),
       none_stopped _ c.self.inside.stop (search rules),
@@ -121,7 +121,7 @@ returns-in-Ok-send_answer-clause-kept g c =
     let d : Half Answer = first_half _ _ (within _ _ _ _ is_asked) in
     let sent : is_ok c.send_answer.result ≡ true = search rules in
     let is_sent : IsAnswerSent true c.self.inside.lines.items c.apply-letter.result.answer c.send_answer.new.lines.items = subst (λ (it : Bool). IsAnswerSent it c.self.inside.lines.items c.apply-letter.result.answer c.send_answer.new.lines.items) sent c.send_answer.ensures in
-    desk_going g.B.Keeper c.self.inside.start.value c.apply-letter.new.self c.self.inside.stop (c.self.inside.taken + 1) c.take.new.self c.send_answer.new.lines.items c.self.inside.missed (search rules) (carried_on g.B.Keeper c.self.inside.start.value c.self.inside.book c.self.inside.stop c.self.inside.taken c.self.inside.requests c.self.inside.lines.items c.self.inside.missed (search rules) c.self.invariant.0 c.in-Ok.request c.apply-letter.result.answer (search rules) (search rules) c.apply-letter.ensures.asked.0 c.apply-letter.ensures.asked.1 c.keep.new.self c.keep.ensures.limits (search rules) c.apply-letter.ensures.answer c.apply-letter.new.self c.apply-letter.ensures.has c.take.new.self c.send_answer.new.lines.items (is_some c.self.inside.stop) (took_one _ _ _ c.in-Ok.ensures.same c.in-Ok.ensures.item) c.in-Ok.ensures.numbered true d is_sent (λ _. refl) c.apply-letter.ensures.limits c.keep.ensures.sealed c.apply-letter.ensures.sealed)
+    desk_going g.B.Keeper c.self.inside.start.value c.apply-letter.new.self c.self.inside.stop (c.self.inside.taken + 1) c.take.new.self c.send_answer.new.lines.items c.self.inside.missed (search rules) (carried_on g.B.Keeper c.self.inside.start.value c.self.inside.book c.self.inside.stop c.self.inside.taken c.self.inside.requests c.self.inside.lines.items c.self.inside.missed (search rules) c.self.invariant.0 c.in-Ok.request c.apply-letter.result.answer (search rules) (search rules) c.apply-letter.ensures.asked.0 c.apply-letter.ensures.asked.1 c.keep.new.self c.keep.ensures.limits (search rules) c.apply-letter.ensures.answer c.apply-letter.new.self c.apply-letter.ensures.has (search rules) c.apply-letter.ensures.no_moment c.take.new.self c.send_answer.new.lines.items (is_some c.self.inside.stop) (took_one _ _ _ c.in-Ok.ensures.same c.in-Ok.ensures.item) c.in-Ok.ensures.numbered true d is_sent (λ _. refl) c.apply-letter.ensures.limits c.keep.ensures.sealed c.apply-letter.ensures.sealed)
 
 pub returns-in-Ok-send_answer-clause-places : goal.returns-in-Ok-send_answer-clause-places
 returns-in-Ok-send_answer-clause-places g c =
@@ -141,7 +141,7 @@ invariant_of-self-in-Err-send_answer g c =
     let counted = counts_here g.B.Keeper c.self.inside.start.value c.self.inside.book c.self.inside.stop c.self.inside.taken c.self.inside.requests c.self.inside.lines.items c.self.inside.missed (search rules) c.self.inside.gone c.self.invariant.1 in
     let more = counted_more _ _ _ c.in-Ok.request counted.0 c.in-Ok.ensures.item in
     let bye = goodbyes_more c.self.inside.gone c.from.result c.is_bye.result c.self.inside.requests.taken c.take.new.self.taken c.in-Ok.request counted.1 c.in-Ok.ensures.item (search rules) (search rules) in (
-      carried_on g.B.Keeper c.self.inside.start.value c.self.inside.book c.self.inside.stop c.self.inside.taken c.self.inside.requests c.self.inside.lines.items c.self.inside.missed (search rules) c.self.invariant.0 c.in-Ok.request c.apply-letter.result.answer (search rules) (search rules) c.apply-letter.ensures.asked.0 c.apply-letter.ensures.asked.1 c.keep.new.self c.keep.ensures.limits (search rules) c.apply-letter.ensures.answer c.apply-letter.new.self c.apply-letter.ensures.has c.take.new.self c.send_answer.new.lines.items true (took_one _ _ _ c.in-Ok.ensures.same c.in-Ok.ensures.item) c.in-Ok.ensures.numbered false d is_sent (λ never. absurd (true≢false never)) c.apply-letter.ensures.limits c.keep.ensures.sealed c.apply-letter.ensures.sealed,
+      carried_on g.B.Keeper c.self.inside.start.value c.self.inside.book c.self.inside.stop c.self.inside.taken c.self.inside.requests c.self.inside.lines.items c.self.inside.missed (search rules) c.self.invariant.0 c.in-Ok.request c.apply-letter.result.answer (search rules) (search rules) c.apply-letter.ensures.asked.0 c.apply-letter.ensures.asked.1 c.keep.new.self c.keep.ensures.limits (search rules) c.apply-letter.ensures.answer c.apply-letter.new.self c.apply-letter.ensures.has (search rules) c.apply-letter.ensures.no_moment c.take.new.self c.send_answer.new.lines.items true (took_one _ _ _ c.in-Ok.ensures.same c.in-Ok.ensures.item) c.in-Ok.ensures.numbered false d is_sent (λ never. absurd (true≢false never)) c.apply-letter.ensures.limits c.keep.ensures.sealed c.apply-letter.ensures.sealed,
       (more, bye),
       (search rules, sent_room false _ _ c.apply-letter.result.answer _ d is_sent c.self.invariant.2.1),
       refl,
@@ -154,7 +154,7 @@ returns-in-Err-send_answer-clause-kept g c =
     let d : Half Answer = first_half _ _ (within _ _ _ _ is_asked) in
     let lost : is_ok c.send_answer.result ≡ false = search rules in
     let is_sent : IsAnswerSent false c.self.inside.lines.items c.apply-letter.result.answer c.send_answer.new.lines.items = subst (λ (it : Bool). IsAnswerSent it c.self.inside.lines.items c.apply-letter.result.answer c.send_answer.new.lines.items) lost c.send_answer.ensures in
-    carried_on g.B.Keeper c.self.inside.start.value c.self.inside.book c.self.inside.stop c.self.inside.taken c.self.inside.requests c.self.inside.lines.items c.self.inside.missed (search rules) c.self.invariant.0 c.in-Ok.request c.apply-letter.result.answer (search rules) (search rules) c.apply-letter.ensures.asked.0 c.apply-letter.ensures.asked.1 c.keep.new.self c.keep.ensures.limits (search rules) c.apply-letter.ensures.answer c.apply-letter.new.self c.apply-letter.ensures.has c.take.new.self c.send_answer.new.lines.items true (took_one _ _ _ c.in-Ok.ensures.same c.in-Ok.ensures.item) c.in-Ok.ensures.numbered false d is_sent (λ never. absurd (true≢false never)) c.apply-letter.ensures.limits c.keep.ensures.sealed c.apply-letter.ensures.sealed
+    carried_on g.B.Keeper c.self.inside.start.value c.self.inside.book c.self.inside.stop c.self.inside.taken c.self.inside.requests c.self.inside.lines.items c.self.inside.missed (search rules) c.self.invariant.0 c.in-Ok.request c.apply-letter.result.answer (search rules) (search rules) c.apply-letter.ensures.asked.0 c.apply-letter.ensures.asked.1 c.keep.new.self c.keep.ensures.limits (search rules) c.apply-letter.ensures.answer c.apply-letter.new.self c.apply-letter.ensures.has (search rules) c.apply-letter.ensures.no_moment c.take.new.self c.send_answer.new.lines.items true (took_one _ _ _ c.in-Ok.ensures.same c.in-Ok.ensures.item) c.in-Ok.ensures.numbered false d is_sent (λ never. absurd (true≢false never)) c.apply-letter.ensures.limits c.keep.ensures.sealed c.apply-letter.ensures.sealed
 
 pub returns-in-Err-send_answer-clause-places : goal.returns-in-Err-send_answer-clause-places
 returns-in-Err-send_answer-clause-places g c =
@@ -186,7 +186,7 @@ pub invariant_of-self : goal.invariant_of-self
 invariant_of-self g c =
     let counted = counts_here g.B.Keeper c.self.inside.start.value c.self.inside.book c.self.inside.stop c.self.inside.taken c.self.inside.requests c.self.inside.lines.items c.self.inside.missed (search rules) c.self.inside.gone c.self.invariant.1 in
     let most : c.self.inside.taken ≡ 4294967295 = search rules in (
-      failed_desk g.B.Keeper c.self.inside.start.value c.self.inside.book c.self.inside.stop c.self.inside.taken c.self.inside.requests c.self.inside.lines.items c.self.inside.missed (search rules) c.self.invariant.0 c.self.inside.book c.self.inside.requests None (λ t is. is) tt refl refl refl,
+      failed_desk g.B.Keeper c.self.inside.start.value c.self.inside.book c.self.inside.stop c.self.inside.taken c.self.inside.requests c.self.inside.lines.items c.self.inside.missed (search rules) c.self.invariant.0 c.self.inside.book c.self.inside.requests None (unmoved_tied g.B.Keeper _ g.met.B.Keeper.leaves_kept) tt refl refl refl,
       counted,
       c.self.invariant.2,
       (refl, sym counted.0 ∙ most),
@@ -195,4 +195,9 @@ invariant_of-self g c =
 
 pub returns-then-self-clause-kept : goal.returns-then-self-clause-kept
 returns-then-self-clause-kept g c =
-    failed_desk g.B.Keeper c.self.inside.start.value c.self.inside.book c.self.inside.stop c.self.inside.taken c.self.inside.requests c.self.inside.lines.items c.self.inside.missed (search rules) c.self.invariant.0 c.self.inside.book c.self.inside.requests None (λ t is. is) tt refl refl refl
+    failed_desk g.B.Keeper c.self.inside.start.value c.self.inside.book c.self.inside.stop c.self.inside.taken c.self.inside.requests c.self.inside.lines.items c.self.inside.missed (search rules) c.self.invariant.0 c.self.inside.book c.self.inside.requests None (unmoved_tied g.B.Keeper _ g.met.B.Keeper.leaves_kept) tt refl refl refl
+
+pub send_answer-requires-clause-kept : goal.send_answer-requires-clause-kept
+send_answer-requires-clause-kept g c =
+    λ before begins.
+    may_be_sent g.B.Keeper c.self.inside.start.value c.self.inside.book c.self.inside.stop c.self.inside.taken c.self.inside.requests c.self.inside.lines.items c.self.inside.missed (search rules) c.self.invariant.0 c.in-Ok.request c.apply-letter.result.answer (search rules) (search rules) c.apply-letter.ensures.asked.0 c.apply-letter.ensures.asked.1 c.keep.new.self c.keep.ensures.limits (search rules) c.apply-letter.ensures.answer c.apply-letter.new.self c.apply-letter.ensures.has c.take.new.self.taken c.in-Ok.ensures.item before begins

@@ -1,0 +1,12 @@
+//! What is left of the daemon's run over a journal.
+use crate::daemon::serve_end::ServeEnd;
+
+/// How a run of [`serve_journaled`](crate::serve_journaled) ended.
+#[derive(Drop)]
+pub struct JournaledEnd<W, D> {
+    /// The outbox, and the exit status.
+    pub end: ServeEnd<W>,
+    /// The disk of the journal, as the run left it; none where it began and no crew
+    /// did.
+    pub journal: Option<D>,
+}

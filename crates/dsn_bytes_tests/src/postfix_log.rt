@@ -69,3 +69,17 @@ fn recipients_of_a_damaged_log_stay_apart(rt: HostRuntime) {
         same(&rt, told(reader.next_entry()), want);
     }
 }
+
+/// What bounce(8) logs of a recipient whose transport is `error:5.7.1`, without words.
+const WITHOUT_WORDS: &[u8] =
+    b"\n<bob@silent.example.org>: \nrecipient=bob@silent.example.org\noffset=669\nstatus=5.7.1\naction=failed\n\n";
+
+#[test]
+fn a_record_without_a_reason_has_one_in_its_place(rt: HostRuntime) {
+    let mut reader = LogReader::new(Service::Bounce, WITHOUT_WORDS);
+    let reason = match reader.next_entry() {
+        Some(LogEntry::Said(found)) => found.reason,
+        _ => b"",
+    };
+    same(&rt, reason, b"(description unavailable)".as_slice());
+}

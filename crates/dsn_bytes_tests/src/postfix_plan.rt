@@ -187,6 +187,17 @@ fn a_return_path_of_its_own_has_one_recipient(rt: HostRuntime) -> Result<(), Fai
     same(&rt, head(&notices, 1), want);
     let second = became(b"no-one@example.org", b"5.1.1", b"failed");
     same(&rt, outcome(&notices, 1, 0), second);
+    for (at, want) in [
+        b"list+no-two=example.com@example.com".as_slice(),
+        b"list+no-one=example.org@example.com".as_slice(),
+    ]
+    .into_iter()
+    .enumerate()
+    {
+        let notice = notices.get(at).ok_or("a notice")?;
+        let address = notice.address(rt.alloc())?;
+        same(&rt, address.as_slice(), want);
+    }
     Ok(())
 }
 

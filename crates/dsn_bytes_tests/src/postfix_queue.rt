@@ -1,7 +1,8 @@
 //! A queue file of Postfix says what a notice needs of its message and its recipients.
 use crate::assert_same::same;
 use dsn_postfix::{
-    MessageFacts, QueueBroken, QueueReader, QueuedRecipient, RecipientState, text_of_message,
+    MessageFacts, QueueBroken, QueueReader, QueuedRecipient, RecipientState, header_of_message,
+    text_of_message,
 };
 use std::test::Fail;
 
@@ -78,4 +79,20 @@ fn the_text_of_a_message_is_its_lines(rt: HostRuntime) -> Result<(), Fail> {
     let none = text_of_message(rt.alloc(), &MESSAGE[2..])?;
     same(&rt, none.len(), 0);
     Ok(())
+}
+
+#[test]
+fn a_header_ends_where_no_field_goes_on(rt: HostRuntime) {
+    let header = &TEXT[..TEXT.len() - b"\nHello.\n".len()];
+    same(&rt, header_of_message(TEXT), header);
+    for (text, want) in [
+        (
+            b"A: 1\n\t2\nB : 3\nno field\nC: 4\n".as_slice(),
+            b"A: 1\n\t2\nB : 3\n".as_slice(),
+        ),
+        (b"A: 1".as_slice(), b"A: 1".as_slice()),
+        (b"\nA: 1\n".as_slice(), b"".as_slice()),
+    ] {
+        same(&rt, header_of_message(text), want);
+    }
 }

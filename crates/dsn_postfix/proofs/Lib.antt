@@ -13,6 +13,7 @@ mod LogSpaces
 mod LogWritten
 mod LoggedExamples
 mod MessageExamples
+mod MessageHeaderExamples
 mod MessageTextExamples
 mod MessageFactsLemmas
 pub mod MessageTextLemmas
@@ -22,7 +23,10 @@ mod QueueListingLemmas
 mod QueueRecipientLemmas
 mod QueueWalkLemmas
 mod RecipientExamples
+mod RecipientSetLemmas
 mod RequestExamples
+mod ToldLemmas
+mod VerpPathExamples
 pub mod AttributeLaws
 pub mod AttributeLemmas
 pub mod FieldReadings

@@ -7,6 +7,7 @@ pub mod LogParts
 pub mod LogRecord
 pub mod LoggedAppend
 pub mod MessageFacts
+pub mod MessageHeader
 pub mod MessageText
 pub mod NoticePlan
 pub mod PlannedNotice
@@ -17,5 +18,7 @@ pub mod QueueRecipients
 pub mod QueueRecord
 pub mod QueueWalk
 pub mod QuotedAddress
+pub mod RecipientSet
 pub mod RequestReading
+pub mod VerpPath
 pub mod Wanted

@@ -1,16 +1,36 @@
 //! Which addresses stand in a log file as they are.
-ghost use Rattle.std.specs.Prelude.{◌≡◌};
-ghost use Rattle.std.specs.List.{list_all};
-ghost use Rattle.dsn_postfix.specs.QuotedAddress.{is_dot_string, local_part, needs_no_quotes, no_dots_meet, stands_unquoted};
+ghost use Rattle.std.specs.Prelude.{◌≡◌, ◌+◌, length};
+ghost use Rattle.std.specs.List.{list_all, suffix_len};
+ghost use Rattle.dsn_postfix.specs.VerpPath.{domain_part};
+ghost use Rattle.dsn_postfix.specs.QuotedAddress.{is_dot_string, is_no_at, local_part, needs_no_quotes, no_dots_meet, stands_unquoted};
 
-/// The local part of an address: what stands before its last `@`, or the whole where it has none.
-fn local_part(address: &[u8]) -> &[u8]
-    ensures { result.now ≡ local_part address.now }
+/// Where the domain of an address begins, after its last `@`, or 0 where it has none.
+fn domain_place(address: &[u8]) -> usize
+    ensures place { result + suffix_len is_no_at address.now ≡ length address.now }
 {
     let mut len = address.len();
     while len > 0 && address[len - 1] != b'@' {
         len -= 1;
     }
+    len
+}
+
+/// The domain of an address: what stands after its last `@`, or nothing where it has none.
+pub(crate) fn domain_part(address: &[u8]) -> &[u8]
+    ensures { result.now ≡ domain_part address.now }
+{
+    let place = domain_place(address);
+    if place == 0 {
+        return b"";
+    }
+    &address[place..]
+}
+
+/// The local part of an address: what stands before its last `@`, or the whole where it has none.
+pub(crate) fn local_part(address: &[u8]) -> &[u8]
+    ensures { result.now ≡ local_part address.now }
+{
+    let len = domain_place(address);
     if len == 0 {
         address
     } else {

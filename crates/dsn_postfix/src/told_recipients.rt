@@ -1,88 +1,18 @@
 //! Of which records of a log the notices of a request tell.
-ghost use Rattle.std.specs.Prelude.{◌≡◌, map, IfOk};
-ghost use Rattle.std.specs.List.{list_all, list_any};
-ghost use Rattle.dsn_postfix.specs.LogRecord.{logged_fields_in};
-ghost use Rattle.dsn_postfix.specs.NoticePlan.{has_known_action, is_done_in, is_done_at, is_known_action, is_past, is_same_recipient, is_told, told_as, told_of};
-ghost use Rattle.dsn_postfix.specs.QueueRecipients.{recipient_facts_in};
+ghost use Rattle.std.specs.Prelude.{◌≡◌, ◌∷◌, List, map, IfOk, OnOk};
+ghost use Rattle.std.specs.List.{list_all};
+ghost use Rattle.dsn_postfix.specs.LogRecord.{LoggedFields, logged_fields_in};
+ghost use Rattle.dsn_postfix.specs.NoticePlan.{has_known_action, is_known_action, is_told, told_as, told_of};
+ghost use Rattle.dsn_postfix.specs.QueueRecipients.{RecipientFacts, recipient_facts_in};
+ghost use Rattle.dsn_postfix.specs.RecipientSet.{HasNamed, HasPast};
 
 use crate::log_record::LogRecord;
 use crate::postfix_request::PostfixRequest;
 use crate::queued_recipient::QueuedRecipient;
-use crate::recipient_state::RecipientState;
+use crate::recipient_set::{is_named_again, past_places};
 use dsn_text::Service;
 use std::alloc::{AllocError, Global};
-
-/// Whether two records are of one recipient: both name the same record of the queue file, and the
-/// same address.
-fn is_same_recipient(one: &LogRecord<'_>, other: &LogRecord<'_>) -> bool
-    ensures { result ≡ is_same_recipient (logged_fields_in one.now) (logged_fields_in other.now) }
-{
-    one.offset > 0 && one.offset == other.offset && one.recipient == other.recipient
-}
-
-/// Whether one of some records is of a recipient.
-fn is_named_again(found: &LogRecord<'_>, later: &[LogRecord<'_>]) -> bool
-    ensures { result ≡ list_any (is_same_recipient (logged_fields_in found.now))
-        (map logged_fields_in later.now) }
-{
-    let mut rest = later;
-    while let [other, after @ ..] = rest {
-        if is_same_recipient(found, other) {
-            return true;
-        }
-        rest = after;
-    }
-    false
-}
-
-/// Whether a recipient is the one whose record stands at a place, and is done.
-fn is_done_at(place: u64, recipient: &QueuedRecipient<'_>) -> bool
-    ensures { result ≡ is_done_at place (recipient_facts_in recipient.now) }
-{
-    recipient.place == place && recipient.state != RecipientState::Waiting
-}
-
-/// Whether the queue file says that the recipient whose record stands at a place is done.
-fn is_done_in(queued: &[QueuedRecipient<'_>], offset: u64) -> bool
-    ensures { result ≡ is_done_in (map recipient_facts_in queued.now) offset }
-{
-    if offset == 0 {
-        return false;
-    }
-    let mut rest = queued;
-    while let [recipient, after @ ..] = rest {
-        if is_done_at(offset, recipient) {
-            return true;
-        }
-        rest = after;
-    }
-    false
-}
-
-/// Whether a log has a recipient whom it says nothing of any more.
-fn is_past(service: Service, queued: &[QueuedRecipient<'_>], offset: u64) -> bool
-    ensures { result ≡ is_past service (map recipient_facts_in queued.now) offset }
-{
-    match service {
-        Service::Defer => is_done_in(queued, offset),
-        Service::Bounce | Service::Trace => false,
-    }
-}
-
-/// Whether notices tell of a record, by those that come after it in the log.
-fn is_told(
-    service: Service,
-    request: &PostfixRequest<'_>,
-    queued: &[QueuedRecipient<'_>],
-    found: &LogRecord<'_>,
-    later: &[LogRecord<'_>],
-) -> bool
-    ensures { result ≡ is_told service request.now (map recipient_facts_in queued.now)
-        (logged_fields_in found.now) (map logged_fields_in later.now) }
-{
-    request.wants(found.notify_flags as u32)
-        && !(is_past(service, queued, found.offset) || is_named_again(found, later))
-}
+use std::collections::BTreeSet;
 
 /// A record as a notice of a request tells it.
 fn told_as<'a>(request: &PostfixRequest<'_>, found: LogRecord<'a>) -> LogRecord<'a>
@@ -99,7 +29,28 @@ fn told_as<'a>(request: &PostfixRequest<'_>, found: LogRecord<'a>) -> LogRecord<
     }
 }
 
-/// Those of a log's records that the notices of a request tell of, in their order.
+/// Whether notices tell of a record, by the places of those who are done and by the recipients of the records after
+/// it, to which it adds its own.
+fn is_told<'a>(
+    request: &PostfixRequest<'_>,
+    past: &BTreeSet<u64>,
+    seen: &mut BTreeSet<(u64, &'a [u8])>,
+    found: &LogRecord<'a>,
+) -> Result<bool, AllocError>
+    ensures told { (service : Service) (queued : List RecipientFacts) (later : List LoggedFields)
+        → HasPast past.now service queued → HasNamed seen.old later
+        → IfOk result (λ told. told
+        ≡ is_told service request.now queued (logged_fields_in found.now) later) }
+    ensures seen { (later : List LoggedFields) → HasNamed seen.old later
+        → OnOk result (HasNamed seen.new (logged_fields_in found.now ∷ later)) }
+{
+    let again = is_named_again(seen, found)?;
+    let over = past.contains(&found.offset) || again;
+    Ok(request.wants(found.notify_flags as u32) && !over)
+}
+
+/// Those of a log's records that the notices of a request tell of, in their order. They are gone through from the
+/// last one on, since of a recipient that two name the last one counts.
 pub(crate) fn told_of<'a>(
     alloc: Global,
     service: Service,
@@ -111,14 +62,19 @@ pub(crate) fn told_of<'a>(
         ≡ told_of service request.now (map recipient_facts_in queued.now)
         (map logged_fields_in records.now)) }
 {
+    let past = past_places(alloc, service, queued)?;
+    let mut seen = BTreeSet::new(alloc);
     let mut told = Vec::new(alloc);
-    let mut rest = records;
-    while let [found, later @ ..] = rest {
-        if is_told(service, request, queued, found, later) {
+    let mut left = records.len();
+    while left > 0 {
+        left -= 1;
+        let found = &records[left];
+        let tells = is_told(request, &past, &mut seen, found)?;
+        if tells {
             told.push(told_as(request, *found))?;
         }
-        rest = later;
     }
+    told.reverse();
     Ok(told)
 }
 

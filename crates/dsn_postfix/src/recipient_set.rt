@@ -1,0 +1,61 @@
+//! Sets in which recipients are looked up, so that a log with many takes no time that grows with their square.
+ghost use Rattle.std.specs.Prelude.{◌≡◌, ◌∷◌, List, map, IfOk, OnOk};
+ghost use Rattle.std.specs.List.{list_any};
+ghost use Rattle.dsn_text.specs.declared.service.Service.TheVariants.{Defer};
+ghost use Rattle.dsn_postfix.specs.LogRecord.{LoggedFields, logged_fields_in};
+ghost use Rattle.dsn_postfix.specs.NoticePlan.{is_same_recipient};
+ghost use Rattle.dsn_postfix.specs.QueueRecipients.{recipient_facts_in};
+ghost use Rattle.dsn_postfix.specs.RecipientSet.{HasNamed, HasPast};
+
+use crate::log_record::LogRecord;
+use crate::queued_recipient::QueuedRecipient;
+use crate::recipient_state::RecipientState;
+use dsn_text::Service;
+use std::alloc::{AllocError, Global};
+use std::collections::BTreeSet;
+
+/// Adds the recipient of a record to those of the records after it, and says whether one of these names it too.
+pub(crate) fn is_named_again<'a>(
+    seen: &mut BTreeSet<(u64, &'a [u8])>,
+    found: &LogRecord<'a>,
+) -> Result<bool, AllocError>
+    ensures again { (later : List LoggedFields) → HasNamed seen.old later
+        → IfOk result (λ again. again ≡ list_any (is_same_recipient (logged_fields_in found.now)) later) }
+    ensures seen { (later : List LoggedFields) → HasNamed seen.old later
+        → OnOk result (HasNamed seen.new (logged_fields_in found.now ∷ later)) }
+{
+    if found.offset == 0 {
+        return Ok(false);
+    }
+    let is_new = seen.insert((found.offset, found.recipient))?;
+    Ok(!is_new)
+}
+
+/// The places of the recipients of whom a service's log says nothing any more, since the queue file has them as done.
+pub(crate) fn past_places(
+    alloc: Global,
+    service: Service,
+    queued: &[QueuedRecipient<'_>],
+) -> Result<BTreeSet<u64>, AllocError>
+    ensures { IfOk result (λ past. HasPast past service (map recipient_facts_in queued.now)) }
+{
+    match service {
+        Service::Bounce | Service::Trace => Ok(BTreeSet::new(alloc)),
+        Service::Defer => done_places(alloc, queued),
+    }
+}
+
+/// The places of the recipients that are done.
+fn done_places(alloc: Global, queued: &[QueuedRecipient<'_>]) -> Result<BTreeSet<u64>, AllocError>
+    ensures { IfOk result (λ past. HasPast past Defer (map recipient_facts_in queued.now)) }
+{
+    let mut done = BTreeSet::new(alloc);
+    let mut rest = queued;
+    while let [recipient, after @ ..] = rest {
+        if recipient.place > 0 && recipient.state != RecipientState::Waiting {
+            done.insert(recipient.place)?;
+        }
+        rest = after;
+    }
+    Ok(done)
+}

@@ -21,7 +21,10 @@
 //!
 //! `probe postfix KIND` reads a file that Postfix keeps from standard input: with `bounce`, `defer`
 //! or `trace` a log file of bounce(8), whose records it writes to standard output again; with
-//! `queue` a queue file, of which it writes each record that counts as a line.
+//! `queue` a queue file, of which it writes each record that counts as a line. `probe postfix plan SERVICE`
+//! reads a request, the log of that service and the queue file, a length in four bytes before each, and
+//! writes the notices that the request has. `probe postfix many KIND` reads many files of a kind likewise,
+//! and writes a line of numbers for each.
 //!
 //! `probe channel MESSAGES` exchanges so many messages between two threads over channels alone, for
 //! comparison.

@@ -1,4 +1,7 @@
 //! Reads files that Postfix keeps, for scripts that compare what is found with what Postfix finds.
+mod many;
+mod plan;
+
 use dsn_postfix::{LogEntry, LogReader, QueueReader};
 use dsn_text::Service;
 use std::io::Write;
@@ -10,6 +13,10 @@ pub(crate) enum PostfixFile {
     Log(Service),
     /// A queue file.
     Queue,
+    /// A request, the log of this service, and the queue file.
+    Plan(Service),
+    /// Many logs of a service, or many queue files.
+    Many(Option<Service>),
 }
 
 /// Writes what is found in a file to standard output.
@@ -17,6 +24,8 @@ pub(crate) fn show(rt: &HostRuntime, kind: PostfixFile, file: &[u8]) -> Option<(
     let found = match kind {
         PostfixFile::Log(service) => copied(rt, service, file)?,
         PostfixFile::Queue => listed(rt, file)?,
+        PostfixFile::Plan(service) => plan::planned(rt, service, file)?,
+        PostfixFile::Many(service) => many::counted(rt, service, file)?,
     };
     rt.stdout().write_all(&found).ok()
 }

@@ -35,7 +35,7 @@ pub(crate) fn asked_for(rt: &HostRuntime) -> Option<Task> {
         "given" => given(words),
         "channel" => Some(Task::Channel(number(&mut words)?)),
         "journal" => journal(words),
-        "postfix" => Some(Task::Postfix(file_of(words.next()?.as_str())?)),
+        "postfix" => Some(Task::Postfix(file_of(words)?)),
         _ => None,
     }
 }
@@ -72,13 +72,24 @@ fn journal(mut words: Args) -> Option<Task> {
     }))
 }
 
-/// The kind of file that a word names.
-fn file_of(word: &str) -> Option<PostfixFile> {
-    match word {
-        "bounce" => Some(PostfixFile::Log(Service::Bounce)),
-        "defer" => Some(PostfixFile::Log(Service::Defer)),
-        "trace" => Some(PostfixFile::Log(Service::Trace)),
+/// The kind of file that the next word names; after `plan`, the service whose log comes with a request, and after
+/// `many` a service or `queue`.
+fn file_of(mut words: Args) -> Option<PostfixFile> {
+    let word = words.next()?;
+    match word.as_str() {
         "queue" => Some(PostfixFile::Queue),
+        "plan" => Some(PostfixFile::Plan(service_of(words.next()?.as_str())?)),
+        "many" => Some(PostfixFile::Many(service_of(words.next()?.as_str()))),
+        other => Some(PostfixFile::Log(service_of(other)?)),
+    }
+}
+
+/// The service that a word names.
+fn service_of(word: &str) -> Option<Service> {
+    match word {
+        "bounce" => Some(Service::Bounce),
+        "defer" => Some(Service::Defer),
+        "trace" => Some(Service::Trace),
         _ => None,
     }
 }

@@ -1,0 +1,104 @@
+//! The notices that a request has of a log and a queue file.
+use dsn_postfix::{
+    MessageFacts, PlannedNotice, PostfixVersion, QueueReader, QueuedRecipient, ReturnedPart,
+    decode_postfix_request, header_of_message, plan_notices, text_of_message,
+};
+use dsn_text::Service;
+
+/// The sender of notices about notices.
+const DOUBLE_BOUNCE: &[u8] = b"double-bounce@mx.example.net";
+
+/// The bytes at the front that a length in four bytes stands before, and those after them.
+pub(crate) fn first_part(bytes: &[u8]) -> Option<(&[u8], &[u8])> {
+    if bytes.len() < 4 {
+        return None;
+    }
+    let (length, rest) = bytes.split_at(4);
+    let length = u32::from_be_bytes([length[0], length[1], length[2], length[3]]) as usize;
+    if rest.len() < length {
+        return None;
+    }
+    Some(rest.split_at(length))
+}
+
+/// The recipients of a queue file.
+fn recipients<'a>(rt: &HostRuntime, file: &'a [u8]) -> Option<Vec<QueuedRecipient<'a>>> {
+    let mut reader = QueueReader::new(file);
+    let mut found = Vec::new(rt.alloc());
+    for _ in 0..file.len() {
+        let Some(recipient) = reader.next_recipient().ok()? else {
+            break;
+        };
+        found.push(recipient).ok()?;
+    }
+    Some(found)
+}
+
+/// Writes a name, the length of some bytes, and these.
+fn push_part(text: &mut Vec<u8>, rt: &HostRuntime, name: &str, bytes: &[u8]) -> Option<()> {
+    let length = bytes.len();
+    text.extend_from_slice(format!(in rt.alloc(); "{name} {length}").ok()?.as_bytes())
+        .ok()?;
+    text.push(b'\n').ok()?;
+    text.extend_from_slice(bytes).ok()?;
+    text.push(b'\n').ok()
+}
+
+/// Writes a notice: its address, its kind, the records of which it tells, and what it gives back of the message.
+fn push_notice(
+    text: &mut Vec<u8>,
+    rt: &HostRuntime,
+    notice: &PlannedNotice<'_>,
+    message: &[u8],
+) -> Option<()> {
+    push_part(text, rt, "to", &notice.address(rt.alloc()).ok()?)?;
+    let kind = match notice.service {
+        Service::Bounce => b"failure".as_slice(),
+        Service::Defer => b"delay",
+        Service::Trace => b"success",
+    };
+    push_part(text, rt, "kind", kind)?;
+    let mut records = Vec::new(rt.alloc());
+    for outcome in &notice.outcomes {
+        records
+            .extend_from_slice(&outcome.log_bytes(rt.alloc()).ok()?)
+            .ok()?;
+    }
+    push_part(text, rt, "records", &records)?;
+    match notice.returned {
+        ReturnedPart::Whole => push_part(text, rt, "whole", message),
+        ReturnedPart::Header => push_part(text, rt, "header", header_of_message(message)),
+    }
+}
+
+/// What a request asks of a service's log and a queue file, each with a length before it; without a request nothing is
+/// read. First when the message came and its id, and then each notice; or `unsaid` where none can be said.
+pub(crate) fn planned(rt: &HostRuntime, service: Service, given: &[u8]) -> Option<Vec<u8>> {
+    let (request, rest) = first_part(given)?;
+    let (log, rest) = first_part(rest)?;
+    let (file, _) = first_part(rest)?;
+    let request = decode_postfix_request(PostfixVersion::V3_7, request).ok()?;
+    let facts = MessageFacts::read(file).ok()?;
+    let queued = recipients(rt, file)?;
+    let message = text_of_message(rt.alloc(), file).ok()?;
+    let mut text = Vec::new(rt.alloc());
+    let arrival = format!(in rt.alloc(); "{}", facts.arrival.unwrap_or(0)).ok()?;
+    push_part(&mut text, rt, "arrival", arrival.as_bytes())?;
+    push_part(&mut text, rt, "id", facts.envelope_id.unwrap_or(b""))?;
+    match plan_notices(
+        rt.alloc(),
+        DOUBLE_BOUNCE,
+        service,
+        &request,
+        &queued,
+        Some(log),
+    ) {
+        Ok(notices) => {
+            for notice in &notices {
+                push_notice(&mut text, rt, notice, &message)?;
+            }
+        }
+        Err(_) => push_part(&mut text, rt, "unsaid", b"")?,
+    }
+    Some(text)
+}

@@ -113,12 +113,11 @@ def damaged(file: bytes, rand: random.Random) -> bytes:
 
 
 def read_damaged(checks: Checks, name: str, kind: str, file: bytes, rand: random.Random):
-    """Files damaged at random have an answer each: so many numbers, or of the file's end."""
+    """Files damaged at random have an answer each: numbers, and of a queue file that all readings find the same ending."""
     given = b"".join(struct.pack(">I", len(it)) + it for it in (damaged(file, rand) for _ in range(DAMAGED)))
     found = subprocess.run([PROBE, "postfix", "many", kind], input=given, stdout=subprocess.PIPE, stderr=subprocess.PIPE, timeout=300)
-    number, ends = rb"\d+", rb"(?:true|false)"
-    line = rb" ".join([number, ends, number, ends, ends, number, number] if kind == "queue" else [number, number])
-    lines = re.findall(rb"^" + line + rb"$", found.stdout, flags=re.M)
+    line = rb"^\d+ (true|false) \d+ \1 \1 \d+ \d+$" if kind == "queue" else rb"^\d+ \d+$"
+    lines = re.findall(line, found.stdout, flags=re.M)
     checks.equal(f"{name}, damaged: the status, and how many answers", (found.returncode, len(lines)), (0, DAMAGED))
 
 

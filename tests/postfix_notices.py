@@ -16,9 +16,10 @@ from running import ROOT, Checks  # noqa: E402
 PROBE = os.environ.get("PROBE") or str(ROOT / "crates/probe/out/probe")
 FILES = ROOT / "tests/postfix/files"
 LOG_OF = {"failure": "bounce", "delay": "defer", "expired": "defer", "success": "trace"}
+MANY = 100_000  # recipients of one alias
 LIFETIME = 5 * 24 * 3600  # seconds for which Postfix tries, as it stands in a warning
-# What can't be said here, so that Postfix's own service makes the notice: SMTPUTF8, also for a header in UTF-8, and what `sendmail -bv` asks.
-UNSAID = {"utf8", "utf8-sender", "later-utf8", "bytes-in-header", "asked-before"}
+# What can't be said here, so that Postfix's own service makes the notice: SMTPUTF8, and what `sendmail -bv` asks.
+UNSAID = {"utf8", "utf8-sender", "later-utf8", "asked-before"}
 # A field of more than one record of the queue file: bounce(8) ends the header after the first of these records.
 CUT_BY_POSTFIX = {"long-words", "long-field"}
 
@@ -114,6 +115,16 @@ def compare(checks: Checks, what: str, case: str, message: dict, notice: dict, m
         checks.equal(f"{what}: what it gives back", back, made.back)
 
 
+def of_one_alias(checks: Checks):
+    """A log of very many recipients of one alias is planned in a time that doesn't grow with their square."""
+    record = b"\nrecipient=u%d@example.org\noffset=7\nstatus=5.1.1\naction=failed\nreason=no\n\n"
+    log = b"".join(record % it for it in range(MANY))
+    request, queue = ((FILES / "one" / it).read_bytes() for it in ("failure.request", "queue"))
+    _, notices = planned("bounce", request, log, queue)
+    told_of = sum(it["records"].count(b"\nrecipient=") for it in notices)
+    checks.equal(f"{MANY} recipients of one alias: the notices, and of how many they tell", (len(notices), told_of), (MANY // 1000, MANY))
+
+
 def main():
     checks = Checks("messages of Postfix: the notices that are planned are those that Postfix made")
     cases = sorted(it for it in FILES.iterdir() if it.is_dir())
@@ -134,6 +145,7 @@ def main():
                 compare(checks, what, case.name, message, notice, other)
                 count += 1
     checks.true(f"many notices were compared: {count}", count >= 80)
+    of_one_alias(checks)
     checks.done()
 
 

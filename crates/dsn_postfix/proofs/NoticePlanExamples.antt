@@ -220,6 +220,11 @@ of_a_double_bounce : notices_of double_bounce Bounce (Flush (notice_with (codes 
 unfolding notices_of
 of_a_double_bounce = refl
 
+-- a header in UTF-8 alone asks for nothing: a warning without a log tells of nobody
+of_utf8_header : notices_of double_bounce Defer (Warn (notice_with sender 2 0)) [] None ≡ Ok []
+unfolding notices_of
+of_utf8_header = refl
+
 of_smtputf8 : notices_of double_bounce Bounce (Flush (notice_with sender 1 0)) [] None ≡ Err NeedsSmtputf8
 unfolding notices_of
 of_smtputf8 = refl

@@ -1,6 +1,6 @@
 -- The notices that a request has of a log: each recipient whom the request's NOTIFY rules want stands in one,
 -- once, in the log's order.
-use Rattle.std.specs.Prelude.{◌≡◌, ◌==◌, ◌<◌, ◌≤◌, ◌&&◌, ◌||◌, not, nat_lt, Bool, true, false, ℕ, zero, suc, List, [], ◌∷◌, take, drop, length, map, codes, Option, Some, None, Result, Ok, Err, if◌then◌else◌}
+use Rattle.std.specs.Prelude.{◌≡◌, ◌==◌, ◌<◌, ◌≤◌, ◌%◌, ◌&&◌, ◌||◌, not, nat_lt, Bool, true, false, ℕ, zero, suc, List, [], ◌∷◌, take, drop, length, map, codes, Option, Some, None, Result, Ok, Err, if◌then◌else◌}
 use Rattle.std.specs.List.{AllByRecursion, flat_map, list_all, list_any}
 use Rattle.std.specs.Str.{bytes_eq}
 use Rattle.dsn_text.specs.declared.service.Service.{Service}
@@ -201,13 +201,17 @@ notices_with service request notice queued (Err reason) = Err reason
 notices_with service request notice queued (Ok records) =
     notices_telling request notice (told_of service request queued records)
 
+-- the message was handed in with SMTPUTF8 (RFC 6531): the lowest of the flags says so. The others say that a
+-- header or the sender has UTF-8 in it, as also in messages that came without
+abbrev pub asks_smtputf8 : ℕ → Bool
+asks_smtputf8 flags = flags % 2 == 1
+
 abbrev pub notices_asked : List ℕ → Service → PostfixRequest → List RecipientFacts → Option (List ℕ) → Option NoticeRequest → Result (List NoticeFacts) CantSay
 notices_asked double_bounce service request queued log None = Ok []
 notices_asked double_bounce service request queued log (Some notice) =
     if is_no_sender double_bounce notice.sender then Ok []
-    else (if notice.smtputf8 == 0
-    then notices_with service request notice queued (records_asked service request log)
-    else Err NeedsSmtputf8)
+    else (if asks_smtputf8 notice.smtputf8 then Err NeedsSmtputf8
+    else notices_with service request notice queued (records_asked service request log))
 
 -- what a request for notices says, if it is one
 abbrev pub notice_asked : PostfixRequest → Option NoticeRequest

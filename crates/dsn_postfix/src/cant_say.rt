@@ -11,7 +11,7 @@ pub enum CantSay {
     /// What stands at this place of the log, in bytes, is no whole record.
     #[error("the log is damaged at byte {0}")]
     DamagedPart(u64),
-    /// The message needs SMTPUTF8 (RFC 6531).
+    /// The message was handed in with SMTPUTF8 (RFC 6531).
     #[error("the message needs SMTPUTF8")]
     NeedsSmtputf8,
     /// This field of the request's recipient can't be said.

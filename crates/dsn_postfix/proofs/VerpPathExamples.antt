@@ -7,11 +7,14 @@ use Rattle.dsn_postfix.specs.VerpPath.{notice_address, verp_path}
 use Rattle.dsn_postfix.specs.declared.returned_part.ReturnedPart.TheVariants.{Whole}
 
 -- as bounce(8) of Postfix 3.7.11 addressed its notices
-plain : verp_path (codes "list@example.com") (codes "+=") (codes "bob@example.org") ≡ codes "list+bob=example.org@example.com"
+plain : verp_path (codes "list-owner@lists.example.com") (codes "+=") (codes "no.bob@example.org") ≡ codes "list-owner+no.bob=example.org@lists.example.com"
 plain = refl
 
 other_bytes : verp_path (codes "list@example.com") (codes "-=") (codes "no+tag@example.org") ≡ codes "list-no+tag=example.org@example.com"
 other_bytes = refl
+
+quoted : verp_path (codes "list@example.com") (codes "-=") (codes "\"no.a bob\"@example.org") ≡ codes "list-\"no.a bob\"=example.org@example.com"
+quoted = refl
 
 -- addresses without a domain, and one with a second `@`
 without_domains : verp_path (codes "list") (codes "+=") (codes "bob") ≡ codes "list+bob"

@@ -17,9 +17,9 @@ loop-left-preserved-in-Continue-branch-3 c =
       within = omega (arith, before.within);
       seen = seen_step _ records left c.is_told.new.seen some before.within (c.in_ok-tells.ensures.seen later before.seen);
       told = ap (λ told. reverse (map logged_fields_in told)) c.in_ok-push.ensures.items
-        ∙ told_step _ c.args.service c.args.request.now queued records c.loop-left.told.items left c.told_as.result some before.within
-        (sym c.if-tells.true ∙ c.in_ok-tells.ensures.told c.args.service queued later c.in_ok-past.ensures before.seen)
-        c.told_as.ensures before.told;
+          ∙ told_step _ c.args.service c.args.request.now queued records c.loop-left.told.items left c.told_as.result some before.within
+          (sym c.if-tells.true ∙ c.in_ok-tells.ensures.told c.args.service queued later c.in_ok-past.ensures before.seen)
+          c.told_as.ensures before.told;
     }
 
 pub loop-left-preserved : goal.loop-left-preserved
@@ -34,8 +34,8 @@ loop-left-preserved c =
       within = omega (arith, before.within);
       seen = seen_step _ records left c.is_told.new.seen some before.within (c.in_ok-tells.ensures.seen later before.seen);
       told = passed_step _ c.args.service c.args.request.now queued records c.loop-left.told.items left some before.within
-        (sym c.if-tells.false ∙ c.in_ok-tells.ensures.told c.args.service queued later c.in_ok-past.ensures before.seen)
-        before.told;
+          (sym c.if-tells.false ∙ c.in_ok-tells.ensures.told c.args.service queued later c.in_ok-past.ensures before.seen)
+          before.told;
     }
 
 pub returns : goal.returns

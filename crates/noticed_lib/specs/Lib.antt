@@ -1,4 +1,5 @@
 pub mod batch_run
 pub mod client
 pub mod daemon
+pub mod listing
 pub mod notes

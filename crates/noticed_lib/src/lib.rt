@@ -1,10 +1,11 @@
 //! The daemon as a library: `batch` runs the requests of one input, `serve` those of agents that
-//! connect to a socket, and `send` is such an agent's part.
+//! connect to a socket, `send` is such an agent's part, and `list_journal` tells what a journal holds.
 #![tactic(auto)]
 
 mod batch_run;
 mod client;
 mod daemon;
+mod listing;
 mod notes;
 
 pub use batch_run::{BatchEnd, MemoryRun, batch, batch_bytes};
@@ -16,3 +17,4 @@ pub use daemon::{
 pub use dsn_book::Limits;
 pub use dsn_frame::Spoken;
 pub use dsn_report::Site;
+pub use listing::{ListingFault, list_journal};

@@ -13,6 +13,10 @@ mod fake_devices;
 #[cfg(test)]
 mod input;
 #[cfg(test)]
+mod journal_files;
+#[cfg(test)]
+mod listings;
+#[cfg(test)]
 mod notices;
 #[cfg(test)]
 mod order;
@@ -32,3 +36,5 @@ mod sessions;
 mod sockets;
 #[cfg(test)]
 mod text_port;
+#[cfg(test)]
+mod unread_disk;

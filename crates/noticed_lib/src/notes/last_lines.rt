@@ -83,7 +83,11 @@ fn write_open<N: Drain>(
     }
 }
 
-fn write_open_lines<N: Drain>(notes: &mut N, writing: &mut UntilFailure, lines: &[OpenLine])
+pub(crate) fn write_open_lines<N: Drain>(
+    notes: &mut N,
+    writing: &mut UntilFailure,
+    lines: &[OpenLine],
+)
     ensures { WritesUntilFailure N.Drain writing.old.failed writing.new.failed notes.old notes.new
         (flat_map open_line lines.now) }
 {

@@ -56,7 +56,7 @@ pub(crate) fn open_line(log: &OpenLine) -> ShortText
     line
 }
 
-fn push_key(line: &mut ShortText, key: &Key)
+pub(crate) fn push_key(line: &mut ShortText, key: &Key)
     requires { length line.old ≤ longest_key_start }
     ensures pushed { line.new ≡ line.old ++ key_words key.now }
     ensures short { length line.new ≤ length line.old + longest_key }

@@ -1,0 +1,4 @@
+pub mod ClosedKeysLemmas
+pub mod CopiedFolderLemmas
+pub mod CopyLemmas
+pub mod ListingLemmas

@@ -1,0 +1,6 @@
+pub mod CopiedDisk
+pub mod CopiedFolder
+pub mod Folder
+pub mod Listing
+pub mod ListingFault
+pub mod ListingLines

@@ -1,0 +1,11 @@
+//! What a journal's folder holds, told without changing it.
+mod closed_keys;
+mod copied_disk;
+mod copied_folder;
+mod journal_listing;
+mod listing_fault;
+mod listing_lines;
+mod listing_texts;
+
+pub use journal_listing::list_journal;
+pub use listing_fault::ListingFault;

@@ -6,7 +6,7 @@ from pathlib import Path
 sys.path.insert(0, str(Path(__file__).parent / "support"))
 from running import EXAMPLES, Checks, Ran, empty_outbox, run  # noqa: E402
 
-USAGE = b"usage: noticed batch HOST | serve [[--journal FOLDER] --outbox PATH] [--idle SECONDS] [--end-on-fault] [--log] SOCKET HOST AGENTS MAX-USE | stop SOCKET | send SOCKET\n"
+USAGE = b"usage: noticed batch HOST | serve [[--journal FOLDER] --outbox PATH] [--idle SECONDS] [--end-on-fault] [--log] SOCKET HOST AGENTS MAX-USE | stop SOCKET | send SOCKET | journal FOLDER\n"
 PATH = b"the path of the socket must have 1 to 107 bytes\n"
 HOST = "mx.example.net"
 SOCKET = "/nonexistent/noticed.socket"
@@ -76,6 +76,11 @@ WRONG = {
     "send with a word too many": ["send", SOCKET, HOST],
     "send with an empty word too many": ["send", SOCKET, ""],
     "send with a socket that is no UTF-8": ["send", b"/\xff"],
+    "journal with nothing": ["journal"],
+    "journal with an empty folder": ["journal", ""],
+    "journal with a word too many": ["journal", "/nonexistent", HOST],
+    "journal with an empty word too many": ["journal", "/nonexistent", ""],
+    "journal with a folder that is no UTF-8": ["journal", b"/\xff"],
 }
 
 # wrong as AGENTS and as MAX-USE: not a decimal number of at least 1 without leading zeros

@@ -43,6 +43,11 @@ pub(crate) enum Command {
         /// The path of the socket.
         socket: String,
     },
+    /// `journal FOLDER`.
+    Journal {
+        /// The folder of the journal.
+        folder: String,
+    },
 }
 
 /// What `serve` is given.
@@ -90,6 +95,9 @@ pub(crate) fn command_of(rt: &HostRuntime) -> Result<Command, Refusal> {
         }),
         "send" => Ok(Command::Send {
             socket: socket_argument(words)?,
+        }),
+        "journal" => Ok(Command::Journal {
+            folder: folder_argument(words)?,
         }),
         _ => Err(Refusal::Usage),
     }
@@ -166,7 +174,7 @@ fn take_option(options: &mut ServeOptions, option: &str, words: &mut Args) -> Re
     Ok(())
 }
 
-/// The path that an option is given.
+/// The path that comes next.
 fn path_of(words: &mut Args) -> Result<String, Refusal> {
     match words.next() {
         Some(path) if !path.is_empty() => Ok(path),
@@ -179,6 +187,15 @@ fn socket_argument(mut words: Args) -> Result<String, Refusal> {
     match (words.next(), words.next()) {
         (Some(socket), None) => socket_of(socket),
         _ => Err(Refusal::Usage),
+    }
+}
+
+/// The argument `FOLDER` of `journal`.
+fn folder_argument(mut words: Args) -> Result<String, Refusal> {
+    let folder = path_of(&mut words)?;
+    match words.next() {
+        None => Ok(folder),
+        Some(_) => Err(Refusal::Usage),
     }
 }
 

@@ -27,6 +27,20 @@ pub(crate) fn open_folder<'a>(
     Ok(JournalFolder { journal, marks })
 }
 
+/// Opens the journal and the marks of a folder as they are, for this process alone: neither is made,
+/// and no byte of either is changed.
+pub(crate) fn open_as_it_is<'a>(
+    rt: &'a HostRuntime,
+    folder: &str,
+) -> io::Result<JournalFolder<FileDisk<'a>, FileDisk<'a>>> {
+    let journal = path_in(rt, folder, "journal")?;
+    let marks = path_in(rt, folder, "marks")?;
+    Ok(JournalFolder {
+        journal: FileDisk::open(rt, journal.as_str())?,
+        marks: FileDisk::open(rt, marks.as_str())?,
+    })
+}
+
 /// Opens the file of this name, which is made with so many bytes where it isn't there.
 fn open_or_make<'a>(
     rt: &'a HostRuntime,
@@ -34,7 +48,7 @@ fn open_or_make<'a>(
     name: &str,
     size: usize,
 ) -> io::Result<FileDisk<'a>> {
-    let path = format!(in rt.alloc(); "{folder}/{name}")?;
+    let path = path_in(rt, folder, name)?;
     if !fs::exists(rt, path.as_str())? {
         match create_file(rt, path.as_str(), size) {
             Err(error) if error.kind() != ErrorKind::AlreadyExists => return Err(error),
@@ -42,6 +56,11 @@ fn open_or_make<'a>(
         }
     }
     FileDisk::open(rt, path.as_str())
+}
+
+/// The path of the file of this name.
+fn path_in(rt: &HostRuntime, folder: &str, name: &str) -> io::Result<String> {
+    Ok(format!(in rt.alloc(); "{folder}/{name}")?)
 }
 
 /// Opens the file of an outbox, for its owner alone where it is made. An error of the kind

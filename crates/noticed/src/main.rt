@@ -4,6 +4,7 @@
 mod arguments;
 mod batch_command;
 mod buffer;
+mod journal_command;
 mod journal_files;
 mod outbox_writer;
 mod refusal;
@@ -16,6 +17,7 @@ mod stop_command;
 use arguments::{Command, command_of};
 use batch_command::run_batch;
 use dsn_text::fault_code;
+use journal_command::run_journal;
 use refusal::Refusal;
 use send_command::run_send;
 use serve_command::run_serve;
@@ -25,7 +27,7 @@ use stop_command::run_stop;
 
 /// The line that wrong arguments print on standard error.
 const USAGE: &str =
-    "usage: noticed batch HOST | serve [[--journal FOLDER] --outbox PATH] [--idle SECONDS] [--end-on-fault] [--log] SOCKET HOST AGENTS MAX-USE | stop SOCKET | send SOCKET";
+    "usage: noticed batch HOST | serve [[--journal FOLDER] --outbox PATH] [--idle SECONDS] [--end-on-fault] [--log] SOCKET HOST AGENTS MAX-USE | stop SOCKET | send SOCKET | journal FOLDER";
 
 fn main(rt: HostRuntime) -> ExitCode {
     let done = match begin(&rt) {
@@ -33,6 +35,7 @@ fn main(rt: HostRuntime) -> ExitCode {
         Ok(Command::Serve(serving)) => run_serve(&rt, &rt, serving),
         Ok(Command::Stop { socket }) => run_stop(&rt, rt.alloc(), &socket),
         Ok(Command::Send { socket }) => run_send(&rt, &rt, &socket),
+        Ok(Command::Journal { folder }) => run_journal(&rt, &folder),
         Err(refusal) => Err(refusal),
     };
     ExitCode::from(match done {

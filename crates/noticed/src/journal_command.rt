@@ -1,0 +1,42 @@
+//! The command `journal`: what a journal's folder holds, to standard output.
+use crate::buffer::{ROOM, let_go};
+use crate::journal_files::{open_as_it_is, print_journal_fault};
+use crate::refusal::Refusal;
+use dsn_outcome::Plain;
+use noticed_lib::{JournalFolder, Limits, ListingFault, list_journal};
+use std::io::{BufWriter, Eprint};
+
+/// The exit status of a listing that was not made to its end.
+const FAULT: u8 = 1;
+
+/// Prints what the journal of this folder holds, in lines of standard output, and changes nothing of
+/// it. No daemon has it meanwhile. Returns the status.
+pub(crate) fn run_journal(rt: &HostRuntime, folder: &str) -> Result<u8, Refusal> {
+    let JournalFolder {
+        mut journal,
+        mut marks,
+    } = match open_as_it_is(rt, folder) {
+        Ok(disks) => disks,
+        Err(error) => return Ok(print_journal_fault(rt, folder, &error)),
+    };
+    let writer = BufWriter::with_capacity(rt.alloc(), ROOM, rt.stdout()).map_err(
+        |_| Refusal::NoMemory,
+    )?;
+    let mut lines = Plain::new(writer);
+    let limits = Limits::of_program();
+    let listed = list_journal(rt.alloc(), limits, &mut journal, &mut marks, &mut lines);
+    let_go(lines.into_inner());
+    match listed {
+        Ok(()) => Ok(0),
+        Err(fault) => Ok(print_listing_fault(rt, folder, fault)),
+    }
+}
+
+/// Prints why a folder was not listed; what is about its files, with its path. Returns the status.
+fn print_listing_fault(rt: &impl Eprint, folder: &str, fault: ListingFault) -> u8 {
+    let _ = eprintln!(rt; "fault {}", fault.code());
+    if fault != ListingFault::NotWritten {
+        let _ = eprintln!(rt; "{folder}: {fault}");
+    }
+    FAULT
+}

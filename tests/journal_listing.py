@@ -1,0 +1,232 @@
+#!/usr/bin/env python3
+"""Runs `noticed journal` on folders that daemons left, after a kill and after an end in order, and on random ones: it prints what a
+plain reading of docs/FORMATS.md has of them, and no byte, name, mode or time of a folder is changed. Where a daemon has the folder,
+a file isn't there or is none of a journal, a line can't be written, or memory is refused, it has its number and status."""
+import os
+import random
+import subprocess
+import sys
+import tempfile
+import time
+from pathlib import Path
+
+sys.path.insert(0, str(Path(__file__).parent / "support"))
+from daemon_and_clients import Daemon, answer, append, asked, flush, frames, until  # noqa: E402
+from formats import journal, listing  # noqa: E402
+from formats.bodies import Refused, decoded  # noqa: E402
+from formats.logs import Limits  # noqa: E402
+from hostile import Hostile  # noqa: E402
+from preloading import built, each_refused  # noqa: E402
+from running import Checks, Ran, program, run  # noqa: E402
+
+SIZE, MARKS = 16_384, 4_096  # bytes of a journal and of marks here
+FOLDERS = 60  # random ones
+MOST = 300  # growths of a listing; more than this and the sweep is broken
+
+
+def state(folder: Path) -> dict:
+    """What a folder has: the names in it, and of each its bytes, its mode, its links and when it was written."""
+    kept = {}
+    for it in [folder, *folder.rglob("*")] if folder.exists() else []:
+        of = it.lstat()
+        kept[it.name] = (it.read_bytes() if it.is_file() else b"", of.st_mode, of.st_ino, of.st_nlink, of.st_size, of.st_mtime_ns, of.st_ctime_ns)
+    return kept
+
+
+def told(checks: Checks, about: str, folder: Path, **how) -> Ran:
+    """What is printed of a folder, which stays as it was."""
+    before = state(folder)
+    ran = run(["journal", str(folder)], **how)
+    checks.equal(f"{about}: the folder stays", state(folder), before)
+    return ran
+
+
+def check_told(checks: Checks, about: str, folder: Path, wanted: bytes):
+    """These lines are printed of a folder, and they are those of the plain reading."""
+    checks.equal(about, told(checks, about, folder), Ran(wanted, b"", 0))
+    files = ((folder / it).read_bytes() for it in ("journal", "marks"))
+    checks.equal(f"{about}, by the plain reading", listing.listed(*files), wanted)
+
+
+def check_fault(checks: Checks, about: str, folder: Path, number: int, words: str):
+    """Nothing is printed of a folder but this fault and these words."""
+    wanted = Ran(b"", b"fault %d\n%s: %s\n" % (number, os.fsencode(folder), words.encode()), 1)
+    checks.equal(about, told(checks, about, folder), wanted)
+
+
+def used(folder: Path) -> int:
+    """How many bytes the records of a journal take."""
+    return sum(len(journal.spelled(it)) for it in journal.records((folder / "journal").read_bytes()))
+
+
+def made(room: Path, name: str) -> Path:
+    """A folder with a small journal that no daemon had yet."""
+    folder = room / name
+    folder.mkdir(mode=0o700)
+    (folder / "journal").write_bytes(bytes(SIZE))
+    return folder
+
+
+def daemon(folder: Path, outbox: Path, uses: int = 1) -> Daemon:
+    """A daemon over a folder."""
+    return Daemon(1, uses, options=("--journal", folder, "--outbox", outbox))
+
+
+def has_mark(folder: Path, mark: int) -> bool:
+    """Whether the marks say this mark."""
+    return b"".join(journal.records((folder / "marks").read_bytes())[-1:]) == mark.to_bytes(8, "big")
+
+
+def killed(checks: Checks, room: Path):
+    """A daemon is killed once it has sealed and posted K1, discarded K3, and logged two outcomes of K2. While it is there the folder is
+    its own. The next daemon goes on from what was listed."""
+    folder = made(room, "killed")
+    with daemon(folder, room / "killed.outbox", 2) as it:
+        with it.connect() as client:
+            given = append(0, b"K1") + flush(1, b"K1") + append(2, b"K2") + append(3, b"K2") + frames.discard(4, 1, b"K3")
+            checks.equal("a daemon that will be killed answers", asked(client, given, 5), answer(1) + answer(7, 1, 1) + answer(1, 2) + answer(1, 3, 1) + answer(8, 4))
+        checks.true("its notice is marked", until(lambda: has_mark(folder, 1)))
+        check_fault(checks, "a folder that a daemon has", folder, 72, "operation would block")
+        it.running.kill()
+        it.end()
+    lines = b"open B K2 2\nclosed B K1\nclosed B K3\nmarked 1\nsealed 1\nbytes %d %d\n" % (used(folder), SIZE)
+    check_told(checks, "after a kill", folder, lines)
+    check_told(checks, "and once more", folder, lines)
+    with daemon(folder, room / "killed.outbox.2") as it:
+        with it.connect() as client:
+            checks.equal("the next daemon", asked(client, append(0, b"K1") + append(1, b"K2"), 2), answer(2) + answer(1, 1, 2))
+        checks.equal("it ends in order", it.end().status, 0)
+    check_told(checks, "after an end in order", folder, b"open B K2 3\nmarked 1\nsealed 1\nbytes %d %d\n" % (used(folder), SIZE))
+
+
+def unposted(checks: Checks, room: Path):
+    """Notices that no outbox took are told with their serials, until one did."""
+    folder = made(room, "unposted")
+    with daemon(folder, Path("/dev/full")) as it:
+        with it.connect() as client:
+            given = append(0, b"K1") + append(1, b"K1") + flush(2, b"K1") + append(3, b"K2") + flush(4, b"K2")
+            checks.equal("a daemon whose outbox is full answers", asked(client, given, 5)[-14:], answer(7, 4, 1))
+        checks.equal("it ends with its fault", it.end().status, 1)
+    last = b"sealed 2\nbytes %d %d\n"
+    lines = b"unmarked B K1 2 0\nunmarked B K2 1 1\nmarked 0\n" + last % (used(folder), SIZE)
+    check_told(checks, "notices that were not posted", folder, lines)
+    with daemon(folder, room / "unposted.outbox") as it:
+        it.connect().close()
+        checks.equal("the next daemon posts them", it.end().status, 0)
+    check_told(checks, "notices that were posted", folder, b"marked 2\n" + last % (used(folder), SIZE))
+
+
+def random_folder(dice: random.Random, folder: Path):
+    """A folder of random requests, with a base and a mark, and with what a crash leaves behind the records."""
+    hostile, base, records = Hostile(dice), dice.choice([0, 0, 1, 2**63 - 1000]), []
+    for _ in range(dice.randint(0, 40)):
+        body = hostile.body(0)
+        try:
+            decoded(body)
+        except Refused:
+            body = b""
+        records.append(body)
+    file = b"".join(map(journal.spelled, [journal.header(Limits(), base), *records]))
+    count = int(listing.listed(file, b"").split(b"sealed ")[1].split()[0]) - base
+    tail = dice.choice([b"", b"", b"\1\2\3", b"\1\0\3", b"\1\4\2", b"K1"])
+    marks = journal.at_rest([it.to_bytes(8, "big") for it in (3, base + dice.randint(0, count))], MARKS)
+    (folder / "journal").write_bytes(file + tail + bytes(dice.choice([0, 1, 500])))
+    (folder / "marks").write_bytes(marks)
+
+
+def random_folders(checks: Checks, room: Path, seed: int):
+    """Of random folders the program prints what the plain reading has."""
+    folder, dice, total = room / "random", random.Random(seed), 0
+    folder.mkdir()
+    for number in range(FOLDERS):
+        random_folder(dice, folder)
+        wanted = listing.listed((folder / "journal").read_bytes(), (folder / "marks").read_bytes())
+        checks.equal(f"folder {number} of seed {seed}", told(checks, f"folder {number}", folder), Ran(wanted, b"", 0))
+        total += wanted.count(b"\n")
+    print(f"  {FOLDERS} random folders, {total} lines")
+
+
+def folders(checks: Checks, room: Path):
+    """A folder, or a file of it, that isn't there, isn't one, or may not be read: 72. None is made."""
+    check_fault(checks, "a folder that isn't there", room / "none", 72, "No such file or directory (os error 2)")
+    checks.true("it isn't made", not (room / "none").exists())
+    (room / "a-file").write_bytes(b"")
+    check_fault(checks, "a file in place of the folder", room / "a-file", 72, "Not a directory (os error 20)")
+    folder = made(room, "no-marks")
+    check_fault(checks, "a folder without marks", folder, 72, "No such file or directory (os error 2)")
+    (folder / "journal").rename(folder / "marks")
+    check_fault(checks, "a folder without a journal", folder, 72, "No such file or directory (os error 2)")
+    (folder / "journal").symlink_to(room / "none")
+    check_fault(checks, "a link to nothing", folder, 72, "No such file or directory (os error 2)")
+
+
+def files(checks: Checks, room: Path):
+    """Files that are none of a journal, each with its number; where both are wrong the marks' one comes."""
+    folder = made(room, "files")
+    limits, text = Limits(), b"a file of text\n" * 30
+    right = journal.at_rest([journal.header(limits, 1)], SIZE)
+    marks = journal.at_rest([(1).to_bytes(8, "big")], MARKS)
+    for about, journal_file, marks_file, number, words in (
+        ("a journal of text", text, marks, 73, "the file isn't a journal's"),
+        ("marks of text", right, text, 73, "the file isn't one of marks"),
+        ("both of text", text, text, 73, "the file isn't one of marks"),
+        ("a journal under other limits", journal.at_rest([journal.header(Limits(logs=3))], SIZE), marks, 74, "the journal is of another version, or was kept under other limits"),
+        ("a record that keeps no body", journal.at_rest([journal.header(limits, 1), b"no body"], SIZE), marks, 75, "a record of the journal is damaged"),
+        ("a record of marks that is none", right, journal.at_rest([b"no mark"], MARKS), 75, "the last record of the marks is damaged"),
+        ("a mark ahead of its journal", right, journal.at_rest([(2).to_bytes(8, "big")], MARKS), 76, "the mark counts more letters than the journal sealed"),
+        ("a mark behind its journal's base", right, bytes(MARKS), 77, "the mark counts fewer letters than the journal's base"),
+        ("a new journal without room for its header", bytes(20), bytes(MARKS), 71, "the journal is full"),
+        ("an empty journal", b"", bytes(MARKS), 71, "the journal is full"),
+    ):
+        (folder / "journal").write_bytes(journal_file)
+        (folder / "marks").write_bytes(marks_file)
+        check_fault(checks, about, folder, number, words)
+    (folder / "journal").write_bytes(bytes(SIZE))
+    (folder / "marks").write_bytes(bytes(MARKS))
+    check_told(checks, "new files", folder, b"marked 0\nsealed 0\nbytes %d %d\n" % (len(journal.spelled(journal.header(limits))), SIZE))
+    (folder / "marks").write_bytes(b"")
+    (folder / "journal").write_bytes(right)
+    check_fault(checks, "empty marks, and a base", folder, 77, "the mark counts fewer letters than the journal's base")
+
+
+def lost_lines(checks: Checks, room: Path):
+    """Where the lines can't be written: 33, and no more."""
+    folder = room / "killed"
+    with open("/dev/full", "wb") as full:
+        checks.equal("a full device", told(checks, "a full device", folder, stdout=full), Ran(b"", b"fault 33\n", 1))
+    shell = ["sh", "-c", 'exec "$0" journal "$1" >&-', program(), str(folder)]
+    ended = subprocess.run(shell, capture_output=True, check=False)
+    checks.equal("standard output that is closed", (ended.stderr, ended.returncode), (b"fault 33\n", 1))
+    for word in ("stderr", "stdout"):
+        reading, writing = os.pipe()
+        os.close(reading)
+        status = told(checks, f"a pipe for {word} that nobody reads", folder if word == "stdout" else room / "none", **{word: writing}).status
+        os.close(writing)
+        checks.equal(f"a pipe for {word} that nobody reads: status", status, 1)
+
+
+def without_memory(checks: Checks, room: Path, library: Path):
+    """Each growth of memory is refused in turn: 9, or 72 where a file could not be read for it; or all lines are there."""
+    folder = room / "killed"
+    whole = told(checks, "a listing with ample memory", folder)
+    ends = each_refused(library, MOST, lambda environment: told(checks, "a listing without memory", folder, env=environment), whole)
+    checks.equal("the last one is whole", ends[-1], whole)
+    met = {it.notes.split(b"\n", 1)[0] for it in ends[:-1]}
+    checks.true(f"no fault but 9 and 72: {met}", met == {b"fault 9", b"fault 72"})
+    checks.equal("and no line", {(it.outbox, it.status) for it in ends[:-1]}, {(b"", 1)})
+    print(f"  {len(ends) - 1} growths, each refused once")
+
+
+def main():
+    seed = int(sys.argv[1]) if len(sys.argv) > 1 else time.time_ns() % 1_000_000
+    checks = Checks(f"journal_listing: what noticed journal prints of folders, seed {seed}")
+    with tempfile.TemporaryDirectory(prefix="noticed-listing-") as name:
+        room = Path(name)
+        for check in (killed, unposted, folders, files, lost_lines):
+            check(checks, room)
+        random_folders(checks, room, seed)
+        without_memory(checks, room, built(room, "refuse"))
+    checks.done()
+
+
+main()

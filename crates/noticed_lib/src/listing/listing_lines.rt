@@ -3,7 +3,7 @@ ghost use Rattle.std.specs.Prelude.{◌≡◌, ◌+◌, IfErr, is_err, false, le
 ghost use Rattle.dsn_device.specs.Failures.{counted};
 ghost use Rattle.dsn_device.specs.UntilFailure.{WritesUntilFailure, WrittenAndFlushed};
 ghost use Rattle.noticed_lib.specs.listing.CopiedDisk.{copied_seen};
-ghost use Rattle.noticed_lib.specs.listing.ListingLines.{closed_lines, last_lines, listing_lines, unmarked_line, unmarked_lines};
+ghost use Rattle.noticed_lib.specs.listing.ListingLines.{bytes_line, closed_lines, last_lines, listing_lines, sealed_line, unmarked_line, unmarked_lines};
 
 use crate::listing::copied_disk::CopiedDisk;
 use crate::listing::listing_fault::ListingFault;
@@ -14,7 +14,7 @@ use crate::notes::write_open_lines;
 use dsn_book::OpenLine;
 use dsn_device::{Drain, UntilFailure};
 use dsn_journal::{Disk, Ledger, Opened};
-use dsn_outcome::{Key, Letter};
+use dsn_outcome::{Key, Letter, ShortText};
 
 /// Writes all lines of a listing, and then flushes, once: those of these open logs and closed keys,
 /// of the letters that were opened with a ledger, and the last ones. Nothing is written once a line
@@ -83,12 +83,21 @@ fn write_counts<N: Drain>(
         (length (copied_seen ledger.now.journal.disk))) }
 {
     writing.write(lines, marked_line(mark).bytes());
-    writing.write(
-        lines,
-        sealed_line(ledger.base(), ledger.book().sealed()).bytes(),
-    );
-    writing.write(
-        lines,
-        bytes_line(ledger.used(), ledger.disk().size()).bytes(),
-    );
+    writing.write(lines, sealed_in(ledger).bytes());
+    writing.write(lines, bytes_in(ledger).bytes());
+}
+
+/// The line of how many letters a ledger and its base have sealed.
+fn sealed_in(ledger: &Ledger<CopiedDisk>) -> ShortText
+    ensures { result ≡ sealed_line (ledger.now.base + ledger.now.book.sealed) }
+{
+    sealed_line(ledger.base(), ledger.book().sealed())
+}
+
+/// The line of the bytes of a ledger's records, and of its file.
+fn bytes_in(ledger: &Ledger<CopiedDisk>) -> ShortText
+    ensures { result ≡ bytes_line ledger.now.journal.used
+        (length (copied_seen ledger.now.journal.disk)) }
+{
+    bytes_line(ledger.used(), ledger.disk().size())
 }

@@ -117,7 +117,7 @@ fn new_files(rt: HostRuntime) -> Result<(), Fail> {
     expect(&rt, alloc, (&zeros, &marks), lines.as_slice())?;
     // And where a machine stopped within writing it.
     let mut torn = zeros;
-    torn[0] = 0x4a;
+    *torn.first_mut().ok_or("a byte")? = 0x4a;
     expect(&rt, alloc, (&torn, &marks), lines.as_slice())
 }
 

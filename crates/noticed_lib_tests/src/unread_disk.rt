@@ -1,5 +1,5 @@
 //! A disk that can't be read.
-ghost use Rattle.std.specs.Prelude.{◌≡◌, [], true, Err};
+ghost use Rattle.std.specs.Prelude.{◌≡◌, [], true};
 ghost use Rattle.dsn_device.specs.Failures.{counted};
 ghost use Rattle.dsn_journal.specs.FileDisk.{NoOutcome};
 
@@ -14,12 +14,11 @@ pub struct UnreadDisk {
 
 impl UnreadDisk {
     /// Counts a failure.
-    fn fail(&mut self) -> Result<(), Broken>
-        ensures failed { result ≡ Err Broken }
-        ensures counted { self.new.failures ≡ counted true self.old.failures }
+    fn fail(&mut self) -> Broken
+        ensures { self.new.failures ≡ counted true self.old.failures }
     {
         self.failures = self.failures.saturating_add(1);
-        Err(Broken)
+        Broken
     }
 }
 
@@ -45,14 +44,14 @@ impl Disk for UnreadDisk {
     }
 
     fn read(&mut self, _buffer: &mut [u8]) -> Result<(), Broken> {
-        self.fail()
+        Err(self.fail())
     }
 
     fn write_at(&mut self, _at: usize, _bytes: &[u8]) -> Result<(), Broken> {
-        self.fail()
+        Err(self.fail())
     }
 
     fn sync(&mut self) -> Result<(), Broken> {
-        self.fail()
+        Err(self.fail())
     }
 }

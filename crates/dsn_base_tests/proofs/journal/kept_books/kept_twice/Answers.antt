@@ -2,8 +2,10 @@
 use Rattle.std.proofs.Common.{rules, ◌≡◌, ℕ, [], sym, subst, true}
 use Rattle.dsn_journal.specs.Header.{StandsForFile}
 use Rattle.dsn_journal.specs.InPlace.{IsLedgerInPlaceOf}
-use Rattle.dsn_journal.specs.OpenLedger.{AwaitsRequests}
+use Rattle.dsn_journal.specs.Journal.{IsSettled}
+use Rattle.dsn_journal.specs.OpenLedger.{AwaitsRequests, Ledger}
 use Rattle.dsn_journal.specs.contracts.memory_disk.MemoryDiskDisk.TheImpl as memory
+use Rattle.dsn_journal.proofs.KeptBooks.{has_kept}
 use Rattle.dsn_base_tests.proofs.journal.kept_books.kept_twice.Goals as goal
 
 pub carry_two-carried-requires-clause-has : goal.carry_two-carried-requires-clause-has
@@ -15,4 +17,6 @@ carry_two-carried-requires-clause-has c =
     let file : StandsForFile ledger.book 0 none.front = subst (λ (b : ℕ). StandsForFile ledger.book b none.front) base none.stands in
     let own : IsLedgerInPlaceOf ledger.book ledger.base none.front file.history =
     subst (λ (b : ℕ). IsLedgerInPlaceOf ledger.book b none.front file.history) (sym base) (c.ledgers_have_one_history.ensures.own_ledger ledger.book none.front file) in
-    (file.history, (settled, record { many = none.many; front = none.front; in_place = own; kept = none.kept; file = none.file }))
+    let durable : IsSettled memory.ghosts ledger.journal.disk ledger.journal.used =
+    subst (λ (it : Ledger _). IsSettled memory.ghosts it.journal.disk it.journal.used) (sym c.new-keeper.ensures) (c.book.ensures.stands.settled (search rules)) in
+    (file.history, has_kept memory.ghosts ledger file.history [] (record { many = none.many; front = none.front; in_place = own; kept = none.kept; file = none.file }) settled durable)

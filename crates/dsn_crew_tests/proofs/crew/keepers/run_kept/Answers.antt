@@ -3,8 +3,10 @@ use Rattle.std.proofs.Common.{rules, ◌≡◌, ℕ, [], sym, subst, true}
 use Rattle.dsn_journal.specs.EarlierRuns.{of_earlier_run}
 use Rattle.dsn_journal.specs.Header.{StandsForFile}
 use Rattle.dsn_journal.specs.InPlace.{IsLedgerInPlaceOf}
-use Rattle.dsn_journal.specs.OpenLedger.{AwaitsRequests}
+use Rattle.dsn_journal.specs.Journal.{IsSettled}
+use Rattle.dsn_journal.specs.OpenLedger.{AwaitsRequests, Ledger}
 use Rattle.dsn_journal.specs.contracts.memory_disk.MemoryDiskDisk.TheImpl as memory
+use Rattle.dsn_journal.proofs.KeptBooks.{has_kept}
 use Rattle.dsn_crew_tests.proofs.crew.keepers.run_kept.Goals as goal
 
 pub run_keeper-requires-clause-begins : goal.run_keeper-requires-clause-begins
@@ -17,4 +19,8 @@ run_keeper-requires-clause-begins g c κs within =
     let own : IsLedgerInPlaceOf ledger.book ledger.base none.front file.history =
     subst (λ (b : ℕ). IsLedgerInPlaceOf ledger.book b none.front file.history) (sym base) (c.ledgers_have_one_history.ensures.own_ledger ledger.book none.front file) in
     let earlier = c.ledgers_have_earlier_histories.ensures.earlier_ledger ledger.book ledger.base none.front file.history own in
-    (of_earlier_run file.history, ((settled, record { many = none.many; front = none.front; in_place = earlier; kept = none.kept; file = none.file }), λ agent few. c.ledgers_have_earlier_histories.ensures.unanswered agent file.history few))
+    let durable : IsSettled memory.ghosts ledger.journal.disk ledger.journal.used =
+    subst (λ (it : Ledger _). IsSettled memory.ghosts it.journal.disk it.journal.used) (sym c.new-keeper.ensures) (c.book.ensures.stands.settled (search rules)) in (
+      of_earlier_run file.history,
+      (has_kept memory.ghosts ledger (of_earlier_run file.history) [] (record { many = none.many; front = none.front; in_place = earlier; kept = none.kept; file = none.file }) settled durable, λ agent few. c.ledgers_have_earlier_histories.ensures.unanswered agent file.history few),
+    )

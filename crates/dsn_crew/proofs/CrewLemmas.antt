@@ -6,7 +6,7 @@ use Rattle.std.specs.declared.thread.PromisedHandle.{PromisedHandle}
 use Rattle.std.proofs.KnownBytes.{Appends-nil}
 use Rattle.std.specs.List.{AllZip, flat_map, slice_index_or}
 use Rattle.std.proofs.lemmas.List.{append-nil, length-map}
-use Rattle.std.proofs.lemmas.List.Elements.{All-cons, All-head, All-nil, All-tail}
+use Rattle.std.proofs.lemmas.List.Elements.{All-head, All-nil, All-tail}
 use Rattle.std.proofs.lemmas.List.Filters.{length-filter_both}
 use Rattle.std.proofs.lemmas.Slice.Zip.{AllZip-long}
 use Rattle.dsn_book.specs.Book.{Book, Represents}
@@ -36,7 +36,8 @@ use Rattle.dsn_crew.specs.Breach.{stop_cause}
 use Rattle.dsn_crew.specs.CollectorResult.{IsCollectorResult}
 use Rattle.dsn_crew.specs.Conclude.{Concludes, MayClose, account_of, fault_of, missing_cause}
 use Rattle.dsn_crew.specs.Crew.{Account, AreAgentAccounts, AreSealedAfter, CrewFault, HasAccount, HasFault, IsAccount, IsAccountAfter, IsAgentAccount, IsBrokenOff, IsCrewFault, IsFaultWith, IsHandedBack, IsPostedBy, MayCrashWithin, PostedBefore, StandsAtFault, none_posted}
-use Rattle.dsn_crew.specs.desk.Desk.{BeginsWith, Desk, IsDesk, IsNextOf, IsRun, IsStopped, Refusal, StandsOrRefused, all_gone, goodbyes, history, letter_kept, missing as missing_more, places_of, refused_in}
+use Rattle.dsn_crew.specs.desk.Desk.{AreNextOf, BeginsWith, Desk, IsDesk, IsRun, IsStopped, StandsOrRefused, all_gone, history, letter_kept, missing as missing_more, places_of}
+use Rattle.dsn_crew.specs.desk.Intake.{goodbyes}
 use Rattle.dsn_crew.specs.AgentsResult.{AreEnded, IsAgentsResult}
 use Rattle.dsn_crew.specs.desk.Open.{IsOpened, opened_agent}
 use Rattle.dsn_crew.specs.agents.Place.{place_at, place_of}
@@ -58,6 +59,9 @@ use Rattle.dsn_crew.specs.agents.PortEnd.{PortEnd}
 use Rattle.dsn_crew.specs.declared.start_serving.Serves.{Serves}
 use Rattle.dsn_crew.proofs.agents.ServeLemmas.{numbered-length}
 use Rattle.dsn_crew.proofs.desk.CloseLemmas.{going_on}
+use Rattle.dsn_crew.proofs.desk.CrashLemmas.{LeavesKept, none_done}
+use Rattle.dsn_lane.proofs.AgentLemmas.{numbered_none}
+use Rattle.dsn_crew.proofs.desk.TakeLemmas.{has_here, none_behind}
 use Rattle.dsn_crew.proofs.StartServingLemmas.{are-served, starts-length}
 
 -- ---- one agent
@@ -176,6 +180,8 @@ module _ {B W : Type 0} (keeper : Keeper B) (drain : Drain W) (from : PostedBefo
   broken_off cause book held one sealed sealed_is = record {
     only = subst (λ (k : ℕ). All (λ (request : Request). request.agent < k) desk.requests.taken) lines kept.mine;
     numbered = kept.numbered;
+    together = kept.together;
+    next = subst (λ (k : ℕ). AreNextOf k desk.requests.taken desk.behind) lines kept.next;
     letters = is.letters;
     between = is.came.0;
     held = held;
@@ -203,35 +209,58 @@ module _ {B W : Type 0} (keeper : Keeper B) (drain : Drain W) (from : PostedBefo
   lost_fault fault fault_is =
       subst (λ (it : CrewFault W B). IsFaultWith drain from sent agents it it.cause) (sym fault_is) (broken_off causes.Lost desk.book [] (omega arith) sent (sym (append-nil sent)))
 
-  missing_is : (all : Bool) → posted.all ≡ all → IsFaultWith drain from sent agents (fault_of (missing_cause all) [] desk.book desk posted) (missing_cause all)
-  missing_is true all = inr (broken_off causes.Refused desk.book [] (omega arith) sent (sym (append-nil sent)), (is.whole.0 all).1)
-  missing_is false all = broken_off causes.Lost desk.book [] (omega arith) sent (sym (append-nil sent))
+  missing_is : (all : Bool) → posted.all ≡ all → desk.behind ≡ [] → IsFaultWith drain from sent agents (fault_of (missing_cause all) [] desk.book desk posted) (missing_cause all)
+  missing_is true all none = inr (broken_off causes.Refused desk.book [] (omega arith) sent (sym (append-nil sent)), (is.whole.0 all).1, none)
+  missing_is false all none = broken_off causes.Lost desk.book [] (omega arith) sent (sym (append-nil sent))
 
-  pub missing_fault : (fault : CrewFault W B) → fault ≡ fault_of (missing_cause posted.all) [] desk.book desk posted → IsFaultWith drain from sent agents fault fault.cause
-  missing_fault fault fault_is =
-      subst (λ (it : CrewFault W B). IsFaultWith drain from sent agents it it.cause) (sym fault_is) (missing_is posted.all refl)
+  pub missing_fault : (fault : CrewFault W B) → fault ≡ fault_of (missing_cause posted.all) [] desk.book desk posted → desk.behind ≡ [] → IsFaultWith drain from sent agents fault fault.cause
+  missing_fault fault fault_is none =
+      subst (λ (it : CrewFault W B). IsFaultWith drain from sent agents it it.cause) (sym fault_is) (missing_is posted.all refl none)
+
+-- a run that never began, with what it was given
+abbrev pub never_begun_with : {B W : Type 0} → CrewCause → W → B → CrewFault W B
+never_begun_with cause outbox book = record { cause = cause; outbox = outbox; unsent = []; book = Some book; taken = []; behind = [] }
 
 -- an outbox that is as it was is untouched
 untouched : {W : Type 0} (drain : Drain W) (start end : W) → start ≡ end → IsUntouched drain start end
 untouched drain start end same = subst (IsUntouched drain start) same (record { nothing = Appends-nil (drain.contents start); failures = refl; flushes = refl })
 
--- a run that never began sealed nothing, and hands nothing back
-sealed_none : {B W : Type 0} (keeper : Keeper B) (drain : Drain W) (from : PostedBefore W) (limits : Limits) (before : List Exchange) (agents : ℕ) (fault : CrewFault W B) → fault.taken ≡ [] → fault.book ≡ None → IsFaultWith drain from [] agents fault fault.cause → HasFault keeper drain from limits before agents fault
-sealed_none keeper drain from limits before agents fault none nothing is = record {
+-- what a run was given stands for what it did, where it never began
+given_back : {B : Type 0} (keeper : Keeper B) (before : List Exchange) (book : B) (cause : CrewCause) → (stands : StandsAtFault keeper [] before cause book) → IsHandedBack keeper (keeper.limits book) [] (history_after (keeper.limits book) before []) cause book
+unfolding history_after
+given_back keeper before book cause stands = record { limits_are = refl; stands = stands }
+
+-- a run that never began sealed nothing, and hands back what it was given
+sealed_none : {B W : Type 0} (keeper : Keeper B) (drain : Drain W) (from : PostedBefore W) (before : List Exchange) (agents : ℕ) (book : B) (outbox : W) (cause : CrewCause) → StandsAtFault keeper [] before cause book → IsFaultWith drain from [] agents (never_begun_with cause outbox book) cause
+    → HasFault keeper drain from (keeper.limits book) before agents (never_begun_with cause outbox book)
+sealed_none keeper drain from before agents book outbox cause stands is = record {
   sealed = [];
-  are = record { are = none_taken limits before fault.taken none ∙ sym (append-nil (sealed_letters before)) };
+  are = record { are = none_taken (keeper.limits book) before [] refl ∙ sym (append-nil (sealed_letters before)) };
   is = is;
-  book = subst (λ (book : Option _). IfSome book (IsHandedBack keeper limits agents fault.taken (history_after limits before fault.taken) fault.cause)) (sym nothing) tt;
+  book = given_back keeper before book cause stands;
 }
 
-pub never_counted : {B W : Type 0} (keeper : Keeper B) (drain : Drain W) (from : PostedBefore W) (limits : Limits) (before : List Exchange) (agents : ℕ) (outbox : W) (fault : CrewFault W B) → from.outbox ≡ outbox → fault ≡ record { cause = causes.PortCount; outbox = outbox; unsent = []; book = None; taken = [] } → HasFault keeper drain from limits before agents fault
-never_counted keeper drain from limits before agents outbox fault same is =
-    sealed_none keeper drain from limits before agents fault (ap (λ (it : CrewFault _ _). it.taken) is) (ap (λ (it : CrewFault _ _). it.book) is) (subst (λ (it : CrewFault _ _). IsFaultWith drain from [] agents it it.cause) (sym is) (sym same, refl, refl))
+pub never_counted : {B W : Type 0} (keeper : Keeper B) (drain : Drain W) (from : PostedBefore W) (before : List Exchange) (agents : ℕ) (book : B) (outbox : W) (fault : CrewFault W B) → keeper.has book before [] → from.outbox ≡ outbox → fault ≡ never_begun_with causes.PortCount outbox book → HasFault keeper drain from (keeper.limits book) before agents fault
+never_counted keeper drain from before agents book outbox fault has same is =
+    subst (HasFault keeper drain from (keeper.limits book) before agents) (sym is) (sealed_none keeper drain from before agents book outbox causes.PortCount has (sym same, refl, refl, refl))
 
-pub never_begun : {B W : Type 0} (keeper : Keeper B) (drain : Drain W) (from : PostedBefore W) (limits : Limits) (before : List Exchange) (agents : ℕ) (outbox : W) (fault : CrewFault W B) → from.outbox ≡ outbox → fault ≡ record { cause = causes.Refused; outbox = outbox; unsent = []; book = None; taken = [] } → HasFault keeper drain from limits before agents fault
-never_begun keeper drain from limits before agents outbox fault same is =
-    sealed_none keeper drain from limits before agents fault (ap (λ (it : CrewFault _ _). it.taken) is) (ap (λ (it : CrewFault _ _). it.book) is)
-    (subst (λ (it : CrewFault _ _). IsFaultWith drain from [] agents it it.cause) (sym is) (inl (record { taken = refl; unsent = refl; outbox = untouched drain from.outbox outbox same })))
+pub never_begun : {B W : Type 0} (keeper : Keeper B) (drain : Drain W) (from : PostedBefore W) (before : List Exchange) (agents : ℕ) (book : B) (outbox : W) (fault : CrewFault W B) → keeper.has book before [] → from.outbox ≡ outbox → fault ≡ never_begun_with causes.Refused outbox book → HasFault keeper drain from (keeper.limits book) before agents fault
+never_begun keeper drain from before agents book outbox fault has same is =
+    subst (HasFault keeper drain from (keeper.limits book) before agents) (sym is)
+    (sealed_none keeper drain from before agents book outbox causes.Refused has (inl (record { taken = refl; behind = refl; unsent = refl; outbox = untouched drain from.outbox outbox same })))
+
+-- and a crash leaves what it might have left before
+pub never_crashed : {B W : Type 0} (keeper : Keeper B) (before : List Exchange) (agents : ℕ) (cause : CrewCause) (outbox : W) (book : B) (fault : CrewFault W B) → LeavesKept keeper → keeper.has book before [] → fault ≡ never_begun_with cause outbox book → IfSome fault.book (MayCrashWithin keeper book (keeper.limits book) before agents fault.taken fault.behind)
+never_crashed keeper before agents cause outbox book fault law has is =
+    subst (λ (it : CrewFault _ _). IfSome it.book (MayCrashWithin keeper book (keeper.limits book) before agents it.taken it.behind)) (sym is)
+    (record {
+      together = omega arith;
+      next = record { from = All-nil (λ (request : Request). request.agent < agents); numbered = λ agent. numbered_none (λ (request : Request). request.number) };
+      at_each_moment = none_done keeper book book book (keeper.limits book) before [] law refl has;
+    })
+
+pub never_more : {B W : Type 0} (keeper : Keeper B) (cause : CrewCause) (outbox : W) (book : B) (fault : CrewFault W B) → fault ≡ never_begun_with cause outbox book → IfSome fault.book (λ left. keeper.sealed left ≤ keeper.sealed book + length fault.taken)
+never_more keeper cause outbox book fault is = subst (λ (it : CrewFault _ _). IfSome it.book (λ left. keeper.sealed left ≤ keeper.sealed book + length it.taken)) (sym is) (omega arith)
 
 -- a poster that posted nothing
 pub nothing_posted : {W : Type 0} (drain : Drain W) (host : List ℕ) (start : W) (poster : Outgoing W) → Delivered drain host start poster [] → poster ≡ outgoing.begun host start → IsPostedBy drain (none_posted host start) poster
@@ -258,34 +287,34 @@ book_fault drain host limits of_book agents start (Err fault) same has =
     (subst (λ (letters : List Letter). IsFaultWith drain (none_posted host start) letters agents fault fault.cause) (all_of_none _ _ has.are) has.is)
 
 -- a book refuses nothing
-unkept_never : (limits : Limits) (agents : ℕ) (taken : List Request) (exchanges : List Exchange) (why : NotKept) (book : Option Book) → is_some book ≡ true → IfSome book (IsHandedBack book_keeper limits agents taken exchanges (causes.Unkept why)) → ⊥
-unkept_never limits agents taken exchanges why None some handed = absurd (false≢true some)
-unkept_never limits agents taken exchanges why (Some book) some handed = handed.stands.stood.2
+unkept_never : (limits : Limits) (behind : List Request) (exchanges : List Exchange) (why : NotKept) (book : Option Book) → is_some book ≡ true → IfSome book (IsHandedBack book_keeper limits behind exchanges (causes.Unkept why)) → ⊥
+unkept_never limits behind exchanges why None some handed = absurd (false≢true some)
+unkept_never limits behind exchanges why (Some book) some handed = handed.stands.2
 
 pub book_kept : {W : Type 0} (drain : Drain W) (host : List ℕ) (limits : Limits) (agents : ℕ) (start : W) (result : Result (Account W Book) (CrewFault W Book)) → IfErr result (HasFault book_keeper drain (none_posted host start) limits [] agents) → IfErr result (λ fault. (why : NotKept) → fault.cause ≢ causes.Unkept why)
 book_kept drain host limits agents start (Ok account) has = tt
 book_kept drain host limits agents start (Err fault) has = λ why same.
     let broken : IsBrokenOff drain (none_posted host start) has.sealed agents fault = subst (IsFaultWith drain (none_posted host start) has.sealed agents fault) same has.is in
-    unkept_never limits agents fault.taken (history_after limits [] fault.taken) why fault.book broken.handed_back
-    (subst (λ (cause : CrewCause). IfSome fault.book (IsHandedBack book_keeper limits agents fault.taken (history_after limits [] fault.taken) cause)) same has.book)
+    unkept_never limits fault.behind (history_after limits [] fault.taken) why fault.book broken.handed_back
+    (subst (λ (cause : CrewCause). IfSome fault.book (IsHandedBack book_keeper limits fault.behind (history_after limits [] fault.taken) cause)) same has.book)
 
 -- so it stands for what was taken
-stood_book : (limits : Limits) (agents : ℕ) (taken : List Request) (exchanges : List Exchange) (cause : CrewCause) (book : Book) → IsHandedBack book_keeper limits agents taken exchanges cause book → Represents book exchanges
-stood_book limits agents taken exchanges causes.Lost book handed = handed.stands
-stood_book limits agents taken exchanges causes.Refused book handed = handed.stands
-stood_book limits agents taken exchanges causes.PortCount book handed = handed.stands
-stood_book limits agents taken exchanges (causes.Unkept why) book handed = absurd handed.stands.stood.2
+stood_book : (limits : Limits) (behind : List Request) (exchanges : List Exchange) (cause : CrewCause) (book : Book) → IsHandedBack book_keeper limits behind exchanges cause book → Represents book exchanges
+stood_book limits behind exchanges causes.Lost book handed = handed.stands
+stood_book limits behind exchanges causes.Refused book handed = handed.stands
+stood_book limits behind exchanges causes.PortCount book handed = handed.stands
+stood_book limits behind exchanges (causes.Unkept why) book handed = absurd handed.stands.2
 
-left_book : (limits : Limits) (agents : ℕ) (taken : List Request) (exchanges : List Exchange) (cause : CrewCause) (book : Option Book) → IfSome book (IsHandedBack book_keeper limits agents taken exchanges cause) → IfSome book (λ it. (it.limits ≡ limits) × Represents it exchanges)
-left_book limits agents taken exchanges cause None handed = tt
-left_book limits agents taken exchanges cause (Some book) handed = (handed.limits_are, stood_book limits agents taken exchanges cause book handed)
+left_book : (limits : Limits) (behind : List Request) (exchanges : List Exchange) (cause : CrewCause) (book : Option Book) → IfSome book (IsHandedBack book_keeper limits behind exchanges cause) → IfSome book (λ it. (it.limits ≡ limits) × Represents it exchanges)
+left_book limits behind exchanges cause None handed = tt
+left_book limits behind exchanges cause (Some book) handed = (handed.limits_are, stood_book limits behind exchanges cause book handed)
 
 pub book_left : {W : Type 0} (drain : Drain W) (host : List ℕ) (limits of_book : Limits) (agents : ℕ) (start : W) (result : Result (Account W Book) (CrewFault W Book)) → of_book ≡ limits → IfErr result (HasFault book_keeper drain (none_posted host start) of_book [] agents)
     → IfErr result (λ fault. IfSome fault.book (λ book. (book.limits ≡ limits) × Represents book (history_of limits fault.taken)))
 book_left drain host limits of_book agents start (Ok account) same has = tt
 book_left drain host limits of_book agents start (Err fault) same has =
     subst (λ (l : Limits). IfSome fault.book (λ book. (book.limits ≡ l) × Represents book (history_of l fault.taken))) same
-    (left_book of_book agents fault.taken (history_after of_book [] fault.taken) fault.cause fault.book has.book)
+    (left_book of_book fault.behind (history_after of_book [] fault.taken) fault.cause fault.book has.book)
 
 -- no crew that began is refused since its ports are too few or too many
 missing≢count : (all : Bool) → missing_cause all ≢ causes.PortCount
@@ -309,29 +338,16 @@ no_count keeper (Failed book stop held new) all posted (Err fault) faulted = λ 
 
 module _ {B : Type 0} (keeper : Keeper B) (desk : Desk B) (exchanges : List Exchange) where
   -- where a collector has failed, for this reason
-  pub stopped_stands : (stop : StopCause) → IsStopped keeper desk stop → StandsOrRefused keeper desk.unkept exchanges desk.book → IfSome desk.unkept (λ refusal. IsNextOf (length desk.answers) desk.requests.taken refusal.request) → StandsAtFault keeper (length desk.answers) desk.requests.taken exchanges (stop_cause stop) desk.book
-  stopped_stands (stops.Gone gone) is stands next = subst (λ (u : Option Refusal). StandsOrRefused keeper u exchanges desk.book) is stands
-  stopped_stands (stops.Refused refused) is stands next = subst (λ (u : Option Refusal). StandsOrRefused keeper u exchanges desk.book) is stands
-  stopped_stands stops.Full is stands next = subst (λ (u : Option Refusal). StandsOrRefused keeper u exchanges desk.book) is.0 stands
-  stopped_stands (stops.Unkept why) is stands next = record {
-    request = is.request;
-    next = subst (λ (u : Option Refusal). IfSome u (λ refusal. IsNextOf (length desk.answers) desk.requests.taken refusal.request)) is.unkept next;
-    stood = subst (λ (u : Option Refusal). StandsOrRefused keeper u exchanges desk.book) is.unkept stands;
-  }
+  pub stopped_stands : (stop : StopCause) → IsStopped keeper desk stop → StandsOrRefused keeper desk.unkept desk.behind exchanges desk.book → StandsAtFault keeper desk.behind exchanges (stop_cause stop) desk.book
+  stopped_stands (stops.Gone gone) is stands = subst (λ (u : Option NotKept). StandsOrRefused keeper u desk.behind exchanges desk.book) is stands
+  stopped_stands (stops.Refused refused) is stands = subst (λ (u : Option NotKept). StandsOrRefused keeper u desk.behind exchanges desk.book) is stands
+  stopped_stands stops.Full is stands = subst (λ (u : Option NotKept). StandsOrRefused keeper u desk.behind exchanges desk.book) is.0 stands
+  stopped_stands (stops.Unkept why) is stands = subst (λ (u : Option NotKept). StandsOrRefused keeper u desk.behind exchanges desk.book) is.unkept stands
 
   -- and where it has not, and an agent was not started
-  pub missing_stands : (agents : ℕ) (all : Bool) → keeper.has desk.book exchanges [] → StandsAtFault keeper agents desk.requests.taken exchanges (missing_cause all) desk.book
-  missing_stands agents true has = has
-  missing_stands agents false has = has
-
--- the request that was not kept, where one wasn't
-one_refused : (unkept : Option Refusal) → length (refused_in unkept) ≤ 1
-one_refused None = omega arith
-one_refused (Some refusal) = omega arith
-
-all_refused : (P : Request → Type 0) (unkept : Option Refusal) → IfSome unkept (λ refusal. P refusal.request) → All P (refused_in unkept)
-all_refused P None next = All-nil P
-all_refused P (Some refusal) next = All-cons P refusal.request [] next (All-nil P)
+  pub missing_stands : (all : Bool) → keeper.has desk.book exchanges desk.behind → StandsAtFault keeper desk.behind exchanges (missing_cause all) desk.book
+  missing_stands true has = has
+  missing_stands false has = has
 
 -- ---- the whole
 
@@ -348,7 +364,7 @@ module _ {B P S : Type 0} (keeper : Keeper B) (port : Port P S) (book : B) (port
 
   pub may_miss : goodbyes desk.requests.taken + desk.missed + missing_threads handles ≤ length desk.answers
   may_miss =
-      let none = ap goodbyes opened.taken in
+      let none = ap goodbyes opened.taken.0 in
       let few = missing_few in
       let missed = opened.missed in
       let all = opened.count in omega arith
@@ -370,8 +386,8 @@ module _ {B P S : Type 0} (keeper : Keeper B) (port : Port P S) (book : B) (port
 
       module _ (sink after : LetterSink) (fresh : sink.letters ≡ []) (before : List Exchange) where
         pub collected_lane : (collected : CollectorResult B) → IsCollectorResult keeper before begun sink after collected → after.lane ≡ sink.lane
-        collected_lane (Whole new) has = (run_letters keeper before begun new sink after (Ok tt) has.0 (ap (λ (d : Desk B). d.requests.taken) begun_is ∙ opened.taken) fresh).1
-        collected_lane (Failed book stop held new) has = (run_letters keeper before begun new.value sink after (Err has.0) has.1 (ap (λ (d : Desk B). d.requests.taken) begun_is ∙ opened.taken) fresh).1
+        collected_lane (Whole new) has = (run_letters keeper before begun new sink after (Ok tt) has.0 (ap (λ (d : Desk B). d.requests.taken) begun_is ∙ opened.taken.0) fresh).1
+        collected_lane (Failed book stop held new) has = (run_letters keeper before begun new.value sink after (Err has.0) has.1 (ap (λ (d : Desk B). d.requests.taken) begun_is ∙ opened.taken.0) fresh).1
 
         pub may_close : (collected : CollectorResult B) (all : AgentsResult) → IsCollectorResult keeper before begun sink after collected → IsAgentsResult ends all → MayClose keeper collected all
         may_close (Whole new) (gathered.All lines crew) has is = (
@@ -414,35 +430,34 @@ module _ {B P S : Type 0} (keeper : Keeper B) (port : Port P S) (book : B) (port
             ∙ (length-map desk.answers (place_at desk.requests.lane) ∙ (opened.count ∙ count_is)))
 
         -- what a crash leaves at each moment of its run
-        crash_of : (new : Desk B) → BeginsWith keeper book before → new.start ≡ book → IsDesk keeper new → MayCrash keeper book new.book limits before (new.requests.taken ++ refused_in new.unkept)
+        crash_of : (new : Desk B) → BeginsWith keeper book before → new.start ≡ book → IsDesk keeper new → MayCrash keeper book new.book limits before (new.requests.taken ++ new.behind)
         crash_of new with_it start_was kept =
-            subst (λ (b : B). MayCrash keeper b new.book (keeper.limits b) before (new.requests.taken ++ refused_in new.unkept)) start_was
+            subst (λ (b : B). MayCrash keeper b new.book (keeper.limits b) before (new.requests.taken ++ new.behind)) start_was
             (kept.stands before (subst (λ (b : B). BeginsWith keeper b before) (sym start_was) with_it)).crash
 
         pub crash_at_end : {W : Type 0} (collected : CollectorResult B) (all : AgentsResult) (posted : Posted W) (result : Result (Account W B) (CrewFault W B)) → BeginsWith keeper book before → IsCollectorResult keeper before begun sink after collected → Concludes keeper collected all posted result → IfOk result (λ account. MayCrash keeper book account.book limits before account.taken)
         crash_at_end collected all posted (Err fault) with_it has ends_so = tt
         crash_at_end (Whole new) (gathered.All lines crew) posted (Ok account) with_it has closed =
             subst (λ (it : Account _ B). MayCrash keeper book it.book limits before it.taken) (sym closed.account_is)
-            (subst (λ (requests : List Request). MayCrash keeper book new.book limits before requests) (append-nil new.requests.taken)
-            (subst (λ (u : Option Refusal). MayCrash keeper book new.book limits before (new.requests.taken ++ refused_in u)) (has.2.kept (going_on new has.1)) (crash_of new with_it (has.0.start ∙ start_is) has.2)))
+            (subst (λ (requests : List Request). MayCrash keeper book new.book limits before requests) (ap (λ (q : List Request). new.requests.taken ++ q) (none_behind keeper new has.2 has.1) ∙ append-nil new.requests.taken)
+            (crash_of new with_it (has.0.start ∙ start_is) has.2))
         crash_at_end (Whole new) gathered.Missing posted (Ok account) with_it has closed = absurd closed
         crash_at_end (Whole new) (gathered.Lost unheard) posted (Ok account) with_it has closed = absurd closed
         crash_at_end (Failed book stop held new) all posted (Ok account) with_it has closed = absurd closed
 
         crash_left : {W : Type 0} (cause : CrewCause) (held : List Letter) (new : Desk B) (left : B) (posted : Posted W) (fault : CrewFault W B) → fault ≡ fault_of cause held left new posted → left ≡ new.book → BeginsWith keeper book before → places_of new ≡ places_of begun → new.start ≡ book → IsDesk keeper new
-            → IfSome fault.book (MayCrashWithin keeper book limits before (length ports) fault.taken)
+            → IfSome fault.book (MayCrashWithin keeper book limits before (length ports) fault.taken fault.behind)
         crash_left cause held new left posted fault fault_is left_is with_it places start_was kept =
-            subst (λ (it : CrewFault _ B). IfSome it.book (MayCrashWithin keeper book limits before (length ports) it.taken)) (sym fault_is)
-            (subst (MayCrashWithin keeper book limits before (length ports) new.requests.taken) (sym left_is)
+            subst (λ (it : CrewFault _ B). IfSome it.book (MayCrashWithin keeper book limits before (length ports) it.taken it.behind)) (sym fault_is)
+            (subst (MayCrashWithin keeper book limits before (length ports) new.requests.taken new.behind) (sym left_is)
             (record {
-              refused = refused_in new.unkept;
-              one = one_refused new.unkept;
-              next = all_refused (IsNextOf (length ports) new.requests.taken) new.unkept (subst (λ (k : ℕ). IfSome new.unkept (λ refusal. IsNextOf k new.requests.taken refusal.request)) (lines_of new places) kept.next);
+              together = kept.together;
+              next = subst (λ (k : ℕ). AreNextOf k new.requests.taken new.behind) (lines_of new places) kept.next;
               at_each_moment = crash_of new with_it start_was kept;
             }))
 
         pub crash_at_fault : {W : Type 0} (collected : CollectorResult B) (all : AgentsResult) (posted : Posted W) (result : Result (Account W B) (CrewFault W B)) → BeginsWith keeper book before → IsCollectorResult keeper before begun sink after collected → Concludes keeper collected all posted result
-            → IfErr result (λ fault. IfSome fault.book (MayCrashWithin keeper book limits before (length ports) fault.taken))
+            → IfErr result (λ fault. IfSome fault.book (MayCrashWithin keeper book limits before (length ports) fault.taken fault.behind))
         crash_at_fault collected all posted (Ok account) with_it has ends_so = tt
         crash_at_fault (Whole new) (gathered.All lines crew) posted (Err fault) with_it has faulted = crash_left _ _ new new.book posted fault faulted.1 refl with_it has.0.places (has.0.start ∙ start_is) has.2
         crash_at_fault (Whole new) gathered.Missing posted (Err fault) with_it has faulted = crash_left _ _ new new.book posted fault faulted refl with_it has.0.places (has.0.start ∙ start_is) has.2
@@ -458,7 +473,7 @@ module _ {B P S : Type 0} (keeper : Keeper B) (port : Port P S) (book : B) (port
             sealed_are = record {
               are =
                   ap (λ (l : Limits). sealed_letters (history_after l before new.requests.taken)) (sym limits_are)
-                  ∙ (run_letters keeper before begun new sink after result run (ap (λ (d : Desk B). d.requests.taken) begun_is ∙ opened.taken) fresh).0;
+                  ∙ (run_letters keeper before begun new sink after result run (ap (λ (d : Desk B). d.requests.taken) begun_is ∙ opened.taken.0) fresh).0;
             }
 
             lines_length : length new.answers ≡ length ports
@@ -497,21 +512,21 @@ module _ {B P S : Type 0} (keeper : Keeper B) (port : Port P S) (book : B) (port
           account_is with_it (Failed book stop held new) all (Ok account) has is closed = absurd closed
 
           -- a fault whose requests are those of the collector
-          has_fault : (cause : CrewCause) (held : List Letter) (new : Desk B) (left : B) (fault : CrewFault W B) (letters : List Letter) → fault ≡ fault_of cause held left new posted → AreSealedAfter before (history_after limits before new.requests.taken) letters → IsHandedBack keeper limits (length ports) new.requests.taken (history_after limits before new.requests.taken) cause left → IsFaultWith drain from letters (length ports) fault fault.cause
+          has_fault : (cause : CrewCause) (held : List Letter) (new : Desk B) (left : B) (fault : CrewFault W B) (letters : List Letter) → fault ≡ fault_of cause held left new posted → AreSealedAfter before (history_after limits before new.requests.taken) letters → IsHandedBack keeper limits new.behind (history_after limits before new.requests.taken) cause left → IsFaultWith drain from letters (length ports) fault fault.cause
               → HasFault keeper drain from limits before (length ports) fault
           has_fault cause held new left fault letters fault_is sealed handed is = record {
             sealed = letters;
             are = subst (λ (q : List Request). AreSealedAfter before (history_after limits before q) letters) (sym (ap (λ (it : CrewFault W B). it.taken) fault_is)) sealed;
             is = is;
-            book = subst (λ (it : CrewFault W B). IfSome it.book (IsHandedBack keeper limits (length ports) it.taken (history_after limits before it.taken) it.cause)) (sym fault_is) handed;
+            book = subst (λ (it : CrewFault W B). IfSome it.book (IsHandedBack keeper limits it.behind (history_after limits before it.taken) it.cause)) (sym fault_is) handed;
           }
 
           module _ (with_it : BeginsWith keeper book before) where
             module _ (new : Desk B) (fault : CrewFault W B) (run : IsRun keeper before TakesLetter begun new sink after (Ok tt)) (gone : all_gone new ≡ true) (kept : IsDesk keeper new) where
-              left_has : keeper.has new.book (history_after limits before new.requests.taken) []
+              left_has : keeper.has new.book (history_after limits before new.requests.taken) new.behind
               left_has =
-                  subst (λ (l : Limits). keeper.has new.book (history_after l before new.requests.taken) []) (limits_are new run)
-                  (subst (λ (u : Option Refusal). StandsOrRefused keeper u (history keeper before new) new.book) (kept.kept (going_on new gone)) (kept.stands before (new_begins new run with_it)).has)
+                  subst (λ (l : Limits). keeper.has new.book (history_after l before new.requests.taken) new.behind) (limits_are new run)
+                  (has_here keeper new kept (going_on new gone) before (new_begins new run with_it))
 
               lost_at : fault ≡ fault_of causes.Lost [] new.book new posted → HasFault keeper drain from limits before (length ports) fault
               lost_at is =
@@ -520,20 +535,20 @@ module _ {B P S : Type 0} (keeper : Keeper B) (port : Port P S) (book : B) (port
 
               missing_at : fault ≡ fault_of (missing_cause posted.all) [] new.book new posted → HasFault keeper drain from limits before (length ports) fault
               missing_at is =
-                  has_fault (missing_cause posted.all) [] new new.book fault after.letters is (all_sealed new run) (record { limits_are = kept.limits ∙ limits_are new run; stands = missing_stands keeper new _ (length ports) posted.all left_has })
-                  (missing_fault keeper drain from poster by after.letters posted post new kept (length ports) (lines_length new run) fault is)
+                  has_fault (missing_cause posted.all) [] new new.book fault after.letters is (all_sealed new run) (record { limits_are = kept.limits ∙ limits_are new run; stands = missing_stands keeper new _ posted.all left_has })
+                  (missing_fault keeper drain from poster by after.letters posted post new kept (length ports) (lines_length new run) fault is (none_behind keeper new kept gone))
 
             -- the collector has failed, for this reason
-            handed_at : (stop : StopCause) (new : Desk B) (left : B) {result : Result (Unit {0}) DeskFault} → IsRun keeper before TakesLetter begun new sink after result → IsDesk keeper new → IsStopped keeper new stop → left ≡ new.book → IsHandedBack keeper limits (length ports) new.requests.taken (history_after limits before new.requests.taken) (stop_cause stop) left
+            handed_at : (stop : StopCause) (new : Desk B) (left : B) {result : Result (Unit {0}) DeskFault} → IsRun keeper before TakesLetter begun new sink after result → IsDesk keeper new → IsStopped keeper new stop → left ≡ new.book → IsHandedBack keeper limits new.behind (history_after limits before new.requests.taken) (stop_cause stop) left
             handed_at stop new left run kept stopped left_is =
                 let limited = limits_are new run in
                 let stands = kept.stands before (subst (λ (b : B). BeginsWith keeper b before) (sym (run.start ∙ start_is)) with_it) in
-                subst (IsHandedBack keeper limits (length ports) new.requests.taken (history_after limits before new.requests.taken) (stop_cause stop)) (sym left_is)
+                subst (IsHandedBack keeper limits new.behind (history_after limits before new.requests.taken) (stop_cause stop)) (sym left_is)
                 (record {
                   limits_are = kept.limits ∙ limited;
                   stands =
-                      subst (λ (l : Limits). StandsAtFault keeper (length ports) new.requests.taken (history_after l before new.requests.taken) (stop_cause stop) new.book) limited
-                      (subst (λ (k : ℕ). StandsAtFault keeper k new.requests.taken (history keeper before new) (stop_cause stop) new.book) (lines_length new run) (stopped_stands keeper new (history keeper before new) stop stopped stands.has kept.next));
+                      subst (λ (l : Limits). StandsAtFault keeper new.behind (history_after l before new.requests.taken) (stop_cause stop) new.book) limited
+                      (stopped_stands keeper new (history keeper before new) stop stopped stands.has);
                 })
 
             pub fault_is : (collected : CollectorResult B) (all : AgentsResult) (result : Result (Account W B) (CrewFault W B)) → IsCollectorResult keeper before begun sink after collected → Concludes keeper collected all posted result → IfErr result (HasFault keeper drain from limits before (length ports))

@@ -1,12 +1,12 @@
 -- Openings: a collector that has taken nothing, and the agents one after another.
-use Rattle.std.proofs.Common.{◌≡◌, ℕ, zero, suc, ◌+◌, ◌-◌, ◌^◌, ◌<◌, ◌≤◌, All, List, [], ◌∷◌, ◌++◌, length, map, false, refl, ap, sym, ◌∙◌, subst, length-append, arith}
+use Rattle.std.proofs.Common.{None, ◌≡◌, ℕ, zero, suc, ◌+◌, ◌-◌, ◌^◌, ◌<◌, ◌≤◌, All, List, [], ◌∷◌, ◌++◌, length, map, refl, ap, sym, ◌∙◌, subst, length-append, arith}
 use Rattle.std.specs.List.{slice_index_or}
 use Rattle.std.proofs.lemmas.List.{append-nil, map-append}
 use Rattle.std.proofs.lemmas.List.Elements.{All-nil}
 use native.Mathlib.Decide.{ℕ_discrete}
 use Rattle.dsn_book.specs.Keeper.{MayCrash}
 use Rattle.dsn_book.specs.declared.keeper.Keeper.{Ghosts as Keeper}
-use Rattle.dsn_lane.specs.Halves.{Half, Identity, Out, fresh_halves}
+use Rattle.dsn_lane.specs.Halves.{Half, Identity, fresh_halves}
 use Rattle.dsn_lane.specs.Lane.{IsNumbered}
 use Rattle.dsn_lane.proofs.AgentLemmas.{numbered_none}
 use Rattle.dsn_outcome.specs.Agents.{from_agent}
@@ -14,16 +14,17 @@ use Rattle.dsn_outcome.specs.History.{Exchange, answers_to, history_after}
 use Rattle.dsn_outcome.specs.Request.{Request}
 use Rattle.dsn_outcome.specs.declared.answer.Answer.{Answer}
 use Rattle.dsn_crew.specs.agents.Agent.{Agent}
-use Rattle.dsn_crew.specs.desk.Desk.{BeginsWith, Desk, IsDesk, desk_of}
+use Rattle.dsn_crew.specs.desk.Desk.{BeginsWith, Desk, IsDesk, desk_seen}
+use Rattle.dsn_crew.specs.desk.Intake.{Intake}
 use Rattle.dsn_crew.specs.desk.Close.{AreCrew}
 use Rattle.dsn_crew.specs.desk.Open.{AreLines, IsLine, IsOpened, opened_agent}
 use Rattle.dsn_crew.specs.agents.Place.{place_at, place_of}
 use Rattle.dsn_crew.proofs.desk.CrashLemmas.{LeavesKept, none_done}
 
 -- a collector that has taken nothing
-pub new_desk : {B : Type 0} (keeper : Keeper B) (book : B) (requests : Out Request) (halves : List (Half Answer)) → LeavesKept keeper → (before : List Exchange) × BeginsWith keeper book before → keeper.sealed book < 2 ^ 63 → requests.first ≡ 0 → requests.past ≡ length halves → requests.taken ≡ [] → AreLines halves → length halves ≤ 16 → IsDesk keeper (desk_of book book requests halves 0 false)
+pub new_desk : {B : Type 0} (keeper : Keeper B) (book : B) (intake : Intake) (halves : List (Half Answer)) → LeavesKept keeper → (before : List Exchange) × BeginsWith keeper book before → keeper.sealed book < 2 ^ 63 → intake.requests.first ≡ 0 → intake.requests.past ≡ length halves → intake.requests.taken ≡ [] → intake.behind ≡ [] → AreLines halves → length halves ≤ 16 → IsDesk keeper (desk_seen book book None intake halves 0)
 unfolding history_after
-new_desk keeper book requests halves law began small first past taken lines few = record {
+new_desk keeper book intake halves law began small first past taken none lines few = subst (λ (q : List Request). IsDesk keeper (desk_seen book book None (record { requests = intake.requests; behind = q }) halves 0)) (sym none) (record {
   first = first;
   past = past;
   few = few;
@@ -35,10 +36,15 @@ new_desk keeper book requests halves law began small first past taken lines few 
   room = small;
   sealed = omega arith;
   kept = λ _. refl;
-  next = tt;
+  next = record {
+    from = All-nil (λ (request : Request). request.agent < length halves);
+    numbered = λ agent. subst (λ (q : List Request). IsNumbered (λ (request : Request). request.number) (from_agent (λ (request : Request). request.agent) agent (q ++ []))) (sym taken) (numbered_none (λ (request : Request). request.number));
+  };
+  together = omega arith;
+  in_time = λ n few. absurd (omega arith);
   counted = λ _ a d inside. ap length (lines a d inside).unused ∙ ap (λ (q : List Request). length (from_agent (λ (request : Request). request.agent) a q)) (sym taken);
   stands = λ before begins.
-      let none : (a : ℕ) (d : Half Answer) → a < length halves → (slice_index_or halves a d).sent ≡ answers_to a (history_after (keeper.limits book) before requests.taken) =
+      let none : (a : ℕ) (d : Half Answer) → a < length halves → (slice_index_or halves a d).sent ≡ answers_to a (history_after (keeper.limits book) before intake.requests.taken) =
       λ a d inside.
       (lines a d inside).unused
       ∙ (sym (begins.1 a (omega (arith, inside))) ∙ ap (λ (q : List Request). answers_to a (history_after (keeper.limits book) before q)) (sym taken)) in record {
@@ -47,7 +53,7 @@ new_desk keeper book requests halves law began small first past taken lines few 
         answered = λ _. none;
         crash = subst (λ (q : List Request). MayCrash keeper book book (keeper.limits book) before (q ++ [])) (sym taken) (none_done keeper book book book (keeper.limits book) before [] law refl begins.0);
       };
-}
+})
 
 -- the first of the halves that are left
 pub next_half : (lane : Identity Request) (first agents : ℕ) (left rest : List (Half Request)) (half : Half Request) → first < agents → left ≡ fresh_halves lane first (agents - first) → left ≡ half ∷ rest → (half ≡ record { lane = lane; agent = first; sent = [] }) × (rest ≡ fresh_halves lane (first + 1) (agents - (first + 1)))

@@ -54,6 +54,7 @@ fault_of cause held book desk posted =
       unsent = posted.unsent ++ held;
       book = Some book;
       taken = desk.requests.taken;
+      behind = desk.behind;
     }
 
 -- a crew that was closed

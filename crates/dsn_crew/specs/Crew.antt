@@ -5,7 +5,6 @@ use Rattle.dsn_book.specs.Book.{Book}
 use Rattle.dsn_book.specs.Keeper.{MayCrash, book_keeper}
 use Rattle.dsn_book.specs.NotKept.{unkept_code}
 use Rattle.dsn_book.specs.declared.keeper.Keeper.{Ghosts as Keeper}
-use Rattle.dsn_book.specs.declared.not_kept.NotKept.{NotKept}
 use Rattle.dsn_device.specs.declared.drain.Drain.{Ghosts as Drain}
 use Rattle.dsn_text.specs.FaultCode.{agent_count_code, crew_refused_code, lane_lost_code}
 use Rattle.dsn_frame.specs.bodies.Spoken.{reply_of}
@@ -21,7 +20,8 @@ use Rattle.dsn_report.specs.Outgoing.{Delivered, IsOutbox, Outgoing}
 use Rattle.dsn_crew.specs.agents.Agent.{LaneHalves}
 use Rattle.dsn_crew.specs.agents.Port.{AreOverPort, AreSessions, Conn, Given, HasGiven, Session, answers_of, bodies_of, faults_of, most_connections}
 use Rattle.dsn_crew.specs.agents.Serve.{answers_from, numbered_answer, numbered_request, requests_from}
-use Rattle.dsn_crew.specs.desk.Desk.{IsNextOf, StandsOrRefused}
+use Rattle.dsn_crew.specs.desk.Desk.{AreNextOf, StandsOrRefused}
+use Rattle.dsn_crew.specs.desk.Intake.{most_together}
 use Rattle.dsn_crew.specs.declared.agents.agent_line.AgentLine.{AgentLine}
 use Rattle.dsn_crew.specs.declared.crew_cause.CrewCause.{CrewCause}
 use Rattle.dsn_crew.specs.declared.crew_cause.CrewCause.TheVariants.{Lost, Refused, PortCount, Unkept}
@@ -147,23 +147,27 @@ pub record HasAccount {B P S W : Type 0} (keeper : Keeper B) (port : Port P S) (
   pub is : IsAccountAfter keeper port drain from limits before letters ports account
 
 -- a run that ended with a fault: its cause, the outbox, the letters that are not in it, what
--- carried the requests out, where it is handed back, and the requests that were taken
+-- carried the requests out, where it is handed back, the requests that were taken and carried out,
+-- and those behind these that were taken and were not
 pub record CrewFault (W B : Type 0) : Type 0 where
   pub cause : CrewCause
   pub outbox : W
   pub unsent : List Letter
   pub book : Option B
   pub taken : List Request
+  pub behind : List Request
 
--- a run that never began: nothing was taken, and nothing is written
+-- a run that never began: nothing was taken, nothing is written
 pub record IsUnbegun {B W : Type 0} (drain : Drain W) (start : W)
     (fault : CrewFault W B) : Type 0 where
   pub taken : fault.taken ≡ []
+  pub behind : fault.behind ≡ []
   pub unsent : fault.unsent ≡ []
   pub outbox : IsUntouched drain start fault.outbox
 
 -- what is left of a run of so many agents, in which these letters were sealed, that was broken off. The
--- requests taken are of these agents, and numbered from 0 agent by agent. The letters that came to the
+-- requests that were carried out are of these agents, and numbered from 0 agent by agent; those
+-- behind are at most `most_together`, and the next of their agents. The letters that came to the
 -- poster are the first of those which were sealed; those that are not in the outbox are unsent, in
 -- order, and it is theirs after the letters that were posted before. At most `letters_waiting` later
 -- ones waited for the poster, and are dropped. After them comes at most one more, which the collector
@@ -175,6 +179,8 @@ pub record IsBrokenOff {B W : Type 0} (drain : Drain W) (from : PostedBefore W)
       (agent : ℕ)
       → IsNumbered (λ (request : Request). request.number)
       (from_agent (λ (request : Request). request.agent) agent fault.taken)
+  pub together : length fault.behind ≤ most_together
+  pub next : AreNextOf agents fault.taken fault.behind
   pub letters : List Letter
   pub between : List Letter
   pub held : List Letter
@@ -189,14 +195,15 @@ pub record IsBrokenOff {B W : Type 0} (drain : Drain W) (from : PostedBefore W)
 
 -- what a run for so many agents that ended with a fault comes to, where these letters were sealed. 43: there are not 1 to 16 ports,
 -- and the outbox comes back as it was. 42: it never began; or the thread of an agent could not be
--- made, and all letters came to the poster. 41: a lane was lost. 45: a request was not kept
+-- made, all letters came to the poster, and nothing is behind. 41: a lane was lost. 45: a request was not kept
 abbrev pub IsFaultWith :
     {B W : Type 0} → Drain W → PostedBefore W → List Letter → ℕ → CrewFault W B → CrewCause → Type 0
 IsFaultWith drain from sealed agents fault PortCount =
-    (fault.outbox ≡ from.outbox) × (fault.unsent ≡ []) × (fault.taken ≡ [])
+    (fault.outbox ≡ from.outbox) × (fault.unsent ≡ []) × (fault.taken ≡ []) × (fault.behind ≡ [])
 IsFaultWith drain from sealed agents fault Refused =
     IsUnbegun drain from.outbox fault
-    ⊎ ((broken : IsBrokenOff drain from sealed agents fault) × (broken.letters ≡ sealed))
+    ⊎ ((broken : IsBrokenOff drain from sealed agents fault) × (broken.letters ≡ sealed)
+    × (fault.behind ≡ []))
 IsFaultWith drain from sealed agents fault Lost =
     IsBrokenOff drain from sealed agents fault
 IsFaultWith drain from sealed agents fault (Unkept why) =
@@ -209,31 +216,22 @@ IsCrewFault drain host limits agents start fault cause =
     IsFaultWith drain (none_posted host start) (sealed_letters (history_of limits fault.taken)) agents
     fault cause
 
--- what carried out these requests of so many agents refused, after this history, the next request
--- of one of them, for this reason: it stood for the history until then, and is what it says of that
-pub record HasRefusedNext {B : Type 0} (keeper : Keeper B) (agents : ℕ) (taken : List Request)
-    (exchanges : List Exchange) (why : NotKept) (book : B) : Type 0 where
-  pub request : Request
-  pub next : IsNextOf agents taken request
-  pub stood :
-      StandsOrRefused keeper (Some (record { request = request; why = why })) exchanges book
-
--- what carried the requests out stands for this history at a fault of this cause, and awaits
--- nothing; or it refused a request
+-- What carried the requests out stands for this history at a fault of this cause, and has kept those
+-- behind. Or it stood for the history until it refused these, for this reason, and is what it says
+-- of that
 abbrev pub StandsAtFault :
-    {B : Type 0} → Keeper B → ℕ → List Request → List Exchange → CrewCause → B → Type 0
-StandsAtFault keeper agents taken exchanges Lost book = keeper.has book exchanges []
-StandsAtFault keeper agents taken exchanges Refused book = keeper.has book exchanges []
-StandsAtFault keeper agents taken exchanges PortCount book = keeper.has book exchanges []
-StandsAtFault keeper agents taken exchanges (Unkept why) book =
-    HasRefusedNext keeper agents taken exchanges why book
+    {B : Type 0} → Keeper B → List Request → List Exchange → CrewCause → B → Type 0
+StandsAtFault keeper behind exchanges Lost book = keeper.has book exchanges behind
+StandsAtFault keeper behind exchanges Refused book = keeper.has book exchanges behind
+StandsAtFault keeper behind exchanges PortCount book = keeper.has book exchanges behind
+StandsAtFault keeper behind exchanges (Unkept why) book =
+    StandsOrRefused keeper (Some why) behind exchanges book
 
 -- what is handed back at a fault: its limits are those of the run, and this is what it stands for
-pub record IsHandedBack {B : Type 0} (keeper : Keeper B) (limits : Limits) (agents : ℕ)
-    (taken : List Request) (exchanges : List Exchange) (cause : CrewCause)
-    (book : B) : Type 0 where
+pub record IsHandedBack {B : Type 0} (keeper : Keeper B) (limits : Limits) (behind : List Request)
+    (exchanges : List Exchange) (cause : CrewCause) (book : B) : Type 0 where
   pub limits_are : keeper.limits book ≡ limits
-  pub stands : StandsAtFault keeper agents taken exchanges cause book
+  pub stands : StandsAtFault keeper behind exchanges cause book
 
 -- and of one after any history
 pub record HasFault {B W : Type 0} (keeper : Keeper B) (drain : Drain W)
@@ -244,15 +242,13 @@ pub record HasFault {B W : Type 0} (keeper : Keeper B) (drain : Drain W)
   pub is : IsFaultWith drain from sealed agents fault fault.cause
   pub book :
       IfSome fault.book
-      (IsHandedBack keeper limits agents fault.taken (history_after limits before fault.taken)
-      fault.cause)
+      (IsHandedBack keeper limits fault.behind (history_after limits before fault.taken) fault.cause)
 
--- What a crash leaves at each moment of a run over so many agents that ended with a fault: what a
--- later run stands by for the history with the first of the requests that were taken, and of one
--- behind them, where that was not kept. It is the next of its agent
+-- What a crash leaves at each moment of a run over so many agents that ended with a fault. A later
+-- run stands by it for the history with the first of the requests that were carried out, and of those
+-- behind, which are the next of their agents
 pub record MayCrashWithin {B : Type 0} (keeper : Keeper B) (start : B) (limits : Limits)
-    (before : List Exchange) (agents : ℕ) (taken : List Request) (book : B) : Type 0 where
-  pub refused : List Request
-  pub one : length refused ≤ 1
-  pub next : All (IsNextOf agents taken) refused
-  pub at_each_moment : MayCrash keeper start book limits before (taken ++ refused)
+    (before : List Exchange) (agents : ℕ) (taken behind : List Request) (book : B) : Type 0 where
+  pub together : length behind ≤ most_together
+  pub next : AreNextOf agents taken behind
+  pub at_each_moment : MayCrash keeper start book limits before (taken ++ behind)

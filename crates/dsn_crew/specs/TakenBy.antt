@@ -8,3 +8,8 @@ use Rattle.dsn_crew.specs.desk.Desk.{Desk}
 abbrev pub taken_by : {B : Type 0} → Option (Snapshot (Desk B)) → List Request
 taken_by None = []
 taken_by (Some desk) = desk.value.requests.taken
+
+-- and those behind, which it had not carried out
+abbrev pub behind_of : {B : Type 0} → Option (Snapshot (Desk B)) → List Request
+behind_of None = []
+behind_of (Some desk) = desk.value.behind

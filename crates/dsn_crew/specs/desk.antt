@@ -1,3 +1,4 @@
 pub mod Close
 pub mod Desk
+pub mod Intake
 pub mod Open

@@ -14,7 +14,7 @@ use std::snapshot::Snapshot;
 
 /// A crew's run that ended with a fault. It says that a lane was lost, or that a request was not
 /// kept, only with what shows it. Contracts see, beside its fields, the requests that the collector
-/// took; that takes no bytes.
+/// carried out, and those behind that it took and did not; that takes no bytes.
 #[derive(Drop)]
 pub struct CrewFault<W, B: Keeper = Book> {
     /// Why.
@@ -24,8 +24,8 @@ pub struct CrewFault<W, B: Keeper = Book> {
     /// The letters that came to the poster and could not be written, in order, and then the one
     /// that the collector still held.
     pub unsent: Letters,
-    /// What carried the requests out, with the logs that are still open; none where the run never
-    /// began.
+    /// What carried the requests out, with the logs that are still open; none where it could not be
+    /// made.
     pub book: Option<B>,
     desk: Option<Snapshot<Desk<B>>>,
     /// Why, with what shows that a lane was lost, or a request not kept, where it was so.
@@ -36,7 +36,7 @@ impl<W, B: Keeper> Model for CrewFault<W, B> {
     ghost use Rattle.std.specs.Prelude.{◌≡◌};
     ghost use Rattle.dsn_crew.specs.Breach.{cause_of, IsShown};
     ghost use Rattle.dsn_crew.specs.Crew.{CrewFault};
-    ghost use Rattle.dsn_crew.specs.TakenBy.{taken_by};
+    ghost use Rattle.dsn_crew.specs.TakenBy.{behind_of, taken_by};
 
     ghost Value = { CrewFault W B };
 
@@ -46,6 +46,7 @@ impl<W, B: Keeper> Model for CrewFault<W, B> {
       unsent = f.unsent;
       book = f.book;
       taken = taken_by f.desk;
+      behind = behind_of f.desk;
     } };
 
     ghost invariant = { λ f. (f.cause ≡ cause_of f.breach)
@@ -60,22 +61,23 @@ impl<W, B: Keeper> CrewFault<W, B> {
         self.cause.code()
     }
 
-    /// The fault of a run that never began.
-    pub(crate) fn unbegun(breach: Breach, outbox: W) -> CrewFault<W, B>
+    /// The fault of a run that never began, with what was to carry its requests out.
+    pub(crate) fn unbegun(breach: Breach, outbox: W, book: Option<B>) -> CrewFault<W, B>
         requires shown { IsShown B.Keeper None breach }
         ensures { result ≡ record {
           cause = cause_of breach;
           outbox = outbox;
           unsent = [];
-          book = None;
+          book = book;
           taken = [];
+          behind = [];
         } }
     {
         CrewFault {
             cause: breach.cause(),
             outbox,
             unsent: Letters::new(),
-            book: None,
+            book,
             desk: None,
             breach,
         }
@@ -98,6 +100,7 @@ impl<W, B: Keeper> CrewFault<W, B> {
           unsent = unsent ++ letters_in held;
           book = Some book;
           taken = desk.value.requests.taken;
+          behind = desk.value.behind;
         } }
     {
         let mut unsent = unsent;

@@ -1,5 +1,5 @@
 //! What a run of a crew needs memory for.
-ghost use Rattle.std.specs.Prelude.{◌^◌, ◌<◌, ◌≤◌, List, [], IfOk};
+ghost use Rattle.std.specs.Prelude.{◌≡◌, ◌^◌, ◌<◌, ◌≤◌, List, [], IfErr, IfOk};
 ghost use Rattle.dsn_lane.specs.Lane.{most_agents};
 ghost use Rattle.dsn_outcome.specs.History.{Exchange};
 ghost use Rattle.dsn_crew.specs.CrewMemory.{IsRoom};
@@ -7,9 +7,8 @@ ghost use Rattle.dsn_crew.specs.desk.Desk.{BeginsWith};
 
 use crate::agent_memory::AgentMemory;
 use crate::agents::{Agent, Port};
-use crate::desk::{Desk, open_crew_over};
+use crate::desk::{Desk, open_room};
 use dsn_book::Keeper;
-use dsn_outcome::NoMemory;
 use dsn_post::{LetterSink, LetterSource, open_post};
 use std::alloc::Global;
 use std::sync::Wait;
@@ -26,23 +25,27 @@ pub(crate) struct CrewMemory<P: Port, B: Keeper> {
 }
 
 impl<P: Port, B: Keeper + Drop> CrewMemory<P, B> {
-    /// The room of a run with so many agents. `NoMemory` comes only where memory was refused.
+    /// The room of a run with so many agents. What carries the requests out comes back where memory
+    /// was refused.
     pub(crate) fn take(
         rt: &impl Wait,
         alloc: Global,
         book: B,
         agents: u32,
-    ) -> Result<CrewMemory<P, B>, NoMemory>
+    ) -> Result<CrewMemory<P, B>, B>
         requires count { (1 ≤ agents) × (agents ≤ most_agents) }
         requires begins { (before : List Exchange) × BeginsWith B.Keeper book before }
         requires few { B.sealed book < 2 ^ 63 }
-        ensures { IfOk result (IsRoom B.Keeper book agents) }
+        ensures room { IfOk result (IsRoom B.Keeper book agents) }
+        ensures back { IfErr result (λ back. back ≡ book) }
     {
-        let Ok((crew, desk)) = open_crew_over(rt, alloc, book, agents) else {
-            return Err(NoMemory);
+        let (crew, desk) = open_room(rt, alloc, book, agents)?;
+        let Ok((sink, source)) = open_post(rt, alloc) else {
+            return Err(desk.into_book());
         };
-        let (sink, source) = open_post(rt, alloc)?;
-        let slots = AgentMemory::take(alloc, agents)?;
+        let Ok(slots) = AgentMemory::take(alloc, agents) else {
+            return Err(desk.into_book());
+        };
         Ok(CrewMemory {
             agents: crew,
             desk,

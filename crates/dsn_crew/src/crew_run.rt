@@ -1,5 +1,5 @@
 //! A whole crew, from its first thread to its last.
-ghost use Rattle.std.specs.Prelude.{◌≡◌, ◌≢◌, ◌+◌, ◌≤◌, ◌<◌, ◌^◌, ◌↔◌, ◌⊎◌, List, [], All, length, IfErr, IfOk, IfSome};
+ghost use Rattle.std.specs.Prelude.{◌≡◌, ◌≢◌, ◌+◌, ◌≤◌, ◌<◌, ◌^◌, ◌↔◌, ◌⊎◌, List, [], true, All, length, IfErr, IfOk, IfSome, is_some};
 ghost use Rattle.dsn_book.specs.Book.{Represents};
 ghost use Rattle.dsn_book.specs.Keeper.{MayCrash};
 ghost use Rattle.dsn_book.specs.declared.not_kept.NotKept.{NotKept};
@@ -70,7 +70,7 @@ pub fn run_crew<
 {
     match empty_book(alloc, limits, ports.len()) {
         Ok(book) => run_crew_over(rt, alloc, book, ports, Outgoing::new(site, outbox), gate),
-        Err(breach) => Err(CrewFault::unbegun(breach, outbox)),
+        Err(breach) => Err(CrewFault::unbegun(breach, outbox, None)),
     }
 }
 
@@ -95,15 +95,14 @@ fn empty_book(alloc: Global, limits: Limits, ports: usize) -> Result<Book, Breac
 /// Runs a crew as [`run_crew`] does, over what keeps its requests and carries them out. Its notices
 /// come after those that were posted before.
 ///
-/// Beside what it says there, `Unkept` (45) comes where a request was not kept; neither that
-/// request nor a later one is carried out or answered then. At a fault of a run that began, what
-/// carried the requests out is handed back.
+/// Requests that wait are kept together, up to 16. Beside what it says there, `Unkept` (45) comes
+/// where they were not kept; none of them is carried out or answered then, nor a later one. At a
+/// fault what carried the requests out, or was to, is handed back.
 ///
 /// At each moment of the run a crash leaves what a later run stands by for the history with the
 /// first of the requests that were taken, and no other. Each request is among them before its answer
-/// is sent. It asks that fewer than 2^63 letters were sealed
-/// before, that there is a history to begin with, after which no request is awaited, and that no
-/// letter is unsent.
+/// is sent. It asks that fewer than 2^63 letters were sealed before, that there is a history to begin
+/// with, after which no request is awaited, and that no letter is unsent.
 pub fn run_crew_over<
     R: Threads + Wait + Sync,
     B: Keeper + Drop,
@@ -138,14 +137,15 @@ pub fn run_crew_over<
         (λ account. MayCrash B.Keeper book account.book (B.limits book) before account.taken) }
     ensures crash_at_fault { (before : List Exchange) → BeginsWith B.Keeper book before
         → IfErr result (λ fault. IfSome fault.book (MayCrashWithin B.Keeper book (B.limits book)
-        before (length ports.items) fault.taken)) }
+        before (length ports.items) fault.taken fault.behind)) }
+    ensures handed_back { IfErr result (λ fault. is_some fault.book ≡ true) }
     ensures refused { IfErr result
         (λ fault. (fault.cause ≡ CrewCause.PortCount)
         ↔ ((length ports.items ≡ 0) ⊎ (most_ports < length ports.items))) }
 {
     let agents = ports.len();
     if agents == 0 || agents > MOST_PORTS {
-        return Err(CrewFault::unbegun(Breach::PortCount, outgoing.into_outbox()));
+        return Err(CrewFault::unbegun(Breach::PortCount, outgoing.into_outbox(), Some(book)));
     }
     thread::scope(
         thread::scope_env(),
@@ -195,11 +195,15 @@ fn run_in<
         (λ account. MayCrash B.Keeper book account.book (B.limits book) before account.taken) }
     ensures crash_at_fault { (before : List Exchange) → BeginsWith B.Keeper book before
         → IfErr result (λ fault. IfSome fault.book (MayCrashWithin B.Keeper book (B.limits book)
-        before (length ports.items) fault.taken)) }
+        before (length ports.items) fault.taken fault.behind)) }
+    ensures handed_back { IfErr result (λ fault. is_some fault.book ≡ true) }
     ensures counted { IfErr result (λ fault. fault.cause ≢ CrewCause.PortCount) }
 {
-    let Ok(room) = CrewMemory::take(rt, alloc, book, ports.len() as u32) else {
-        return Err(CrewFault::unbegun(Breach::Refused, outgoing.into_outbox()));
+    let room = match CrewMemory::take(rt, alloc, book, ports.len() as u32) {
+        Ok(room) => room,
+        Err(book) => {
+            return Err(CrewFault::unbegun(Breach::Refused, outgoing.into_outbox(), Some(book)));
+        }
     };
     let CrewMemory {
         agents,
@@ -210,7 +214,9 @@ fn run_in<
     } = room;
     let (mut sink, poster) = match start_posting(scope, rt, outgoing, sink, source) {
         Ok(started) => started,
-        Err(outbox) => return Err(CrewFault::unbegun(Breach::Refused, outbox)),
+        Err(outbox) => {
+            return Err(CrewFault::unbegun(Breach::Refused, outbox, Some(desk.into_book())));
+        }
     };
     let AgentMemory {
         handles,

@@ -1,5 +1,5 @@
 -- What a crash leaves of a collector that takes a request more.
-use Rattle.std.proofs.Common.{◌≡◌, ℕ, List, [], ◌++◌, subst}
+use Rattle.std.proofs.Common.{◌≡◌, ℕ, List, [], ◌++◌, ap, ◌∙◌, subst}
 use Rattle.std.proofs.lemmas.List.{append-nil}
 use Rattle.dsn_book.specs.Crash.{ReopensAfterSome}
 use Rattle.dsn_book.specs.Keeper.{MayCrash}
@@ -19,5 +19,7 @@ module _ {B : Type 0} (keeper : Keeper B) (start mid new : B) (limits : Limits) 
   none_done law same has = started keeper.moment keeper.left_since start _ (λ left since. subst (λ l. ReopensAfterSome keeper.reopens l before [] left) same (some_of_all keeper.reopens (keeper.limits start) before [] [] left (law start before [] left has since)))
 
   -- something more was, after all that was taken
-  pub done_on : (more : List Request) → MayCrash keeper start mid limits before (taken ++ []) → MayCrash keeper mid new limits (history_after limits before taken) more → MayCrash keeper start new limits before (taken ++ more)
-  done_on more first second = crash_joined keeper start mid new limits before taken more (subst (MayCrash keeper start mid limits before) (append-nil taken) first) second
+  pub done_on : (behind more : List Request) → behind ≡ [] → MayCrash keeper start mid limits before (taken ++ behind) → MayCrash keeper mid new limits (history_after limits before taken) more → MayCrash keeper start new limits before (taken ++ more)
+  done_on behind more none first second =
+      crash_joined keeper start mid new limits before taken more
+      (subst (MayCrash keeper start mid limits before) (ap (λ (q : List Request). taken ++ q) none ∙ append-nil taken) first) second

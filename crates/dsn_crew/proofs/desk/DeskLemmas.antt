@@ -1,28 +1,28 @@
 -- Desks: what one more request, with its answer sent, leaves.
-use Rattle.std.proofs.Common.{◌≡◌, ◌≢◌, ℕ, zero, suc, ◌+◌, ◌<◌, ◌≤◌, ◌==◌, Bool, true, false, cond, All, List, [], ◌∷◌, ◌++◌, length, map, filter, set, refl, ap, sym, ◌∙◌, subst, eq-eqb, ne_eqb, length-append, arith}
-use Rattle.std.specs.Prelude.{◌↔◌, IfSome, IsTrue, Option, Some, None, is_some}
+use Rattle.std.proofs.Common.{◌≡◌, ◌≢◌, ℕ, zero, suc, ◌+◌, ◌<◌, ◌≤◌, ◌==◌, Bool, true, false, cond, All, List, [], ◌∷◌, ◌++◌, length, map, set, take, refl, ap, sym, ◌∙◌, subst, append_assoc, eq-eqb, ne_eqb, length-append, arith}
+use Rattle.std.specs.Prelude.{IfSome, Option, Some, None, is_some}
 use Rattle.std.specs.List.{slice_index_or}
 use Rattle.std.proofs.lemmas.List.{append-nil, get_or-set_same, get_or-set_other, set-get_or, length-set}
-use Rattle.std.proofs.lemmas.List.Elements.{All-append, All-cons, All-nil, filter-append}
+use Rattle.std.proofs.lemmas.List.Elements.{All-append, All-cons, All-head, All-nil, filter-append}
 use Rattle.std.proofs.lemmas.List.Sums.{length-filter, count_by-le-length}
 use Rattle.std.proofs.lemmas.Bool.{false≢true}
 use mathlib.Core.List.{IsPrefix}
 use native.Mathlib.Decide.{ℕ_discrete}
+use Rattle.dsn_book.specs.Keeper.{MayCrash}
 use Rattle.dsn_book.specs.declared.keeper.Keeper.{Ghosts as Keeper}
-use Rattle.dsn_book.specs.declared.not_kept.NotKept.{NotKept}
+use Rattle.dsn_book.proofs.CrashLemmas.{stood_still}
 use Rattle.dsn_lane.specs.Halves.{Half, Out, Identity}
-use Rattle.dsn_lane.specs.Lane.{IsNumbered}
 use Rattle.dsn_outcome.specs.Agents.{from_agent}
 use Rattle.dsn_outcome.specs.History.{Exchange, answer_of, answers_to, exchange_of, history_after}
-use Rattle.dsn_outcome.specs.Request.{Request, Body, Append, Flush, Discard, Forget, Bye}
+use Rattle.dsn_outcome.specs.Request.{Request}
 use Rattle.dsn_outcome.specs.declared.answer.Answer.{Answer}
 use Rattle.dsn_outcome.proofs.HistoryLaws.{answers_mine, answers_more, answers_other}
-use Rattle.dsn_crew.specs.desk.Desk.{BeginsWith, Desk, IsDesk, Refusal, StandsAfter, refused_in, AreAnswered, IsUnseen, desk_of, desk_seen, IsAnswerSent, answered_more, goodbyes, history, is_goodbye, next_exchange, places_of, refusal_behind, seen_half, taken_request}
+use Rattle.dsn_crew.specs.desk.Desk.{AreLeft, AreNextOf, BeginsWith, Desk, IsDesk, StandsAfter, AreAnswered, IsAnswerSent, answered_more, desk_seen, history, next_exchange, places_of}
+use Rattle.dsn_crew.specs.desk.Intake.{Intake, goodbyes, taken_request}
 use Rattle.dsn_crew.specs.declared.desk.stop_cause.StopCause.{StopCause}
 use Rattle.dsn_crew.specs.agents.Place.{Place, place_at}
-use Rattle.dsn_book.specs.Keeper.{MayCrash}
-use Rattle.dsn_crew.proofs.desk.CrashLemmas.{done_on}
 use Rattle.dsn_crew.proofs.desk.EarlierLemmas.{more_after}
+use Rattle.dsn_crew.proofs.desk.IntakeLemmas.{next_of, are_numbered_first, number_next}
 
 -- ---- the halves of the answer lanes
 
@@ -57,50 +57,13 @@ sent_room sent old new answer room d is_sent enough =
     let same : length new ≡ length old = ap length (is_sent d) ∙ length-set old answer.agent (answered_more sent (slice_index_or old answer.agent d) answer) in
     omega arith
 
--- one more is counted
-pub counted_more : {A : Type 0} (count : ℕ) (old new : List A) (item : A) → count ≡ length old → new ≡ old ++ item ∷ [] → count + 1 ≡ length new
-counted_more count old new item counted more = let all = ap length more ∙ length-append old (item ∷ []) in omega arith
-
--- whether a request is a goodbye, as the program finds it
-bye_is : (flag : Bool) (body : Body) → IsTrue flag ↔ (body ≡ Bye) → flag ≡ is_goodbye body
-bye_is true body is = ap is_goodbye (sym (is.0 refl))
-bye_is false (Append id outcome) is = refl
-bye_is false (Flush key draft) is = refl
-bye_is false (Discard key) is = refl
-bye_is false (Forget key) is = refl
-bye_is false Bye is = absurd (false≢true (is.1 refl))
-
-counted_one : (request : Request) (flag : Bool) → is_goodbye request.body ≡ flag → goodbyes (request ∷ []) ≡ cond flag 1 0
-counted_one request true is = rw is refl
-counted_one request false is = rw is refl
-
--- the count of goodbyes, with one request more
-pub goodbyes_more : (count added : ℕ) (flag : Bool) (old new : List Request) (request : Request) → count ≡ goodbyes old → new ≡ old ++ request ∷ [] → IsTrue flag ↔ (request.body ≡ Bye) → added ≡ cond flag 1 0 → count + added ≡ goodbyes new
-goodbyes_more count added flag old new request counted more is one =
-    let split = ap goodbyes more ∙ (ap length (filter-append (λ (r : Request). is_goodbye r.body) old (request ∷ [])) ∙ length-append (filter (λ (r : Request). is_goodbye r.body) old) (filter (λ (r : Request). is_goodbye r.body) (request ∷ []))) in
-    let last = counted_one request flag (sym (bye_is flag request.body is)) in
-    omega (arith, split, last)
-
--- there are no more goodbyes than requests, so one more can be counted where one more request can
-flag_small : (flag : Bool) → cond flag 1 0 ≤ 1
-flag_small true = omega arith
-flag_small false = omega arith
-
-pub goodbyes_fit : (count added taken most : ℕ) (flag : Bool) (requests : List Request) → count ≡ goodbyes requests → taken ≡ length requests → added ≡ cond flag 1 0 → taken + 1 < most → count + added < most
-goodbyes_fit count added taken most flag requests counted long one few =
-    let is = length-filter (λ (r : Request). is_goodbye r.body) requests in
-    let bound = count_by-le-length (λ (r : Request). is_goodbye r.body) requests in
-    let small = flag_small flag in
-    omega (arith, one)
-
 -- ---- one more request
 
--- a request that a collector has taken next, and its answer, which is to be sent
-pub record IsAsked {B : Type 0} (keeper : Keeper B) (desk : Desk B) (request : Request) (answer : Answer) : Type 0 where
+-- the first of the requests behind, and its answer, which is to be sent
+pub record IsAsked {B : Type 0} (keeper : Keeper B) (desk : Desk B) (request : Request) (rest : List Request) (answer : Answer) : Type 0 where
   pub kept : IsDesk keeper desk
   pub going : desk.failed ≡ false
-  pub from : request.agent < desk.requests.past
-  pub number : request.number ≡ length (from_agent (λ (r : Request). r.agent) request.agent desk.requests.taken)
+  pub behind : desk.behind ≡ request ∷ rest
   pub agent_is : answer.agent ≡ request.agent
   pub number_is : answer.number ≡ request.number
 
@@ -113,10 +76,19 @@ count_of a requests request false is =
     let split = ap length (filter-append (λ (r : Request). r.agent == a) requests (request ∷ [])) ∙ length-append (from_agent (λ (r : Request). r.agent) a requests) (from_agent (λ (r : Request). r.agent) a (request ∷ [])) in
     let none : length (from_agent (λ (r : Request). r.agent) a (request ∷ [])) ≡ 0 = rw is refl in omega arith
 
-module _ {B : Type 0} (keeper : Keeper B) (desk : Desk B) (request : Request) (answer : Answer) (asked : IsAsked keeper desk request answer) where
+module _ {B : Type 0} (keeper : Keeper B) (desk : Desk B) (request : Request) (rest : List Request) (answer : Answer) (asked : IsAsked keeper desk request rest answer) where
+  next_here : AreNextOf (length desk.answers) desk.requests.taken (request ∷ rest)
+  next_here = subst (AreNextOf (length desk.answers) desk.requests.taken) asked.behind asked.kept.next
+
+  from : request.agent < length desk.answers
+  from = All-head (λ (r : Request). r.agent < length desk.answers) request rest next_here.from
+
+  number : request.number ≡ length (from_agent (λ (r : Request). r.agent) request.agent desk.requests.taken)
+  number = number_next desk.requests.taken rest request next_here.numbered
+
   -- the agent that asked has an answer lane
   pub within : answer.agent < length desk.answers
-  within = let past = asked.kept.past in let agent = asked.agent_is in let from = asked.from in omega arith
+  within = let agent = asked.agent_is in let here = from in omega arith
 
   pub line_agent : (d : Half Answer) → (slice_index_or desk.answers answer.agent d).agent ≡ answer.agent
   line_agent d = asked.kept.lines answer.agent d within
@@ -125,18 +97,18 @@ module _ {B : Type 0} (keeper : Keeper B) (desk : Desk B) (request : Request) (a
   pub line_number : (d : Half Answer) → length (slice_index_or desk.answers answer.agent d).sent ≡ answer.number
   line_number d =
       asked.kept.counted asked.going answer.agent d within
-      ∙ (ap (λ (a : ℕ). length (from_agent (λ (r : Request). r.agent) a desk.requests.taken)) asked.agent_is ∙ (sym asked.number ∙ sym asked.number_is))
+      ∙ (ap (λ (a : ℕ). length (from_agent (λ (r : Request). r.agent) a desk.requests.taken)) asked.agent_is ∙ (sym number ∙ sym asked.number_is))
 
   pub small : (most : ℕ) → length desk.requests.taken < most → answer.number < most
   small most few =
-      let number = asked.number_is in
+      let same = asked.number_is in
       let count = length-filter (λ (r : Request). r.agent == request.agent) desk.requests.taken in
       let bound = count_by-le-length (λ (r : Request). r.agent == request.agent) desk.requests.taken in
-      omega (arith, asked.number)
+      omega (arith, number)
 
-  module _ (book : B) (out : Out Request) (halves : List (Half Answer)) (missed : ℕ) (failed : Bool) (taken : out ≡ taken_request desk.requests request) where
-    abbrev new : Desk B
-    new = desk_of desk.start book out halves missed failed
+  module _ (book : B) (out : Out Request) (halves : List (Half Answer)) (failed : Bool) (taken : out ≡ taken_request desk.requests request) where
+    abbrev pub answered_desk : Desk B
+    answered_desk = record { start = desk.start; book = book; requests = out; behind = rest; answers = halves; missed = desk.missed; failed = failed; unkept = None }
 
     long : (sent : Bool) (d : Half Answer) → IsAnswerSent sent desk.answers answer halves → length halves ≡ length desk.answers
     long sent d is_sent = ap length (is_sent d) ∙ length-set desk.answers answer.agent (answered_more sent (slice_index_or desk.answers answer.agent d) answer)
@@ -162,8 +134,7 @@ module _ {B : Type 0} (keeper : Keeper B) (desk : Desk B) (request : Request) (a
     -- what was taken is of its agents, with the request more
     mine_new : length halves ≡ length desk.answers → All (λ (r : Request). r.agent < length halves) out.taken
     mine_new same =
-        let past = asked.kept.past in
-        let from = asked.from in
+        let here = from in
         subst (All (λ (r : Request). r.agent < length halves)) (sym (ap (λ (o : Out Request). o.taken) taken))
         (All-append (λ (r : Request). r.agent < length halves) desk.requests.taken (request ∷ [])
         (subst (λ (n : ℕ). All (λ (r : Request). r.agent < n) desk.requests.taken) (sym same) asked.kept.mine)
@@ -201,7 +172,7 @@ module _ {B : Type 0} (keeper : Keeper B) (desk : Desk B) (request : Request) (a
       unfolding exchange_of
       not_mine a other = ne_eqb request.agent a (λ same. other (sym same ∙ sym asked.agent_is))
 
-      history_new : history keeper before new ≡ history keeper before desk ++ next_exchange keeper before desk request ∷ []
+      history_new : history keeper before answered_desk ≡ history keeper before desk ++ next_exchange keeper before desk request ∷ []
       history_new =
           ap (λ (o : Out Request). history_after (keeper.limits desk.start) before o.taken) taken ∙ more_after (keeper.limits desk.start) before desk.requests.taken request
 
@@ -223,11 +194,11 @@ module _ {B : Type 0} (keeper : Keeper B) (desk : Desk B) (request : Request) (a
           ]
 
       -- each agent was sent what the history with the request more answers it
-      answered_new : (d : Half Answer) → IsAnswerSent true desk.answers answer halves → AreAnswered halves (history keeper before new)
+      answered_new : (d : Half Answer) → IsAnswerSent true desk.answers answer halves → AreAnswered halves (history keeper before answered_desk)
       answered_new d is_sent = λ a d' inside. let same = long true d is_sent in sent_at is_sent a d' (omega arith) ∙ ap (answers_to a) (sym history_new)
 
       -- or, where the answer was lost, the first of it
-      sent_new : (sent : Bool) (d : Half Answer) → IsAnswerSent sent desk.answers answer halves → (a : ℕ) (d' : Half Answer) → a < length halves → IsPrefix (slice_index_or halves a d').sent (answers_to a (history keeper before new))
+      sent_new : (sent : Bool) (d : Half Answer) → IsAnswerSent sent desk.answers answer halves → (a : ℕ) (d' : Half Answer) → a < length halves → IsPrefix (slice_index_or halves a d').sent (answers_to a (history keeper before answered_desk))
       sent_new true d is_sent a d' inside = ([], append-nil (slice_index_or halves a d').sent ∙ answered_new d is_sent a d' inside)
       sent_new false d is_sent a d' inside =
           let same = sent_none desk.answers halves answer d is_sent in
@@ -240,22 +211,39 @@ module _ {B : Type 0} (keeper : Keeper B) (desk : Desk B) (request : Request) (a
           )
 
       -- the collector stands for one request more, after a history
-      pub stands_on : (sent : Bool) (d : Half Answer) → IsAnswerSent sent desk.answers answer halves → keeper.has book (history keeper before desk ++ next_exchange keeper before desk request ∷ []) [] → MayCrash keeper desk.book book (keeper.limits desk.start) (history keeper before desk) (request ∷ []) → (failed ≡ false → sent ≡ true) → StandsAfter keeper before new
-      stands_on sent d is_sent book_is crash going_on = record {
-        has = subst (λ (t : List Exchange). keeper.has book t []) (sym history_new) book_is;
+      pub stands_on : (sent : Bool) (d : Half Answer) → IsAnswerSent sent desk.answers answer halves → keeper.has book (history keeper before desk ++ next_exchange keeper before desk request ∷ []) rest → (keeper.moment book ≡ keeper.moment desk.book) × ((t : ℕ) (left : List ℕ) → keeper.left_since book t left → keeper.left_since desk.book t left) → (failed ≡ false → sent ≡ true)
+          → StandsAfter keeper before answered_desk
+      stands_on sent d is_sent book_is still going_on = record {
+        has = subst (λ (t : List Exchange). keeper.has book t rest) (sym history_new) book_is;
         sent = sent_new sent d is_sent;
         answered = λ well. answered_new d (subst (λ (it : Bool). IsAnswerSent it desk.answers answer halves) (going_on well) is_sent);
         crash =
-            subst (λ (requests : List Request). MayCrash keeper desk.start book (keeper.limits desk.start) before requests) (sym (append-nil out.taken ∙ ap (λ (o : Out Request). o.taken) taken))
-            (done_on keeper desk.start desk.book book (keeper.limits desk.start) before desk.requests.taken (request ∷ []) (subst (λ (u : Option Refusal). MayCrash keeper desk.start desk.book (keeper.limits desk.start) before (desk.requests.taken ++ refused_in u)) (asked.kept.kept asked.going) stands.crash) crash);
+            subst (λ (requests : List Request). MayCrash keeper desk.start book (keeper.limits desk.start) before requests)
+            (ap (λ (q : List Request). desk.requests.taken ++ q) asked.behind ∙ (sym (append_assoc desk.requests.taken (request ∷ []) rest) ∙ ap (λ (o : Out Request). o.taken ++ rest) (sym taken)))
+            (stood_still keeper.moment keeper.left_since desk.start desk.book book _ still.0 still.1 stands.crash);
       }
+
+    -- those behind came while agents were left
+    left_new : length halves ≡ length desk.answers → (n : ℕ) → n < length rest → AreLeft answered_desk (out.taken ++ take n rest)
+    left_new same n few =
+        let before : AreLeft desk (desk.requests.taken ++ take (suc n) (request ∷ rest)) =
+        subst (λ (q : List Request). AreLeft desk (desk.requests.taken ++ take (suc n) q)) asked.behind
+        (asked.kept.in_time (suc n) (let long = ap length asked.behind in omega (arith, few))) in
+        let all : out.taken ++ take n rest ≡ desk.requests.taken ++ take (suc n) (request ∷ rest) =
+        ap (λ (o : Out Request). o.taken ++ take n rest) taken ∙ append_assoc desk.requests.taken (request ∷ []) (take n rest) in
+        λ gone. before (ap (λ (q : List Request). goodbyes q + desk.missed) (sym all) ∙ (gone ∙ same))
+
+    next_new : length halves ≡ length desk.answers → AreNextOf (length halves) out.taken rest
+    next_new same =
+        subst (λ (k : ℕ). AreNextOf k out.taken rest) (sym same)
+        (subst (λ (o : Out Request). AreNextOf (length desk.answers) o.taken rest) (sym taken) (next_of (length desk.answers) desk.requests.taken rest request next_here))
 
     -- it keeps what every collector does
     pub keeps :
-        ((a : ℕ) → IsNumbered (λ (r : Request). r.number) (from_agent (λ (r : Request). r.agent) a out.taken)) → (sent : Bool) (d : Half Answer) → IsAnswerSent sent desk.answers answer halves → (failed ≡ false → sent ≡ true) → keeper.limits book ≡ keeper.limits desk.start
-        → keeper.sealed book ≤ keeper.sealed desk.book + 1
-        → ((before : List Exchange) → BeginsWith keeper desk.start before → (answer ≡ answer_of (next_exchange keeper before desk request)) × keeper.has book (history keeper before desk ++ next_exchange keeper before desk request ∷ []) [] × MayCrash keeper desk.book book (keeper.limits desk.start) (history keeper before desk) (request ∷ [])) → IsDesk keeper new
-    keeps numbered sent d is_sent going_on limits sealed book_is =
+        (sent : Bool) (d : Half Answer) → IsAnswerSent sent desk.answers answer halves → (failed ≡ false → sent ≡ true) → keeper.limits book ≡ keeper.limits desk.book → keeper.sealed book ≤ keeper.sealed desk.book + 1
+        → (keeper.moment book ≡ keeper.moment desk.book) × ((t : ℕ) (left : List ℕ) → keeper.left_since book t left → keeper.left_since desk.book t left)
+        → ((before : List Exchange) → BeginsWith keeper desk.start before → (answer ≡ answer_of (next_exchange keeper before desk request)) × keeper.has book (history keeper before desk ++ next_exchange keeper before desk request ∷ []) rest) → IsDesk keeper answered_desk
+    keeps sent d is_sent going_on limits sealed still book_is =
         let same = long sent d is_sent in
         let first = asked.kept.first in
         let past = asked.kept.past in
@@ -263,21 +251,26 @@ module _ {B : Type 0} (keeper : Keeper B) (desk : Desk B) (request : Request) (a
         let out_first : out.first ≡ desk.requests.first = ap (λ (o : Out Request). o.first) taken in
         let out_past : out.past ≡ desk.requests.past = ap (λ (o : Out Request). o.past) taken in
         let all = ap (λ (o : Out Request). length o.taken) taken ∙ length-append desk.requests.taken (request ∷ []) in
-        let before_sealed = asked.kept.sealed in record {
+        let before_sealed = asked.kept.sealed in
+        let together = asked.kept.together in
+        let one_less = ap length asked.behind in
+        let next = next_new same in record {
           first = omega arith;
           past = omega arith;
           few = omega arith;
           mine = mine_new same;
-          numbered = numbered;
+          numbered = are_numbered_first out.taken rest next.numbered;
+          next = next;
+          together = omega arith;
+          in_time = left_new same;
           lines = λ a d' inside. lines_new sent is_sent a d' (omega arith);
-          limits = limits;
+          limits = limits ∙ asked.kept.limits;
           began = asked.kept.began;
           room = asked.kept.room;
           sealed = omega arith;
           kept = λ _. refl;
-          next = tt;
           counted = λ well a d' inside. counted_new (subst (λ (it : Bool). IsAnswerSent it desk.answers answer halves) (going_on well) is_sent) a d' (omega arith);
-          stands = λ before begins. stands_on before (asked.kept.stands before begins) (book_is before begins).0 sent d is_sent (book_is before begins).1 (book_is before begins).2 going_on;
+          stands = λ before begins. stands_on before (asked.kept.stands before begins) (book_is before begins).0 sent d is_sent (book_is before begins).1 still going_on;
         }
 
 -- a collector that has not failed has no reason for it
@@ -285,23 +278,7 @@ pub none_stopped : (P : StopCause → Type 0) (stop : Option StopCause) → is_s
 none_stopped P None going = tt
 none_stopped P (Some stop) going = absurd (false≢true (sym going))
 
--- of a collector that has not failed the whole half is seen, and nothing was left unkept
-pub seen_going : (stop : Option StopCause) (count : ℕ) (out : Out Request) → is_some stop ≡ false → seen_half stop count out ≡ out
-seen_going None count out going = refl
-seen_going (Some stop) count out going = absurd (false≢true (sym going))
-
-pub seen_whole : {B : Type 0} (start book : B) (stop : Option StopCause) (count : ℕ) (out : Out Request) (lines : List (Half Answer)) (missed : ℕ) → is_some stop ≡ false → desk_seen start book stop count out lines missed ≡ desk_of start book out lines missed (is_some stop)
-seen_whole start book None count out lines missed going = refl
-seen_whole start book (Some stop) count out lines missed going = absurd (false≢true (sym going))
-
-pub unseen_going : (stop : Option StopCause) (count : ℕ) (out : Out Request) → is_some stop ≡ false → IsUnseen stop count out
-unseen_going None count out going = tt
-unseen_going (Some stop) count out going = absurd (false≢true (sym going))
-
--- the request behind all others that a half took is the one that was not kept
-behind_all : (why : NotKept) (taken : List Request) (request : Request) → refusal_behind why (length taken) (taken ++ request ∷ []) ≡ Some (record { request = request; why = why })
-behind_all why [] request = refl
-behind_all why (first ∷ taken) request = behind_all why taken request
-
-pub unkept_is : (why : NotKept) (count : ℕ) (old now : List Request) (request : Request) → count ≡ length old → now ≡ old ++ request ∷ [] → refusal_behind why count now ≡ Some (record { request = request; why = why })
-unkept_is why count old now request all more = (λ i. refusal_behind why (all i) (more i)) ∙ behind_all why old request
+-- and is seen so
+pub seen_going : {B : Type 0} (start book : B) (stop : Option StopCause) (intake : Intake) (lines : List (Half Answer)) (missed : ℕ) → is_some stop ≡ false → desk_seen start book stop intake lines missed ≡ desk_seen start book None intake lines missed
+seen_going start book None intake lines missed going = refl
+seen_going start book (Some stop) intake lines missed going = absurd (false≢true (sym going))

@@ -4,6 +4,7 @@ use Rattle.std.specs.Prelude.{Result, Ok, Err, is_err, Some, None}
 use Rattle.std.proofs.lemmas.Bool.{false≢true}
 use Rattle.std.proofs.lemmas.List.{append-nil, length-map, take-append-le}
 use Rattle.std.proofs.Math.Decide.{dec_lt}
+use mathlib.Core.List.{IsPrefix}
 use Rattle.std.proofs.Math.Seq.{take-append-add}
 use Rattle.dsn_book.specs.Step.{letters_in}
 use Rattle.dsn_book.specs.declared.keeper.Keeper.{Ghosts as Keeper}
@@ -17,7 +18,8 @@ use Rattle.dsn_crew.specs.declared.desk.desk_fault.DeskFault.{DeskFault}
 use Rattle.dsn_crew.specs.declared.desk.desk_fault.DeskFault.TheVariants.{Requests, Answers, Letters}
 use Rattle.dsn_post.specs.Sink.{Handed}
 use Rattle.dsn_crew.specs.agents.Place.{place_at}
-use Rattle.dsn_crew.specs.desk.Desk.{AreAnswered, AreLeft, Desk, EndsBy, HasStopped, IsLastRequest, IsRun, IsRequestTaken, IsUnmoved, StandsAfter, all_gone, goodbyes, history, history_with, places_of, letter_kept, next_exchange, taken_request, taken_requests, with_failed}
+use Rattle.dsn_crew.specs.desk.Desk.{AreAnswered, AreLeft, Desk, EndsBy, HasStopped, IsFirstBehind, IsLastRequest, IsRun, IsRequestTaken, IsUnmoved, StandsAfter, all_gone, history, history_with, places_of, letter_kept, next_exchange, taken_requests, with_failed}
+use Rattle.dsn_crew.specs.desk.Intake.{goodbyes, taken_request}
 use Rattle.dsn_crew.proofs.desk.EarlierLemmas.{more_after}
 
 module _ {B : Type 0} (keeper : Keeper B) (before : List Exchange) where
@@ -60,27 +62,32 @@ same_failed false = refl
 module _ {B : Type 0} (keeper : Keeper B) where
   stopped_start : (old new : Desk B) → HasStopped keeper old new → new.start ≡ old.start
   stopped_start old new (inl same) = ap (λ (desk : Desk B). desk.start) same
-  stopped_start old new (inr unkept) = ap (λ (desk : Desk B). desk.start) unkept.3
+  stopped_start old new (inr unkept) = ap (λ (desk : Desk B). desk.start) unkept.5
 
   stopped_requests : (old new : Desk B) → HasStopped keeper old new → new.requests ≡ old.requests
   stopped_requests old new (inl same) = ap (λ (desk : Desk B). desk.requests) same
-  stopped_requests old new (inr unkept) = ap (λ (desk : Desk B). desk.requests) unkept.3
+  stopped_requests old new (inr unkept) = ap (λ (desk : Desk B). desk.requests) unkept.5
 
   stopped_missed : (old new : Desk B) → HasStopped keeper old new → new.missed ≡ old.missed
   stopped_missed old new (inl same) = ap (λ (desk : Desk B). desk.missed) same
-  stopped_missed old new (inr unkept) = ap (λ (desk : Desk B). desk.missed) unkept.3
+  stopped_missed old new (inr unkept) = ap (λ (desk : Desk B). desk.missed) unkept.5
 
   stopped_failed : (old new : Desk B) → HasStopped keeper old new → new.failed ≡ true
   stopped_failed old new (inl same) = ap (λ (desk : Desk B). desk.failed) same
-  stopped_failed old new (inr unkept) = ap (λ (desk : Desk B). desk.failed) unkept.3
+  stopped_failed old new (inr unkept) = ap (λ (desk : Desk B). desk.failed) unkept.5
 
   stopped_answered : (before : List Exchange) (old new : Desk B) → HasStopped keeper old new → AreAnswered old.answers (history keeper before old) → AreAnswered new.answers (history keeper before new)
   stopped_answered before old new (inl same) is = subst (λ (desk : Desk B). AreAnswered desk.answers (history keeper before desk)) (sym same) is
-  stopped_answered before old new (inr unkept) is = subst (λ (desk : Desk B). AreAnswered desk.answers (history keeper before desk)) (sym unkept.3) is
+  stopped_answered before old new (inr unkept) is = subst (λ (desk : Desk B). AreAnswered desk.answers (history keeper before desk)) (sym unkept.5) is
 
   stopped_left : (old new : Desk B) → HasStopped keeper old new → AreLeft old old.requests.taken → AreLeft new new.requests.taken
   stopped_left old new (inl same) is = subst (λ (desk : Desk B). AreLeft desk desk.requests.taken) (sym same) is
-  stopped_left old new (inr unkept) is = subst (λ (desk : Desk B). AreLeft desk desk.requests.taken) (sym unkept.3) is
+  stopped_left old new (inr unkept) is = subst (λ (desk : Desk B). AreLeft desk desk.requests.taken) (sym unkept.5) is
+
+  -- and what was behind is so still
+  stopped_behind : (old new : Desk B) → HasStopped keeper old new → IsPrefix old.behind new.behind
+  stopped_behind old new (inl same) = ([], append-nil old.behind ∙ sym (ap (λ (desk : Desk B). desk.behind) same))
+  stopped_behind old new (inr unkept) = (new.behind, ap (λ (q : List Request). q ++ new.behind) unkept.1)
 
   -- where nothing was moved and then nothing again, nothing was
   unmoved_then : (old mid new : Desk B) (result : Result (Unit {0}) DeskFault) → mid ≡ old → IsUnmoved keeper mid new result → IsUnmoved keeper old new result
@@ -122,6 +129,20 @@ waiting_then old mid some more requests missed places before then n few =
           λ gone. then k (omega arith) (ap (λ (q : List Request). goodbyes q + mid.missed) all ∙ (ap (λ (m : ℕ). goodbyes (old.requests.taken ++ take n (some ++ more)) + m) missed ∙ (gone ∙ sym (as_many old mid places))))
     ]
 
+-- one request more is the first of those behind
+first_behind : (old : List Request) (request : Request) (new : List Request) → IsFirstBehind old request new → IsPrefix old (request ∷ new)
+first_behind old request new (inl is) = ([], append-nil old ∙ is)
+first_behind old request new (inr none) = (request ∷ new, ap (λ (q : List Request). q ++ request ∷ new) none)
+
+-- those behind come first, also in two runs
+behind_then : {A : Type 0} (first second third some more : List A) → IsPrefix first (some ++ second) → IsPrefix second (more ++ third) → IsPrefix first ((some ++ more) ++ third)
+behind_then first second third some more before then = (
+  before.0 ++ then.0,
+  sym (append_assoc first before.0 then.0)
+      ∙ (ap (λ (q : List _). q ++ then.0) before.1
+      ∙ (append_assoc some second then.0 ∙ (ap (λ (q : List _). some ++ q) then.1 ∙ sym (append_assoc some more third)))),
+)
+
 not_idle : {P : Type 0} (failed : Bool) → failed ≡ false → failed ≡ true → P
 not_idle true going idle = absurd (true≢false going)
 not_idle false going idle = absurd (false≢true idle)
@@ -146,11 +167,12 @@ module _ {B : Type 0} (keeper : Keeper B) (before : List Exchange) where
 
 module _ {B S : Type 0} (keeper : Keeper B) (before : List Exchange) (takes : S → Letter → S → Type 0) where
   -- what all runs of one request share
-  one_run : (old new : Desk B) (sink after : S) (request : Request) (handed : List Letter) (result : Result (Unit {0}) DeskFault) → new.requests ≡ taken_request old.requests request → new.start ≡ old.start → places_of new ≡ places_of old → new.missed ≡ old.missed
+  one_run : (old new : Desk B) (sink after : S) (request : Request) (handed : List Letter) (result : Result (Unit {0}) DeskFault) → new.requests ≡ taken_request old.requests request → IsFirstBehind old.behind request new.behind → new.start ≡ old.start → places_of new ≡ places_of old → new.missed ≡ old.missed
       → Handed takes sink handed after → handed ++ letter_kept result ≡ letter_of (history keeper before old) (next_exchange keeper before old request) → old.failed ≡ false → AreLeft old old.requests.taken → new.failed ≡ is_err result → EndsBy keeper before old (request ∷ []) new result → IsRun keeper before takes old new sink after result
-  one_run old new sink after request handed result requests limits places missed sink_is letters going left failed ends = record {
+  one_run old new sink after request handed result requests behind limits places missed sink_is letters going left failed ends = record {
     more = request ∷ [];
     requests = requests;
+    behind = first_behind old.behind request new.behind behind;
     handed = handed;
     sink_is = sink_is;
     letters = letters_new keeper before old new request (handed ++ letter_kept result) limits requests letters;
@@ -166,13 +188,14 @@ module _ {B S : Type 0} (keeper : Keeper B) (before : List Exchange) (takes : S 
 
   pub took_none : (old new : Desk B) (sink : S) → all_gone old ≡ false → IsRequestTaken keeper before old new (Ok None) → new.start ≡ old.start → places_of new ≡ places_of old → IsRun keeper before takes old new sink sink (Ok tt)
   took_none old new sink left taken limits places =
-      one_run old new sink sink taken.0 [] (Ok tt) taken.3 limits places taken.5 refl taken.6 taken.1 (some_left old left taken.1) taken.2 tt
+      one_run old new sink sink taken.0 [] (Ok tt) taken.3 taken.7 limits places taken.5 refl taken.6 taken.1 (some_left old left taken.1) taken.2 tt
 
   pub took_fault : (old new : Desk B) (sink : S) (fault : DeskFault) → StandsAfter keeper before old → all_gone old ≡ false → IsRequestTaken keeper before old new (Err fault) → new.start ≡ old.start → places_of new ≡ places_of old → IsRun keeper before takes old new sink sink (Err fault)
   unfolding last_one
   took_fault old new sink Requests stands left taken limits places = record {
     more = [];
     requests = stopped_requests keeper old new taken ∙ no_more old.requests;
+    behind = stopped_behind keeper old new taken;
     handed = [];
     sink_is = refl;
     letters = letters_same keeper before old new limits (stopped_requests keeper old new taken);
@@ -189,18 +212,18 @@ module _ {B S : Type 0} (keeper : Keeper B) (before : List Exchange) (takes : S 
       let answered : AreAnswered new.answers (history_with keeper before old []) =
       subst (λ (ends : List (Half Answer)). AreAnswered ends (history_with keeper before old [])) (sym taken.5)
       (subst (λ (q : List Request). AreAnswered old.answers (history_after (keeper.limits old.start) before q)) (sym (append-nil old.requests.taken)) (kept.answered taken.1)) in
-      one_run old new sink sink taken.0 [] (Err (Answers agent letter)) taken.3 limits places taken.6 refl taken.7 taken.1 (some_left old left taken.1) taken.2 (taken.1, taken.0, taken.4, last_one keeper before old taken.0 (letters_in letter) taken.7, answered)
+      one_run old new sink sink taken.0 [] (Err (Answers agent letter)) taken.3 taken.8 limits places taken.6 refl taken.7 taken.1 (some_left old left taken.1) taken.2 (taken.1, taken.0, taken.4, last_one keeper before old taken.0 (letters_in letter) taken.7, answered)
   took_fault old new sink (Letters letter) kept left taken limits places = absurd taken
 
   pub took_handed : (old new : Desk B) (sink after : S) (letter : Letter) → all_gone old ≡ false → IsRequestTaken keeper before old new (Ok (Some letter)) → new.start ≡ old.start → places_of new ≡ places_of old → takes sink letter after → IsRun keeper before takes old new sink after (Ok tt)
   took_handed old new sink after letter left taken limits places takes_it =
-      one_run old new sink after taken.0 (letter ∷ []) (Ok tt) taken.3 limits places taken.5 (after, takes_it, refl) taken.6 taken.1 (some_left old left taken.1) taken.2 tt
+      one_run old new sink after taken.0 (letter ∷ []) (Ok tt) taken.3 taken.7 limits places taken.5 (after, takes_it, refl) taken.6 taken.1 (some_left old left taken.1) taken.2 tt
 
   -- the sink is gone: the collector is as it was once the request was answered, but failed
   pub took_lost : (old mid new : Desk B) (sink after : S) (letter back : Letter) → StandsAfter keeper before mid → all_gone old ≡ false → IsRequestTaken keeper before old mid (Ok (Some letter)) → mid.start ≡ old.start → places_of mid ≡ places_of old → new ≡ with_failed mid true → back ≡ letter → after ≡ sink → IsRun keeper before takes old new sink after (Err (Letters back))
   took_lost old mid new sink after letter back kept left taken limits places is same sink_same =
       let sealed : back ∷ [] ≡ letter_of (history keeper before old) (next_exchange keeper before old taken.0) = ap (λ (l : Letter). l ∷ []) same ∙ taken.6 in
-      one_run old new sink after taken.0 [] (Err (Letters back)) (ap (λ (desk : Desk B). desk.requests) is ∙ taken.3) (ap (λ (desk : Desk B). desk.start) is ∙ limits) (ap places_of is ∙ places) (ap (λ (desk : Desk B). desk.missed) is ∙ taken.5) sink_same
+      one_run old new sink after taken.0 [] (Err (Letters back)) (ap (λ (desk : Desk B). desk.requests) is ∙ taken.3) (subst (IsFirstBehind old.behind taken.0) (sym (ap (λ (desk : Desk B). desk.behind) is)) taken.7) (ap (λ (desk : Desk B). desk.start) is ∙ limits) (ap places_of is ∙ places) (ap (λ (desk : Desk B). desk.missed) is ∙ taken.5) sink_same
       sealed taken.1 (some_left old left taken.1) (ap (λ (desk : Desk B). desk.failed) is) (taken.1, taken.0, last_one keeper before old taken.0 (back ∷ []) sealed, subst (λ (desk : Desk B). AreAnswered desk.answers (history keeper before desk)) (sym is) (kept.answered taken.2))
 
   -- nothing was taken yet
@@ -208,6 +231,7 @@ module _ {B S : Type 0} (keeper : Keeper B) (before : List Exchange) (takes : S 
   run_none desk sink = record {
     more = [];
     requests = no_more desk.requests;
+    behind = ([], append-nil desk.behind);
     handed = [];
     sink_is = refl;
     letters = sym (append-nil (sealed_letters (history keeper before desk)));
@@ -243,6 +267,7 @@ module _ {B S : Type 0} (keeper : Keeper B) (before : List Exchange) (takes : S 
         then.requests
         ∙ (ap (λ (out : Out Request). taken_requests out then.more) first_run.requests
         ∙ ap (λ (taken : List Request). record { lane = old.requests.lane; first = old.requests.first; past = old.requests.past; taken = taken }) (append_assoc old.requests.taken first_run.more then.more));
+    behind = behind_then old.behind mid.behind new.behind first_run.more then.more first_run.behind then.behind;
     handed = first_run.handed ++ then.handed;
     sink_is = handed_then first second third first_run.handed then.handed first_run.sink_is then.sink_is;
     letters =

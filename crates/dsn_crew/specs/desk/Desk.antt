@@ -1,5 +1,5 @@
 -- Desks: what contracts see of the collector, and what each request that it takes comes to.
-use Rattle.std.specs.Prelude.{◌≡◌, ◌≢◌, ◌⊎◌, ℕ, zero, suc, ◌+◌, ◌^◌, ◌<◌, ◌≤◌, Bool, true, false, ◌==◌, ◌&&◌, ◌||◌, not, List, [], ◌∷◌, ◌++◌, length, map, filter, take, slice_set, All, Result, Ok, Err, is_err, Option, Some, None, IfSome, is_some}
+use Rattle.std.specs.Prelude.{◌≡◌, ◌≢◌, ◌⊎◌, ℕ, ◌+◌, ◌^◌, ◌<◌, ◌≤◌, Bool, true, false, ◌==◌, ◌&&◌, ◌||◌, not, List, [], ◌∷◌, ◌++◌, length, map, take, slice_set, All, Result, Ok, Err, is_err, Option, Some, None, is_some}
 use mathlib.Core.List.{IsPrefix}
 use Rattle.std.specs.List.{slice_index_or}
 use Rattle.dsn_book.specs.Keeper.{MayCrash}
@@ -11,60 +11,48 @@ use Rattle.dsn_lane.specs.Lane.{IsNumbered, most_agents}
 use Rattle.dsn_outcome.specs.Agents.{from_agent}
 use Rattle.dsn_outcome.specs.History.{Limits, Exchange, answer_of, answers_to, exchange_of, history_after, letter_of, sealed_letters}
 use Rattle.dsn_outcome.specs.Letter.{Letter}
-use Rattle.dsn_outcome.specs.Request.{Request, Body, Append, Flush, Discard, Forget, Bye}
+use Rattle.dsn_outcome.specs.Request.{Request}
 use Rattle.dsn_outcome.specs.declared.answer.Answer.{Answer}
 use Rattle.dsn_post.specs.Sink.{Handed}
 use Rattle.dsn_crew.specs.agents.Place.{Place, place_at}
+use Rattle.dsn_crew.specs.desk.Intake.{Intake, goodbyes, most_taken, most_together, taken_request}
 use Rattle.dsn_crew.specs.declared.desk.desk_fault.DeskFault.{DeskFault}
 use Rattle.dsn_crew.specs.declared.desk.desk_fault.DeskFault.TheVariants.{Requests, Answers, Letters}
 use Rattle.dsn_crew.specs.declared.desk.stop_cause.StopCause.{StopCause}
 use Rattle.dsn_crew.specs.declared.desk.stop_cause.StopCause.TheVariants.{Gone, Refused, Full, Unkept}
 
--- a request that was not kept, and why
-pub record Refusal : Type 0 where
-  pub request : Request
-  pub why : NotKept
-
 -- the collector: what carried requests out when it began, and what does so now; the half by which it
--- takes requests, with those that it has carried out; the halves by which it answers, agent by agent;
--- how many agents it has heard of that never start, whether it failed, and the request that was not
--- kept, where one wasn't
+-- takes requests, with those that it has carried out, and the requests behind these that it took
+-- and didn't carry out so far; the halves by which it answers, agent by agent; how many agents it has
+-- heard of that never start, whether it failed, and why those behind were not kept, where they
+-- weren't
 pub record Desk (B : Type 0) : Type 0 where
   pub start : B
   pub book : B
   pub requests : Out Request
+  pub behind : List Request
   pub answers : List (Half Answer)
   pub missed : ℕ
   pub failed : Bool
-  pub unkept : Option Refusal
-
-abbrev pub is_goodbye : Body → Bool
-is_goodbye (Append id outcome) = false
-is_goodbye (Flush key draft) = false
-is_goodbye (Discard key) = false
-is_goodbye (Forget key) = false
-is_goodbye Bye = true
-
--- how many of these requests are goodbyes
-abbrev pub goodbyes : List Request → ℕ
-goodbyes requests = length (filter (λ (request : Request). is_goodbye request.body) requests)
+  pub unkept : Option NotKept
 
 -- as many agents said goodbye or never start as there are, and the collector has not failed
 abbrev pub all_gone : {B : Type 0} → Desk B → Bool
 all_gone desk =
     not desk.failed && (goodbyes desk.requests.taken + desk.missed == length desk.answers)
 
--- once it has taken just these requests, not all agents said goodbye or never start
+-- once it has heard just these requests, not all agents said goodbye or never start
 abbrev pub AreLeft : {B : Type 0} → Desk B → List Request → Type 0
 AreLeft desk requests = goodbyes requests + desk.missed ≢ length desk.answers
 
--- a collector by its parts, for which nothing was left unkept
+-- a collector by its parts, with nothing behind what it carried out
 abbrev pub desk_of :
     {B : Type 0} → B → B → Out Request → List (Half Answer) → ℕ → Bool → Desk B
 desk_of start book requests answers missed failed = record {
   start = start;
   book = book;
   requests = requests;
+  behind = [];
   answers = answers;
   missed = missed;
   failed = failed;
@@ -79,57 +67,30 @@ IsEarlier before = (agent : ℕ) → agent < most_agents → answers_to agent be
 abbrev pub BeginsWith : {B : Type 0} → Keeper B → B → List Exchange → Type 0
 BeginsWith keeper start before = keeper.has start before [] × IsEarlier before
 
--- the half of which so many requests were carried out, as one that took just these
-abbrev pub carried_out : ℕ → Out Request → Out Request
-carried_out count out =
-    record { lane = out.lane; first = out.first; past = out.past; taken = take count out.taken }
+-- why requests were not kept, where that is why a collector has failed
+abbrev pub unkept_of : Option StopCause → Option NotKept
+unkept_of None = None
+unkept_of (Some (Gone gone)) = None
+unkept_of (Some (Refused refused)) = None
+unkept_of (Some Full) = None
+unkept_of (Some (Unkept why)) = Some why
 
--- what is seen of a collector's half: all that it took, but for a request that was not kept
-abbrev pub seen_half : Option StopCause → ℕ → Out Request → Out Request
-seen_half None count out = out
-seen_half (Some (Gone gone)) count out = out
-seen_half (Some (Refused refused)) count out = out
-seen_half (Some Full) count out = out
-seen_half (Some (Unkept why)) count out = carried_out count out
-
--- where a request was not kept, it is the only one that was taken and not carried out
-abbrev pub IsUnseen : Option StopCause → ℕ → Out Request → Type 0
-IsUnseen None count out = Unit {0}
-IsUnseen (Some (Gone gone)) count out = Unit {0}
-IsUnseen (Some (Refused refused)) count out = Unit {0}
-IsUnseen (Some Full) count out = Unit {0}
-IsUnseen (Some (Unkept why)) count out = length out.taken ≡ count + 1
-
--- the request behind so many, with why it was not kept
-abbrev pub refusal_behind : NotKept → ℕ → List Request → Option Refusal
-refusal_behind why count [] = None
-refusal_behind why zero (request ∷ requests) = Some (record { request = request; why = why })
-refusal_behind why (suc count) (request ∷ requests) = refusal_behind why count requests
-
--- the request that was not kept, where one wasn't: the one that was taken and not carried out
-abbrev pub unkept_of : Option StopCause → ℕ → Out Request → Option Refusal
-unkept_of None count out = None
-unkept_of (Some (Gone gone)) count out = None
-unkept_of (Some (Refused refused)) count out = None
-unkept_of (Some Full) count out = None
-unkept_of (Some (Unkept why)) count out = refusal_behind why count out.taken
-
--- what is seen of a collector by its parts, with why it has failed, how many requests it has
--- carried out, and the half with all that was taken
+-- what is seen of a collector by its parts, with why it has failed
 abbrev pub desk_seen :
-    {B : Type 0} → B → B → Option StopCause → ℕ → Out Request → List (Half Answer) → ℕ → Desk B
-desk_seen start book stop count out answers missed = record {
+    {B : Type 0} → B → B → Option StopCause → Intake → List (Half Answer) → ℕ → Desk B
+desk_seen start book stop intake answers missed = record {
   start = start;
   book = book;
-  requests = seen_half stop count out;
+  requests = intake.requests;
+  behind = intake.behind;
   answers = answers;
   missed = missed;
   failed = is_some stop;
-  unkept = unkept_of stop count out;
+  unkept = unkept_of stop;
 }
 
--- what the requests come to that it took, after the history that it began with; and so with these
--- requests more
+-- what the requests come to that it carried out, after the history that it began with; and so with
+-- these requests more
 abbrev pub history : {B : Type 0} → Keeper B → List Exchange → Desk B → List Exchange
 history keeper before desk = history_after (keeper.limits desk.start) before desk.requests.taken
 
@@ -148,55 +109,52 @@ AreAnswered halves exchanges =
     (a : ℕ) (d : Half Answer) → a < length halves
     → (slice_index_or halves a d).sent ≡ answers_to a exchanges
 
--- a keeper stands for a history, and awaits nothing; where a request was not kept, it did so until
--- it refused that request, and is what it says of that
+-- a keeper stands for a history, and has kept these requests behind it. Where they were not kept, it
+-- stood for the history until it refused them, and is what it says of that; one at least was refused
 abbrev pub StandsOrRefused :
-    {B : Type 0} → Keeper B → Option Refusal → List Exchange → B → Type 0
-StandsOrRefused keeper None exchanges book = keeper.has book exchanges []
-StandsOrRefused {B} keeper (Some refusal) exchanges book =
-    (was : B) × keeper.has was exchanges []
-    × keeper.refuses was (refusal.request ∷ []) refusal.why book
+    {B : Type 0} → Keeper B → Option NotKept → List Request → List Exchange → B → Type 0
+StandsOrRefused keeper None behind exchanges book = keeper.has book exchanges behind
+StandsOrRefused {B} keeper (Some why) behind exchanges book =
+    (was : B) × keeper.has was exchanges [] × keeper.refuses was behind why book
+    × (1 ≤ length behind)
 
--- the request that was not kept, where one wasn't
-abbrev pub refused_in : Option Refusal → List Request
-refused_in None = []
-refused_in (Some refusal) = refusal.request ∷ []
-
--- a collector that began with a history: its book stands for what it took, and awaits nothing, or
--- did so until it refused a request; what it sent each agent are the first of the answers which
--- that history gives the agent, and all of them unless it failed. At each moment since it began a
--- crash leaves the history with the first of the requests that it took, and of the one behind them
--- that was not kept
+-- A collector that began with a history. Its book stands for what it carried out, and has kept those
+-- behind, or stood for that until it refused these. What it sent each agent are the first of the
+-- answers which that history gives the agent, and all of them unless it failed. At each moment since
+-- it began a crash leaves the history with the first of the requests that it took, those behind too
 pub record StandsAfter {B : Type 0} (keeper : Keeper B) (before : List Exchange)
     (desk : Desk B) : Type 0 where
-  pub has : StandsOrRefused keeper desk.unkept (history keeper before desk) desk.book
+  pub has :
+      StandsOrRefused keeper desk.unkept desk.behind (history keeper before desk) desk.book
   pub sent : (a : ℕ) (d : Half Answer) → a < length desk.answers
       → IsPrefix (slice_index_or desk.answers a d).sent (answers_to a (history keeper before desk))
   pub answered : desk.failed ≡ false → AreAnswered desk.answers (history keeper before desk)
   pub crash : MayCrash keeper desk.start desk.book (keeper.limits desk.start) before
-      (desk.requests.taken ++ refused_in desk.unkept)
+      (desk.requests.taken ++ desk.behind)
 
--- an answer that may be sent after a history: it is that of the last request which was taken, and what
--- carries requests out stands for the history with all that were taken, so that a crash leaves them
+-- An answer that may be sent after a history: it is that of the last request which was carried out.
+-- What carries requests out has kept all behind it that were taken, so that a crash leaves them
 pub record MayBeSent {B : Type 0} (keeper : Keeper B) (limits : Limits) (before : List Exchange)
-    (taken : List Request) (book : B) (answer : Answer) : Type 0 where
+    (intake : Intake) (book : B) (answer : Answer) : Type 0 where
   pub earlier : List Request
   pub last : Request
-  pub taken_are : taken ≡ earlier ++ last ∷ []
-  pub has : keeper.has book (history_after limits before taken) []
+  pub taken_are : intake.requests.taken ≡ earlier ++ last ∷ []
+  pub has : keeper.has book (history_after limits before intake.requests.taken) intake.behind
   pub answers : answer ≡ answer_of (exchange_of limits (history_after limits before earlier) last)
 
--- the request is the next of one of so many agents, behind those that were carried out
-pub record IsNextOf (agents : ℕ) (taken : List Request) (request : Request) : Type 0 where
-  pub from : request.agent < agents
-  pub number : request.number
-      ≡ length (from_agent (λ (r : Request). r.agent) request.agent taken)
+-- these requests are the next ones of so many agents, behind those that were carried out
+pub record AreNextOf (agents : ℕ) (taken requests : List Request) : Type 0 where
+  pub from : All (λ (request : Request). request.agent < agents) requests
+  pub numbered : (agent : ℕ)
+      → IsNumbered (λ (request : Request). request.number)
+      (from_agent (λ (request : Request). request.agent) agent (taken ++ requests))
 
--- what every collector keeps: each answer lane is of its agent, and the agents are numbered from 0,
--- up to `most_agents`; what it took is of these agents, and numbered from 0 agent by agent; it
--- began with some history, and stands for that after whatever history it began with, under the
--- limits that it began with; unless it failed each agent was answered as often as it asked, and no
--- request was left unkept; and one that was is the next of its agent
+-- What every collector keeps. Each answer lane is of its agent, and the agents are numbered from 0,
+-- up to `most_agents`. What it took, those behind too, is of these agents, and numbered from 0 agent
+-- by agent. Those behind are at most `most_together`, and each was taken while agents were left. It
+-- began with some history, and stands for what it carried out after whatever history it began with,
+-- under the limits that it began with. Unless it failed each agent was answered as often as requests
+-- of its were carried out, and no request was refused
 pub record IsDesk {B : Type 0} (keeper : Keeper B) (desk : Desk B) : Type 0 where
   pub first : desk.requests.first ≡ 0
   pub past : desk.requests.past ≡ length desk.answers
@@ -212,32 +170,26 @@ pub record IsDesk {B : Type 0} (keeper : Keeper B) (desk : Desk B) : Type 0 wher
   pub room : keeper.sealed desk.start < 2 ^ 63
   pub sealed : keeper.sealed desk.book ≤ keeper.sealed desk.start + length desk.requests.taken
   pub kept : desk.failed ≡ false → desk.unkept ≡ None
-  pub next : IfSome desk.unkept
-      (λ refusal. IsNextOf (length desk.answers) desk.requests.taken refusal.request)
+  pub next : AreNextOf (length desk.answers) desk.requests.taken desk.behind
+  pub together : length desk.behind ≤ most_together
+  pub in_time : (n : ℕ) → n < length desk.behind
+      → AreLeft desk (desk.requests.taken ++ take n desk.behind)
   pub counted : desk.failed ≡ false → (a : ℕ) (d : Half Answer) → a < length desk.answers
       → length (slice_index_or desk.answers a d).sent
       ≡ length (from_agent (λ (request : Request). request.agent) a desk.requests.taken)
   pub stands : (before : List Exchange) → BeginsWith keeper desk.start before
       → StandsAfter keeper before desk
 
--- the counts of what a collector took: the requests, and the goodbyes among them
-abbrev pub AreCounted : List Request → ℕ → ℕ → Type 0
-AreCounted requests taken gone = (taken ≡ length requests) × (gone ≡ goodbyes requests)
-
--- how many requests a collector takes at most
-abbrev pub most_taken : ℕ
-most_taken = 4294967295
-
--- a collector whose keeper refused a request for this reason
+-- a collector whose keeper refused those behind for this reason
 pub record HasRefused {B : Type 0} (keeper : Keeper B) (desk : Desk B)
     (why : NotKept) : Type 0 where
-  pub request : Request
-  pub unkept : desk.unkept ≡ Some (record { request = request; why = why })
+  pub unkept : desk.unkept ≡ Some why
   pub was : B
-  pub refuses : keeper.refuses was (request ∷ []) why desk.book
+  pub refuses : keeper.refuses was desk.behind why desk.book
+  pub some : 1 ≤ length desk.behind
 
 -- why it has failed: a lane reported that its other side is gone; its sink handed a letter back; it
--- took all that it may; or its keeper refused a request
+-- carried out all that it may; or its keeper refused requests
 abbrev pub IsStopped : {B : Type 0} → Keeper B → Desk B → StopCause → Type 0
 IsStopped keeper desk (Gone gone) = desk.unkept ≡ None
 IsStopped keeper desk (Refused refused) = desk.unkept ≡ None
@@ -262,39 +214,40 @@ IsAnswerSent sent old answer new =
     → new ≡ slice_set old answer.agent
     (answered_more sent (slice_index_or old answer.agent d) answer)
 
-abbrev pub taken_request : Out Request → Request → Out Request
-taken_request out request =
-    record {
-      lane = out.lane;
-      first = out.first;
-      past = out.past;
-      taken = out.taken ++ request ∷ [];
-    }
-
 -- a collector that failed, or not, with nothing else changed
 abbrev pub with_failed : {B : Type 0} → Desk B → Bool → Desk B
 with_failed desk failed = record desk { failed = failed }
 
--- and where its keeper refused this request, and is now this one
-abbrev pub with_unkept : {B : Type 0} → Desk B → Refusal → B → Desk B
-with_unkept desk refusal book = record desk { book = book; failed = true; unkept = Some refusal }
+-- one that has kept these requests behind what it carried out, over what its keeper is now
+abbrev pub with_kept : {B : Type 0} → Desk B → List Request → B → Desk B
+with_kept desk behind book = record desk { book = book; behind = behind }
 
--- a collector that failed with nothing else changed; or one that hadn't failed and does now, as its
--- keeper refused a request, with only its keeper changed, into what that says of it
+-- and one whose keeper refused them, and is now this one
+abbrev pub with_unkept : {B : Type 0} → Desk B → List Request → NotKept → B → Desk B
+with_unkept desk behind why book =
+    record desk { book = book; failed = true; behind = behind; unkept = Some why }
+
+-- A collector that failed with nothing else changed. Or one that hadn't failed and had nothing
+-- behind: its keeper refused what it took together, one request at least, and is what it says of that
 abbrev pub HasStopped : {B : Type 0} → Keeper B → Desk B → Desk B → Type 0
 HasStopped keeper old new =
     (new ≡ with_failed old true)
-    ⊎ ((old.failed ≡ false) × (refusal : Refusal)
-    × keeper.refuses old.book (refusal.request ∷ []) refusal.why new.book
-    × (new ≡ with_unkept old refusal new.book))
+    ⊎ ((old.failed ≡ false) × (old.behind ≡ []) × (why : NotKept)
+    × keeper.refuses old.book new.behind why new.book × (1 ≤ length new.behind)
+    × (new ≡ with_unkept old new.behind why new.book))
 
 -- a collector that hears of so many agents more that never start, with nothing else changed
 abbrev pub missing : {B : Type 0} → Desk B → ℕ → Desk B
 missing desk agents = record desk { missed = desk.missed + agents }
 
--- what taking one request comes to, after the history that the collector began with. Ok: it was
--- answered as the history defines, and the letter is the one that it sealed. `Requests`: nothing was
--- taken. `Answers`: the request was taken, and its answer is lost
+-- the request is the first of those behind, or none was; and then these are
+abbrev pub IsFirstBehind : List Request → Request → List Request → Type 0
+IsFirstBehind old request new = (old ≡ request ∷ new) ⊎ (old ≡ [])
+
+-- what taking one request comes to, after the history that the collector began with: it is the first
+-- of those behind, where some are. Ok: it was answered as the history defines, and the letter is the
+-- one that it sealed. `Requests`: nothing was carried out. `Answers`: the request was carried out,
+-- and its answer is lost
 abbrev pub IsRequestTaken :
     {B : Type 0} → Keeper B → List Exchange → Desk B → Desk B → Result (Option Letter) DeskFault
     → Type 0
@@ -305,6 +258,7 @@ IsRequestTaken keeper before old new (Ok letter) =
     × (new.missed ≡ old.missed)
     × (letters_in letter
     ≡ letter_of (history keeper before old) (next_exchange keeper before old request))
+    × IsFirstBehind old.behind request new.behind
 IsRequestTaken keeper before old new (Err Requests) = HasStopped keeper old new
 IsRequestTaken keeper before old new (Err (Answers agent letter)) =
     (request : Request) × (old.failed ≡ false) × (new.failed ≡ true)
@@ -312,6 +266,7 @@ IsRequestTaken keeper before old new (Err (Answers agent letter)) =
     × (agent ≡ request.agent) × (new.answers ≡ old.answers) × (new.missed ≡ old.missed)
     × (letters_in letter
     ≡ letter_of (history keeper before old) (next_exchange keeper before old request))
+    × IsFirstBehind old.behind request new.behind
 IsRequestTaken keeper before old new (Err (Letters letter)) = ⊥
 
 abbrev pub taken_requests : Out Request → List Request → Out Request
@@ -329,7 +284,7 @@ letter_kept (Err (Letters letter)) = letter ∷ []
 abbrev pub places_of : {B : Type 0} → Desk B → List Place
 places_of desk = map (place_at desk.requests.lane) desk.answers
 
--- the last of the requests that a collector took, and the letter that it sealed, if it did
+-- the last of the requests that a collector carried out, and the letter that it sealed, if it did
 pub record IsLastRequest {B : Type 0} (keeper : Keeper B) (before : List Exchange) (desk : Desk B)
     (more : List Request) (last : Request) (letter : List Letter) : Type 0 where
   pub earlier : List Request
@@ -338,8 +293,8 @@ pub record IsLastRequest {B : Type 0} (keeper : Keeper B) (before : List Exchang
       ≡ letter_of (history_with keeper before desk earlier)
       (exchange_of (keeper.limits desk.start) (history_with keeper before desk earlier) last)
 
--- what a fault that ends a run says of it. `Requests`: all that was taken was answered, and agents
--- are left. `Answers`: so it was, but for the last request, which was of this agent and sealed this
+-- what a fault that ends a run says of it. `Requests`: all that was carried out was answered, and
+-- agents are left. `Answers`: so it was, but for the last request, which was of this agent and sealed this
 -- letter, if any. `Letters`: all was answered, and the last request sealed this letter. A collector
 -- that had failed before answers `Requests`
 abbrev pub EndsBy :
@@ -364,15 +319,16 @@ abbrev pub IsUnmoved :
 IsUnmoved keeper old new (Ok done) = new ≡ old
 IsUnmoved keeper old new (Err fault) = HasStopped keeper old new
 
--- what a run of the collector comes to: the requests that it took, each while agents were left, and
--- none once it had failed; and the letters that it handed on, which are the letters that these
--- requests sealed, in order, but for the one that the fault holds. A run that took none leaves the
--- collector as it was, but failed where there is a fault
+-- What a run of the collector comes to: the requests that it carried out, those behind first, each
+-- taken while agents were left, and none once it had failed. And the letters that it handed on: those
+-- that these requests sealed, in order, but for the one that the fault holds. A run that carried
+-- none out leaves the collector as it was, but failed where there is a fault
 pub record IsRun {B S : Type 0} (keeper : Keeper B) (before : List Exchange)
     (takes : S → Letter → S → Type 0) (old new : Desk B) (sink after : S)
     (result : Result (Unit {0}) DeskFault) : Type 0 where
   pub more : List Request
   pub requests : new.requests ≡ taken_requests old.requests more
+  pub behind : IsPrefix old.behind (more ++ new.behind)
   pub handed : List Letter
   pub sink_is : Handed takes sink handed after
   pub letters : sealed_letters (history keeper before new)

@@ -50,7 +50,7 @@ pub record IsOpened {B : Type 0} (keeper : Keeper B) (start : B) (agents : ℕ) 
     (desk : Desk B) : Type 0 where
   pub start_is : desk.start ≡ start
   pub book_is : desk.book ≡ start
-  pub taken : desk.requests.taken ≡ []
+  pub taken : (desk.requests.taken ≡ []) × (desk.behind ≡ [])
   pub capacity : desk.requests.lane.capacity ≡ requests_waiting
   pub count : length desk.answers ≡ agents
   pub lines : AreLines desk.answers

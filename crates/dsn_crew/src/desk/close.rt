@@ -36,7 +36,7 @@ pub fn close_crew<B: Keeper>(rt: &impl Wait, crew: Vec<Finished>, desk: Desk<B>)
     let collector = Snapshot::of(&desk);
     let Desk {
         book,
-        requests,
+        intake,
         lines,
         mut room,
         ..
@@ -48,7 +48,7 @@ pub fn close_crew<B: Keeper>(rt: &impl Wait, crew: Vec<Finished>, desk: Desk<B>)
         };
         room.push_reserved(close_answers(rt, finished, line));
     }
-    close_lane(rt, room, requests);
+    close_lane(rt, room, intake.into_lane());
     CrewShut::new(book, agents, collector)
 }
 

@@ -1,39 +1,39 @@
 //! The collector of a crew.
-ghost use Rattle.std.specs.Prelude.{◌≡◌, ◌+◌, ◌^◌, ◌<◌, ◌≤◌, ℕ, List, false, true, [], is_err, is_ok, length, OnOk, vec_capacity};
+ghost use Rattle.std.specs.Prelude.{◌≡◌, ◌≢◌, ◌+◌, ◌^◌, ◌<◌, ◌≤◌, ℕ, List, false, true, [], is_err, is_ok, length, IfErr, OnOk, vec_capacity};
 ghost use Rattle.std.specs.List.{slice_index_or};
 ghost use Rattle.dsn_lane.specs.Halves.{Half};
 ghost use Rattle.dsn_lane.specs.Lane.{most_agents, most_sent};
 ghost use Rattle.dsn_outcome.specs.History.{Exchange};
 ghost use Rattle.dsn_outcome.specs.declared.answer.Answer.{Answer};
 ghost use Rattle.dsn_crew.specs.desk.Open.{AreLines};
-ghost use Rattle.dsn_crew.specs.desk.Desk.{BeginsWith, IsAnswerSent, HasRoom, IsDesk, IsRun, IsRequestTaken, IsStopped, MayBeSent, all_gone, desk_of, goodbyes, missing, most_taken, places_of, with_failed};
+ghost use Rattle.dsn_crew.specs.desk.Desk.{BeginsWith, HasRoom, HasStopped, IsAnswerSent, IsDesk, IsRequestTaken, IsRun, IsStopped, MayBeSent, all_gone, desk_of, missing, places_of, with_failed, with_kept};
+ghost use Rattle.dsn_crew.specs.desk.Intake.{goodbyes, most_taken};
 
 use crate::desk::answer_lane::AnswerLane;
 use crate::desk::desk_fault::DeskFault;
+use crate::desk::intake::Intake;
 use crate::desk::returned_letter::{ReturnedLetter, offer};
 use crate::desk::stop_cause::StopCause;
 use dsn_book::{Book, Keeper, Step};
-use dsn_lane::{LaneGone, LaneIn, LaneOut};
+use dsn_lane::{LaneGone, LaneIn};
 use dsn_outcome::{Answer, Letter, Request};
 use dsn_post::Sink;
 use std::marker::Model;
-use std::slice;
 use std::snapshot::Snapshot;
 use std::sync::Wait;
 
-/// The collector of a crew: it takes the agents' requests one after another, has each kept and
-/// carried out, and answers it. Contracts see its book, as it was at first and as it is, the
-/// requests that it took and carried out, what it answered each agent, whether it failed, and the
-/// request that was not kept, where one wasn't.
+/// The collector of a crew: it takes the agents' requests that wait, has them kept together, and
+/// carries them out and answers them one after another. Contracts see its book, as it was at first
+/// and as it is, the requests that it carried out and those behind that it took, what it answered
+/// each agent, whether it failed, and why those behind were not kept, where they weren't.
 #[derive(Drop)]
 pub struct Desk<B: Keeper = Book> {
     start: Snapshot<B>,
     pub(crate) book: B,
-    pub(crate) requests: LaneOut<Request>,
+    pub(crate) intake: Intake,
     pub(crate) lines: Vec<AnswerLane>,
     pub(crate) room: Vec<LaneIn<Request>>,
-    /// How many requests it has carried out: those that its lane has taken, but for one that wasn't kept.
-    taken: u32,
+    /// How many of the requests that it has carried out are goodbyes.
     gone: u32,
     missed: u32,
     /// Why it has failed, if it has.
@@ -41,47 +41,46 @@ pub struct Desk<B: Keeper = Book> {
 }
 
 impl<B: Keeper> Model for Desk<B> {
-    ghost use Rattle.std.specs.Prelude.{IfSome, vec_capacity};
-    ghost use Rattle.dsn_crew.specs.desk.Desk.{AreCounted, Desk, HasRoom, IsDesk, IsStopped, IsUnseen, desk_seen, seen_half};
+    ghost use Rattle.std.specs.Prelude.{◌≡◌, IfSome, vec_capacity};
+    ghost use Rattle.dsn_crew.specs.desk.Desk.{Desk, HasRoom, IsDesk, IsStopped, desk_seen};
+    ghost use Rattle.dsn_crew.specs.desk.Intake.{goodbyes};
 
     ghost Value = { Desk B };
 
-    ghost view = { λ d. desk_seen d.start.value d.book d.stop d.taken d.requests d.lines.items
-        d.missed };
+    ghost view = { λ d. desk_seen d.start.value d.book d.stop d.intake d.lines.items d.missed };
 
     ghost invariant = { λ d. IsDesk B.Keeper
-        (desk_seen d.start.value d.book d.stop d.taken d.requests d.lines.items d.missed)
-        × AreCounted (seen_half d.stop d.taken d.requests).taken d.taken d.gone
+        (desk_seen d.start.value d.book d.stop d.intake d.lines.items d.missed)
+        × (d.gone ≡ goodbyes d.intake.requests.taken)
         × HasRoom d.lines.items d.room.items (vec_capacity d.room)
         × IfSome d.stop (IsStopped B.Keeper
-        (desk_seen d.start.value d.book d.stop d.taken d.requests d.lines.items d.missed))
-        × IsUnseen d.stop d.taken d.requests };
+        (desk_seen d.start.value d.book d.stop d.intake d.lines.items d.missed)) };
 }
 
 impl<B: Keeper> Desk<B> {
     /// A collector that has taken nothing.
     pub(crate) fn new(
         book: B,
-        requests: LaneOut<Request>,
+        intake: Intake,
         lines: Vec<AnswerLane>,
         room: Vec<LaneIn<Request>>,
     ) -> Desk<B>
         requires begins { (before : List Exchange) × BeginsWith B.Keeper book before }
         requires few { B.sealed book < 2 ^ 63 }
-        requires requests { (requests.first ≡ 0) × (requests.past ≡ length lines.items)
-            × (requests.taken ≡ []) }
+        requires requests { (intake.requests.first ≡ 0)
+            × (intake.requests.past ≡ length lines.items) × (intake.requests.taken ≡ [])
+            × (intake.behind ≡ []) }
         requires lines { AreLines lines.items × (length lines.items ≤ most_agents) }
         requires room { HasRoom lines.items room.items (vec_capacity room) }
-        ensures new { result ≡ desk_of book book requests lines.items 0 false }
+        ensures new { result ≡ desk_of book book intake.requests lines.items 0 false }
         ensures kept { IsDesk B.Keeper result }
     {
         Desk {
             start: Snapshot::of(&book),
             book,
-            requests,
+            intake,
             lines,
             room,
-            taken: 0,
             gone: 0,
             missed: 0,
             stop: None,
@@ -115,8 +114,10 @@ impl<B: Keeper> Desk<B> {
     }
 
     /// Counts so many agents more as gone: agents whose threads could not be started, so that they
-    /// will never say goodbye. It asks that they are among those that haven't.
+    /// will never say goodbye. It asks that they are among those that haven't, and that nothing is
+    /// behind, as before the first request is taken.
     pub fn miss(&mut self, agents: u32)
+        requires idle { self.old.behind ≡ [] }
         requires left { goodbyes self.old.requests.taken + self.old.missed + agents ≤ length
             self.old.answers }
         ensures missed { self.new ≡ missing self.old agents }
@@ -125,13 +126,14 @@ impl<B: Keeper> Desk<B> {
         self.missed += agents;
     }
 
-    /// Takes one request and answers it: the letter that it sealed, if it did.
+    /// Takes one request and answers it: the letter that it sealed, if it did. Where none is behind,
+    /// it takes all that wait, up to 16, and has them kept together first.
     ///
     /// It asks that not all agents said goodbye. `Requests` comes where no agent is left to ask,
-    /// once 4,294,967,295 requests were taken, once the collector has failed, and where the request
-    /// wasn't kept, which then isn't carried out; `Answers` where the agent that asked is gone. From
-    /// then on the collector has failed. Where a request wasn't kept, the keeper is what it says of
-    /// its refusal.
+    /// once 4,294,967,295 requests were carried out, once the collector has failed, and where the
+    /// requests weren't kept, none of which is then carried out; `Answers` where the agent that asked
+    /// is gone. From then on the collector has failed. Where requests weren't kept, the keeper is
+    /// what it says of its refusal.
     pub fn take_one(&mut self, rt: &impl Wait) -> Result<Option<Letter>, DeskFault>
         requires some_left { all_gone self.old ≡ false }
         ensures taken { (before : List Exchange) → BeginsWith B.Keeper self.old.start before
@@ -146,22 +148,60 @@ impl<B: Keeper> Desk<B> {
         if self.stop.is_some() {
             return Err(DeskFault::Requests);
         }
-        if self.taken == u32::MAX {
+        if self.intake.count() == u32::MAX {
             self.stop = Some(StopCause::Full);
             return Err(DeskFault::Requests);
         }
-        let request = match self.requests.take(rt) {
-            Ok(request) => request,
-            Err(end) => {
-                self.stop = Some(StopCause::Gone(end.gone));
-                return Err(DeskFault::Requests);
+        if self.intake.is_empty() {
+            match self.keep_more(rt) {
+                Ok(()) => {}
+                Err(fault) => return Err(fault),
             }
-        };
-        if let Err(why) = self.book.keep(slice::from_ref(&request)) {
+        }
+        self.answer_next(rt)
+    }
+
+    /// Takes the requests that wait, and waits for one, and has them kept together.
+    ///
+    /// `Requests` comes where no agent is left to ask, and where they weren't kept; then the collector
+    /// has failed.
+    fn keep_more(&mut self, rt: &impl Wait) -> Result<(), DeskFault>
+        requires some_left { all_gone self.old ≡ false }
+        requires going { self.old.failed ≡ false }
+        requires idle { self.old.behind ≡ [] }
+        ensures more { OnOk result ((1 ≤ length self.new.behind)
+            × (self.new ≡ with_kept self.old self.new.behind self.new.book)) }
+        ensures stopped { IfErr result (λ fault. (fault ≡ DeskFault.Requests)
+            × HasStopped B.Keeper self.old self.new) }
+        ensures kept { IsDesk B.Keeper self.new }
+    {
+        let heard = u64::from(self.gone) + u64::from(self.missed);
+        if let Err(gone) = self.intake.fill(rt, heard, self.lines.len() as u64) {
+            self.stop = Some(StopCause::Gone(gone));
+            return Err(DeskFault::Requests);
+        }
+        if let Err(why) = self.intake.keep_by(&mut self.book) {
             self.stop = Some(StopCause::Unkept(why));
             return Err(DeskFault::Requests);
         }
-        self.taken += 1;
+        Ok(())
+    }
+
+    /// Carries out the first of the requests behind, and answers it: the letter that it sealed, if it
+    /// did. `Answers` comes where the agent that asked is gone; then the collector has failed.
+    fn answer_next(&mut self, rt: &impl Wait) -> Result<Option<Letter>, DeskFault>
+        requires going { self.old.failed ≡ false }
+        requires some { 1 ≤ length self.old.behind }
+        requires few { length self.old.requests.taken < most_taken }
+        ensures taken { (before : List Exchange) → BeginsWith B.Keeper self.old.start before
+            → IsRequestTaken B.Keeper before self.old self.new result }
+        ensures lost { IfErr result (λ fault. fault ≢ DeskFault.Requests) }
+        ensures start { self.new.start ≡ self.old.start }
+        ensures failed { self.new.failed ≡ is_err result }
+        ensures kept { IsDesk B.Keeper self.new }
+        ensures places { places_of self.new ≡ places_of self.old }
+    {
+        let request = self.intake.next();
         let agent = request.agent;
         self.gone += u32::from(request.body.is_bye());
         let Step { answer, letter } = self.book.apply(request);
@@ -169,7 +209,7 @@ impl<B: Keeper> Desk<B> {
             rt,
             &mut self.lines,
             &self.start,
-            &self.requests,
+            &self.intake,
             &self.book,
             answer,
         ) {
@@ -241,19 +281,19 @@ impl<B: Keeper> Desk<B> {
 /// Sends an answer over the lane of its agent, or says what the lane reported where the agent is
 /// gone.
 ///
-/// Requires that the answer is of the last request that was taken, and that `_book` stands for the
-/// history with all of them. So a crash leaves each of them: [`Keeper`] says what it leaves.
+/// Requires that the answer is of the last request that was carried out, and that `_book` stands for
+/// the history with it and has kept all behind it that were taken. So a crash leaves each of them:
+/// [`Keeper`] says what it leaves.
 fn send_answer<B: Keeper>(
     rt: &impl Wait,
     lines: &mut Vec<AnswerLane>,
     _start: &Snapshot<B>,
-    _requests: &LaneOut<Request>,
+    _intake: &Intake,
     _book: &B,
     answer: Answer,
 ) -> Result<(), LaneGone>
     requires kept { (before : List Exchange) → BeginsWith B.Keeper _start.now.value before
-        → MayBeSent B.Keeper (B.limits _start.now.value) before _requests.now.taken _book.now
-        answer }
+        → MayBeSent B.Keeper (B.limits _start.now.value) before _intake.now _book.now answer }
     requires within { answer.agent < length lines.old.items }
     requires agent { (d : Half Answer)
         → (slice_index_or lines.old.items answer.agent d).agent ≡ answer.agent }

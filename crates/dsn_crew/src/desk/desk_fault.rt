@@ -10,8 +10,8 @@ use dsn_text::fault_code;
 /// Why a collector stopped. A letter that was sealed and not handed on comes back.
 #[derive(Drop)]
 pub enum DeskFault {
-    /// The agents are gone, the collector failed before, 4,294,967,295 requests were taken, or a request
-    /// was not kept.
+    /// The agents are gone, the collector failed before, 4,294,967,295 requests were carried out, or
+    /// requests were not kept.
     Requests,
     /// This agent is gone, and its answer is lost. The letter that the answer speaks of comes back.
     Answers(u32, Option<Letter>),

@@ -9,10 +9,12 @@ use crate::agents::Agent;
 use crate::desk::answer_lane::AnswerLane;
 use crate::desk::crew_open_fault::CrewOpenFault;
 use crate::desk::desk::Desk;
+use crate::desk::intake::{Intake, MOST_TOGETHER};
 use dsn_book::{Book, Keeper, Limits};
 use dsn_lane::{LaneIn, open_lane};
 use dsn_outcome::{NoMemory, Request};
 use std::alloc::Global;
+use std::collections::VecDeque;
 use std::sync::Wait;
 
 /// How many requests wait at most.
@@ -39,7 +41,7 @@ pub fn open_crew(
     let Ok(book) = Book::new(alloc, limits) else {
         return Err(CrewOpenFault::NoMemory);
     };
-    open_room(rt, alloc, book, agents)
+    open_room(rt, alloc, book, agents).map_err(|_| CrewOpenFault::NoMemory)
 }
 
 /// A crew of so many agents, from agent 0 on, and its collector, over what carries their requests
@@ -64,35 +66,38 @@ pub fn open_crew_over<B: Keeper + Drop>(
     if agents == 0 || agents > 16 {
         return Err(CrewOpenFault::AgentCount);
     }
-    open_room(rt, alloc, book, agents)
+    open_room(rt, alloc, book, agents).map_err(|_| CrewOpenFault::NoMemory)
 }
 
-/// The crew itself.
+/// The crew itself. What carries the requests out comes back where memory was refused.
 #[tactic(auto, using(crate::proofs::OpenLemmas::length_halves))]
-fn open_room<B: Keeper + Drop>(
+pub(crate) fn open_room<B: Keeper + Drop>(
     rt: &impl Wait,
     alloc: Global,
     book: B,
     agents: u32,
-) -> Result<(Vec<Agent>, Desk<B>), CrewOpenFault>
+) -> Result<(Vec<Agent>, Desk<B>), B>
     requires count { (1 ≤ agents) × (agents ≤ most_agents) }
     requires begins { (before : List Exchange) × BeginsWith B.Keeper book before }
     requires few { B.sealed book < 2 ^ 63 }
     ensures opened { IfOk result (λ crew. IsOpened B.Keeper book agents crew.0.items crew.1) }
-    ensures refused { IfErr result (λ fault. fault ≡ CrewOpenFault.NoMemory) }
+    ensures back { IfErr result (λ back. back ≡ book) }
 {
     let limits = book.limits();
     let Ok((halves, requests)) = open_lane::<Request>(rt, alloc, 0, agents, REQUESTS_WAITING) else {
-        return Err(CrewOpenFault::NoMemory);
+        return Err(book);
     };
     let Ok(mut crew) = Vec::with_capacity(alloc, agents as usize) else {
-        return Err(CrewOpenFault::NoMemory);
+        return Err(book);
     };
     let Ok(mut lines) = Vec::with_capacity(alloc, agents as usize) else {
-        return Err(CrewOpenFault::NoMemory);
+        return Err(book);
     };
     let Ok(room) = Vec::with_capacity(alloc, agents as usize) else {
-        return Err(CrewOpenFault::NoMemory);
+        return Err(book);
+    };
+    let Ok(waiting) = VecDeque::with_capacity(alloc, MOST_TOGETHER) else {
+        return Err(book);
     };
     let mut halves = halves.into_iter();
     for agent in 0..agents {
@@ -100,12 +105,13 @@ fn open_room<B: Keeper + Drop>(
             unreachable!()
         };
         let Ok((one, line)) = open_agent(rt, alloc, limits, agent, half) else {
-            return Err(CrewOpenFault::NoMemory);
+            return Err(book);
         };
         crew.push_reserved(one);
         lines.push_reserved(line);
     }
-    Ok((crew, Desk::new(book, requests, lines, room)))
+    let intake = Intake::new(requests, waiting);
+    Ok((crew, Desk::new(book, intake, lines, room)))
 }
 
 /// An agent with this half for its requests, and the collector's half for its answers.

@@ -14,9 +14,9 @@ pub(crate) enum StopCause {
     Gone(LaneGone),
     /// The sink handed a letter back.
     Refused(Refused),
-    /// 4,294,967,295 requests were taken.
+    /// 4,294,967,295 requests were carried out.
     Full,
-    /// A request was not kept, and so not carried out.
+    /// Requests were not kept, and so not carried out.
     Unkept(NotKept),
 }
 

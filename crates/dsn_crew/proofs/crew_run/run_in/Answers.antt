@@ -4,12 +4,13 @@ use Rattle.dsn_lane.specs.Halves.{Identity}
 use Rattle.dsn_post.specs.LetterSink.{LetterSink}
 use Rattle.dsn_post.specs.Parcel.{Parcel}
 use Rattle.dsn_post.specs.Posting.{IsPosted, Posts}
-use Rattle.dsn_crew.proofs.CrewLemmas.{account_is, begins, collected_lane, crash_at_end, crash_at_fault, ends_length, fault_is, handles_length, left_few, may_close, may_miss, missing_few, never_begun, no_count, sealed_few}
+use Rattle.dsn_crew.proofs.CrewLemmas.{account_is, begins, collected_lane, crash_at_end, crash_at_fault, ends_length, fault_is, handles_length, left_few, may_close, may_miss, missing_few, never_begun, never_begun_with, never_crashed, never_more, no_count, sealed_few}
+use Rattle.dsn_crew.specs.declared.crew_cause.CrewCause.TheVariants as causes
 use Rattle.dsn_crew.proofs.crew_run.run_in.Goals as goal
 
 pub overflow_cast-count_missing : goal.overflow_cast-count_missing
 overflow_cast-count_missing g c =
-    let room = c.in-Ok.ensures in
+    let room = c.in-Ok.ensures.room in
     let few = missing_few g.B.Keeper g.P.Port c.args.book c.args.ports.items _ _ _ room.opened (search rules) _ c.start_all-handles.ensures in
     let count = c.count_missing.ensures in
     let most = c.requires.few in
@@ -17,35 +18,35 @@ overflow_cast-count_missing g c =
 
 pub miss-requires : goal.miss-requires
 miss-requires g c =
-    let room = c.in-Ok.ensures in
+    let room = c.in-Ok.ensures.room in
     let few = may_miss g.B.Keeper g.P.Port c.args.book c.args.ports.items _ _ _ room.opened (search rules) _ c.start_all-handles.ensures in
     let count = c.count_missing.ensures in
-    record { left = omega arith }
+    record { idle = room.opened.taken.1; left = omega arith }
 
 pub join_all-requires-clause-room : goal.join_all-requires-clause-room
 join_all-requires-clause-room g c κs within =
-    let room = c.in-Ok.ensures in
+    let room = c.in-Ok.ensures.room in
     let long = handles_length g.B.Keeper g.P.Port c.args.book c.args.ports.items _ _ _ room.opened (search rules) _ c.start_all-handles.ensures in
     let fits = room.slots.ends.1 in
     (room.slots.ends.0, omega arith)
 
 pub of-gathered-requires-clause-lines : goal.of-gathered-requires-clause-lines
 of-gathered-requires-clause-lines g c =
-    let room = c.in-Ok.ensures in
+    let room = c.in-Ok.ensures.room in
     let long = ends_length g.B.Keeper g.P.Port c.args.book c.args.ports.items _ _ _ room.opened (search rules) _ c.start_all-handles.ensures _ c.join_all.ensures in
     let fits = room.slots.lines.1 in
     (room.slots.lines.0, omega arith)
 
 pub of-gathered-requires-clause-finished : goal.of-gathered-requires-clause-finished
 of-gathered-requires-clause-finished g c =
-    let room = c.in-Ok.ensures in
+    let room = c.in-Ok.ensures.room in
     let long = ends_length g.B.Keeper g.P.Port c.args.book c.args.ports.items _ _ _ room.opened (search rules) _ c.start_all-handles.ensures _ c.join_all.ensures in
     let fits = room.slots.finished.1 in
     (room.slots.finished.0, omega arith)
 
 pub end_posting-posted-requires : goal.end_posting-posted-requires
 end_posting-posted-requires g c =
-    let room = c.in-Ok.ensures in
+    let room = c.in-Ok.ensures.room in
     let same = c.in-Ok-start_posting.ensures.sink in
     let lane = collected_lane g.B.Keeper g.P.Port c.args.book c.args.ports.items _ _ _ room.opened (search rules) _ c.start_all-handles.ensures _ c.join_all.ensures _ _ c.miss.ensures.missed _ _ (ap (λ (sink : LetterSink). sink.letters) same ∙ room.sink) c.requires.begins.0 _ (c.by-collected.ensures c.requires.begins.0 (begins g.B.Keeper g.P.Port c.args.book c.args.ports.items _ _ _ room.opened (search rules) _ c.start_all-handles.ensures _ c.join_all.ensures _ _ c.miss.ensures.missed c.requires.begins.0 c.requires.begins.1)) in
     record {
@@ -55,13 +56,13 @@ end_posting-posted-requires g c =
 
 pub conclude-requires : goal.conclude-requires
 conclude-requires g c =
-    let room = c.in-Ok.ensures in
+    let room = c.in-Ok.ensures.room in
     let same = c.in-Ok-start_posting.ensures.sink in
     record { unlost = c.end_posting-posted.ensures.unlost; close = may_close g.B.Keeper g.P.Port c.args.book c.args.ports.items _ _ _ room.opened (search rules) _ c.start_all-handles.ensures _ c.join_all.ensures _ _ c.miss.ensures.missed _ _ (ap (λ (sink : LetterSink). sink.letters) same ∙ room.sink) c.requires.begins.0 _ _ (c.by-collected.ensures c.requires.begins.0 (begins g.B.Keeper g.P.Port c.args.book c.args.ports.items _ _ _ room.opened (search rules) _ c.start_all-handles.ensures _ c.join_all.ensures _ _ c.miss.ensures.missed c.requires.begins.0 c.requires.begins.1)) c.of-gathered.ensures }
 
 pub returns-clause-account : goal.returns-clause-account
 returns-clause-account g c = λ from by before with_it.
-    let room = c.in-Ok.ensures in
+    let room = c.in-Ok.ensures.room in
     let same = c.in-Ok-start_posting.ensures.sink in
     let lane = collected_lane g.B.Keeper g.P.Port c.args.book c.args.ports.items _ _ _ room.opened (search rules) _ c.start_all-handles.ensures _ c.join_all.ensures _ _ c.miss.ensures.missed _ _ (ap (λ (sink : LetterSink). sink.letters) same ∙ room.sink) c.requires.begins.0 _ (c.by-collected.ensures c.requires.begins.0 (begins g.B.Keeper g.P.Port c.args.book c.args.ports.items _ _ _ room.opened (search rules) _ c.start_all-handles.ensures _ c.join_all.ensures _ _ c.miss.ensures.missed c.requires.begins.0 c.requires.begins.1)) in
     let waiting = ap (λ (it : Identity Parcel). it.capacity) (lane ∙ ap (λ (sink : LetterSink). sink.lane) same) ∙ room.waiting in
@@ -72,7 +73,7 @@ returns-clause-account g c = λ from by before with_it.
 
 pub returns-clause-fault : goal.returns-clause-fault
 returns-clause-fault g c = λ from by before with_it.
-    let room = c.in-Ok.ensures in
+    let room = c.in-Ok.ensures.room in
     let same = c.in-Ok-start_posting.ensures.sink in
     let lane = collected_lane g.B.Keeper g.P.Port c.args.book c.args.ports.items _ _ _ room.opened (search rules) _ c.start_all-handles.ensures _ c.join_all.ensures _ _ c.miss.ensures.missed _ _ (ap (λ (sink : LetterSink). sink.letters) same ∙ room.sink) c.requires.begins.0 _ (c.by-collected.ensures c.requires.begins.0 (begins g.B.Keeper g.P.Port c.args.book c.args.ports.items _ _ _ room.opened (search rules) _ c.start_all-handles.ensures _ c.join_all.ensures _ _ c.miss.ensures.missed c.requires.begins.0 c.requires.begins.1)) in
     let waiting = ap (λ (it : Identity Parcel). it.capacity) (lane ∙ ap (λ (sink : LetterSink). sink.lane) same) ∙ room.waiting in
@@ -83,33 +84,48 @@ returns-clause-fault g c = λ from by before with_it.
 
 pub returns-clause-sealed : goal.returns-clause-sealed
 returns-clause-sealed g c =
-    let room = c.in-Ok.ensures in
+    let room = c.in-Ok.ensures.room in
     let same = c.in-Ok-start_posting.ensures.sink in
     sealed_few g.B.Keeper g.P.Port c.args.book c.args.ports.items _ _ _ room.opened (search rules) _ c.start_all-handles.ensures _ c.join_all.ensures _ _ c.miss.ensures.missed _ _ (ap (λ (sink : LetterSink). sink.letters) same ∙ room.sink) c.requires.begins.0 _ _ _ _ (c.by-collected.ensures c.requires.begins.0 (begins g.B.Keeper g.P.Port c.args.book c.args.ports.items _ _ _ room.opened (search rules) _ c.start_all-handles.ensures _ c.join_all.ensures _ _ c.miss.ensures.missed c.requires.begins.0 c.requires.begins.1)) c.conclude.ensures
 
 pub returns-clause-left : goal.returns-clause-left
 returns-clause-left g c =
-    let room = c.in-Ok.ensures in
+    let room = c.in-Ok.ensures.room in
     let same = c.in-Ok-start_posting.ensures.sink in
     left_few g.B.Keeper g.P.Port c.args.book c.args.ports.items _ _ _ room.opened (search rules) _ c.start_all-handles.ensures _ c.join_all.ensures _ _ c.miss.ensures.missed _ _ (ap (λ (sink : LetterSink). sink.letters) same ∙ room.sink) c.requires.begins.0 _ _ _ _ (c.by-collected.ensures c.requires.begins.0 (begins g.B.Keeper g.P.Port c.args.book c.args.ports.items _ _ _ room.opened (search rules) _ c.start_all-handles.ensures _ c.join_all.ensures _ _ c.miss.ensures.missed c.requires.begins.0 c.requires.begins.1)) c.conclude.ensures
 
 pub returns-clause-crash : goal.returns-clause-crash
 returns-clause-crash g c = λ before with_it.
-    let room = c.in-Ok.ensures in
+    let room = c.in-Ok.ensures.room in
     let same = c.in-Ok-start_posting.ensures.sink in
     crash_at_end g.B.Keeper g.P.Port c.args.book c.args.ports.items _ _ _ room.opened (search rules) _ c.start_all-handles.ensures _ c.join_all.ensures _ _ c.miss.ensures.missed _ _ (ap (λ (sink : LetterSink). sink.letters) same ∙ room.sink) before _ _ _ _ with_it (c.by-collected.ensures before (begins g.B.Keeper g.P.Port c.args.book c.args.ports.items _ _ _ room.opened (search rules) _ c.start_all-handles.ensures _ c.join_all.ensures _ _ c.miss.ensures.missed before with_it)) c.conclude.ensures
 
 pub returns-clause-crash_at_fault : goal.returns-clause-crash_at_fault
 returns-clause-crash_at_fault g c = λ before with_it.
-    let room = c.in-Ok.ensures in
+    let room = c.in-Ok.ensures.room in
     let same = c.in-Ok-start_posting.ensures.sink in
     crash_at_fault g.B.Keeper g.P.Port c.args.book c.args.ports.items _ _ _ room.opened (search rules) _ c.start_all-handles.ensures _ c.join_all.ensures _ _ c.miss.ensures.missed _ _ (ap (λ (sink : LetterSink). sink.letters) same ∙ room.sink) before _ _ _ _ with_it (c.by-collected.ensures before (begins g.B.Keeper g.P.Port c.args.book c.args.ports.items _ _ _ room.opened (search rules) _ c.start_all-handles.ensures _ c.join_all.ensures _ _ c.miss.ensures.missed before with_it)) c.conclude.ensures
 
 pub returns-clause-counted : goal.returns-clause-counted
 returns-clause-counted g c = no_count g.B.Keeper _ _ _ _ c.conclude.ensures
 
-pub returns-in_default-clause-fault : goal.returns-in_default-clause-fault
-returns-in_default-clause-fault g c = λ from by before with_it. never_begun g.B.Keeper g.W.Drain from _ before _ _ _ (by.outbox ∙ sym c.into_outbox.ensures) c.unbegun.ensures
-
 pub returns-in-Err-clause-fault : goal.returns-in-Err-clause-fault
-returns-in-Err-clause-fault g c = λ from by before with_it. never_begun g.B.Keeper g.W.Drain from _ before _ _ _ (by.outbox ∙ sym c.in-Err.ensures.refused) c.unbegun-in-Err.ensures
+returns-in-Err-clause-fault g c = λ from by before with_it.
+    never_begun g.B.Keeper g.W.Drain from before _ c.args.book _ _ with_it.0 (by.outbox ∙ sym c.into_outbox.ensures) (c.unbegun.ensures ∙ ap (never_begun_with causes.Refused c.into_outbox.result) c.in-Err.ensures.back)
+
+pub returns-in-Err-clause-crash_at_fault : goal.returns-in-Err-clause-crash_at_fault
+returns-in-Err-clause-crash_at_fault g c = λ before with_it.
+    never_crashed g.B.Keeper before _ causes.Refused c.into_outbox.result c.args.book _ g.met.B.Keeper.leaves_kept with_it.0 (c.unbegun.ensures ∙ ap (never_begun_with causes.Refused c.into_outbox.result) c.in-Err.ensures.back)
+
+pub returns-in-Err-clause-left : goal.returns-in-Err-clause-left
+returns-in-Err-clause-left g c = never_more g.B.Keeper causes.Refused c.into_outbox.result c.args.book _ (c.unbegun.ensures ∙ ap (never_begun_with causes.Refused c.into_outbox.result) c.in-Err.ensures.back)
+
+pub returns-in-Err-start_posting-clause-fault : goal.returns-in-Err-start_posting-clause-fault
+returns-in-Err-start_posting-clause-fault g c = λ from by before with_it.
+    let back = c.into_book.ensures ∙ c.in-Ok.ensures.room.opened.book_is in
+    never_begun g.B.Keeper g.W.Drain from before _ c.args.book _ _ with_it.0 (by.outbox ∙ sym c.in-Err-start_posting.ensures.refused) (c.unbegun-in-Err-start_posting.ensures ∙ ap (never_begun_with causes.Refused c.in-Err-start_posting.outbox) back)
+
+pub returns-in-Err-start_posting-clause-crash_at_fault : goal.returns-in-Err-start_posting-clause-crash_at_fault
+returns-in-Err-start_posting-clause-crash_at_fault g c = λ before with_it.
+    let back = c.into_book.ensures ∙ c.in-Ok.ensures.room.opened.book_is in
+    never_crashed g.B.Keeper before _ causes.Refused c.in-Err-start_posting.outbox c.args.book _ g.met.B.Keeper.leaves_kept with_it.0 (c.unbegun-in-Err-start_posting.ensures ∙ ap (never_begun_with causes.Refused c.in-Err-start_posting.outbox) back)

@@ -1,19 +1,18 @@
 -- Agent by agent, the close gives what each was answered; the close of the request lane gives what was taken of each.
-use Rattle.std.specs.Prelude.{is_some}
-use Rattle.std.proofs.Common.{rules, false, ap, sym, subst, ◌∙◌, ◌≡◌, List, [], ◌∷◌, ◌++◌, length, length-append, map, All, arith}
+use Rattle.std.proofs.Common.{rules, ap, sym, subst, ◌∙◌, ◌≡◌, List, [], ◌∷◌, ◌++◌, length, length-append, map, All, arith}
 use Rattle.std.proofs.lemmas.List.{length-map}
 use Rattle.std.proofs.lemmas.List.Elements.{All-head, All-tail}
 use mathlib.Core.List.{IsPrefix}
 use Rattle.std.specs.Vec.Iter.{into_iter_items}
-use Rattle.dsn_lane.specs.Halves.{Half}
+use Rattle.dsn_lane.specs.Halves.{Half, Out}
 use Rattle.dsn_outcome.specs.Agents.{from_agent}
-use Rattle.dsn_outcome.specs.History.{Exchange, answers_to}
+use Rattle.dsn_outcome.specs.History.{answers_to}
 use Rattle.dsn_outcome.specs.declared.answer.Answer.{Answer}
 use Rattle.dsn_outcome.specs.Request.{Request}
 use Rattle.dsn_crew.specs.agents.Agent.{LaneHalves, IsFinished}
 use Rattle.dsn_crew.specs.agents.Place.{Place, place_at, place_of}
-use Rattle.dsn_crew.specs.desk.Desk.{BeginsWith, Desk, IsDesk, history}
-use Rattle.dsn_crew.proofs.desk.TakeLemmas.{desk_here, has_here, whole_is}
+use Rattle.dsn_crew.specs.desk.Desk.{Desk, IsDesk, history}
+use Rattle.dsn_crew.proofs.desk.TakeLemmas.{has_here, none_behind}
 use Rattle.dsn_crew.proofs.desk.CloseLemmas.{IsAnswered, all_heard, all_of_crew, as_many, closed_more, going_on, kept_all, kept_more, lines_answered, none_left, paired, room_of_one_lane}
 use Rattle.dsn_crew.proofs.desk.close.close_crew.Goals as goal
 
@@ -54,29 +53,31 @@ loop-finished-preserved g c =
     }
 
 -- the collector has not failed, so it carried out all that its lane has taken
+pub into_lane-requires : goal.into_lane-requires
+into_lane-requires g c = ap (λ (desk : Desk _). desk.behind) c.desk.view_is ∙ none_behind g.B.Keeper c.args.desk (subst (IsDesk g.B.Keeper) c.desk.view_is c.desk.invariant.0) c.requires.gone
+
 pub close_lane-requires-clause-lane : goal.close_lane-requires-clause-lane
 close_lane-requires-clause-lane g c =
-    let going : is_some c.desk.inside.stop ≡ false = ap (λ (desk : Desk _). desk.failed) c.desk.view_is ∙ going_on c.args.desk c.requires.gone in
-    let is = whole_is g.B.Keeper c.desk.inside.start.value c.desk.inside.book c.desk.inside.stop c.desk.inside.taken c.desk.inside.requests c.desk.inside.lines.items c.desk.inside.missed going c.args.desk c.desk.view_is in
-    let same = subst (λ (desk : Desk _). map place_of c.args.crew.items ≡ map (place_at desk.requests.lane) desk.answers) (sym is) c.requires.crew in
+    let out = c.into_lane.ensures ∙ ap (λ (desk : Desk _). desk.requests) c.desk.view_is in
+    let same = subst (λ (o : Out _). map place_of c.args.crew.items ≡ map (place_at o.lane) c.args.desk.answers) (sym out) c.requires.crew in
     room_of_one_lane _ _ _ _ same (kept_all _ _ _ (search rules) c.loop-finished.invariant.asked)
 
 pub close_lane-requires-clause-all : goal.close_lane-requires-clause-all
 close_lane-requires-clause-all g c =
-    let going : is_some c.desk.inside.stop ≡ false = ap (λ (desk : Desk _). desk.failed) c.desk.view_is ∙ going_on c.args.desk c.requires.gone in
-    let kept = desk_here g.B.Keeper c.desk.inside.start.value c.desk.inside.book c.desk.inside.stop c.desk.inside.taken c.desk.inside.requests c.desk.inside.lines.items c.desk.inside.missed going c.desk.invariant.0 in
+    let out = c.into_lane.ensures ∙ ap (λ (desk : Desk _). desk.requests) c.desk.view_is in
+    let kept = subst (IsDesk g.B.Keeper) c.desk.view_is c.desk.invariant.0 in
+    let first = ap (λ (o : Out _). o.first) out in
+    let past = ap (λ (o : Out _). o.past) out in
     let room = ap length (kept_all _ _ _ (search rules) c.loop-finished.invariant.asked) in
     let halves = length-map c.args.crew.items (λ (halves : LaneHalves). halves.requests) in
     let count = as_many _ c.args.crew.items c.args.desk.answers c.requires.crew in
-    let lines = ap (λ (desk : Desk _). length desk.answers) c.desk.view_is in
     omega (arith, kept.first, kept.past)
 
 pub returns-clause-heard : goal.returns-clause-heard
 returns-clause-heard g c = λ before begins.
     let room = kept_all _ _ _ (search rules) c.loop-finished.invariant.asked in
-    let going : is_some c.desk.inside.stop ≡ false = ap (λ (desk : Desk _). desk.failed) c.desk.view_is ∙ going_on c.args.desk c.requires.gone in
-    let is = whole_is g.B.Keeper c.desk.inside.start.value c.desk.inside.book c.desk.inside.stop c.desk.inside.taken c.desk.inside.requests c.desk.inside.lines.items c.desk.inside.missed going c.args.desk c.desk.view_is in
-    let taken = subst (λ (desk : Desk _). All (λ (half : Half Request). IsPrefix (from_agent (λ (request : Request). request.agent) half.agent desk.requests.taken) half.sent) c.loop-finished.room.items) is c.close_lane.ensures.prefix in
+    let out = c.into_lane.ensures ∙ ap (λ (desk : Desk _). desk.requests) c.desk.view_is in
+    let taken = subst (λ (o : Out _). All (λ (half : Half Request). IsPrefix (from_agent (λ (request : Request). request.agent) half.agent o.taken) half.sent) c.loop-finished.room.items) out c.close_lane.ensures.prefix in
     all_heard g.B.Keeper before c.args.desk _ _ begins.1 (subst (IsDesk g.B.Keeper) c.desk.view_is c.desk.invariant.0) c.requires.crew (c.loop-finished.invariant.closed before begins (none_left (IsAnswered (history g.B.Keeper before c.args.desk)) _ (search rules))) room taken
 
 pub returns-clause-only : goal.returns-clause-only
@@ -84,11 +85,11 @@ returns-clause-only g c = all_of_crew g.B.Keeper c.args.desk c.args.crew.items (
 
 pub returns-clause-has : goal.returns-clause-has
 returns-clause-has g c = λ before begins.
-    let going : is_some c.desk.inside.stop ≡ false = ap (λ (desk : Desk _). desk.failed) c.desk.view_is ∙ going_on c.args.desk c.requires.gone in
-    let is = whole_is g.B.Keeper c.desk.inside.start.value c.desk.inside.book c.desk.inside.stop c.desk.inside.taken c.desk.inside.requests c.desk.inside.lines.items c.desk.inside.missed going c.args.desk c.desk.view_is in
-    let has = has_here g.B.Keeper c.desk.inside.start.value c.desk.inside.book c.desk.inside.stop c.desk.inside.taken c.desk.inside.requests c.desk.inside.lines.items c.desk.inside.missed going c.desk.invariant.0 in
+    let kept = subst (IsDesk g.B.Keeper) c.desk.view_is c.desk.invariant.0 in
+    let has = has_here g.B.Keeper c.args.desk kept (going_on c.args.desk c.requires.gone) before begins in
     subst (λ book. g.B.Keeper.has book (history g.B.Keeper before c.args.desk) []) (sym (ap (λ shut. shut.book) c.new.ensures))
-    (subst (λ (desk : Desk _). (b : List Exchange) → BeginsWith g.B.Keeper desk.start b → g.B.Keeper.has c.desk.inside.book (history g.B.Keeper b desk) []) is has before begins)
+    (subst (λ book. g.B.Keeper.has book (history g.B.Keeper before c.args.desk) []) (sym (ap (λ (desk : Desk _). desk.book) c.desk.view_is))
+    (subst (g.B.Keeper.has c.args.desk.book (history g.B.Keeper before c.args.desk)) (none_behind g.B.Keeper c.args.desk kept c.requires.gone) has))
 
 pub returns-clause-finished : goal.returns-clause-finished
 returns-clause-finished g c = c.loop-finished.invariant.finished (none_left IsFinished _ (search rules))

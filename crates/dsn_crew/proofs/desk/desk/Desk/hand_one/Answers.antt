@@ -3,8 +3,9 @@ use Rattle.std.proofs.Common.{rules, ◌≡◌, false, refl, ap, ◌∙◌, subs
 use Rattle.std.specs.Prelude.{Ok, None, Option, is_some}
 use Rattle.dsn_outcome.specs.Letter.{Letter}
 use Rattle.dsn_crew.proofs.desk.RunLemmas.{took_fault, took_handed, took_lost, took_none}
-use Rattle.dsn_crew.proofs.desk.TakeLemmas.{counts_here, failed_desk, unmoved_tied, whole_is}
-use Rattle.dsn_crew.specs.desk.Desk.{BeginsWith, Desk, IsRequestTaken, with_failed}
+use Rattle.dsn_crew.proofs.desk.TakeLemmas.{failed_desk}
+use Rattle.dsn_crew.proofs.desk.DeskLemmas.{seen_going}
+use Rattle.dsn_crew.specs.desk.Desk.{BeginsWith, Desk, IsDesk, IsRequestTaken, desk_seen, with_failed}
 use Rattle.dsn_crew.proofs.desk.desk.Desk.hand_one.Goals as goal
 
 pub returns-in-Err-clause-run : goal.returns-in-Err-clause-run
@@ -25,19 +26,16 @@ returns-in-Err-offer-clause-run g c =
     let going : is_some c.self.inside.stop ≡ false = ap (λ (desk : Desk _). desk.failed) c.self.view_is ∙ c.in-Ok.ensures.failed in
     λ before begins. took_lost g.B.Keeper before g.K.Sink.takes _ _ _ _ _ c.in-Some.letter _
     (c.in-Ok.ensures.kept.stands before (subst (λ s. BeginsWith g.B.Keeper s before) (sym start) begins)) c.requires.some_left (subst (λ (letter : Option Letter). IsRequestTaken g.B.Keeper before c.args.self.now c.take_one.new.self (Ok letter)) c.in-Some.is (c.in-Ok.ensures.taken before begins)) start c.in-Ok.ensures.places
-    (ap (λ desk. with_failed desk true) (whole_is g.B.Keeper c.self.inside.start.value c.self.inside.book c.self.inside.stop c.self.inside.taken c.self.inside.requests c.self.inside.lines.items c.self.inside.missed going _ c.self.view_is)) (search rules) (search rules)
+    (ap (λ desk. with_failed desk true) (sym (seen_going _ _ _ _ _ _ going) ∙ c.self.view_is)) (search rules) (search rules)
 
 pub invariant_of-self : goal.invariant_of-self
 invariant_of-self g c =
-    let going : is_some c.self.inside.stop ≡ false = ap (λ (desk : Desk _). desk.failed) c.self.view_is ∙ c.in-Ok.ensures.failed in (
-      failed_desk g.B.Keeper c.self.inside.start.value c.self.inside.book c.self.inside.stop c.self.inside.taken c.self.inside.requests c.self.inside.lines.items c.self.inside.missed going c.self.invariant.0 c.self.inside.book c.self.inside.requests None (unmoved_tied g.B.Keeper _ g.met.B.Keeper.leaves_kept) tt refl refl refl,
-      counts_here g.B.Keeper c.self.inside.start.value c.self.inside.book c.self.inside.stop c.self.inside.taken c.self.inside.requests c.self.inside.lines.items c.self.inside.missed going c.self.inside.gone c.self.invariant.1,
-      c.self.invariant.2,
-      refl,
-      tt,
-    )
+    let going : is_some c.self.inside.stop ≡ false = ap (λ (desk : Desk _). desk.failed) c.self.view_is ∙ c.in-Ok.ensures.failed in
+    let kept : IsDesk g.B.Keeper (desk_seen c.self.inside.start.value c.self.inside.book None c.self.inside.intake c.self.inside.lines.items c.self.inside.missed) = subst (IsDesk g.B.Keeper) (seen_going _ _ _ _ _ _ going) c.self.invariant.0 in
+    (failed_desk g.B.Keeper _ kept, c.self.invariant.1, c.self.invariant.2, refl)
 
 pub returns-in-Err-offer-clause-kept : goal.returns-in-Err-offer-clause-kept
 returns-in-Err-offer-clause-kept g c =
     let going : is_some c.self.inside.stop ≡ false = ap (λ (desk : Desk _). desk.failed) c.self.view_is ∙ c.in-Ok.ensures.failed in
-    failed_desk g.B.Keeper c.self.inside.start.value c.self.inside.book c.self.inside.stop c.self.inside.taken c.self.inside.requests c.self.inside.lines.items c.self.inside.missed going c.self.invariant.0 c.self.inside.book c.self.inside.requests None (unmoved_tied g.B.Keeper _ g.met.B.Keeper.leaves_kept) tt refl refl refl
+    let kept : IsDesk g.B.Keeper (desk_seen c.self.inside.start.value c.self.inside.book None c.self.inside.intake c.self.inside.lines.items c.self.inside.missed) = subst (IsDesk g.B.Keeper) (seen_going _ _ _ _ _ _ going) c.self.invariant.0 in
+    failed_desk g.B.Keeper _ kept

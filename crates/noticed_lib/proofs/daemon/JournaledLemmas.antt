@@ -1,10 +1,11 @@
 -- Runs over a journal: a ledger that awaits nothing is one to begin with.
 use Rattle.std.proofs.Common.{◌≡◌, ◌⊎◌, inl, inr, ⊎_elim, ℕ, ◌+◌, ◌-◌, ◌^◌, ◌<◌, ◌≤◌, Bool, true, List, [], ◌∷◌, ◌++◌, length, arith, refl, sym, subst, ap, lt_of_not-le, ◌∙◌}
-use Rattle.std.specs.Prelude.{IsErrOf, Result, min}
+use Rattle.std.specs.Prelude.{IsErrOf, Option, Some, None, Result, is_some, min}
+use Rattle.std.proofs.lemmas.Bool.{false≢true}
 use Rattle.std.proofs.Math.Nat.{min-eq_left}
 use Rattle.std.proofs.lemmas.List.{append-nil}
 use Rattle.dsn_device.specs.declared.drain.Drain.{Ghosts as Drain}
-use Rattle.dsn_outcome.specs.History.{Limits, Exchange, answers_to}
+use Rattle.dsn_outcome.specs.History.{Limits, Exchange, answers_to, history_after}
 use Rattle.dsn_outcome.specs.Letter.{Letter}
 use Rattle.dsn_outcome.specs.Request.{Request}
 use Rattle.dsn_book.specs.Keeper.{MayCrash}
@@ -12,7 +13,7 @@ use Rattle.dsn_crew.specs.desk.Desk.{BeginsWith}
 use Rattle.dsn_journal.specs.EarlierRuns.{HaveHistoryOfLedger, of_earlier_run}
 use Rattle.dsn_journal.specs.Compacted.{compacted}
 use Rattle.dsn_journal.specs.Header.{SayHistory, StandsForFile, base_limit, with_header}
-use Rattle.dsn_journal.specs.InPlace.{AreRecordsInPlaceOf, IsLedgerInPlaceOf}
+use Rattle.dsn_journal.specs.InPlace.{AreRecordsInPlaceOf, IsLedgerInPlaceOf, ReopensTo}
 use Rattle.dsn_journal.specs.Journal.{IsSettled}
 use Rattle.dsn_journal.specs.KeptBook.{HasKept, ledger_keeper}
 use Rattle.dsn_journal.specs.Ledger.{AreKept, earlier_agent, records_of}
@@ -29,9 +30,9 @@ use Rattle.dsn_journal.specs.declared.keep_error.KeepError.{KeepError}
 use Rattle.dsn_journal.specs.declared.keep_error.KeepError.TheVariants.{Unsettled, Journal}
 use Rattle.dsn_journal.proofs.KeptBooks.{has_kept, nothing_kept, some_kept}
 use Rattle.dsn_journal.proofs.LedgersInPlace.{headed}
-use Rattle.dsn_journal.proofs.Moments.{joined, weaker}
+use Rattle.dsn_journal.proofs.Moments.{joined, started, weaker}
 use Rattle.dsn_report.specs.Outgoing.{Delivered, Outgoing}
-use Rattle.noticed_lib.specs.daemon.Journaled.{BeginsAnew, HasPostedFirst, IsNoStart, IsNoStartOverLedger, IsPostedFirst, IsStartOver, IsStartOverLedger, StartsWith, WhyNoStart, marking_drain, no_outbox, not_put_away, of_journal, of_letters, of_outbox, too_many_letters}
+use Rattle.noticed_lib.specs.daemon.Journaled.{BeginsAnew, HasPostedFirst, IsNoStart, IsNoStartOverLedger, IsPostedFirst, IsStartOver, IsStartOverLedger, LeavesStart, StartsWith, WhyNoStart, marking_drain, no_outbox, not_put_away, of_journal, of_letters, of_outbox, too_many_letters}
 
 -- letters before no others are all of them
 pub none_left : {A : Type 0} (all done rest : List A) → all ≡ done ++ rest → length rest ≡ 0 → done ≡ all
@@ -50,6 +51,12 @@ module _ {D : Type 0} (disk : Disk.Ghosts D) (ledger : Ledger D) (settled : ledg
         file = sym (append-nil (recovered (disk.seen ledger.journal.disk)));
       })
       settled durable
+
+  -- a crash leaves what it stands for
+  pub stands_now : IsSettled disk ledger.journal.disk ledger.journal.used → ((left : List ℕ) → disk.left_since ledger.journal.disk (disk.moment ledger.journal.disk) left → disk.may_leave ledger.journal.disk left) → (long : List Exchange) → IsLedgerInPlaceOf ledger.book ledger.base (recovered (disk.seen ledger.journal.disk)) long
+      → LeavesOnly disk ledger.journal.disk ledger.journal.disk (λ left. ReopensTo ledger.book.limits left long)
+  unfolding history_after
+  stands_now durable now long in_place = started disk ledger.journal.disk _ (λ left since. (has durable long in_place).leaves left (now left since))
 
   -- its book and its base stand for all of its file
   pub stands_for_all : StandsForFile ledger.book ledger.base (recovered (disk.seen ledger.journal.disk))
@@ -72,6 +79,42 @@ none_awaited disk ledger history awaits = record {
   file = awaits.file;
 }
 
+module _ {D : Type 0} (disk : Disk.Ghosts D) (limits : Limits) (journal : D) where
+  -- a disk that was not touched
+  pub untouched : ((left : List ℕ) → disk.left_since journal (disk.moment journal) left → disk.may_leave journal left) → LeavesStart disk limits journal journal
+  untouched now long starts = started disk journal _ (λ left since. inl (now left since))
+
+  -- a file as it is once it is opened
+  opened_with : (left : List ℕ) (long : List Exchange) → StartsWith limits (disk.seen journal) long → IsLeftByOpening limits (disk.seen journal) left → StartsWith limits left long
+  opened_with left long starts by =
+      ⊎_elim
+      (λ same. subst (λ (rs : List (List ℕ)). AreRecordsInPlaceOf limits (with_header limits rs) long) (sym same) starts)
+      (λ same. subst (λ (rs : List (List ℕ)). AreRecordsInPlaceOf limits rs long) (sym (ap (with_header limits) same ∙ headed limits (with_header limits (recovered (disk.seen journal))) long starts)) starts)
+      by.opens
+
+  -- what a crash leaves while it is opened
+  pub while_opened : (opened : D) → LeavesOnly disk journal opened (λ left. disk.may_leave journal left ⊎ IsLeftByOpening limits (disk.seen journal) left) → LeavesStart disk limits journal opened
+  while_opened opened opening long starts = weaker disk journal opened _ _ (λ left or. ⊎_elim (λ was. inl was) (λ by. inr (opened_with left long starts by)) or) opening
+
+  -- and what it leaves later on
+  pub once_opened : (opened : Ledger D) (last : D) → opened.book.limits ≡ limits
+      → recovered (disk.seen opened.journal.disk) ≡ with_header limits (recovered (disk.seen journal))
+      → ((long : List Exchange) → AreRecordsInPlaceOf limits (recovered (disk.seen opened.journal.disk)) long → IsLedgerInPlaceOf opened.book opened.base (recovered (disk.seen opened.journal.disk)) long)
+      → LeavesOnly disk journal opened.journal.disk (λ left. disk.may_leave journal left ⊎ IsLeftByOpening limits (disk.seen journal) left)
+      → ((long : List Exchange) → IsLedgerInPlaceOf opened.book opened.base (recovered (disk.seen opened.journal.disk)) long → LeavesOnly disk opened.journal.disk last (λ left. ReopensTo opened.book.limits left long))
+      → LeavesStart disk limits journal last
+  once_opened opened last limits_are same in_place opening later long starts =
+      joined disk journal opened.journal.disk last _ (while_opened opened.journal.disk opening long starts)
+      (weaker disk opened.journal.disk last _ _
+      (λ left reopens. let records = subst (λ l. AreRecordsInPlaceOf l (recovered left) long) limits_are reopens in
+      inr (subst (λ rs. AreRecordsInPlaceOf limits rs long) (sym (headed limits (recovered left) long records)) records))
+      (later long (in_place long (subst (λ rs. AreRecordsInPlaceOf limits rs long) (sym same) starts))))
+
+-- what is handed back
+pub handed : {B : Type 0} (book : Option B) → is_some book ≡ true → (left : B) × (book ≡ Some left)
+handed None some = absurd (false≢true some)
+handed (Some left) some = (left, refl)
+
 -- what an opened ledger's start comes to, over the disks and the outbox that were given
 module _ {D M W : Type 0} (disk : Disk.Ghosts D) (marks_disk : Disk.Ghosts M) (drain : Drain W) (host : List ℕ) (limits : Limits) (journal : D) (marks : M) (outbox : W) (marked : MarkedOutbox W M) (letters : List Letter) (opened ledger : Ledger D) (poster : Outgoing (MarkedOutbox W M)) where
   -- all letters that were handed out were given to the poster
@@ -89,29 +132,6 @@ module _ {D M W : Type 0} (disk : Disk.Ghosts D) (marks_disk : Disk.Ghosts M) (d
     first_are = subst (λ rs. AreToPost limits marked.marks.mark rs letters) same to_post;
   }
 
-  -- a file as it is once it is opened
-  opened_with : (left : List ℕ) (long : List Exchange) → StartsWith limits (disk.seen journal) long → IsLeftByOpening limits (disk.seen journal) left → StartsWith limits left long
-  opened_with left long starts by =
-      ⊎_elim
-      (λ same. subst (λ (rs : List (List ℕ)). AreRecordsInPlaceOf limits (with_header limits rs) long) (sym same) starts)
-      (λ same. subst (λ (rs : List (List ℕ)). AreRecordsInPlaceOf limits rs long) (sym (ap (with_header limits) same ∙ headed limits (with_header limits (recovered (disk.seen journal))) long starts)) starts)
-      by.opens
-
-  -- what a crash leaves until the run begins
-  crash_is : opened.book.limits ≡ limits
-      → recovered (disk.seen opened.journal.disk) ≡ with_header limits (recovered (disk.seen journal))
-      → ((long : List Exchange) → AreRecordsInPlaceOf limits (recovered (disk.seen opened.journal.disk)) long → IsLedgerInPlaceOf opened.book opened.base (recovered (disk.seen opened.journal.disk)) long)
-      → LeavesOnly disk journal opened.journal.disk (λ left. disk.may_leave journal left ⊎ IsLeftByOpening limits (disk.seen journal) left)
-      → IsStartOverLedger disk drain host marked letters opened ledger poster
-      → (long : List Exchange) → StartsWith limits (disk.seen journal) long → LeavesOnly disk journal ledger.journal.disk (λ left. disk.may_leave journal left ⊎ StartsWith limits left long)
-  crash_is limits_are same in_place opening start long starts =
-      joined disk journal opened.journal.disk ledger.journal.disk _
-      (weaker disk journal opened.journal.disk _ _ (λ left or. ⊎_elim (λ was. inl was) (λ by. inr (opened_with left long starts by)) or) opening)
-      (weaker disk opened.journal.disk ledger.journal.disk _ _
-      (λ left reopens. let records = subst (λ l. AreRecordsInPlaceOf l (recovered left) long) limits_are reopens in
-      inr (subst (λ rs. AreRecordsInPlaceOf limits rs long) (sym (headed limits (recovered left) long records)) records))
-      (start.crash long (in_place long (subst (λ rs. AreRecordsInPlaceOf limits rs long) (sym same) starts))))
-
   pub start_is : marked.outbox ≡ outbox → SayMark (recovered (marks_disk.seen marks)) marked.marks.mark
       → opened.book.limits ≡ limits
       → recovered (disk.seen opened.journal.disk) ≡ with_header limits (recovered (disk.seen journal))
@@ -126,7 +146,7 @@ module _ {D M W : Type 0} (disk : Disk.Ghosts D) (marks_disk : Disk.Ghosts M) (d
     all_sent = start.all_sent;
     begins = start.begins;
     begins_with = λ long records. start.begins_with long (in_place long (subst (λ rs. AreRecordsInPlaceOf limits rs long) (sym same) records));
-    crash = crash_is limits_are same in_place opening start;
+    crash = once_opened disk limits journal opened ledger.journal.disk limits_are same in_place opening start.crash;
     first = first_is outbox_is mark_is same to_post start.delivered;
   }
 

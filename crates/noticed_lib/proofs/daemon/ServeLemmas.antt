@@ -2,7 +2,7 @@
 use Rattle.std.proofs.Common.{◌≡◌, ℕ, suc, ◌<◌, ◌≤◌, ◌⊎◌, List, [], ◌∷◌, All, length, replicate, false, inl, inr, refl, subst, arith}
 use Rattle.std.proofs.lemmas.List.{length-replicate}
 use Rattle.std.proofs.lemmas.List.Elements.{All-cons, All-head, All-nil, All-tail}
-use Rattle.std.specs.Prelude.{Option, None}
+use Rattle.std.specs.Prelude.{None}
 use Rattle.dsn_book.specs.Keeper.{book_keeper}
 use Rattle.dsn_book.specs.declared.keeper.Keeper.{Ghosts as Keeper}
 use Rattle.dsn_crew.specs.agents.Agent.{LaneHalves}
@@ -90,7 +90,7 @@ module _ {P S : Type 0} (port : Port P S) (untold : (one : P) → port.conns one
     })
 
   -- and of a run over a journal
-  module _ {D M W N : Type 0} (disk : Disk.Ghosts D) (marks_disk : Disk.Ghosts M) (drain : Drain W) (notes_device : Drain N) (host : List ℕ) (limits : Limits) (ports : List P) (fit : All Fits ports) (journal : D) (marks : M) (outbox : W) (notes later : N) (end : ServeEnd W) (last : Option D) where
+  module _ {D M W N : Type 0} (disk : Disk.Ghosts D) (marks_disk : Disk.Ghosts M) (drain : Drain W) (notes_device : Drain N) (host : List ℕ) (limits : Limits) (ports : List P) (fit : All Fits ports) (journal : D) (marks : M) (outbox : W) (notes later : N) (end : ServeEnd W) (last : D) where
     run-uses : (ledger : Ledger D) (poster : Outgoing (MarkedOutbox W M)) → IsRunOver disk port drain notes_device ports ledger poster notes later end last
         → IsRunOver disk (socket_port may_end) drain notes_device (replicate (length ports) uses) ledger poster notes later end last
     run-uses ledger poster (inl served) = inl (record {
@@ -108,13 +108,15 @@ module _ {P S : Type 0} (port : Port P S) (untold : (one : P) → port.conns one
       crew = λ from by before with_it. rw (length-replicate (length ports)) (faulted.crew from by before with_it);
       counted = rw (length-replicate (length ports)) faulted.counted;
       noted = faulted.noted;
+      left = faulted.left;
+      left_is = faulted.left_is;
       last_is = faulted.last_is;
       crash = rw (length-replicate (length ports)) faulted.crash;
     })
 
     pub over-uses : IsServeOver disk marks_disk port drain notes_device host limits ports journal marks outbox notes later end last
         → IsServeOver disk marks_disk (socket_port may_end) drain notes_device host limits (replicate (length ports) uses) journal marks outbox notes later end last
-    over-uses (inl none) = inl (record { code = none.code; back = none.back; why = none.why; noted = none.noted; none_left = none.none_left })
+    over-uses (inl none) = inl (record { code = none.code; back = none.back; why = none.why; noted = none.noted; crash = none.crash })
     over-uses (inr started) = inr (record {
       ledger = started.ledger;
       poster = started.poster;
@@ -140,8 +142,8 @@ module _ {P H : Type 0} (ends : H → Type 0) (watch_of : P → H) (left_of : P 
 -- a run that was refused for the number of its agents
 pub serve-refused : {W N : Type 0} (may_end : Type 0) (uses : ℕ) (drain : Drain W) (notes_device : Drain N) (host : List ℕ) (limits : Limits) (agents : ℕ) (start : W) (notes later : N) (end : ServeEnd W) → (agents ≡ 0) ⊎ (most_ports < agents) → WritesFault notes_device PortCount start [] notes later end → IsServe (socket_port may_end) drain notes_device host limits (replicate agents uses) start notes later end
 serve-refused may_end uses drain notes_device host limits agents start notes later end few noted = inr (record {
-  fault = record { cause = PortCount; outbox = start; unsent = []; book = None; taken = [] };
-  crew = (refl, refl, refl);
+  fault = record { cause = PortCount; outbox = start; unsent = []; book = None; taken = []; behind = [] };
+  crew = (refl, refl, refl, refl);
   counted = (λ is. rw (length-replicate agents) few, λ is. refl);
   kept = λ why same. let never : PortCount ≡ Unkept why = same in cc;
   noted = noted;

@@ -1,6 +1,5 @@
 -- Runs over a journal: what one begins with, and what it comes to.
-use Rattle.std.specs.Prelude.{◌≡◌, ◌≢◌, ◌⊎◌, ◌↔◌, ℕ, ◌+◌, ◌^◌, ◌<◌, ◌≤◌, Bool, true, false, List, [], ◌++◌, drop, length, replicate, Option, None, Some, IfSome}
-use Rattle.std.specs.Option.{option_map}
+use Rattle.std.specs.Prelude.{◌≡◌, ◌≢◌, ◌⊎◌, ◌↔◌, ℕ, ◌+◌, ◌^◌, ◌<◌, ◌≤◌, Bool, true, false, List, [], drop, length, replicate, Some}
 use Rattle.dsn_book.specs.Book.{Book, Represents}
 use Rattle.dsn_book.specs.Keeper.{MayCrash}
 use Rattle.dsn_outcome.specs.History.{Limits, Exchange, sealed_letters}
@@ -124,6 +123,13 @@ pub record HasNoRoomForShorter (limits : Limits) (file : List ℕ) : Type 0 wher
   pub limits_are : book.limits ≡ limits
   pub longer : length file < length (encoded (compacted book base []))
 
+-- at each moment from one disk of a journal to another a crash leaves what it might have left of the
+-- first, or a file that a later start begins with each history which the first one begins with
+abbrev pub LeavesStart : {D : Type 0} → Disk.Ghosts D → Limits → D → D → Type 0
+LeavesStart disk limits journal last =
+    (long : List Exchange) → StartsWith limits (disk.seen journal) long
+    → LeavesOnly disk journal last (λ left. disk.may_leave journal left ⊎ StartsWith limits left long)
+
 -- what a run begins with whose disks and outbox were given: each history that the journal's records are
 -- in place of is one to begin with; and all letters of these records that the mark of the marks doesn't
 -- count were posted. At each moment until then a crash leaves what it might have left before, or a file
@@ -137,9 +143,7 @@ pub record IsStartOver {D M W : Type 0} (disk : Disk.Ghosts D) (marks_disk : Dis
   pub begins : (before : List Exchange) × BeginsWith (ledger_keeper disk) ledger before
   pub begins_with : (long : List Exchange) → StartsWith limits (disk.seen journal) long
       → BeginsWith (ledger_keeper disk) ledger (of_earlier_run long)
-  pub crash : (long : List Exchange) → StartsWith limits (disk.seen journal) long
-      → LeavesOnly disk journal ledger.journal.disk
-      (λ left. disk.may_leave journal left ⊎ StartsWith limits left long)
+  pub crash : LeavesStart disk limits journal ledger.journal.disk
   pub first : IsPostedFirst disk marks_disk drain host limits journal marks outbox poster
 
 -- why a run did not begin, by the number of its fault, and the outbox that is handed back: its marks or
@@ -198,9 +202,9 @@ pub record IsNoStartOverLedger {D M W : Type 0} (disk : Disk.Ghosts D) (drain : 
 -- a ledger that let its closed keys go, or couldn't, and then its disk: at each moment a crash leaves
 -- its history with the first of the requests that let them go
 pub record IsForgottenIn {D : Type 0} (disk : Disk.Ghosts D) (ledger : Ledger D)
-    (last : Option D) : Type 0 where
+    (last : D) : Type 0 where
   pub left : Ledger D
-  pub last_is : last ≡ Some left.journal.disk
+  pub last_is : last ≡ left.journal.disk
   pub crash : (before : List Exchange) → HasKept disk ledger before []
       → MayCrash (ledger_keeper disk) ledger left ledger.book.limits before
       (lets_go ledger.book.entries)
@@ -217,7 +221,7 @@ pub record MayRunOver {D M W : Type 0} (disk : Disk.Ghosts D) (drain : Drain W) 
 module _ {D M P S W N : Type 0} (disk : Disk.Ghosts D) (port : Port P S) (drain : Drain W)
     (notes_device : Drain N) (ports : List P) (ledger : Ledger D)
     (poster : Outgoing (MarkedOutbox W M)) (notes later : N) (end : ServeEnd W)
-    (last : Option D) where
+    (last : D) where
   -- a run of a crew that ended well, over this ledger and after what was posted before: all that is
   -- true of the crew, and its notes. At each moment of it a crash leaves the history with the first of
   -- the requests that were taken; and then, behind all of them, of those that let the closed keys go
@@ -236,7 +240,7 @@ module _ {D M P S W N : Type 0} (disk : Disk.Ghosts D) (port : Port P S) (drain 
     pub forgets : IsForgottenIn disk account.book last
 
   -- and one whose crew ended with a fault: at each moment of it a crash leaves the history with the
-  -- first of the requests that were taken, and of one behind them that was not kept
+  -- first of the requests that were carried out, and of those behind
   pub record IsFaultedOver : Type 0 where
     pub fault : CrewFault (MarkedOutbox W M) (Ledger D)
     pub crew : (from : PostedBefore (MarkedOutbox W M))
@@ -247,10 +251,12 @@ module _ {D M P S W N : Type 0} (disk : Disk.Ghosts D) (port : Port P S) (drain 
     pub counted : (fault.cause ≡ PortCount) ↔ ((length ports ≡ 0) ⊎ (most_ports < length ports))
     pub noted : WritesFault notes_device fault.cause fault.outbox.outbox fault.unsent notes later
         end
-    pub last_is : last ≡ option_map (λ left. left.journal.disk) fault.book
+    pub left : Ledger D
+    pub left_is : fault.book ≡ Some left
+    pub last_is : last ≡ left.journal.disk
     pub crash : (before : List Exchange) → BeginsWith (ledger_keeper disk) ledger before
-        → IfSome fault.book (MayCrashWithin (ledger_keeper disk) ledger ledger.book.limits before
-        (length ports) fault.taken)
+        → MayCrashWithin (ledger_keeper disk) ledger ledger.book.limits before (length ports)
+        fault.taken fault.behind left
 
   abbrev pub IsRunOver : Type 0
   IsRunOver = IsServedOver ⊎ IsFaultedOver
@@ -258,14 +264,15 @@ module _ {D M P S W N : Type 0} (disk : Disk.Ghosts D) (port : Port P S) (drain 
 module _ {D M P S W N : Type 0} (disk : Disk.Ghosts D) (marks_disk : Disk.Ghosts M)
     (port : Port P S) (drain : Drain W) (notes_device : Drain N) (host : List ℕ) (limits : Limits)
     (ports : List P) (journal : D) (marks : M) (outbox : W) (notes later : N)
-    (end : ServeEnd W) (last : Option D) where
-  -- a run that did not begin: its notes have a number alone, and this is why
+    (end : ServeEnd W) (last : D) where
+  -- a run that did not begin: its notes have a number alone, and this is why. At each moment a crash
+  -- leaves what it might have left before, or a journal that a later start begins with the same history
   pub record IsNotStarted : Type 0 where
     pub code : ℕ
     pub back : W
     pub why : IsNoStart disk marks_disk drain host limits journal marks outbox back code
     pub noted : WritesNumber notes_device code back [] notes later end
-    pub none_left : last ≡ None
+    pub crash : LeavesStart disk limits journal last
 
   -- a run over a ledger that the disk held, after the letters that were still to be posted
   pub record IsStarted : Type 0 where
@@ -285,10 +292,10 @@ module _ {D M P S W N : Type 0} (disk : Disk.Ghosts D) (marks_disk : Disk.Ghosts
 pub record IsSocketServeOver {D M W N : Type 0} (disk : Disk.Ghosts D) (marks_disk : Disk.Ghosts M)
     (drain : Drain W) (notes_device : Drain N) (may_end : Type 0) (host : List ℕ) (limits : Limits)
     (agents uses : ℕ) (journal : D) (marks : M) (outbox : W) (notes later : N)
-    (end : ServeEnd W) (last : Option D) : Type 0 where
+    (end : ServeEnd W) (last : D) : Type 0 where
   pub crew : (1 ≤ agents) × (agents ≤ most_ports)
       → IsServeOver disk marks_disk (socket_port may_end) drain notes_device host limits
       (replicate agents uses) journal marks outbox notes later end last
-      ⊎ (WritesFault notes_device Refused outbox [] notes later end × (last ≡ Some journal))
+      ⊎ (WritesFault notes_device Refused outbox [] notes later end × (last ≡ journal))
   pub none : (agents ≡ 0) ⊎ (most_ports < agents)
-      → WritesFault notes_device PortCount outbox [] notes later end × (last ≡ Some journal)
+      → WritesFault notes_device PortCount outbox [] notes later end × (last ≡ journal)

@@ -2,11 +2,13 @@
 ghost use Rattle.std.specs.Prelude.{◌≡◌, ◌≤◌, ◌<◌, ◌^◌, ◌+◌, List, [], true, IfErr, IfOk};
 ghost use Rattle.dsn_outcome.specs.History.{Exchange};
 ghost use Rattle.dsn_report.specs.Outgoing.{Delivered};
-ghost use Rattle.dsn_journal.specs.InPlace.{IsLedgerInPlaceOf};
+ghost use Rattle.dsn_journal.specs.InPlace.{IsLedgerInPlaceOf, ReopensTo};
+ghost use Rattle.dsn_journal.specs.Journal.{IsSettled};
+ghost use Rattle.dsn_journal.specs.Moments.{LeavesOnly};
 ghost use Rattle.dsn_journal.specs.OpenLedger.{AwaitsRequests};
 ghost use Rattle.dsn_journal.specs.Posting.{AreToPost};
 ghost use Rattle.dsn_journal.specs.Records.{recovered};
-ghost use Rattle.noticed_lib.specs.daemon.Journaled.{BeginsAnew, IsNoStart, IsNoStartOverLedger, IsStartOver, IsStartOverLedger};
+ghost use Rattle.noticed_lib.specs.daemon.Journaled.{BeginsAnew, IsNoStart, IsNoStartOverLedger, IsStartOver, IsStartOverLedger, LeavesStart};
 
 use crate::daemon::journal_folder::JournalFolder;
 use dsn_book::Limits;
@@ -31,26 +33,34 @@ pub(crate) struct JournalStart<W, D: Disk, M: Replaceable> {
 
 /// Why a run over a journal didn't begin.
 #[derive(Drop)]
-pub(crate) struct NotStarted<W> {
+pub(crate) struct NotStarted<W, D> {
     /// The number of the fault.
     pub(crate) code: u32,
     /// The outbox.
     pub(crate) outbox: W,
+    /// The disk of the journal.
+    pub(crate) journal: D,
 }
 
-impl<W> NotStarted<W> {
-    /// The fault with this number, after letters were posted or not.
+impl<W, D: Disk + Drop> NotStarted<W, D> {
+    /// The fault with this number, over a ledger that was opened, after letters were posted or not.
     fn after<M: Replaceable + Drop>(
         code: u32,
         outgoing: Outgoing<MarkedOutbox<W, M>>,
-    ) -> NotStarted<W>
+        ledger: Ledger<D>,
+    ) -> NotStarted<W, D>
     where
         W: Drain,
         ensures code { result.code ≡ code }
         ensures outbox { result.outbox ≡ outgoing.poster.outbox.outbox }
+        ensures journal { result.journal ≡ ledger.journal.disk }
     {
         let (outbox, _marks) = outgoing.into_outbox().into_parts();
-        NotStarted { code, outbox }
+        NotStarted {
+            code,
+            outbox,
+            journal: ledger.into_disk(),
+        }
     }
 }
 
@@ -65,18 +75,23 @@ pub(crate) fn start_over<W: Drain, D: Replaceable + Drop, M: Replaceable + Drop>
     limits: Limits,
     outbox: W,
     folder: JournalFolder<D, M>,
-) -> Result<JournalStart<W, D, M>, NotStarted<W>>
+) -> Result<JournalStart<W, D, M>, NotStarted<W, D>>
     ensures start { IfOk result (λ start. IsStartOver D.Disk M.Disk W.Drain site limits
         folder.journal folder.marks outbox start.keeper start.outgoing) }
     ensures fault { IfErr result (λ not. IsNoStart D.Disk M.Disk W.Drain site limits
         folder.journal folder.marks outbox not.outbox not.code) }
+    ensures crash { IfErr result (λ not. LeavesStart D.Disk limits folder.journal not.journal) }
 {
     let JournalFolder { journal, marks } = folder;
     let marks = match Marks::open(alloc, marks) {
         Ok(marks) => marks,
         Err(left) => {
             let code = left.cause.code();
-            return Err(NotStarted { code, outbox });
+            return Err(NotStarted {
+                code,
+                outbox,
+                journal,
+            });
         }
     };
     let mark = marks.mark();
@@ -87,7 +102,11 @@ pub(crate) fn start_over<W: Drain, D: Replaceable + Drop, M: Replaceable + Drop>
         }
         Err(left) => {
             let code = left.cause.code();
-            Err(NotStarted { code, outbox })
+            Err(NotStarted {
+                code,
+                outbox,
+                journal: left.disk,
+            })
         }
     }
 }
@@ -99,9 +118,10 @@ fn start_over_ledger<W: Drain, D: Replaceable + Drop, M: Replaceable + Drop>(
     outbox: MarkedOutbox<W, M>,
     opened: Opened<D>,
     mark: u64,
-) -> Result<JournalStart<W, D, M>, NotStarted<W>>
+) -> Result<JournalStart<W, D, M>, NotStarted<W, D>>
     requires awaits { AwaitsRequests D.Disk opened.ledger [] }
     requires settled { opened.ledger.settled ≡ true }
+    requires durable { IsSettled D.Disk opened.ledger.journal.disk opened.ledger.journal.used }
     requires letters { AreToPost opened.ledger.book.limits mark
         (recovered (D.seen opened.ledger.journal.disk)) opened.letters.items }
     requires posted { opened.ledger.base ≤ mark }
@@ -110,6 +130,11 @@ fn start_over_ledger<W: Drain, D: Replaceable + Drop, M: Replaceable + Drop>(
         opened.letters.items opened.ledger start.keeper start.outgoing) }
     ensures fault { IfErr result (λ not. IsNoStartOverLedger D.Disk W.Drain site outbox
         opened.letters.items opened.ledger not.outbox not.code) }
+    ensures crash { IfErr result (λ not. (long : List Exchange)
+        → IsLedgerInPlaceOf opened.ledger.book opened.ledger.base
+        (recovered (D.seen opened.ledger.journal.disk)) long
+        → LeavesOnly D.Disk opened.ledger.journal.disk not.journal
+        (λ left. ReopensTo opened.ledger.book.limits left long)) }
 {
     ledgers_have_one_history();
     let Opened {
@@ -119,15 +144,15 @@ fn start_over_ledger<W: Drain, D: Replaceable + Drop, M: Replaceable + Drop>(
     let all = mark.saturating_add(letters.len() as u64);
     let outgoing = post_first(site, outbox, letters);
     if outgoing.has_failed() {
-        return Err(NotStarted::after(fault_code::OUTBOX_WRITE, outgoing));
+        return Err(NotStarted::after(fault_code::OUTBOX_WRITE, outgoing, ledger));
     }
     match ledger.compact_all_marked(alloc, all) {
         Ok(true) => Ok(JournalStart {
             outgoing,
             keeper: keeper_over(alloc, ledger),
         }),
-        Ok(false) => Err(NotStarted::after(fault_code::JOURNAL_FULL, outgoing)),
-        Err(error) => Err(NotStarted::after(error.code(), outgoing)),
+        Ok(false) => Err(NotStarted::after(fault_code::JOURNAL_FULL, outgoing, ledger)),
+        Err(error) => Err(NotStarted::after(error.code(), outgoing, ledger)),
     }
 }
 

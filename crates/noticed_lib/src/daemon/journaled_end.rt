@@ -6,7 +6,6 @@ use crate::daemon::serve_end::ServeEnd;
 pub struct JournaledEnd<W, D> {
     /// The outbox, and the exit status.
     pub end: ServeEnd<W>,
-    /// The disk of the journal, as the run left it; none where it began and no crew
-    /// did.
-    pub journal: Option<D>,
+    /// The disk of the journal, as the run left it.
+    pub journal: D,
 }

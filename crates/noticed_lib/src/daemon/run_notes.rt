@@ -80,7 +80,7 @@ pub(crate) fn write_kept_account<W: Drop, D: Disk + Drop, M: Replaceable + Drop,
     let (outbox, _marks) = outbox.into_parts();
     JournaledEnd {
         end: ServeEnd { outbox, status },
-        journal: Some(ledger.into_disk()),
+        journal: ledger.into_disk(),
     }
 }
 

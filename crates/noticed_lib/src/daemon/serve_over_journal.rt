@@ -1,6 +1,5 @@
 //! The run of the daemon over a journal.
-ghost use Rattle.std.specs.Prelude.{◌≡◌, All};
-ghost use Rattle.std.specs.Option.{option_map};
+ghost use Rattle.std.specs.Prelude.{◌≡◌, true, All, IfSome, is_some};
 ghost use Rattle.noticed_lib.specs.daemon.Journaled.{IsRunOver, IsServeOver, MayRunOver};
 
 use crate::daemon::journal_folder::JournalFolder;
@@ -55,9 +54,15 @@ pub fn serve_ports_over<
 {
     match start_over(alloc, site, limits, outbox, folder) {
         Ok(start) => run_over(rt, alloc, start, ports, gate, notes),
-        Err(NotStarted { code, outbox }) => JournaledEnd {
+        Err(
+            NotStarted {
+                code,
+                outbox,
+                journal,
+            },
+        ) => JournaledEnd {
             end: write_fault(alloc, code, outbox, Letters::new(), notes),
-            journal: None,
+            journal,
         },
     }
 }
@@ -104,12 +109,13 @@ fn run_over<
     }
 }
 
-/// The disk of what kept a run's requests.
-fn disk_of<D: Disk + Drop>(book: Option<KeptBook<D>>) -> Option<D>
-    ensures { result ≡ option_map (λ left. left.journal.disk) book }
+/// The disk of what kept a run's requests. Requires that it was handed back.
+fn disk_of<D: Disk + Drop>(book: Option<KeptBook<D>>) -> D
+    requires { is_some book ≡ true }
+    ensures { IfSome book (λ left. result ≡ left.journal.disk) }
 {
     match book {
-        Some(book) => Some(book.into_ledger().into_disk()),
-        None => None,
+        Some(book) => book.into_ledger().into_disk(),
+        None => unreachable!(),
     }
 }

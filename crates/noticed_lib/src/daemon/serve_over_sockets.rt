@@ -102,8 +102,10 @@ pub fn serve_journaled<
     if !is_crew(agents) {
         let code = CrewCause::PortCount.code();
         let end = write_fault(alloc, code, outbox, Letters::new(), notes);
-        let journal = Some(folder.journal);
-        return JournaledEnd { end, journal };
+        return JournaledEnd {
+            end,
+            journal: folder.journal,
+        };
     }
     match socket_ports(alloc, listener, watch, agents, max_use) {
         Ok(ports) => {
@@ -115,8 +117,10 @@ pub fn serve_journaled<
         Err(NoMemory) => {
             let code = CrewCause::Refused.code();
             let end = write_fault(alloc, code, outbox, Letters::new(), notes);
-            let journal = Some(folder.journal);
-            JournaledEnd { end, journal }
+            JournaledEnd {
+                end,
+                journal: folder.journal,
+            }
         }
     }
 }

@@ -5,7 +5,7 @@ use Rattle.dsn_journal.specs.MarkedOutbox.{MarkedOutbox}
 use Rattle.dsn_journal.specs.Posting.{AreToPost}
 use Rattle.dsn_journal.specs.Records.{recovered}
 use Rattle.noticed_lib.specs.daemon.Journaled.{no_ledger, no_marks}
-use Rattle.noticed_lib.proofs.daemon.JournaledLemmas.{no_start, stands_for_all, start_is}
+use Rattle.noticed_lib.proofs.daemon.JournaledLemmas.{no_start, once_opened, stands_for_all, start_is, untouched, while_opened}
 use Rattle.noticed_lib.proofs.daemon.journal_start.start_over.Goals as goal
 
 pub returns-in-Ok-open-clause-start : goal.returns-in-Ok-open-clause-start
@@ -44,3 +44,14 @@ returns-in-Err-open-clause-fault g c =
     let mark = subst (SayMark (recovered (g.M.Disk.seen c.args.folder.marks))) (sym c.mark-mark.ensures.mark) c.in-Ok.ensures.mark in
     let left = c.in-Err-open.ensures in
     no_ledger c.in-Err-open.left.cause c.mark-mark.result c.code-code-in-Err-open.ensures refl mark left.foreign left.other left.damaged left.ahead left.behind
+
+pub returns-in-Err-clause-crash : goal.returns-in-Err-clause-crash
+returns-in-Err-clause-crash g c = untouched g.D.Disk c.args.limits c.args.folder.journal (g.met.D.Disk.only_now c.args.folder.journal)
+
+pub returns-in-Err-open-clause-crash : goal.returns-in-Err-open-clause-crash
+returns-in-Err-open-clause-crash g c = while_opened g.D.Disk c.args.limits c.args.folder.journal _ c.in-Err-open.ensures.any_moment
+
+pub returns-in-Ok-open-clause-crash : goal.returns-in-Ok-open-clause-crash
+returns-in-Ok-open-clause-crash g c =
+    let opened = c.in-Ok-open.ensures in
+    IfErr-weaker c.start_over_ledger.result _ _ (λ left later. once_opened g.D.Disk c.args.limits c.args.folder.journal c.in-Ok-open.opened.ledger left.journal opened.limits opened.same opened.ledger opened.any_moment later) c.start_over_ledger.ensures.crash

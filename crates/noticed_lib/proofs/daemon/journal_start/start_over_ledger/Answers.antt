@@ -1,9 +1,11 @@
-use Rattle.std.proofs.Common.{rules, ◌≡◌, ◌∙◌, ◌+◌, ◌-◌, ◌^◌, true≢false, ap, sym, arith}
+use Rattle.std.proofs.Common.{rules, ◌≡◌, ◌∙◌, ◌+◌, ◌-◌, ◌^◌, true≢false, ap, sym, subst, arith}
 use Rattle.std.specs.Prelude.{Err, min}
+use Rattle.dsn_journal.specs.InPlace.{ReopensTo}
+use Rattle.dsn_journal.specs.Moments.{LeavesOnly}
 use Rattle.dsn_journal.specs.Records.{recovered}
 use Rattle.dsn_book.specs.Book.{Book}
 use Rattle.noticed_lib.specs.daemon.Journaled.{of_journal, of_letters, of_outbox}
-use Rattle.noticed_lib.proofs.daemon.JournaledLemmas.{many_sealed, stands_for_all}
+use Rattle.noticed_lib.proofs.daemon.JournaledLemmas.{many_sealed, stands_for_all, stands_now}
 use Rattle.noticed_lib.proofs.daemon.journal_start.start_over_ledger.Goals as goal
 
 pub returns-in-Ok-true-clause-start : goal.returns-in-Ok-true-clause-start
@@ -51,3 +53,19 @@ returns-in-Err-clause-fault g c = record {
   why = of_journal (sym c.has_failed.ensures ∙ c.if-has_failed.false) c.in-Err.error (c.after-in-Err.ensures.code ∙ c.code.ensures)
       (λ unsettled. true≢false (sym c.requires.settled ∙ c.in-Err.ensures.unsettled.0 (ap Err unsettled))) (λ full. c.in-Err.ensures.full (ap Err full));
 }
+
+pub returns-then-has_failed-clause-crash : goal.returns-then-has_failed-clause-crash
+returns-then-has_failed-clause-crash g c =
+    λ long in_place.
+    subst (λ last. LeavesOnly g.D.Disk c.args.opened.ledger.journal.disk last (λ left. ReopensTo c.args.opened.ledger.book.limits left long)) (sym c.after.ensures.journal)
+    (stands_now g.D.Disk c.args.opened.ledger c.requires.settled c.requires.awaits c.requires.durable (g.met.D.Disk.only_now c.args.opened.ledger.journal.disk) long in_place)
+
+pub returns-in-Ok-false-clause-crash : goal.returns-in-Ok-false-clause-crash
+returns-in-Ok-false-clause-crash g c =
+    λ long in_place.
+    subst (λ last. LeavesOnly g.D.Disk c.args.opened.ledger.journal.disk last (λ left. ReopensTo c.args.opened.ledger.book.limits left long)) (sym c.after-in-Ok-false.ensures.journal) (c.in-Ok-false.ensures.in_place c.requires.settled long in_place)
+
+pub returns-in-Err-clause-crash : goal.returns-in-Err-clause-crash
+returns-in-Err-clause-crash g c =
+    λ long in_place.
+    subst (λ last. LeavesOnly g.D.Disk c.args.opened.ledger.journal.disk last (λ left. ReopensTo c.args.opened.ledger.book.limits left long)) (sym c.after-in-Err.ensures.journal) (c.in-Err.ensures.in_place c.requires.settled long in_place)

@@ -6,7 +6,7 @@ of the runs is shown, and between which bounds they lay. It needs gcc, and as ro
 instance of its own, without mail.
 
     python3 bench/beside_bounce.py [REQUESTS [FOLDER]]      so many requests a run, 8,000 unless said, on the disk that the folder
-                                                            is on, the current one unless said
+                                                            is on, /var/tmp unless said; Postfix's account has to reach it
 """
 import os
 import shutil
@@ -122,7 +122,7 @@ def shown(rates: list) -> str:
 
 def main():
     total = int(sys.argv[1]) if len(sys.argv) > 1 else 8_000
-    place = sys.argv[2] if len(sys.argv) > 2 else "."
+    place = sys.argv[2] if len(sys.argv) > 2 else "/var/tmp"
     if os.geteuid() or not shutil.which("postfix") or not shutil.which("gcc"):
         sys.exit("this needs root, gcc and Debian's postfix: apt-get install postfix gcc")
     print(f"{len(os.sched_getaffinity(0))} processors, load {os.getloadavg()[0]:.1f}")

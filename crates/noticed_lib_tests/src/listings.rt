@@ -19,7 +19,7 @@ open B B2 2\n\
 open D B1 1\n\
 closed B B10\n\
 closed B L3\n\
-closed T T1\n\
+closed T K1\n\
 unmarked B L4 2 4\n\
 marked 4\n\
 sealed 5\n\

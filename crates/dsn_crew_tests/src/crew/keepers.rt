@@ -97,13 +97,12 @@ fn open_disk<D: Disk + Drop>(alloc: Global, disk: D, limits: Limits) -> Result<L
     }
 }
 
-/// What comes of a ledger over a new disk of so many bytes, and how many outcomes are in its log
-/// once the disk is opened anew.
-fn run_kept<R: Threads + Wait + Sync>(
+/// What comes of a ledger over a new disk of so many bytes, and the disk.
+fn run_over_disk<R: Threads + Wait + Sync>(
     rt: &R,
     alloc: Global,
     size: usize,
-) -> Result<(Option<CrewCause>, u32), Fail> {
+) -> Result<(Option<CrewCause>, MemoryDisk), Fail> {
     let limits = Limits::new(8, 8, 8).ok_or("limits")?;
     let disk = MemoryDisk::new(alloc, vec![in alloc; 0; size]?);
     let ledger = open_disk(alloc, disk, limits)?;
@@ -114,9 +113,15 @@ fn run_kept<R: Threads + Wait + Sync>(
     ledgers_have_earlier_histories();
     let keeper = KeptBook::new(alloc, ledger);
     let (cause, left) = run_keeper(rt, alloc, keeper)?;
-    let ledger = open_disk(alloc, left.into_ledger().into_disk(), limits)?;
+    Ok((cause, left.into_ledger().into_disk()))
+}
+
+/// How many outcomes are in the log that a disk has open.
+fn outcomes_on(alloc: Global, disk: MemoryDisk) -> Result<u32, Fail> {
+    let limits = Limits::new(8, 8, 8).ok_or("limits")?;
+    let ledger = open_disk(alloc, disk, limits)?;
     let logs = ledger.book().open_lines(alloc)?;
-    Ok((cause, logs.first().map_or(0, |log| log.count)))
+    Ok(logs.first().map_or(0, |log| log.count))
 }
 
 // There may be no room for the first append, for the second, or for the goodbye after them.
@@ -124,7 +129,8 @@ fn run_kept<R: Threads + Wait + Sync>(
 fn what_a_crew_answers_is_found_again(rt: HostRuntime) -> Result<(), Fail> {
     let mut met = [false; 4];
     for size in 48..192usize {
-        let case = match run_kept(&rt, rt.alloc(), size)? {
+        let (cause, disk) = run_over_disk(&rt, rt.alloc(), size)?;
+        let case = match (cause, outcomes_on(rt.alloc(), disk)?) {
             (Some(NO_ROOM), 0) => 0usize,
             (Some(NO_ROOM), 1) => 1,
             (Some(NO_ROOM), 2) => 2,
@@ -139,37 +145,17 @@ fn what_a_crew_answers_is_found_again(rt: HostRuntime) -> Result<(), Fail> {
     Ok(())
 }
 
-/// The disk of a ledger over a new disk of 192 bytes, over which a crew took two appends.
-fn run_over_disk<R: Threads + Wait + Sync>(rt: &R, alloc: Global) -> Result<MemoryDisk, Fail> {
-    let limits = Limits::new(8, 8, 8).ok_or("limits")?;
-    let disk = MemoryDisk::new(alloc, vec![in alloc; 0; 192]?);
-    let ledger = open_disk(alloc, disk, limits)?;
-    if !ledger.is_settled() || ledger.base() > 0 || ledger.book().sealed() > 1_000 {
-        return Err(Fail::from("not new"));
-    }
-    ledgers_have_one_history();
-    ledgers_have_earlier_histories();
-    let keeper = KeptBook::new(alloc, ledger);
-    let (cause, left) = run_keeper(rt, alloc, keeper)?;
-    if cause.is_some() {
-        return Err(Fail::from("a fault"));
-    }
-    Ok(left.into_ledger().into_disk())
-}
-
 /// How many outcomes are in the log that these bytes leave open.
 fn outcomes_left(alloc: Global, bytes: Vec<u8>) -> Result<u32, Fail> {
-    let limits = Limits::new(8, 8, 8).ok_or("limits")?;
-    let ledger = open_disk(alloc, MemoryDisk::new(alloc, bytes), limits)?;
-    let logs = ledger.book().open_lines(alloc)?;
-    Ok(logs.first().map_or(0, |log| log.count))
+    outcomes_on(alloc, MemoryDisk::new(alloc, bytes))
 }
 
 // At each moment of a run a crash leaves the first of the requests, and never fewer later on.
 #[test]
 fn crash_leaves_the_first_of_what_a_crew_took(rt: HostRuntime) -> Result<(), Fail> {
     let alloc = rt.alloc();
-    let disk = run_over_disk(&rt, alloc)?;
+    let (cause, disk) = run_over_disk(&rt, alloc, 192)?;
+    same(&rt, cause, None);
     let mut met = [false; 3];
     for lost in [0u64, u64::MAX, 0x5555_5555_5555_5555] {
         let mut before = 0u32;

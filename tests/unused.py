@@ -13,7 +13,7 @@ from running import ROOT, Checks  # noqa: E402
 IMPORT = re.compile(r"^\s*(?:ghost )?(?:pub )?use ([\w.:-]+?)[.:]+\{([^}]*)\}", re.M)
 WHOLE_IMPORT = re.compile(r"^\s*(?:ghost )?(?:pub )?use .*$", re.M)
 COMMENT = re.compile(r"^\s*(?:--|//).*$|\s-- (?=[^\"]*$).*$", re.M)
-PATH = re.compile(r"crate::(specs|proofs)::([\w:]+)::([^\s:,()]+)")
+PATH = re.compile(r"\b(\w+)::(specs|proofs)::([\w:]+)::([^\s:,()]+)")
 HEAD = re.compile(r"^(?:(?:abbrev|unfoldable|opaque|pub|record|data|mutual|ruleset) )*([^\s(){}\[\];:,]+)")
 WORD = re.compile(r"[^\s(){}\[\],;.λ\"]+")
 NOT_CITED = {"Lib", "Answers", "Invariants", "Dates"}
@@ -59,8 +59,9 @@ def used_from_elsewhere(file: Path, text: str) -> set:
     for module, names in IMPORT.findall(text):
         found |= {(module, name) for name in re.split(r"[,\s]+", names) if name in words}
     crate = file.relative_to(ROOT / "crates").parts[0]
-    for room, way, name in PATH.findall(text):
-        found.add((".".join(["Rattle", crate, room, *way.split("::")]), name))
+    for home, room, way, name in PATH.findall(text):
+        home = crate if home == "crate" else home
+        found.add((".".join(["Rattle", home, room, *way.split("::")]), name))
     return found
 
 

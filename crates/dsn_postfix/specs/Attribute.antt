@@ -4,21 +4,12 @@ use Rattle.std.specs.Option.{option_map}
 use Rattle.std.specs.List.{AllByRecursion, flat_map, list_all}
 use Rattle.std.specs.Cmp.Lexicographic.{pointwise}
 use Rattle.std.specs.Str.Parse.{digits_value}
+use Rattle.dsn_postfix_files.specs.ZeroFree.{IsZeroFree}
 
 -- a name and its value
 pub record Attribute : Type 0 where
   pub name : List ℕ
   pub value : List ℕ
-
--- no byte of a text is 0, which ends it
-abbrev pub is_not_zero : ℕ → Bool
-is_not_zero byte = not (byte == 0)
-
-abbrev pub is_zero_free : List ℕ → Bool
-is_zero_free = list_all is_not_zero
-
-abbrev pub IsZeroFree : List ℕ → Type 0
-IsZeroFree text = IsTrue (is_zero_free text)
 
 -- what an attribute can be: an empty name ends a list
 pub record IsAttribute (attribute : Attribute) : Type 0 where

@@ -1,7 +1,8 @@
 -- What Postfix's programs ask of bounce(8), and the attributes that ask it, for each version whose layouts are known.
 use Rattle.std.specs.Prelude.{◌≡◌, ℕ, ◌<◌, List, [], ◌∷◌, ◌++◌, codes}
 use Rattle.dsn_text.specs.Text.{IsQueueId}
-use Rattle.dsn_postfix.specs.Attribute.{Attribute, IsZeroFree, list_bytes, number_attribute, number_limit, offset_limit, text_attribute}
+use Rattle.dsn_postfix.specs.Attribute.{Attribute, list_bytes, number_attribute, number_limit, offset_limit, text_attribute}
+use Rattle.dsn_postfix_files.specs.ZeroFree.{IsZeroFree}
 use Rattle.dsn_postfix.specs.AttributeValues.{AreDelimiters, IsQueueName}
 use Rattle.dsn_postfix.specs.declared.postfix_version.PostfixVersion.{PostfixVersion}
 use Rattle.dsn_postfix.specs.declared.postfix_version.PostfixVersion.TheVariants.{V3_7}

@@ -1,7 +1,9 @@
 //! The texts that attributes have as values: any, the name of a queue, and delimiters.
 ghost use Rattle.std.specs.Prelude.{◌≡◌, ◌↔◌, ◌+◌, ◌<◌, drop, length, IsSome, IfSome, MatchOption};
-ghost use Rattle.dsn_postfix.specs.Attribute.{IsZeroFree, is_zero_free, zero_ended_at};
+ghost use Rattle.dsn_postfix.specs.Attribute.{zero_ended_at};
+ghost use Rattle.dsn_postfix_files.specs.ZeroFree.{IsZeroFree, is_zero_free};
 
+use dsn_postfix_files::is_zero_free;
 use memchr::memchr;
 use std::marker::Model;
 
@@ -13,7 +15,7 @@ pub struct AttributeText<'a> {
 
 impl<'a> Model for AttributeText<'a> {
     ghost use Rattle.std.specs.Prelude.{ℕ, List};
-    ghost use Rattle.dsn_postfix.specs.Attribute.{IsZeroFree};
+    ghost use Rattle.dsn_postfix_files.specs.ZeroFree.{IsZeroFree};
 
     ghost Value = { List ℕ };
 
@@ -55,15 +57,4 @@ impl<'a> AttributeText<'a> {
     {
         self.bytes
     }
-}
-
-/// Whether no byte is zero.
-pub(crate) fn is_zero_free(bytes: &[u8]) -> bool
-    ensures { result ≡ is_zero_free bytes.now }
-{
-    let mut all = true;
-    for byte in bytes {
-        all &= *byte != 0;
-    }
-    all
 }

@@ -1,7 +1,9 @@
 //! The notices that a request has of a log and a queue file.
 use dsn_postfix::{
-    MessageFacts, PlannedNotice, PostfixVersion, QueueReader, QueuedRecipient, ReturnedPart,
-    decode_postfix_request, header_of_message, plan_notices, text_of_message,
+    PlannedNotice, PostfixVersion, ReturnedPart, decode_postfix_request, plan_notices,
+};
+use dsn_postfix_files::{
+    MessageFacts, QueueReader, QueuedRecipient, header_of_message, text_of_message,
 };
 use dsn_text::Service;
 

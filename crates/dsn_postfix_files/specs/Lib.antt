@@ -1,0 +1,13 @@
+pub mod LogEntry
+pub mod LogFile
+pub mod LogLine
+pub mod LogParts
+pub mod LogRecord
+pub mod MessageFacts
+pub mod MessageHeader
+pub mod MessageText
+pub mod QueueListing
+pub mod QueueRecipients
+pub mod QueueRecord
+pub mod QueueWalk
+pub mod ZeroFree

@@ -124,9 +124,10 @@ def read_damaged(checks: Checks, name: str, kind: str, file: bytes, rand: random
 def main():
     checks = Checks("files of Postfix: its logs are written again as they were, its queue files read as postcat reads them")
     logs = [(it.name, it.name.partition("-")[0], it) for it in sorted(FILES.iterdir()) if re.match(r"(bounce|defer|trace)-[a-z-]+$", it.name) and not it.suffix]
-    more = [(f"{room.name}, {kind}", kind, room / kind) for room in sorted((FILES / "files").iterdir()) for kind in SERVICES if (room / kind).exists()]
-    queues = sorted([*FILES.glob("queue-*.records"), *FILES.glob("files/*/queue.records")])
-    checks.true(f"there are many logs and queue files: {len(logs) + len(more)}, {len(queues)}", len(logs) >= 5 and len(more) >= 40 and len(queues) >= 44)
+    rooms = [it for folder in ("files", "3.10") for it in sorted((FILES / folder).iterdir()) if it.is_dir()]
+    more = [(f"{room.parent.name}/{room.name}, {kind}", kind, room / kind) for room in rooms for kind in SERVICES if (room / kind).exists()]
+    queues = sorted([*FILES.glob("queue-*.records"), *(room / "queue.records" for room in rooms)])
+    checks.true(f"there are many logs and queue files: {len(logs) + len(more)}, {len(queues)}", len(logs) >= 5 and len(more) >= 44 and len(queues) >= 46)
     for name, kind, path in logs:
         read_log(checks, name, kind, path.read_bytes(), without_end_spaces(path.read_bytes()), True)
     for name, kind, path in more:

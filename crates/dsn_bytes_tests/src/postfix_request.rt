@@ -1,8 +1,10 @@
-//! Requests that programs of Postfix 3.7.11 sent (tests/postfix/) are decoded, and written again as they were.
+//! Requests that programs of Postfix 3.7.11 and 3.10.13 sent (tests/postfix/) are decoded, and written again as they were.
 use crate::assert_same::same;
 use dsn_postfix::{
     PostfixRequest, PostfixVersion, RequestFault, decode_postfix_request, encode_postfix_request,
 };
+use std::alloc::AllocGlobal;
+use std::process::Abort;
 use std::test::Fail;
 
 /// `append-bounce.bin`.
@@ -61,6 +63,42 @@ pub(crate) const VERP: &[u8] =
 pub(crate) const TRACE: &[u8] =
     b"nrequest\05\0flags\00\0queue_name\0active\0queue_id\06E0BEA7E6B1\0encoding\0\0smtputf8\00\0sender\0ann@example.com\0envelope_id\0\0ret_flags\01\0\0";
 
+/// `3.10/append-bounce.bin`.
+const NEWER_APPEND: &[u8] =
+    b"nrequest\00\0flags\00\0queue_id\0B4882A7C1BF\0original_recipient\0no.bob@example.org\0recipient\0no.bob@example.org\0offset\0725\0dsn_orig_rcpt\0rfc822;bob@example.org\0notify_flags\012\0status\05.1.1\0diag_type\0smtp\0diag_text\0550 5.1.1 <no.bob>: no such user here\0mta_type\0dns\0mta_mname\0127.0.0.1\0action\0failed\0reason\0host 127.0.0.1[127.0.0.1] said: 550 5.1.1 <no.bob>: no such user here (in reply to RCPT TO command)\0\0";
+
+/// `3.10/flush-bounce.bin`.
+const NEWER_FLUSH: &[u8] =
+    b"nrequest\01\0flags\00\0queue_name\0active\0queue_id\0B4882A7C1BF\0encoding\0\0sendopts\00\0sender\0ann@example.com\0envelope_id\0QQ310\0ret_flags\02\0\0";
+
+/// `3.10/flush-null.bin`.
+const NEWER_NULL: &[u8] =
+    b"nrequest\01\0flags\00\0queue_name\0active\0queue_id\0B5624A7C1C0\0encoding\0\0sendopts\00\0sender\0\0envelope_id\0\0ret_flags\00\0\0";
+
+/// `3.10/flush-utf8.bin`.
+const NEWER_UTF8: &[u8] =
+    b"nrequest\01\0flags\00\0queue_name\0active\0queue_id\0B5F9DA7C1C1\0encoding\08bit\0sendopts\07\0sender\0\xc3\xa4nn@example.com\0envelope_id\0\0ret_flags\00\0\0";
+
+/// `3.10/flush-tls.bin`.
+const NEWER_TLS: &[u8] =
+    b"nrequest\01\0flags\00\0queue_name\0active\0queue_id\0B681CA7C1C2\0encoding\0\0sendopts\016\0sender\0ann@example.com\0envelope_id\0\0ret_flags\00\0\0";
+
+/// `3.10/flush-defer.bin`.
+const NEWER_DEFER: &[u8] =
+    b"nrequest\01\0flags\02\0queue_name\0active\0queue_id\0B83CDA7C1C5\0encoding\0\0sendopts\00\0sender\0ann@example.com\0envelope_id\0\0ret_flags\00\0\0";
+
+/// `3.10/warn.bin`.
+const NEWER_WARN: &[u8] =
+    b"nrequest\02\0flags\00\0queue_name\0active\0queue_id\0B83CDA7C1C5\0encoding\0\0sendopts\00\0sender\0ann@example.com\0envelope_id\0\0ret_flags\00\0\0";
+
+/// `3.10/verp.bin`.
+const NEWER_VERP: &[u8] =
+    b"nrequest\03\0flags\00\0queue_name\0active\0queue_id\0B71A4A7C1C3\0encoding\0\0sendopts\00\0sender\0list@example.com\0envelope_id\0\0ret_flags\00\0verp_delimiters\0+=\0\0";
+
+/// `3.10/trace.bin`.
+const NEWER_TRACE: &[u8] =
+    b"nrequest\05\0flags\00\0queue_name\0active\0queue_id\0B7B42A7C1C4\0encoding\0\0sendopts\00\0sender\0ann@example.com\0envelope_id\0\0ret_flags\01\0\0";
+
 /// What is asked, as a word.
 fn asked(request: &PostfixRequest<'_>) -> &'static str {
     match request {
@@ -91,12 +129,72 @@ fn what_postfix_sent_is_read_and_written_again(rt: HostRuntime) -> Result<(), Fa
         (VERP, "verp"),
         (TRACE, "trace"),
     ] {
-        let request = decode_postfix_request(PostfixVersion::V3_7, bytes).map_err(|_| "a request")?;
-        same(&rt, asked(&request), want);
-        let written = encode_postfix_request(rt.alloc(), PostfixVersion::V3_7, &request).map_err(
-            |_| "memory",
-        )?;
-        same(&rt, written.as_slice(), bytes);
+        is_as_sent(&rt, PostfixVersion::V3_7, bytes, want)?;
+    }
+    Ok(())
+}
+
+/// A request of a version asks this, and is written again as it was sent.
+fn is_as_sent(
+    rt: &(impl Abort + AllocGlobal),
+    version: PostfixVersion,
+    bytes: &[u8],
+    want: &str,
+) -> Result<(), Fail> {
+    let request = decode_postfix_request(version, bytes).map_err(|_| "a request")?;
+    same(rt, asked(&request), want);
+    let written = encode_postfix_request(rt.alloc(), version, &request).map_err(|_| "memory")?;
+    same(rt, written.as_slice(), bytes);
+    Ok(())
+}
+
+#[test]
+fn what_a_newer_postfix_sent_is_read_and_written_again(rt: HostRuntime) -> Result<(), Fail> {
+    for (bytes, want) in [
+        (NEWER_APPEND, "append"),
+        (NEWER_FLUSH, "flush"),
+        (NEWER_NULL, "flush"),
+        (NEWER_UTF8, "flush"),
+        (NEWER_TLS, "flush"),
+        (NEWER_DEFER, "flush"),
+        (NEWER_WARN, "warn"),
+        (NEWER_VERP, "verp"),
+        (NEWER_TRACE, "trace"),
+    ] {
+        is_as_sent(&rt, PostfixVersion::V3_10, bytes, want)?;
+    }
+    Ok(())
+}
+
+/// The versions that name the fifth attribute of a notice `smtputf8`.
+const OLDER: [PostfixVersion; 4] = [
+    PostfixVersion::V3_6,
+    PostfixVersion::V3_7,
+    PostfixVersion::V3_8,
+    PostfixVersion::V3_9,
+];
+
+#[test]
+fn a_notice_is_read_in_the_layout_of_its_version(rt: HostRuntime) -> Result<(), Fail> {
+    for version in OLDER {
+        is_as_sent(&rt, version, VERP, "verp")?;
+        is_as_sent(&rt, version, NEWER_APPEND, "append")?;
+        let newer = decode_postfix_request(version, NEWER_VERP).err();
+        same(&rt, newer, Some(RequestFault::Name));
+    }
+    is_as_sent(&rt, PostfixVersion::V3_10, APPEND_BOUNCE, "append")?;
+    let older = decode_postfix_request(PostfixVersion::V3_10, VERP).err();
+    same(&rt, older, Some(RequestFault::Name));
+    Ok(())
+}
+
+#[test]
+fn what_a_message_needs_is_told(rt: HostRuntime) -> Result<(), Fail> {
+    for (bytes, want) in [(NEWER_FLUSH, 0), (NEWER_UTF8, 7), (NEWER_TLS, 16)] {
+        match decode_postfix_request(PostfixVersion::V3_10, bytes) {
+            Ok(PostfixRequest::Flush(notice)) => same(&rt, notice.send_options, want),
+            _ => return Err("a request for a notice".into()),
+        }
     }
     Ok(())
 }

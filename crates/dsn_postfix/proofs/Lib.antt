@@ -5,6 +5,7 @@ mod RecipientSetLemmas
 mod RequestExamples
 mod ToldLemmas
 mod VerpPathExamples
+mod VersionExamples
 pub mod AttributeLaws
 pub mod AttributeLemmas
 pub mod FieldReadings

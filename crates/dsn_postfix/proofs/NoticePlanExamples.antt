@@ -21,12 +21,12 @@ use Rattle.dsn_postfix.specs.declared.returned_part.ReturnedPart.{ReturnedPart}
 use Rattle.dsn_postfix.specs.declared.returned_part.ReturnedPart.TheVariants.{Header, Whole}
 
 abbrev notice_with : List ℕ → ℕ → ℕ → NoticeRequest
-notice_with sender smtputf8 returns = record {
+notice_with sender send_options returns = record {
   flags = 0;
   queue_name = codes "deferred";
   queue_id = codes "334A2A7C7AF";
   encoding = codes "7bit";
-  smtputf8 = smtputf8;
+  send_options = send_options;
   sender = sender;
   envelope_id = codes "QQ314159";
   returns = returns;
@@ -228,6 +228,11 @@ of_utf8_header = refl
 of_smtputf8 : notices_of double_bounce Bounce (Flush (notice_with sender 1 0)) [] None ≡ Err NeedsSmtputf8
 unfolding notices_of
 of_smtputf8 = refl
+
+-- nor does `TLS-Required: no`
+of_tls_required : notices_of double_bounce Defer (Warn (notice_with sender 16 0)) [] None ≡ Ok []
+unfolding notices_of
+of_tls_required = refl
 
 -- a request about one recipient tells of it, whatever the log
 abbrev reported_as : List ℕ → ReportedRecipient

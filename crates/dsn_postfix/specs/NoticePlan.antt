@@ -210,7 +210,7 @@ abbrev pub notices_asked : List ℕ → Service → PostfixRequest → List Reci
 notices_asked double_bounce service request queued log None = Ok []
 notices_asked double_bounce service request queued log (Some notice) =
     if is_no_sender double_bounce notice.sender then Ok []
-    else (if asks_smtputf8 notice.smtputf8 then Err NeedsSmtputf8
+    else (if asks_smtputf8 notice.send_options then Err NeedsSmtputf8
     else notices_with service request notice queued (records_asked service request log))
 
 -- what a request for notices says, if it is one

@@ -5,7 +5,7 @@ use Rattle.dsn_postfix.specs.Attribute.{Attribute, list_bytes, number_attribute,
 use Rattle.dsn_postfix_files.specs.ZeroFree.{IsZeroFree}
 use Rattle.dsn_postfix.specs.AttributeValues.{AreDelimiters, IsQueueName}
 use Rattle.dsn_postfix.specs.declared.postfix_version.PostfixVersion.{PostfixVersion}
-use Rattle.dsn_postfix.specs.declared.postfix_version.PostfixVersion.TheVariants.{V3_7}
+use Rattle.dsn_postfix.specs.declared.postfix_version.PostfixVersion.TheVariants.{V3_6, V3_7, V3_8, V3_9, V3_10}
 use Rattle.dsn_postfix.specs.declared.postfix_request.AppendRequest.{AppendRequest}
 use Rattle.dsn_postfix.specs.declared.postfix_request.DeliveryReport.{DeliveryReport}
 use Rattle.dsn_postfix.specs.declared.postfix_request.NoticeRequest.{NoticeRequest}
@@ -15,9 +15,14 @@ use Rattle.dsn_postfix.specs.declared.postfix_request.ReportedRecipient.{Reporte
 
 -- ---- the table of layouts
 
--- the name of the attribute that says whether a message needs SMTPUTF8
-abbrev pub smtputf8_name : PostfixVersion → List ℕ
-smtputf8_name V3_7 = codes "smtputf8"
+-- the name of the attribute that says what a message needs of those who pass it on: all else is the same in
+-- each version
+abbrev pub send_options_name : PostfixVersion → List ℕ
+send_options_name V3_6 = codes "smtputf8"
+send_options_name V3_7 = codes "smtputf8"
+send_options_name V3_8 = codes "smtputf8"
+send_options_name V3_9 = codes "smtputf8"
+send_options_name V3_10 = codes "sendopts"
 
 abbrev pub recipient_attributes : ReportedRecipient → List Attribute
 recipient_attributes recipient =
@@ -51,7 +56,7 @@ notice_attributes version request =
     ∷ text_attribute (codes "queue_name") request.queue_name
     ∷ text_attribute (codes "queue_id") request.queue_id
     ∷ text_attribute (codes "encoding") request.encoding
-    ∷ number_attribute (smtputf8_name version) request.smtputf8
+    ∷ number_attribute (send_options_name version) request.send_options
     ∷ text_attribute (codes "sender") request.sender
     ∷ text_attribute (codes "envelope_id") request.envelope_id
     ∷ number_attribute (codes "ret_flags") request.returns
@@ -114,7 +119,7 @@ pub record FitsNotice (request : NoticeRequest) : Type 0 where
   pub queue_name : IsQueueName request.queue_name
   pub queue_id : IsQueueId request.queue_id
   pub encoding : IsZeroFree request.encoding
-  pub smtputf8 : request.smtputf8 < number_limit
+  pub send_options : request.send_options < number_limit
   pub sender : IsZeroFree request.sender
   pub envelope_id : IsZeroFree request.envelope_id
   pub returns : request.returns < number_limit

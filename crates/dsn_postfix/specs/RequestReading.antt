@@ -4,7 +4,7 @@ use Rattle.std.specs.Cmp.Lexicographic.{pointwise}
 use Rattle.dsn_text.specs.Text.{is_queue_id}
 use Rattle.dsn_postfix.specs.Attribute.{number_in, number_limit, offset_limit, zero_ended_at}
 use Rattle.dsn_postfix.specs.AttributeValues.{are_delimiters, is_queue_name}
-use Rattle.dsn_postfix.specs.PostfixRequest.{smtputf8_name}
+use Rattle.dsn_postfix.specs.PostfixRequest.{send_options_name}
 use Rattle.dsn_postfix.specs.declared.postfix_version.PostfixVersion.{PostfixVersion}
 use Rattle.dsn_postfix.specs.declared.postfix_request.AppendRequest.{AppendRequest}
 use Rattle.dsn_postfix.specs.declared.postfix_request.DeliveryReport.{DeliveryReport}
@@ -100,11 +100,11 @@ notice_request_at version bytes =
     tested_at is_queue_name QueueName (codes "queue_name") flags.1 >>> λ queue.
     tested_at is_queue_id QueueId (codes "queue_id") queue.1 >>> λ id.
     attribute_at (codes "encoding") id.1 >>> λ encoding.
-    value_number_at number_limit (smtputf8_name version) encoding.1 >>> λ smtputf8.
-    attribute_at (codes "sender") smtputf8.1 >>> λ sender.
+    value_number_at number_limit (send_options_name version) encoding.1 >>> λ send_options.
+    attribute_at (codes "sender") send_options.1 >>> λ sender.
     attribute_at (codes "envelope_id") sender.1 >>> λ envelope_id.
     value_number_at number_limit (codes "ret_flags") envelope_id.1 >>> λ returns.
-    Ok (record { flags = flags.0; queue_name = queue.0; queue_id = id.0; encoding = encoding.0; smtputf8 = smtputf8.0; sender = sender.0; envelope_id = envelope_id.0; returns = returns.0 }, returns.1)
+    Ok (record { flags = flags.0; queue_name = queue.0; queue_id = id.0; encoding = encoding.0; send_options = send_options.0; sender = sender.0; envelope_id = envelope_id.0; returns = returns.0 }, returns.1)
 
 -- ---- a whole request
 

@@ -9,7 +9,7 @@ use crate::postfix_request::{
     AppendRequest, DeliveryReport, NoticeRequest, PostfixRequest, ReportedRecipient,
 };
 use crate::postfix_version::PostfixVersion;
-use crate::request_reading::smtputf8_name;
+use crate::request_reading::send_options_name;
 use dsn_text::NoMemory;
 use std::alloc::Global;
 
@@ -97,7 +97,7 @@ fn push_notice(
     push_text(out, b"queue_name", request.queue_name.bytes())?;
     push_text(out, b"queue_id", request.queue_id.bytes())?;
     push_text(out, b"encoding", request.encoding.bytes())?;
-    push_number(out, smtputf8_name(version), request.smtputf8 as u64)?;
+    push_number(out, send_options_name(version), request.send_options as u64)?;
     push_text(out, b"sender", request.sender.bytes())?;
     push_text(out, b"envelope_id", request.envelope_id.bytes())?;
     push_number(out, b"ret_flags", request.returns as u64)

@@ -224,7 +224,7 @@ pub fn plan_notices<'a>(
     if is_no_sender(double_bounce, notice.sender.bytes()) {
         return Ok(Vec::new(alloc));
     }
-    if notice.smtputf8 % 2 == 1 {
+    if notice.send_options % 2 == 1 {
         return Err(PlanFault::Unsaid(CantSay::NeedsSmtputf8));
     }
     let records = records_asked(alloc, service, request, log)?;

@@ -1,6 +1,6 @@
 //! The attributes of requests, read one after another in the order that their layouts have.
 ghost use Rattle.std.specs.Prelude.{◌≡◌, IfOk, IfErr};
-ghost use Rattle.dsn_postfix.specs.PostfixRequest.{smtputf8_name};
+ghost use Rattle.dsn_postfix.specs.PostfixRequest.{send_options_name};
 ghost use Rattle.dsn_postfix.specs.RequestReading.{append_request_at, notice_request_at, own_request_at, recipient_at, report_at, verp_at, one_at};
 
 use crate::attribute_reader::AttributeReader;
@@ -10,12 +10,14 @@ use crate::postfix_request::{
 use crate::postfix_version::PostfixVersion;
 use crate::request_fault::RequestFault;
 
-/// The name of the attribute that says whether a message needs SMTPUTF8.
-pub(crate) fn smtputf8_name(version: PostfixVersion) -> &'static [u8]
-    ensures { result.now ≡ smtputf8_name version }
+/// The name of the attribute that says what a message needs of those who pass it on.
+pub(crate) fn send_options_name(version: PostfixVersion) -> &'static [u8]
+    ensures { result.now ≡ send_options_name version }
 {
     match version {
-        PostfixVersion::V3_7 => b"smtputf8",
+        PostfixVersion::V3_6 | PostfixVersion::V3_7 | PostfixVersion::V3_8 | PostfixVersion::V3_9 =>
+            b"smtputf8",
+        PostfixVersion::V3_10 => b"sendopts",
     }
 }
 
@@ -96,7 +98,7 @@ fn notice_of<'a>(
     let queue_name = reader.queue_name()?;
     let queue_id = reader.queue_id()?;
     let encoding = reader.text(b"encoding")?;
-    let smtputf8 = reader.number(smtputf8_name(version))?;
+    let send_options = reader.number(send_options_name(version))?;
     let sender = reader.text(b"sender")?;
     let envelope_id = reader.text(b"envelope_id")?;
     let returns = reader.number(b"ret_flags")?;
@@ -105,7 +107,7 @@ fn notice_of<'a>(
         queue_name,
         queue_id,
         encoding,
-        smtputf8,
+        send_options,
         sender,
         envelope_id,
         returns,

@@ -11,6 +11,7 @@ NOTICED := crates/noticed/out/noticed
 PROBE   := crates/probe/out/probe
 SOURCES := $(shell find crates -name out -prune -o -type f -print)
 EXAMPLE := examples/one-bounce
+FLAGS   := $(if $(ANEW),--anew) $(if $(RECORD),--record)
 
 SHELL := /bin/sh
 .SHELLFLAGS := -euc
@@ -52,11 +53,12 @@ demo: $(NOTICED)
 try:
 	@RT="$(RT)" python3 tests/support/trial.py
 
-# The gate: every proof from nothing, the wrong edits, then the scripts of tests/ on the programs that it built. The last
-# line is 'N passed, M failed'.
+# The gate: every proof from nothing, the wrong edits that the record hasn't and a sample of those that it has, then the scripts of
+# tests/ on the programs that it built. ANEW=1 proves and tries all, RECORD=1 writes the record. The last line is
+# 'N passed, M failed'.
 check:
 	@command -v python3 > /dev/null || { echo "make check needs python3"; echo "0 passed, 1 failed"; exit 1; }
-	RT="$(RT)" exec python3 tests/support/gate.py
+	RT="$(RT)" exec python3 tests/support/gate.py $(FLAGS)
 
 # Boots a systemd of its own with the installed units, as root; not part of `make check`. Debian's base system, which the first
 # run makes, stays in BOOT.
@@ -76,9 +78,10 @@ edits:
 	@PYTHONDONTWRITEBYTECODE=1 python3 tests/support/wrong_edits.py
 
 # Tries the wrong edits of the crates that CRATES names, or of all, with their controls, and says which clause refuses
-# each, and which refusals are weak; over what `rt all check` proved here before.
+# each, and which refusals are weak; over what `rt all check` proved here before. What tests/support/edits_tried.txt has is taken
+# from there, but for a sample: ANEW=1 tries all. RECORD=1 writes that file.
 refused:
-	@RT="$(RT)" PYTHONDONTWRITEBYTECODE=1 python3 tests/support/refused.py $(CRATES)
+	@RT="$(RT)" PYTHONDONTWRITEBYTECODE=1 python3 tests/support/refused.py $(FLAGS) $(CRATES)
 
 # Measures the program on workloads made from a seed, crews in memory, and the daemon over sockets; not part of
 # `make check`.

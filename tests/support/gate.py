@@ -5,8 +5,9 @@ tests/support/refused.py tries the wrong edits over the libraries that `rt ci` b
 and the status is 1 where anything failed.
 
 It works in a copy of the repository, so that `rt ci` leaves alone the edits, which refused.py tries in fewer checks, and
-so that what was proved here before is neither used nor lost. What earlier gates on this machine proved and tried of the same
-texts both take from there; with `--anew` all is proved and tried. Logs go to out/, programs to crates/*/out/."""
+so that what was proved here before is neither used nor lost. What the repository's record has of the wrong edits isn't tried, but
+for a sample; what earlier gates on this machine proved and tried of the same texts is taken from there. With `--anew` all is
+proved and tried; with `--record` the record is written. Logs go to out/, programs to crates/*/out/."""
 import os
 import re
 import shutil
@@ -101,13 +102,14 @@ def run_scripts(verdict: Verdict):
     verdict.failed += len(failed)
 
 
-def prove_run_and_refuse(place: Path, anew: list, verdict: Verdict):
+def prove_run_and_refuse(place: Path, verdict: Verdict):
     """Proves a copy of the repository, and runs the scripts on its programs where all was proved; tries the wrong edits beside both."""
     room, edits, log = place / "repository", place / "edits", ROOT / "out/gate.log"
+    anew, record = ([it for it in sys.argv[1:] if it == flag] for flag in ("--anew", "--record"))
     copied(room)
     edits.mkdir()
     proving = Part("proving every crate and its tests from nothing, rt ci", [RT, "ci", *anew], room, log)
-    words = ["nice", "-n", "19", sys.executable, "tests/support/refused.py", "--beside", room, log, *anew]
+    words = ["nice", "-n", "19", sys.executable, "tests/support/refused.py", "--beside", room, log, *anew, *record]
     refusing = Part("trying the wrong edits beside it", words, ROOT, ROOT / "out/refused.log", TMPDIR=str(edits))
     try:
         verdict.count(*proving.ends())
@@ -130,7 +132,7 @@ def main() -> int:
         verdict.failed = 1
         return verdict.ends()
     with tempfile.TemporaryDirectory(prefix="noticed-gate-", ignore_cleanup_errors=True) as name:
-        prove_run_and_refuse(Path(name), [it for it in sys.argv[1:] if it == "--anew"], verdict)
+        prove_run_and_refuse(Path(name), verdict)
     return verdict.ends()
 
 

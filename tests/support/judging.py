@@ -20,10 +20,10 @@ from pathlib import Path
 sys.path.insert(0, str(Path(__file__).parent))
 import keeping  # noqa: E402
 import kit  # noqa: E402
+import recording  # noqa: E402
 from wrong_edits import item_with  # noqa: E402
 from running import ROOT  # noqa: E402
 
-PARTS = ("src", "specs", "proofs")
 # Modules of worked examples: theorems that say what a definition comes to, in which a wrong definition is a wrong value.
 EXAMPLES = re.compile(r"(?:^|/)(?:\w*Examples|Dates)$")
 
@@ -100,6 +100,12 @@ class Verdict:
         """Whether it is what must come of the edit."""
         return self.is_accepted if edit.is_control else self.is_refused
 
+    @property
+    def came_of_it(self) -> tuple:
+        """What came of the edit, as the record has it: whether it was refused or accepted, or neither; the clauses and the proofs."""
+        came = "refused" if self.is_refused else "accepted" if self.is_accepted else "neither"
+        return came, sorted(self.clauses), sorted(self.proofs)
+
     def why(self) -> str:
         """What refuses the edit, in a few words, or why it isn't one."""
         return self.unread or ", ".join([*sorted(self.clauses), *sorted(self.proofs)][:4])
@@ -140,6 +146,11 @@ def groups_of(edits: list) -> list:
     return groups
 
 
+def described(crate: str, group: list) -> tuple:
+    """What a group's check makes of the crate's texts, and where it looks first: its edits, with the functions that they change."""
+    return [(it.name, it.is_control, it.changes, it.items) for it in group], nearby(crate, group[0])
+
+
 def nearby(crate: str, edit: Edit) -> list:
     """Where a refusal of an edit that changes no function's body is looked for first: the laws of its folder and of its crate, or nowhere."""
     if edit.is_control or edit.functions:
@@ -164,26 +175,61 @@ def copied(folder: Path, to: Path):
 
 
 class Trial:
-    """The edits of a crate: its checks, and what came of each edit so far. A check is a call that gives further ones. The first,
-    `begin`, takes what earlier runs kept, and proves the crate as it stands where something is left to try; each of the others
-    begins with a copy of what that one kept."""
+    """The edits of a crate: its checks, and what came of each edit so far. What stands in the record is taken first; `left` are the
+    groups that aren't, or that are tried once more. A check is a call that gives further ones. The first, `begin`, takes what
+    earlier runs kept, and proves the crate as it stands where something is left to try; each of the others begins with a copy of
+    what that one kept."""
 
-    def __init__(self, crate, place: Path, kept: keeping.Kept):
+    def __init__(self, crate, place: Path, kept: keeping.Kept, record: recording.Record):
         self.crate, self.kept = crate, kept
         self.texts, self.seed = place / f"{crate.name}-texts", place / crate.name
         self.edits = edits_of(crate.name)
         self.found, self.taken, self.seconds = {}, 0, []
         self.is_proved, self.read, self.libraries = True, "", []
+        self.sum, self.is_as_recorded = recording.sum_of_texts(crate, Path(crate.folder)), False
+        self.left, self.settled = groups_of(self.edits), []
+        self.sample, self.begun_of_sample, self.enough = [], 0, 0.0
+        self.recorded = [(it, lines) for it in self.left if (lines := record.take(crate.name, it, self.rests_on(it)))]
 
-    def begin(self) -> list:
+    def rests_on(self, group: list) -> tuple:
+        """What the record's sum of a group is of, but for what came of it."""
+        return self.sum, *described(self.crate.name, group)
+
+    def take_recorded(self, sample: list, enough: float):
+        """Takes what is recorded of each group but for these, which are tried like those that aren't recorded, as long as the checks
+        took no more than so many seconds of processor time, and one at least."""
+        self.enough, self.sample = enough, [it for it in self.recorded if it[0] in sample]
+        for group, lines in self.recorded:
+            if group not in sample:
+                self.take_lines(group, lines)
+
+    def take_lines(self, group: list, lines: list):
+        """Takes what is recorded of a group."""
+        self.left.remove(group)
+        self.found |= {edit.path: Verdict.of(it.verdict()) for it, edit in zip(lines, group)}
+
+    def lines(self) -> list:
+        """What the record is to have of these edits, as groups and their lines: those that stand there and weren't tried over what
+        they rest on, and those of the groups that this run saw settled."""
+        old = [it for it in self.recorded if it[0] not in self.left or not self.is_as_recorded]
+        return old + ([(it, self.lines_of(it)) for it in self.settled] if self.is_as_recorded else [])
+
+    def lines_of(self, group: list) -> list:
+        """The lines that the record is to have of a group, by what came of it."""
+        return recording.lines_of(self.crate.name, group, self.rests_on(group), [self.found[it.path].came_of_it for it in group])
+
+    def begin(self, libraries) -> list:
         """Takes what is kept of the edits, and proves the crate as it stands where something is left: the checks of the groups that
-        are left, those that read the most first."""
-        for part in PARTS:
+        are left, those that read the most first. What comes of them may be recorded where the libraries below were built from the
+        texts that are there, and these are still those that this run began with."""
+        for part in recording.PARTS:
             if (Path(self.crate.folder) / part).is_dir():
                 shutil.copytree(Path(self.crate.folder) / part, self.texts / part)
         self.libraries = keeping.marks_of(self.crate)
         self.read = keeping.sum_read(self.crate, self.texts)
-        groups = [it for it in groups_of(self.edits) if not self.take(it)]
+        is_same = self.sum and self.sum == recording.sum_of_texts(self.crate, self.texts)
+        self.is_as_recorded = bool(is_same) and libraries.are_of_texts(self.crate)
+        groups = [it for it in self.left if not self.take(it)]
         if groups:
             self.prove()
         return [partial(self.try_group, it) for it in sorted(groups, key=lambda it: bool(it[0].functions))]
@@ -209,7 +255,7 @@ class Trial:
 
     def name_of(self, group: list) -> str:
         """The name under which it is kept what came of a group: a sum of all that its checks read, and of what judges it."""
-        return keeping.sum_of(self.read, [(it.name, it.is_control, it.changes, it.items) for it in group], nearby(self.crate.name, group[0]))
+        return keeping.sum_of(self.read, *described(self.crate.name, group))
 
     def take(self, group: list) -> bool:
         """Takes what is kept of a group, where that settles all of it."""
@@ -218,6 +264,7 @@ class Trial:
             return False
         self.found |= {edit.path: it for it, edit in zip(found, group)}
         self.taken += len(group)
+        self.settled.append(group)
         return True
 
     def keep(self, group: list):
@@ -226,9 +273,12 @@ class Trial:
         is_sound = self.is_proved and self.libraries == keeping.marks_of(self.crate)
         if is_sound and all(it.has_ended and it.settles(edit) for it, edit in zip(found, group)):
             self.kept.keep(self.name_of(group), found)
+            self.settled.append(group)
 
     def try_group(self, group: list) -> list:
         """Tries the edits of a group in one check: the checks of those that must be tried alone."""
+        if self.leaves_out(group):
+            return []
         only = nearby(self.crate.name, group[0])
         said = self.over_seed(group, only) if only or group[0].functions else ""
         self.found |= {it.path: verdict(it, said) for it in group}
@@ -236,6 +286,16 @@ class Trial:
         if not left:
             self.keep(group)
         return [partial(self.try_alone, left, group)] if left else []
+
+    def leaves_out(self, group: list) -> bool:
+        """Whether a group of the sample isn't tried, since the checks took their time and another one of it was: what is recorded of it
+        is taken."""
+        of_sample = [it for it in self.sample if it[0] == group]
+        self.begun_of_sample += len(of_sample)
+        if not of_sample or self.begun_of_sample == 1 or sum(self.seconds) < self.enough:
+            return False
+        self.take_lines(*of_sample[0])
+        return True
 
     def is_open(self, edit: Edit) -> bool:
         """Whether what is known of an edit doesn't settle what becomes of it."""

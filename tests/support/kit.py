@@ -82,6 +82,24 @@ def identity() -> str:
     return found.hexdigest()
 
 
+@functools.lru_cache(maxsize=None)
+def line() -> str:
+    """The line that the kit says of itself, the same on every machine; empty where it says none."""
+    try:
+        ran = subprocess.run([RT, "version"], stdin=subprocess.DEVNULL, capture_output=True, text=True, errors="replace", check=False)
+    except OSError:
+        return ""
+    return ran.stdout.strip() if ran.returncode == 0 else ""
+
+
+def is_built(crate) -> bool:
+    """Whether a crate's library was built from the texts that are there now, as `rt` itself tells; not so where it doesn't."""
+    try:
+        return crate.is_built()
+    except (AttributeError, OSError):
+        return False
+
+
 def words_of(crate) -> list:
     """The words that the prover is called with for a check of a crate."""
     return crate.words(["--jobs", "1"], keeps=False)

@@ -16,13 +16,28 @@ import subprocess
 import sys
 import tempfile
 import time
+from concurrent.futures import ThreadPoolExecutor
+from dataclasses import dataclass
 from pathlib import Path
 
 sys.path.insert(0, str(Path(__file__).parent))
+from jobs import processors  # noqa: E402
 from kit import RT  # noqa: E402
 from running import ROOT  # noqa: E402
 
 PROGRAMS = {"NOTICED": "noticed", "PROBE": "probe"}
+SIDE_BY_SIDE = 3  # scripts at once, and no more than there are processors
+# Scripts of which one runs at a time, with others beside: those that listen at a port which they found to be free, and which another
+# might be given meanwhile; those that wait for seconds to pass, and are to see that nothing came too early or too late; and those
+# that keep all processors busy.
+ROWS = (
+    ("feed.py", "feed_kills.py", "feed_restarts.py", "mailers.py"),
+    ("stop.py", "idle.py"),
+    ("daemon_limits.py", "changed_bytes.py", "limits.py", "refused_bodies.py"),
+)
+# Scripts that run with no other beside: they look at what a process keeps of memory or takes of time, try as much as they can in a
+# given time, or end daemons after some moments of work.
+ALONE = ("forgetting.py", "fuzz_batch.py", "fuzz_serve.py", "journal_kills.py", "journal_stops.py", "memory.py", "postfix_notices.py")
 COUNT = re.compile(r"^(\d+) (?:passed|refused), (\d+) failed$", re.M)
 
 
@@ -89,15 +104,69 @@ def keep_programs(room: Path):
             shutil.copy2(built, ROOT / "crates" / name / "out" / name)
 
 
+@dataclass
+class Said:
+    """What a script said on both of its outputs, its status, and the seconds that it took."""
+
+    name: str
+    text: str
+    status: int
+    seconds: float
+
+
+class Scripts:
+    """The scripts of tests/ as they run, on the built programs."""
+
+    def __init__(self):
+        self.named = {word: str(ROOT / "crates" / name / "out" / name) for word, name in PROGRAMS.items()}
+        self.running, self.is_over = [], False
+
+    def run(self, row: list) -> list:
+        """Runs these scripts one after another: what each said."""
+        return [self.said(name) for name in row]
+
+    def said(self, name: str) -> Said:
+        """Runs a script."""
+        begun, words = time.monotonic(), [sys.executable, str(ROOT / "tests" / name)]
+        with tempfile.TemporaryFile() as out:
+            running = subprocess.Popen(words, cwd=ROOT, env={**os.environ, **self.named}, stdout=out, stderr=subprocess.STDOUT)
+            self.running.append(running)
+            if self.is_over:
+                running.kill()
+            status = running.wait()
+            out.seek(0)
+            return Said(name, out.read().decode(errors="replace"), status, time.monotonic() - begun)
+
+    def stop(self):
+        """Ends those that run, and lets no other one run."""
+        self.is_over = True
+        for it in [*self.running]:
+            if it.poll() is None:
+                it.kill()
+
+    def all_said(self, names: list):
+        """Runs them, and gives what each said, in an order that doesn't change: first those that others may run beside."""
+        in_rows = [[it for it in row if it in names] for row in ROWS]
+        beside = in_rows + [[it] for it in names if it not in sum(ROWS, ALONE)]
+        alone = [[it] for it in names if it in ALONE]
+        for rows, most in ((beside, min(SIDE_BY_SIDE, processors())), (alone, 1)):
+            with ThreadPoolExecutor(most) as pool:
+                try:
+                    for it in [pool.submit(self.run, row) for row in rows]:
+                        yield from it.result()
+                except BaseException:
+                    self.stop()
+                    pool.shutdown(wait=False, cancel_futures=True)
+                    raise
+
+
 def run_scripts(verdict: Verdict):
-    """Runs the scripts of tests/, names those that failed, and counts them."""
-    begun = time.monotonic()
-    named = {word: str(ROOT / "crates" / name / "out" / name) for word, name in PROGRAMS.items()}
-    failed = []
-    for script in sorted((ROOT / "tests").glob("*.py")):
-        print(f"== tests/{script.name}", flush=True)
-        if subprocess.run([sys.executable, str(script)], cwd=ROOT, env={**os.environ, **named}, check=False).returncode:
-            failed.append(script.name)
+    """Runs the scripts of tests/, several at once, shows what each said, names those that failed, and counts them."""
+    begun, failed = time.monotonic(), []
+    for it in Scripts().all_said(sorted(it.name for it in (ROOT / "tests").glob("*.py"))):
+        print(f"== tests/{it.name}: {it.seconds:.0f} seconds\n{it.text}", end="", flush=True)
+        if it.status:
+            failed.append(it.name)
     print(f"== {(time.monotonic() - begun) / 60:.0f} minutes; failed scripts: {', '.join(failed) or 'none'}", flush=True)
     verdict.failed += len(failed)
 

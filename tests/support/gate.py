@@ -21,11 +21,13 @@ from dataclasses import dataclass
 from pathlib import Path
 
 sys.path.insert(0, str(Path(__file__).parent))
-from jobs import processors  # noqa: E402
+from jobs import free, processors  # noqa: E402
 from kit import RT  # noqa: E402
 from running import ROOT  # noqa: E402
 
 PROGRAMS = {"NOTICED": "noticed", "PROBE": "probe"}
+# Where `rt ci` is told to run a proof a processor: with so few of them, and so many KiB of free memory for each.
+FEW, ROOM = 4, 5 * 1024 * 1024
 SIDE_BY_SIDE = 3  # scripts at once, and no more than there are processors
 # Scripts of which one runs at a time, with others beside: those that listen at a port which they found to be free, and which another
 # might be given meanwhile; those that wait for seconds to pass, and are to see that nothing came too early or too late; and those
@@ -93,6 +95,12 @@ class Part:
         if self.running.poll() is None:
             os.killpg(self.running.pid, signal.SIGKILL)
             self.running.wait()
+
+
+def jobs_of_proofs() -> dict:
+    """The variable that has `rt ci` run a proof a processor, whatever memory it thinks that they take, or none."""
+    many = processors()
+    return {} if "RT_JOBS" in os.environ or many > FEW or free() < many * ROOM else {"RT_JOBS": str(many)}
 
 
 def keep_programs(room: Path):
@@ -177,7 +185,7 @@ def prove_run_and_refuse(place: Path, verdict: Verdict):
     anew, record = ([it for it in sys.argv[1:] if it == flag] for flag in ("--anew", "--record"))
     copied(room)
     edits.mkdir()
-    proving = Part("proving every crate and its tests from nothing, rt ci", [RT, "ci", *anew], room, log)
+    proving = Part("proving every crate and its tests from nothing, rt ci", [RT, "ci", *anew], room, log, **jobs_of_proofs())
     words = ["nice", "-n", "19", sys.executable, "tests/support/refused.py", "--beside", room, log, *anew, *record]
     refusing = Part("trying the wrong edits beside it", words, ROOT, ROOT / "out/refused.log", TMPDIR=str(edits))
     try:

@@ -1,6 +1,6 @@
 -- Runs over a journal: a ledger that awaits nothing is one to begin with.
 use Rattle.std.proofs.Common.{◌≡◌, ◌⊎◌, inl, inr, ⊎_elim, ℕ, ◌+◌, ◌-◌, ◌^◌, ◌<◌, ◌≤◌, Bool, true, List, [], ◌∷◌, ◌++◌, length, arith, refl, sym, subst, ap, lt_of_not-le, ◌∙◌}
-use Rattle.std.specs.Prelude.{IsErrOf, Option, Some, None, Result, is_some, min}
+use Rattle.std.specs.Prelude.{Err, IsErrOf, Ok, OnOk, Option, Some, None, Result, is_some, min}
 use Rattle.std.proofs.lemmas.Bool.{false≢true}
 use Rattle.std.proofs.Math.Nat.{min-eq_left}
 use Rattle.std.proofs.lemmas.List.{append-nil}
@@ -15,24 +15,28 @@ use Rattle.dsn_journal.specs.Compacted.{compacted}
 use Rattle.dsn_journal.specs.Header.{SayHistory, StandsForFile, base_limit, with_header}
 use Rattle.dsn_journal.specs.InPlace.{AreRecordsInPlaceOf, IsLedgerInPlaceOf, ReopensTo}
 use Rattle.dsn_journal.specs.Journal.{IsSettled}
+use Rattle.dsn_journal.specs.KeepError.{settled_once_kept}
 use Rattle.dsn_journal.specs.KeptBook.{HasKept, ledger_keeper}
 use Rattle.dsn_journal.specs.Ledger.{AreKept, earlier_agent, records_of}
 use Rattle.dsn_journal.specs.OpenLedger.{AwaitsInPlaceOf, AwaitsRequests, Ledger}
 use Rattle.dsn_journal.specs.MarkedOutbox.{MarkedOutbox}
-use Rattle.dsn_journal.specs.Marks.{SayMark}
+use Rattle.dsn_journal.specs.Marks.{IsForeignToMarks, SayMark, SayNoMark}
 use Rattle.dsn_journal.specs.Posting.{AreToPost}
 use Rattle.dsn_journal.specs.Moments.{LeavesOnly}
 use Rattle.dsn_journal.specs.Opening.{IsLeftByOpening}
 use Rattle.dsn_journal.specs.Records.{StandsForSome, encoded, recovered}
 use Rattle.dsn_journal.specs.declared.disk.Disk
-use Rattle.dsn_journal.specs.declared.journal_error.JournalError.TheVariants.{Memory, Full}
+use Rattle.dsn_journal.specs.declared.journal_error.JournalError.TheVariants.{Memory, Failed, Full}
 use Rattle.dsn_journal.specs.declared.keep_error.KeepError.{KeepError}
 use Rattle.dsn_journal.specs.declared.keep_error.KeepError.TheVariants.{Unsettled, Journal}
+use Rattle.dsn_journal.specs.declared.marks_error.MarksError.{MarksError}
+use Rattle.dsn_journal.specs.declared.marks_error.MarksError.TheVariants as no_marks_for
 use Rattle.dsn_journal.proofs.KeptBooks.{has_kept, nothing_kept, some_kept}
 use Rattle.dsn_journal.proofs.LedgersInPlace.{headed}
 use Rattle.dsn_journal.proofs.Moments.{joined, started, weaker}
 use Rattle.dsn_report.specs.Outgoing.{Delivered, Outgoing}
 use Rattle.noticed_lib.specs.daemon.Journaled.{BeginsAnew, HasPostedFirst, IsNoStart, IsNoStartOverLedger, IsPostedFirst, IsStartOver, IsStartOverLedger, LeavesStart, StartsWith, WhyNoStart, marking_drain, no_outbox, not_put_away, of_journal, of_letters, of_outbox, too_many_letters}
+use Rattle.noticed_lib.specs.listing.Folder.{AreMarksRefusedFor, IsOnlyRead}
 
 -- letters before no others are all of them
 pub none_left : {A : Type 0} (all done rest : List A) → all ≡ done ++ rest → length rest ≡ 0 → done ≡ all
@@ -157,14 +161,27 @@ many_sealed sealed all is none =
     lt_of_not-le (λ (few : sealed + 1 ≤ base_limit). let same : min sealed (2 ^ 64 - 1) ≡ sealed = min-eq_left (omega (arith, few)) in none (omega (arith, is, same), omega (arith, few, is, same))) in
     omega (arith, more)
 
+-- marks that were not opened
+pub marks_refused : (file : List ℕ) (cause : MarksError) → (cause ≡ no_marks_for.Foreign → IsForeignToMarks file) → (cause ≡ no_marks_for.Damaged → SayNoMark (recovered file)) → (cause ≡ no_marks_for.Journal Full → ⊥)
+    → AreMarksRefusedFor file cause
+marks_refused file (no_marks_for.Journal Memory) foreign damaged full = tt
+marks_refused file (no_marks_for.Journal Failed) foreign damaged full = tt
+marks_refused file (no_marks_for.Journal Full) foreign damaged full = absurd (full refl)
+marks_refused file no_marks_for.Foreign foreign damaged full = foreign refl
+marks_refused file no_marks_for.Damaged foreign damaged full = damaged refl
+
+-- a journal that was not opened
+pub only_read : {D : Type 0} (disk : Disk.Ghosts D) (journal last : D) (failed : Type 0) → failed ⊎ (disk.seen last ≡ disk.seen journal) → failed ⊎ LeavesOnly disk journal last (disk.may_leave journal) → failed ⊎ IsOnlyRead disk journal last
+only_read disk journal last failed untouched unwritten = ⊎_elim (λ is. inl is) (λ seen. ⊎_elim (λ is. inl is) (λ crash. inr (record { seen = seen; crash = crash })) unwritten) untouched
+
 -- why a start over an opened ledger came to nothing is why the start did
-module _ {D M W : Type 0} (disk : Disk.Ghosts D) (marks_disk : Disk.Ghosts M) (drain : Drain W) (host : List ℕ) (limits : Limits) (journal : D) (marks : M) (outbox back : W) (opened : Ledger D) (code : ℕ)
+module _ {D M W : Type 0} (disk : Disk.Ghosts D) (marks_disk : Disk.Ghosts M) (drain : Drain W) (host : List ℕ) (limits : Limits) (journal last : D) (marks : M) (outbox back : W) (opened : Ledger D) (code : ℕ)
     (limits_are : opened.book.limits ≡ limits) (same : recovered (disk.seen opened.journal.disk) ≡ with_header limits (recovered (disk.seen journal))) (size : length (disk.seen opened.journal.disk) ≡ length (disk.seen journal))
     (file : StandsForFile opened.book opened.base (recovered (disk.seen opened.journal.disk))) where
   stands : StandsForFile opened.book opened.base (with_header limits (recovered (disk.seen journal)))
   stands = subst (StandsForFile opened.book opened.base) same file
 
-  no_start_for : (failed : Bool) → WhyNoStart disk opened failed code → HasPostedFirst disk marks_disk drain host limits journal marks outbox failed back → IsNoStart disk marks_disk drain host limits journal marks outbox back code
+  no_start_for : (failed : Bool) → WhyNoStart disk opened failed code → HasPostedFirst disk marks_disk drain host limits journal marks outbox failed back → IsNoStart disk marks_disk drain host limits journal last marks outbox back code
   no_start_for failed (of_outbox is code_is) posted = no_outbox code_is (subst (λ f. HasPostedFirst disk marks_disk drain host limits journal marks outbox f back) is posted)
   no_start_for failed (of_journal is cause code_is settled longer) posted =
       not_put_away cause code_is settled
@@ -182,7 +199,7 @@ module _ {D M W : Type 0} (disk : Disk.Ghosts D) (marks_disk : Disk.Ghosts M) (d
 
   pub no_start : (marked : MarkedOutbox W M) (letters : List Letter) → marked.outbox ≡ outbox → SayMark (recovered (marks_disk.seen marks)) marked.marks.mark
       → AreToPost limits marked.marks.mark (recovered (disk.seen opened.journal.disk)) letters
-      → IsNoStartOverLedger disk drain host marked letters opened back code → IsNoStart disk marks_disk drain host limits journal marks outbox back code
+      → IsNoStartOverLedger disk drain host marked letters opened back code → IsNoStart disk marks_disk drain host limits journal last marks outbox back code
   no_start marked letters outbox_is mark_is to_post none =
       no_start_for none.poster.poster.failed none.why
       (record {
@@ -204,3 +221,20 @@ forgot disk ledger new before kept requests only_now result bodies unchanged run
     ⊎_elim (λ unsettled. nothing_kept disk ledger before kept requests new only_now (unchanged (inl unsettled)))
     (λ more. ⊎_elim (λ memory. nothing_kept disk ledger before kept requests new only_now (unchanged (inr (inl memory))))
     (λ last. ⊎_elim (λ full. nothing_kept disk ledger before kept requests new only_now (unchanged (inr (inr full)))) (λ are. some_kept disk ledger before kept requests new are run) last) more) bodies
+
+-- once all of them are kept and carried out, it stands for the history with them
+pub forgot_all : {D : Type 0} (disk : Disk.Ghosts D) (ledger new : Ledger D) (requests : List Request) (result : Result (Unit {0}) KeepError) → new.settled ≡ settled_once_kept result ledger.settled
+    → OnOk result (IsSettled disk new.journal.disk new.journal.used) → OnOk result (AwaitsRequests disk new [])
+    → OnOk result ((long : List Exchange) → IsLedgerInPlaceOf ledger.book ledger.base (recovered (disk.seen ledger.journal.disk)) long → IsLedgerInPlaceOf new.book new.base (recovered (disk.seen new.journal.disk)) (history_after ledger.book.limits long requests))
+    → OnOk result ((before : List Exchange) → HasKept disk ledger before [] → HasKept disk new (history_after ledger.book.limits before requests) [])
+forgot_all disk ledger new requests (Ok value) settled durable awaits in_place = λ before kept.
+    has_kept disk new (history_after ledger.book.limits before requests) []
+    (record {
+      many = awaits.many;
+      front = recovered (disk.seen new.journal.disk);
+      in_place = in_place before (subst (λ rs. IsLedgerInPlaceOf ledger.book ledger.base rs before) (sym (kept.awaits.file ∙ append-nil kept.awaits.front)) kept.awaits.in_place);
+      kept = awaits.kept;
+      file = sym (append-nil (recovered (disk.seen new.journal.disk)));
+    })
+    (settled ∙ kept.settled) durable
+forgot_all disk ledger new requests (Err error) settled durable awaits in_place = tt

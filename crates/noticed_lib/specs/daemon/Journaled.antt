@@ -1,8 +1,9 @@
 -- Runs over a journal: what one begins with, and what it comes to.
-use Rattle.std.specs.Prelude.{◌≡◌, ◌≢◌, ◌⊎◌, ◌↔◌, ℕ, ◌+◌, ◌^◌, ◌<◌, ◌≤◌, Bool, true, false, List, [], drop, length, replicate, Some}
+use Rattle.std.specs.Prelude.{◌≡◌, ◌≢◌, ◌⊎◌, ◌↔◌, ℕ, ◌+◌, ◌^◌, ◌<◌, ◌≤◌, Bool, true, false, List, [], IsErrOf, IsPermutation, OnErr, OnOk, Result, length, replicate, Some}
 use Rattle.dsn_book.specs.Book.{Book, Represents}
 use Rattle.dsn_book.specs.Keeper.{MayCrash}
-use Rattle.dsn_outcome.specs.History.{Limits, Exchange, sealed_letters}
+use Rattle.dsn_device.specs.Failures.{counted}
+use Rattle.dsn_outcome.specs.History.{Limits, Exchange, history_after, sealed_letters}
 use Rattle.dsn_outcome.specs.Letter.{Letter}
 use Rattle.dsn_crew.specs.Crew.{Account, CrewFault, HasAccount, HasFault, IsPostedBy, MayCrashWithin, PostedBefore, most_ports}
 use Rattle.dsn_crew.specs.declared.crew_cause.CrewCause.TheVariants.{PortCount, Refused}
@@ -11,34 +12,34 @@ use Rattle.dsn_crew.specs.desk.Desk.{BeginsWith}
 use Rattle.dsn_device.specs.declared.drain.Drain.{Ghosts as Drain}
 use Rattle.dsn_journal.specs.Compacted.{compacted}
 use Rattle.dsn_journal.specs.EarlierRuns.{of_earlier_run}
-use Rattle.dsn_journal.specs.Forgetting.{lets_go}
-use Rattle.dsn_journal.specs.Header.{HasOtherHeader, SayHistory, StandsForFile, base_limit, with_header}
+use Rattle.dsn_journal.specs.Forgetting.{lets_go, open_entries}
+use Rattle.dsn_journal.specs.Header.{SayHistory, StandsForFile, base_limit, with_header}
 use Rattle.dsn_journal.specs.InPlace.{AreRecordsInPlaceOf, IsLedgerInPlaceOf, ReopensTo}
-use Rattle.dsn_journal.specs.KeepError.{keep_error_code}
+use Rattle.dsn_journal.specs.KeepError.{has_keeping_failed, keep_error_code}
 use Rattle.dsn_journal.specs.KeptBook.{HasKept, ledger_keeper}
-use Rattle.dsn_journal.specs.Ledger.{AreDamaged}
-use Rattle.dsn_journal.specs.LedgerError.{ledger_error_code}
+use Rattle.dsn_journal.specs.Ledger.{records_of}
+use Rattle.dsn_journal.specs.LedgerError.{is_of_ledgers_disk, ledger_error_code}
 use Rattle.dsn_journal.specs.MarkedOutbox.{MarkedOutbox}
-use Rattle.dsn_journal.specs.Marks.{IsForeignToMarks, SayMark, SayNoMark}
+use Rattle.dsn_journal.specs.Marks.{SayMark}
 use Rattle.dsn_journal.specs.MarksError.{marks_error_code}
 use Rattle.dsn_journal.specs.Moments.{LeavesOnly}
-use Rattle.dsn_journal.specs.Opening.{CountsTooFew, IsForeign}
+use Rattle.dsn_journal.specs.Opening.{IsLeftByOpening}
 use Rattle.dsn_journal.specs.OpenLedger.{Ledger}
-use Rattle.dsn_journal.specs.Posting.{AreToPost, CountsTooMany}
+use Rattle.dsn_journal.specs.Posting.{AreToPost}
 use Rattle.dsn_journal.specs.Records.{encoded, recovered}
 use Rattle.dsn_journal.specs.declared.disk.Disk
-use Rattle.dsn_journal.specs.declared.journal_error.JournalError.TheVariants.{Full}
+use Rattle.dsn_journal.specs.declared.journal_error.JournalError.TheVariants.{Failed, Full}
 use Rattle.dsn_journal.specs.declared.keep_error.KeepError.{KeepError}
 use Rattle.dsn_journal.specs.declared.keep_error.KeepError.TheVariants as not_kept_for
 use Rattle.dsn_journal.specs.declared.keep_error.KeepError.TheVariants.{Unsettled}
 use Rattle.dsn_journal.specs.declared.ledger_error.LedgerError.{LedgerError}
 use Rattle.dsn_journal.specs.declared.ledger_error.LedgerError.TheVariants as no_ledger_for
 use Rattle.dsn_journal.specs.declared.marks_error.MarksError.{MarksError}
-use Rattle.dsn_journal.specs.declared.marks_error.MarksError.TheVariants as no_marks_for
 use Rattle.dsn_text.specs.FaultCode.{journal_full_code, outbox_write_code}
 use Rattle.dsn_report.specs.Outgoing.{Delivered, Outgoing}
 use Rattle.noticed_lib.specs.daemon.SocketUses.{socket_port}
 use Rattle.noticed_lib.specs.daemon.Serve.{WritesAccount, WritesFault, WritesNumber}
+use Rattle.noticed_lib.specs.listing.Folder.{AreMarksRefusedFor, HaveMark, IsJournalRefusedFor, IsOnlyRead}
 use Rattle.noticed_lib.specs.declared.daemon.serve_end.ServeEnd.{ServeEnd}
 
 -- a history that a start over this file begins with, as one of earlier runs
@@ -146,38 +147,36 @@ pub record IsStartOver {D M W : Type 0} (disk : Disk.Ghosts D) (marks_disk : Dis
   pub crash : LeavesStart disk limits journal ledger.journal.disk
   pub first : IsPostedFirst disk marks_disk drain host limits journal marks outbox poster
 
--- why a run did not begin, by the number of its fault, and the outbox that is handed back: its marks or
--- its ledger were not opened, for this cause, and the outbox is as it was; or the outbox failed while the
--- first letters were posted, the journal could not be put away, or 2^63 letters were sealed
+-- why a run did not begin, by the number of its fault, the outbox that is handed back, and the journal:
+-- its marks or its ledger were not opened, for this cause, and the outbox is as it was; or the outbox
+-- failed while the first letters were posted, the journal could not be put away, or 2^63 letters were
+-- sealed. A journal that was not opened is as it was, whatever it is, and so is what a crash leaves of it;
+-- where its disk failed that is as it was, or a journal with the same records, or a new one still
 pub data IsNoStart {D M W : Type 0} (disk : Disk.Ghosts D) (marks_disk : Disk.Ghosts M)
-    (drain : Drain W) (host : List ℕ) (limits : Limits) (journal : D) (marks : M) (outbox back : W)
-    (code : ℕ) : Type 0 where
+    (drain : Drain W) (host : List ℕ) (limits : Limits) (journal last : D) (marks : M)
+    (outbox back : W) (code : ℕ) : Type 0 where
   no_marks : (cause : MarksError) → code ≡ marks_error_code cause → back ≡ outbox
-      → (cause ≡ no_marks_for.Foreign → IsForeignToMarks (marks_disk.seen marks))
-      → (cause ≡ no_marks_for.Damaged → SayNoMark (recovered (marks_disk.seen marks)))
-      → IsNoStart disk marks_disk drain host limits journal marks outbox back code
+      → AreMarksRefusedFor (marks_disk.seen marks) cause → last ≡ journal
+      → IsNoStart disk marks_disk drain host limits journal last marks outbox back code
   no_ledger : (cause : LedgerError) (mark : ℕ) → code ≡ ledger_error_code cause → back ≡ outbox
-      → SayMark (recovered (marks_disk.seen marks)) mark
-      → (cause ≡ no_ledger_for.Foreign → IsForeign limits (disk.seen journal))
-      → (cause ≡ no_ledger_for.OtherHeader
-      → HasOtherHeader limits (recovered (disk.seen journal)))
-      → (cause ≡ no_ledger_for.Damaged → AreDamaged (drop 1 (recovered (disk.seen journal))))
-      → (cause ≡ no_ledger_for.MarkAhead
-      → CountsTooMany limits mark (with_header limits (recovered (disk.seen journal))))
-      → (cause ≡ no_ledger_for.MarkBehind
-      → CountsTooFew limits mark (with_header limits (recovered (disk.seen journal))))
-      → IsNoStart disk marks_disk drain host limits journal marks outbox back code
+      → HaveMark (marks_disk.seen marks) mark
+      → IsJournalRefusedFor limits mark (disk.seen journal) cause
+      → (cause ≡ no_ledger_for.Journal Failed) ⊎ IsOnlyRead disk journal last
+      → LeavesOnly disk journal last
+      (λ left. disk.may_leave journal left ⊎ IsLeftByOpening limits (disk.seen journal) left)
+      → disk.failures last ≡ counted (is_of_ledgers_disk cause) (disk.failures journal)
+      → IsNoStart disk marks_disk drain host limits journal last marks outbox back code
   no_outbox : code ≡ outbox_write_code
       → HasPostedFirst disk marks_disk drain host limits journal marks outbox true back
-      → IsNoStart disk marks_disk drain host limits journal marks outbox back code
+      → IsNoStart disk marks_disk drain host limits journal last marks outbox back code
   not_put_away : (cause : KeepError) → code ≡ keep_error_code cause → cause ≢ Unsettled
       → (cause ≡ not_kept_for.Journal Full → HasNoRoomForShorter limits (disk.seen journal))
       → HasPostedFirst disk marks_disk drain host limits journal marks outbox false back
-      → IsNoStart disk marks_disk drain host limits journal marks outbox back code
+      → IsNoStart disk marks_disk drain host limits journal last marks outbox back code
   too_many_letters : code ≡ journal_full_code
       → SealTooMany limits (with_header limits (recovered (disk.seen journal)))
       → HasPostedFirst disk marks_disk drain host limits journal marks outbox false back
-      → IsNoStart disk marks_disk drain host limits journal marks outbox back code
+      → IsNoStart disk marks_disk drain host limits journal last marks outbox back code
 
 -- and so of one whose ledger was opened, with these letters to post, by this poster
 pub data WhyNoStart {D : Type 0} (disk : Disk.Ghosts D) (opened : Ledger D) (failed : Bool)
@@ -199,12 +198,27 @@ pub record IsNoStartOverLedger {D M W : Type 0} (disk : Disk.Ghosts D) (drain : 
   pub back_is : back ≡ poster.poster.outbox.outbox
   pub why : WhyNoStart disk opened poster.poster.failed code
 
--- a ledger that let its closed keys go, or couldn't, and then its disk: at each moment a crash leaves
--- its history with the first of the requests that let them go
+-- a ledger that let its closed keys go, or couldn't, and then its disk. Where it did, the held keys are
+-- those whose log was open, and a crash leaves its history with all of the requests that let the others
+-- go; else its book is as it was. At each moment until then a crash leaves the history with the first of
+-- these requests
 pub record IsForgottenIn {D : Type 0} (disk : Disk.Ghosts D) (ledger : Ledger D)
     (last : D) : Type 0 where
   pub left : Ledger D
   pub last_is : last ≡ left.journal.disk
+  pub result : Result (Unit {0}) KeepError
+  pub forgotten : OnOk result (IsPermutation (open_entries ledger.book.entries) left.book.entries)
+  pub stands : OnOk result ((before : List Exchange) → HasKept disk ledger before []
+      → HasKept disk left
+      (history_after ledger.book.limits before (lets_go ledger.book.entries)) [])
+  pub held : OnErr result (left.book ≡ ledger.book)
+  pub settled : ledger.settled ≡ true → IsErrOf result Unsettled → ⊥
+  pub full : IsErrOf result (not_kept_for.Journal Full)
+      → (length (disk.seen ledger.journal.disk)
+      < ledger.journal.used + length (encoded (records_of (lets_go ledger.book.entries))))
+      ⊎ (2 ^ 64 ≤ ledger.base + ledger.book.sealed + length (lets_go ledger.book.entries))
+  pub failures : disk.failures last
+      ≡ counted (has_keeping_failed result) (disk.failures ledger.journal.disk)
   pub crash : (before : List Exchange) → HasKept disk ledger before []
       → MayCrash (ledger_keeper disk) ledger left ledger.book.limits before
       (lets_go ledger.book.entries)
@@ -270,7 +284,7 @@ module _ {D M P S W N : Type 0} (disk : Disk.Ghosts D) (marks_disk : Disk.Ghosts
   pub record IsNotStarted : Type 0 where
     pub code : ℕ
     pub back : W
-    pub why : IsNoStart disk marks_disk drain host limits journal marks outbox back code
+    pub why : IsNoStart disk marks_disk drain host limits journal last marks outbox back code
     pub noted : WritesNumber notes_device code back [] notes later end
     pub crash : LeavesStart disk limits journal last
 

@@ -79,7 +79,7 @@ pub(crate) fn start_over<W: Drain, D: Replaceable + Drop, M: Replaceable + Drop>
     ensures start { IfOk result (λ start. IsStartOver D.Disk M.Disk W.Drain site limits
         folder.journal folder.marks outbox start.keeper start.outgoing) }
     ensures fault { IfErr result (λ not. IsNoStart D.Disk M.Disk W.Drain site limits
-        folder.journal folder.marks outbox not.outbox not.code) }
+        folder.journal not.journal folder.marks outbox not.outbox not.code) }
     ensures crash { IfErr result (λ not. LeavesStart D.Disk limits folder.journal not.journal) }
 {
     let JournalFolder { journal, marks } = folder;

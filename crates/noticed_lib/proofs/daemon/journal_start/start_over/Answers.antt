@@ -5,7 +5,8 @@ use Rattle.dsn_journal.specs.MarkedOutbox.{MarkedOutbox}
 use Rattle.dsn_journal.specs.Posting.{AreToPost}
 use Rattle.dsn_journal.specs.Records.{recovered}
 use Rattle.noticed_lib.specs.daemon.Journaled.{no_ledger, no_marks}
-use Rattle.noticed_lib.proofs.daemon.JournaledLemmas.{no_start, once_opened, stands_for_all, start_is, untouched, while_opened}
+use Rattle.noticed_lib.proofs.daemon.JournaledLemmas.{marks_refused, no_start, once_opened, only_read, stands_for_all, start_is, untouched, while_opened}
+use Rattle.noticed_lib.proofs.listing.CopiedFolderLemmas.{journal_refused}
 use Rattle.noticed_lib.proofs.daemon.journal_start.start_over.Goals as goal
 
 pub returns-in-Ok-open-clause-start : goal.returns-in-Ok-open-clause-start
@@ -30,20 +31,24 @@ returns-in-Ok-open-clause-fault g c =
     let mark_is : c.new-outbox.result.marks.mark ≡ c.in-Ok.marks.mark = ap (λ (it : MarkedOutbox _ _). it.marks.mark) c.new-outbox.ensures in
     IfErr-weaker c.start_over_ledger.result _ _
     (λ left why.
-    no_start g.D.Disk g.M.Disk g.W.Drain c.args.site c.args.limits c.args.folder.journal c.args.folder.marks c.args.outbox left.outbox c.in-Ok-open.opened.ledger left.code opened.limits opened.same opened.size
+    no_start g.D.Disk g.M.Disk g.W.Drain c.args.site c.args.limits c.args.folder.journal left.journal c.args.folder.marks c.args.outbox left.outbox c.in-Ok-open.opened.ledger left.code opened.limits opened.same opened.size
     (stands_for_all g.D.Disk c.in-Ok-open.opened.ledger opened.settled opened.stands) c.new-outbox.result _
     (ap (λ (it : MarkedOutbox _ _). it.outbox) c.new-outbox.ensures) (subst (SayMark _) (sym mark_is) c.in-Ok.ensures.mark)
     (subst (λ (m : ℕ). AreToPost c.args.limits m (recovered (g.D.Disk.seen c.in-Ok-open.opened.ledger.journal.disk)) c.in-Ok-open.opened.letters.items) (c.mark-mark.ensures.mark ∙ sym mark_is) opened.letters) why)
     c.start_over_ledger.ensures.fault
 
 pub returns-in-Err-clause-fault : goal.returns-in-Err-clause-fault
-returns-in-Err-clause-fault g c = no_marks c.in-Err.left.cause c.code-code.ensures refl c.in-Err.ensures.foreign c.in-Err.ensures.damaged
+returns-in-Err-clause-fault g c =
+    let left = c.in-Err.ensures in
+    no_marks c.in-Err.left.cause c.code-code.ensures refl (marks_refused (g.M.Disk.seen c.args.folder.marks) c.in-Err.left.cause left.foreign left.damaged left.not_full) refl
 
 pub returns-in-Err-open-clause-fault : goal.returns-in-Err-open-clause-fault
 returns-in-Err-open-clause-fault g c =
     let mark = subst (SayMark (recovered (g.M.Disk.seen c.args.folder.marks))) (sym c.mark-mark.ensures.mark) c.in-Ok.ensures.mark in
     let left = c.in-Err-open.ensures in
-    no_ledger c.in-Err-open.left.cause c.mark-mark.result c.code-code-in-Err-open.ensures refl mark left.foreign left.other left.damaged left.ahead left.behind
+    no_ledger c.in-Err-open.left.cause c.mark-mark.result c.code-code-in-Err-open.ensures refl (record { own = c.in-Ok.ensures.new; says = mark })
+    (journal_refused c.args.limits c.mark-mark.result (g.D.Disk.seen c.args.folder.journal) c.in-Err-open.left.cause left.foreign left.other left.damaged left.headed left.ahead left.begun left.behind left.full)
+    (only_read g.D.Disk c.args.folder.journal c.in-Err-open.left.disk _ left.untouched left.unwritten) left.any_moment left.count
 
 pub returns-in-Err-clause-crash : goal.returns-in-Err-clause-crash
 returns-in-Err-clause-crash g c = untouched g.D.Disk c.args.limits c.args.folder.journal (g.met.D.Disk.only_now c.args.folder.journal)

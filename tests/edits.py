@@ -24,6 +24,7 @@ STAND_FOR = {
     ("dsn_crew", "AskFault"): "refusals-share-a-number",
     ("dsn_crew", "CrewOpenFault"): "refusals-share-a-number",
     ("dsn_frame", "FrameRef"): "frame-lent-from-the-wrong-place",
+    ("dsn_journal", "CountedOutbox"): "count-told-before-the-mark",
     ("dsn_journal", "KeptBook"): "requests-under-a-crew-not-kept",
     ("noticed_lib", "WatchedOutbox"): "outbox-drops-what-it-takes",
 }

@@ -16,10 +16,11 @@ use std::io::BufWriter;
 use std::os::unix::net::UnixListener;
 use std::sync::Wait;
 use std::thread::Threads;
+use std::time::Clock;
 
 /// Runs `serve` over a socket that it makes, and returns its status. The runtime may start threads and
 /// wait in `main` alone, so it comes a second time as what may.
-pub(crate) fn run_serve<R: Threads + Wait + Sync>(
+pub(crate) fn run_serve<R: Threads + Wait + Clock + Sync>(
     rt: &HostRuntime,
     waiting: &R,
     serving: Serving,

@@ -91,8 +91,8 @@ module _ {P S : Type 0} (port : Port P S) (untold : (one : P) → port.conns one
 
   -- and of a run over a journal
   module _ {D M W N : Type 0} (disk : Disk.Ghosts D) (marks_disk : Disk.Ghosts M) (drain : Drain W) (notes_device : Drain N) (host : List ℕ) (limits : Limits) (ports : List P) (fit : All Fits ports) (journal : D) (marks : M) (outbox : W) (notes later : N) (end : ServeEnd W) (last : D) where
-    run-uses : (ledger : Ledger D) (poster : Outgoing (MarkedOutbox W M)) → IsRunOver disk port drain notes_device ports ledger poster notes later end last
-        → IsRunOver disk (socket_port may_end) drain notes_device (replicate (length ports) uses) ledger poster notes later end last
+    run-uses : (ledger : Ledger D) (poster : Outgoing (MarkedOutbox W M)) → IsRunOver disk (λ _. Unit {0}) port drain notes_device ports ledger poster notes later end last
+        → IsRunOver disk (λ _. Unit {0}) (socket_port may_end) drain notes_device (replicate (length ports) uses) ledger poster notes later end last
     run-uses ledger poster (inl served) = inl (record {
       account = served.account;
       crew = λ from by before with_it.

@@ -16,7 +16,7 @@ use Rattle.dsn_journal.specs.Forgetting.{lets_go, open_entries}
 use Rattle.dsn_journal.specs.Header.{SayHistory, StandsForFile, base_limit, with_header}
 use Rattle.dsn_journal.specs.InPlace.{AreRecordsInPlaceOf, IsLedgerInPlaceOf, ReopensTo}
 use Rattle.dsn_journal.specs.KeepError.{has_keeping_failed, keep_error_code}
-use Rattle.dsn_journal.specs.KeptBook.{HasKept, ledger_keeper}
+use Rattle.dsn_journal.specs.KeptBook.{HasKept, keeper_of_ledger, ledger_keeper}
 use Rattle.dsn_journal.specs.Ledger.{records_of}
 use Rattle.dsn_journal.specs.LedgerError.{is_of_ledgers_disk, ledger_error_code}
 use Rattle.dsn_journal.specs.MarkedOutbox.{MarkedOutbox}
@@ -232,8 +232,8 @@ pub record MayRunOver {D M W : Type 0} (disk : Disk.Ghosts D) (drain : Drain W) 
   pub from : PostedBefore (MarkedOutbox W M)
   pub posted : IsPostedBy (marking_drain drain) from poster
 
-module _ {D M P S W N : Type 0} (disk : Disk.Ghosts D) (port : Port P S) (drain : Drain W)
-    (notes_device : Drain N) (ports : List P) (ledger : Ledger D)
+module _ {D M P S W N : Type 0} (disk : Disk.Ghosts D) (reached : ℕ → Type 0)
+    (port : Port P S) (drain : Drain W) (notes_device : Drain N) (ports : List P) (ledger : Ledger D)
     (poster : Outgoing (MarkedOutbox W M)) (notes later : N) (end : ServeEnd W)
     (last : D) where
   -- a run of a crew that ended well, over this ledger and after what was posted before: all that is
@@ -244,7 +244,7 @@ module _ {D M P S W N : Type 0} (disk : Disk.Ghosts D) (port : Port P S) (drain 
     pub crew : (from : PostedBefore (MarkedOutbox W M))
         → IsPostedBy (marking_drain drain) from poster
         → (before : List Exchange) → BeginsWith (ledger_keeper disk) ledger before
-        → HasAccount (ledger_keeper disk) port (marking_drain drain) from ledger.book.limits before
+        → HasAccount (keeper_of_ledger disk reached) port (marking_drain drain) from ledger.book.limits before
         ports account
     pub count : (1 ≤ length ports) × (length ports ≤ most_ports)
     pub noted : (history : List Exchange) → Represents account.book.book history
@@ -260,7 +260,7 @@ module _ {D M P S W N : Type 0} (disk : Disk.Ghosts D) (port : Port P S) (drain 
     pub crew : (from : PostedBefore (MarkedOutbox W M))
         → IsPostedBy (marking_drain drain) from poster
         → (before : List Exchange) → BeginsWith (ledger_keeper disk) ledger before
-        → HasFault (ledger_keeper disk) (marking_drain drain) from ledger.book.limits before
+        → HasFault (keeper_of_ledger disk reached) (marking_drain drain) from ledger.book.limits before
         (length ports) fault
     pub counted : (fault.cause ≡ PortCount) ↔ ((length ports ≡ 0) ⊎ (most_ports < length ports))
     pub noted : WritesFault notes_device fault.cause fault.outbox.outbox fault.unsent notes later
@@ -269,7 +269,7 @@ module _ {D M P S W N : Type 0} (disk : Disk.Ghosts D) (port : Port P S) (drain 
     pub left_is : fault.book ≡ Some left
     pub last_is : last ≡ left.journal.disk
     pub crash : (before : List Exchange) → BeginsWith (ledger_keeper disk) ledger before
-        → MayCrashWithin (ledger_keeper disk) ledger ledger.book.limits before (length ports)
+        → MayCrashWithin (keeper_of_ledger disk reached) ledger ledger.book.limits before (length ports)
         fault.taken fault.behind left
 
   abbrev pub IsRunOver : Type 0
@@ -293,7 +293,7 @@ module _ {D M P S W N : Type 0} (disk : Disk.Ghosts D) (marks_disk : Disk.Ghosts
     pub ledger : Ledger D
     pub poster : Outgoing (MarkedOutbox W M)
     pub start : IsStartOver disk marks_disk drain host limits journal marks outbox ledger poster
-    pub run : IsRunOver disk port drain notes_device ports ledger poster notes later end
+    pub run : IsRunOver disk (λ _. Unit {0}) port drain notes_device ports ledger poster notes later end
         last
 
   -- a run over these ports, these disks and this outbox

@@ -14,7 +14,7 @@ use crate::daemon::journal_folder::JournalFolder;
 use dsn_book::Limits;
 use dsn_device::Drain;
 use dsn_journal::{
-    Disk, KeptBook, Ledger, MarkedOutbox, Marks, Opened, Replaceable,
+    CountedOutbox, KeptBook, Ledger, MarkCount, MarkedOutbox, Marks, Opened, Replaceable,
     ledgers_have_earlier_histories, ledgers_have_one_history, open,
 };
 use dsn_outcome::Letter;
@@ -24,11 +24,11 @@ use std::alloc::Global;
 
 /// What a run over a journal begins with, once all letters of earlier runs were posted.
 #[derive(Drop)]
-pub(crate) struct JournalStart<W, D: Disk, M: Replaceable> {
-    /// The poster, which has posted them.
-    pub(crate) outgoing: Outgoing<MarkedOutbox<W, M>>,
-    /// What keeps the run's requests.
-    pub(crate) keeper: KeptBook<D>,
+pub(crate) struct JournalStart<W, D: Replaceable, M: Replaceable, C: MarkCount> {
+    /// The poster, which has posted them, and tells a count how many letters are marked.
+    pub(crate) outgoing: Outgoing<CountedOutbox<MarkedOutbox<W, M>, C>>,
+    /// What keeps the run's requests, by that count.
+    pub(crate) keeper: KeptBook<D, C>,
 }
 
 /// Why a run over a journal didn't begin.
@@ -42,11 +42,11 @@ pub(crate) struct NotStarted<W, D> {
     pub(crate) journal: D,
 }
 
-impl<W, D: Disk + Drop> NotStarted<W, D> {
+impl<W, D: Replaceable + Drop> NotStarted<W, D> {
     /// The fault with this number, over a ledger that was opened, after letters were posted or not.
-    fn after<M: Replaceable + Drop>(
+    fn after<M: Replaceable + Drop, C: MarkCount + Drop>(
         code: u32,
-        outgoing: Outgoing<MarkedOutbox<W, M>>,
+        outgoing: Outgoing<CountedOutbox<MarkedOutbox<W, M>, C>>,
         ledger: Ledger<D>,
     ) -> NotStarted<W, D>
     where
@@ -55,7 +55,7 @@ impl<W, D: Disk + Drop> NotStarted<W, D> {
         ensures outbox { result.outbox ≡ outgoing.poster.outbox.outbox }
         ensures journal { result.journal ≡ ledger.journal.disk }
     {
-        let (outbox, _marks) = outgoing.into_outbox().into_parts();
+        let (outbox, _marks) = outgoing.into_outbox().into_outbox().into_parts();
         NotStarted {
             code,
             outbox,
@@ -65,17 +65,24 @@ impl<W, D: Disk + Drop> NotStarted<W, D> {
 }
 
 /// Opens the marks and the ledger of a folder, posts the letters of earlier runs that no mark
-/// counts, and puts the journal away for a shorter one.
+/// counts, and puts the journal away for a shorter one. The count is told the mark, and each letter
+/// that is marked then and in the run.
 ///
 /// The numbers are those of [`Marks::open`] and of [`open`]; then 31 where the outbox fails, or a
 /// letter could not be marked; then those of a journal that could not be put away.
-pub(crate) fn start_over<W: Drain, D: Replaceable + Drop, M: Replaceable + Drop>(
+pub(crate) fn start_over<
+    W: Drain,
+    D: Replaceable + Drop,
+    M: Replaceable + Drop,
+    C: MarkCount + Copy,
+>(
     alloc: Global,
     site: Site,
     limits: Limits,
     outbox: W,
     folder: JournalFolder<D, M>,
-) -> Result<JournalStart<W, D, M>, NotStarted<W, D>>
+    count: C,
+) -> Result<JournalStart<W, D, M, C>, NotStarted<W, D>>
     ensures start { IfOk result (λ start. IsStartOver D.Disk M.Disk W.Drain site limits
         folder.journal folder.marks outbox start.keeper start.outgoing) }
     ensures fault { IfErr result (λ not. IsNoStart D.Disk M.Disk W.Drain site limits
@@ -97,8 +104,9 @@ pub(crate) fn start_over<W: Drain, D: Replaceable + Drop, M: Replaceable + Drop>
     let mark = marks.mark();
     match open(alloc, journal, limits, mark) {
         Ok(opened) => {
-            let outbox = MarkedOutbox::new(alloc, outbox, marks);
-            start_over_ledger(alloc, site, outbox, opened, mark)
+            count.note(mark);
+            let outbox = CountedOutbox::new(MarkedOutbox::new(alloc, outbox, marks), count);
+            start_over_ledger(alloc, site, outbox, opened, mark, count)
         }
         Err(left) => {
             let code = left.cause.code();
@@ -112,13 +120,14 @@ pub(crate) fn start_over<W: Drain, D: Replaceable + Drop, M: Replaceable + Drop>
 }
 
 /// Posts the letters of a ledger that was opened under this mark, and puts its journal away.
-fn start_over_ledger<W: Drain, D: Replaceable + Drop, M: Replaceable + Drop>(
+fn start_over_ledger<W: Drain, D: Replaceable + Drop, M: Replaceable + Drop, C: MarkCount + Copy>(
     alloc: Global,
     site: Site,
-    outbox: MarkedOutbox<W, M>,
+    outbox: CountedOutbox<MarkedOutbox<W, M>, C>,
     opened: Opened<D>,
     mark: u64,
-) -> Result<JournalStart<W, D, M>, NotStarted<W, D>>
+    count: C,
+) -> Result<JournalStart<W, D, M, C>, NotStarted<W, D>>
     requires awaits { AwaitsRequests D.Disk opened.ledger [] }
     requires settled { opened.ledger.settled ≡ true }
     requires durable { IsSettled D.Disk opened.ledger.journal.disk opened.ledger.journal.used }
@@ -149,7 +158,7 @@ fn start_over_ledger<W: Drain, D: Replaceable + Drop, M: Replaceable + Drop>(
     match ledger.compact_all_marked(alloc, all) {
         Ok(true) => Ok(JournalStart {
             outgoing,
-            keeper: keeper_over(alloc, ledger),
+            keeper: keeper_over(alloc, ledger, count),
         }),
         Ok(false) => Err(NotStarted::after(fault_code::JOURNAL_FULL, outgoing, ledger)),
         Err(error) => Err(NotStarted::after(error.code(), outgoing, ledger)),
@@ -167,8 +176,12 @@ fn post_first<X: Drain>(site: Site, outbox: X, letters: Vec<Letter>) -> Outgoing
     outgoing
 }
 
-/// What keeps requests on this ledger.
-fn keeper_over<D: Disk>(alloc: Global, ledger: Ledger<D>) -> KeptBook<D>
+/// What keeps requests on this ledger, whose letters are marked as the count says.
+fn keeper_over<D: Replaceable, C: MarkCount>(
+    alloc: Global,
+    ledger: Ledger<D>,
+    count: C,
+) -> KeptBook<D, C>
     requires awaits { AwaitsRequests D.Disk ledger [] }
     requires settled { ledger.settled ≡ true }
     ensures ledger { result ≡ ledger }
@@ -178,5 +191,5 @@ fn keeper_over<D: Disk>(alloc: Global, ledger: Ledger<D>) -> KeptBook<D>
     // A book's limits allow it a key and an outcome, as the law asks.
     let limits = ledger.book().limits();
     let (_logs, _entries) = (limits.logs(), limits.entries());
-    KeptBook::new(alloc, ledger)
+    KeptBook::with_marks(alloc, ledger, count)
 }

@@ -16,7 +16,7 @@ use crate::notes::write_last_lines;
 use dsn_book::Book;
 use dsn_crew::{Account, AgentLine};
 use dsn_device::{Drain, UntilFailure};
-use dsn_journal::{Disk, KeptBook, MarkedOutbox, Replaceable};
+use dsn_journal::{CountedOutbox, KeptBook, MarkCount, MarkedOutbox, Replaceable};
 use dsn_outcome::Letters;
 use dsn_text::fault_code;
 use std::alloc::Global;
@@ -48,9 +48,15 @@ pub(crate) fn write_account<W: Drop, N: Drain>(
 ///
 /// At each moment a crash leaves the history of the journal's ledger, with the first of the requests
 /// that let the keys go. Requires that the ledger awaits no request.
-pub(crate) fn write_kept_account<W: Drop, D: Disk + Drop, M: Replaceable + Drop, N: Drain>(
+pub(crate) fn write_kept_account<
+    W: Drop,
+    D: Replaceable + Drop,
+    M: Replaceable + Drop,
+    C: MarkCount + Drop,
+    N: Drain,
+>(
     alloc: Global,
-    account: Account<MarkedOutbox<W, M>, KeptBook<D>>,
+    account: Account<CountedOutbox<MarkedOutbox<W, M>, C>, KeptBook<D, C>>,
     notes: &mut N,
 ) -> JournaledEnd<W, D>
     requires none { account.book.settled ≡ true → AwaitsRequests D.Disk account.book [] }
@@ -77,7 +83,7 @@ pub(crate) fn write_kept_account<W: Drop, D: Disk + Drop, M: Replaceable + Drop,
         notes,
     );
     drop(ledger.forget_closed(alloc));
-    let (outbox, _marks) = outbox.into_parts();
+    let (outbox, _marks) = outbox.into_outbox().into_parts();
     JournaledEnd {
         end: ServeEnd { outbox, status },
         journal: ledger.into_disk(),

@@ -9,17 +9,21 @@ use crate::daemon::run_notes::{write_fault, write_kept_account};
 use dsn_book::Limits;
 use dsn_crew::{CrewFault, Gate, Port, run_crew_over};
 use dsn_device::Drain;
-use dsn_journal::{Disk, KeptBook, Replaceable};
+use dsn_journal::{KeptBook, MarkCount, Replaceable, SharedMarkCount};
 use dsn_outcome::Letters;
 use dsn_report::Site;
 use std::alloc::Global;
 use std::sync::Wait;
 use std::thread::Threads;
+use std::time::Clock;
 
 /// Serves these ports as [`serve_ports`](crate::serve_ports) does, over a journal: each request is
 /// kept on its disk before it is carried out and answered, and each letter is marked once its notice
 /// was written to `outbox` and flushed. It begins with what the disk holds: the open logs and the
 /// closed keys, and the letters that no mark counts, which are posted first.
+///
+/// A journal that gets full is put away for a shorter one within the run, once all letters that were
+/// sealed are marked; it is waited for that for some seconds.
 ///
 /// Beside what [`serve_ports`](crate::serve_ports) notes, the number of a fault comes for a request
 /// that was not kept (45), which ends the run; and of a run that does not begin: for a disk that
@@ -30,7 +34,7 @@ use std::thread::Threads;
 /// this run, and the first of the requests that were taken, and no other. Each request is among them
 /// before its answer is sent. Of the marks no more is said than each call of [`MarkedOutbox`](dsn_journal::MarkedOutbox) does.
 pub fn serve_ports_over<
-    R: Threads + Wait + Sync,
+    R: Threads + Wait + Clock + Sync,
     P: Port + Drop + Send,
     W: Drain + Drop + Send,
     D: Replaceable + Drop,
@@ -52,7 +56,8 @@ pub fn serve_ports_over<
     ensures { IsServeOver D.Disk M.Disk P.Port W.Drain N.Drain site limits ports.items
         folder.journal folder.marks outbox notes.old notes.new result.end result.journal }
 {
-    match start_over(alloc, site, limits, outbox, folder) {
+    let count = SharedMarkCount::new(rt);
+    match start_over(alloc, site, limits, outbox, folder, &count) {
         Ok(start) => run_over(rt, alloc, start, ports, gate, notes),
         Err(
             NotStarted {
@@ -74,19 +79,20 @@ fn run_over<
     W: Drain + Drop + Send,
     D: Replaceable + Drop,
     M: Replaceable + Drop + Send,
+    C: MarkCount + Drop + Send,
     G: Gate + Sync,
     N: Drain,
 >(
     rt: &R,
     alloc: Global,
-    start: JournalStart<W, D, M>,
+    start: JournalStart<W, D, M, C>,
     ports: Vec<P>,
     gate: &G,
     notes: &mut N,
 ) -> JournaledEnd<W, D>
     requires asked { All P.may_be_asked ports.items }
     requires start { MayRunOver D.Disk W.Drain start.keeper start.outgoing }
-    ensures { IsRunOver D.Disk P.Port W.Drain N.Drain ports.items start.keeper start.outgoing
+    ensures { IsRunOver D.Disk C.may_reach P.Port W.Drain N.Drain ports.items start.keeper start.outgoing
         notes.old notes.new result.end result.journal }
 {
     let JournalStart { outgoing, keeper } = start;
@@ -100,7 +106,7 @@ fn run_over<
                 book,
                 ..
             } = fault;
-            let (outbox, _marks) = outbox.into_parts();
+            let (outbox, _marks) = outbox.into_outbox().into_parts();
             JournaledEnd {
                 end: write_fault(alloc, cause.code(), outbox, unsent, notes),
                 journal: disk_of(book),
@@ -110,7 +116,7 @@ fn run_over<
 }
 
 /// The disk of what kept a run's requests. Requires that it was handed back.
-fn disk_of<D: Disk + Drop>(book: Option<KeptBook<D>>) -> D
+fn disk_of<D: Replaceable + Drop, C: MarkCount + Drop>(book: Option<KeptBook<D, C>>) -> D
     requires { is_some book ≡ true }
     ensures { IfSome book (λ left. result ≡ left.journal.disk) }
 {

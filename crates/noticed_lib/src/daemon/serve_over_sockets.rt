@@ -24,6 +24,7 @@ use std::alloc::Global;
 use std::os::unix::net::UnixListener;
 use std::sync::Wait;
 use std::thread::Threads;
+use std::time::Clock;
 
 /// How many agents a crew has at most.
 const MOST_AGENTS: u32 = 16;
@@ -77,7 +78,7 @@ pub fn serve_watched<R: Threads + Wait + Sync, H: Watch + Sync, W: Drain + Drop 
 /// Serves as [`serve_watched`] does, over the disks of a journal's folder, as [`serve_ports_over`] has
 /// it. Where there are not 1 to 16 agents that is noted (43) before a disk is touched.
 pub fn serve_journaled<
-    R: Threads + Wait + Sync,
+    R: Threads + Wait + Clock + Sync,
     H: Watch + Sync,
     W: Drain + Drop + Send,
     D: Replaceable + Drop,

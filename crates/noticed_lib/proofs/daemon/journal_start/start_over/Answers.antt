@@ -12,11 +12,11 @@ use Rattle.noticed_lib.proofs.daemon.journal_start.start_over.Goals as goal
 pub returns-in-Ok-open-clause-start : goal.returns-in-Ok-open-clause-start
 returns-in-Ok-open-clause-start g c =
     let opened = c.in-Ok-open.ensures in
-    let mark_is : c.new-outbox.result.marks.mark ≡ c.in-Ok.marks.mark = ap (λ (it : MarkedOutbox _ _). it.marks.mark) c.new-outbox.ensures in
+    let mark_is : c.new-outbox.result.marks.mark ≡ c.in-Ok.marks.mark = ap (λ (it : MarkedOutbox _ _). it.marks.mark) (c.new-outbox.ensures ∙ c.new.ensures) in
     IfOk-weaker c.start_over_ledger.result _ _
     (λ start is.
     start_is g.D.Disk g.M.Disk g.W.Drain c.args.site c.args.limits c.args.folder.journal c.args.folder.marks c.args.outbox c.new-outbox.result _ c.in-Ok-open.opened.ledger start.keeper start.outgoing
-    (ap (λ (it : MarkedOutbox _ _). it.outbox) c.new-outbox.ensures) (subst (SayMark _) (sym mark_is) c.in-Ok.ensures.mark)
+    (ap (λ (it : MarkedOutbox _ _). it.outbox) (c.new-outbox.ensures ∙ c.new.ensures)) (subst (SayMark _) (sym mark_is) c.in-Ok.ensures.mark)
     opened.limits opened.same opened.ledger (subst (λ (m : ℕ). AreToPost c.args.limits m (recovered (g.D.Disk.seen c.in-Ok-open.opened.ledger.journal.disk)) c.in-Ok-open.opened.letters.items) (c.mark-mark.ensures.mark ∙ sym mark_is) opened.letters) opened.any_moment is)
     c.start_over_ledger.ensures.start
 
@@ -28,12 +28,12 @@ start_over_ledger-requires-clause-letters g c =
 pub returns-in-Ok-open-clause-fault : goal.returns-in-Ok-open-clause-fault
 returns-in-Ok-open-clause-fault g c =
     let opened = c.in-Ok-open.ensures in
-    let mark_is : c.new-outbox.result.marks.mark ≡ c.in-Ok.marks.mark = ap (λ (it : MarkedOutbox _ _). it.marks.mark) c.new-outbox.ensures in
+    let mark_is : c.new-outbox.result.marks.mark ≡ c.in-Ok.marks.mark = ap (λ (it : MarkedOutbox _ _). it.marks.mark) (c.new-outbox.ensures ∙ c.new.ensures) in
     IfErr-weaker c.start_over_ledger.result _ _
     (λ left why.
     no_start g.D.Disk g.M.Disk g.W.Drain c.args.site c.args.limits c.args.folder.journal left.journal c.args.folder.marks c.args.outbox left.outbox c.in-Ok-open.opened.ledger left.code opened.limits opened.same opened.size
     (stands_for_all g.D.Disk c.in-Ok-open.opened.ledger opened.settled opened.stands) c.new-outbox.result _
-    (ap (λ (it : MarkedOutbox _ _). it.outbox) c.new-outbox.ensures) (subst (SayMark _) (sym mark_is) c.in-Ok.ensures.mark)
+    (ap (λ (it : MarkedOutbox _ _). it.outbox) (c.new-outbox.ensures ∙ c.new.ensures)) (subst (SayMark _) (sym mark_is) c.in-Ok.ensures.mark)
     (subst (λ (m : ℕ). AreToPost c.args.limits m (recovered (g.D.Disk.seen c.in-Ok-open.opened.ledger.journal.disk)) c.in-Ok-open.opened.letters.items) (c.mark-mark.ensures.mark ∙ sym mark_is) opened.letters) why)
     c.start_over_ledger.ensures.fault
 

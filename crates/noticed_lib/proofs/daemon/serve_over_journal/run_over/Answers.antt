@@ -1,7 +1,7 @@
 use Rattle.std.proofs.Common.{◌≡◌, inl, inr, length, ap, subst, ◌∙◌}
 use Rattle.std.specs.Prelude.{IfSome, is_some}
 use Rattle.dsn_crew.specs.Crew.{CrewFault, MayCrashWithin}
-use Rattle.dsn_journal.specs.KeptBook.{ledger_keeper}
+use Rattle.dsn_journal.specs.KeptBook.{keeper_of_ledger}
 use Rattle.noticed_lib.specs.daemon.Serve.{WritesFault}
 use Rattle.noticed_lib.proofs.daemon.JournaledLemmas.{handed, none_awaited}
 use Rattle.noticed_lib.proofs.daemon.serve_over_journal.run_over.Goals as goal
@@ -31,9 +31,9 @@ returns-in-Err g c =
       fault = c.in-Err.fault;
       crew = c.in-Err.ensures.fault;
       counted = c.in-Err.ensures.refused;
-      noted = subst (λ (fault : CrewFault _ _). WritesFault g.N.Drain fault.cause fault.outbox.outbox fault.unsent c.args.notes.now c.write_fault.new.notes c.write_fault.result) c.fault.view_is (rw (c.code.ensures, c.into_parts-outbox.ensures.outbox) at c.write_fault.ensures);
+      noted = subst (λ (fault : CrewFault _ _). WritesFault g.N.Drain fault.cause fault.outbox.outbox fault.unsent c.args.notes.now c.write_fault.new.notes c.write_fault.result) c.fault.view_is (rw (c.code.ensures, c.into_parts-outbox.ensures.outbox, c.into_outbox.ensures) at c.write_fault.ensures);
       left = back.0;
       left_is = back.1;
       last_is = subst (λ book. IfSome book (λ left. c.disk_of.result ≡ left.journal.disk)) (ap (λ (fault : CrewFault _ _). fault.book) c.fault.view_is ∙ back.1) c.disk_of.ensures;
-      crash = λ before with_it. subst (λ book. IfSome book (MayCrashWithin (ledger_keeper g.D.Disk) c.args.start.keeper c.args.start.keeper.book.limits before (length c.args.ports.items) c.in-Err.fault.taken c.in-Err.fault.behind)) back.1 (c.in-Err.ensures.crash_at_fault before with_it);
+      crash = λ before with_it. subst (λ book. IfSome book (MayCrashWithin (keeper_of_ledger g.D.Disk g.C.MarkCount.may_reach) c.args.start.keeper c.args.start.keeper.book.limits before (length c.args.ports.items) c.in-Err.fault.taken c.in-Err.fault.behind)) back.1 (c.in-Err.ensures.crash_at_fault before with_it);
     })

@@ -2,8 +2,8 @@
 """Kills daemons that have a journal (SIGKILL), at any moment, under 16 clients of which some are hostile, and starts the next one
 on the same folder, with a new outbox. After each start all that was answered is there, in the journal and by what is answered
 from then on; of what was sent and not answered it may be there or not. Each sealed log has its notice, byte for byte as a plain
-reading of docs/FORMATS.md has it; the last one of a run may come again. Some
-runs end by a journal that is full (45), and lose nothing either. Then a clean end, and a last start.
+reading of docs/FORMATS.md has it; the last one of a run may come again. A small
+journal gets full again and again, and is put away for a shorter one: no run ends by it. Then a clean end, and a last start.
 
     python3 tests/journal_kills.py [KILLS [SEED]]     40 kills unless said, and a seed of the moment, which is printed"""
 import random
@@ -17,7 +17,7 @@ sys.path.insert(0, str(Path(__file__).parent / "support"))
 from journal_load import HOSTILE, Load  # noqa: E402
 from running import Checks  # noqa: E402
 
-SMALL = 49_152  # bytes of a journal that is soon full, which ends a run, and has room for what the clients hold
+SMALL = 98_304  # bytes of a journal that is soon full, and has room for what the clients hold
 IN_A_START = 0.25  # how often a daemon is killed while it starts
 LONGEST_START, LONGEST_LOAD = 0.6, 0.5  # seconds until it is killed
 
@@ -48,8 +48,10 @@ def main():
             load = Load(checks, Path(room), random.Random(f"{seed} {what}"), size, hostile)
             for _ in range(count):
                 kill(load)
-            load.ends_well(0 if size else 0.3)
+            load.ends_well(0.3, size > 0)
             checks.true(f"{what}: no more notices twice than kills", load.model.repeats <= count)
+            if size:
+                load.check_full(what)
             load.told(what)
     checks.done()
 

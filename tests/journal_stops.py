@@ -17,7 +17,7 @@ from preloading import built, preloading  # noqa: E402
 from running import Checks  # noqa: E402
 
 SMALL = 262_144  # bytes of a journal: its start is soon over
-SMALLEST = 49_152  # bytes of a journal that is soon full, which ends a run, and has room for what the clients hold
+SMALLEST = 98_304  # bytes of a journal that is soon full, and has room for what the clients hold
 STOPPED = 77  # the status of a daemon whose machine stopped
 PATIENCE = 5  # seconds until it is killed where it didn't come to the call
 OF_A_START, OF_A_RUN = 20, 1_000  # calls within which it stops: a start makes some sixteen, a first one 21
@@ -80,8 +80,10 @@ def main():
             load, library = Load(checks, Path(room), random.Random(f"{seed} {what}"), size, hostile), built(room, "power")
             for _ in range(count):
                 stop(load, library)
-            load.ends_well(0 if size == SMALLEST else 0.3)
+            load.ends_well(0.3, size == SMALLEST)
             checks.true(f"{what}: no more notices twice than stops", load.model.repeats <= count)
+            if size == SMALLEST:
+                load.check_full(what)
             load.told(what)
     with tempfile.TemporaryDirectory(prefix="noticed-stops-") as room:
         first_starts(checks, built(room, "power"), random.Random(seed))

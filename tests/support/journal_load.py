@@ -25,6 +25,8 @@ from running import HOST, Checks, Ran, frames_module, run
 FRAMES = frames_module()
 CLIENTS, HOSTILE = 16, 4  # clients, and how many of them are hostile
 SWITCH = 0.0002  # seconds that one of them may keep the others waiting
+LOOK = 0.005  # seconds between two looks at the journal's file
+PUT_AWAY, PATIENCE = 5, 60  # how often a full journal is to be put away in one run, and within how many seconds
 GREETING = f"EHLO {HOST}\r\n".encode()
 END = b"\r\n.\r\n"
 MESSAGE_ID = re.compile(rb"^Message-ID: <([BDT])\.([0-9A-Za-z]+)\.\d+\.(\d+)@", re.M)
@@ -315,7 +317,7 @@ class Load:
 
     def __init__(self, checks: Checks, room: Path, dice: random.Random, size: int = 0, hostile: int = HOSTILE):
         self.checks, self.room, self.dice, self.model = checks, room, dice, Model(checks)
-        self.folder, self.runs, self.full = room / "journal", 0, 0
+        self.folder, self.runs, self.full, self.shortened = room / "journal", 0, 0, 0
         self.folder.mkdir(mode=0o700)
         if size:
             (self.folder / "journal").write_bytes(bytes(size))
@@ -372,8 +374,11 @@ class Load:
                     it.let_go(ask)
 
     def work(self, daemon: Daemon, seconds: float, end):
-        """The clients ask for so long, and until the daemon was ended."""
+        """The clients ask for so long, and until the daemon was ended. Counts how often the journal is seen put away for a shorter one."""
         sys.setswitchinterval(SWITCH)
+        over = threading.Event()
+        watching = threading.Thread(target=self.watch, args=(over,))
+        watching.start()
         ends = threading.Event()
         threads = [threading.Thread(target=self.talk, args=(it, daemon, ends)) for it in self.clients + self.hostile]
         for it in threads:
@@ -382,6 +387,25 @@ class Load:
         end(ends)
         for it in threads:
             it.join()
+        over.set()
+        watching.join()
+
+    def watch(self, over: threading.Event):
+        """Looks at which file the journal is, until all is over."""
+        file = self.folder / "journal"
+        before = file.stat().st_ino
+        while not over.wait(LOOK):
+            now = file.stat().st_ino
+            self.shortened += now != before
+            before = now
+
+    def wait_shortened(self, ends: threading.Event):
+        """Waits until the journal was put away a few times more."""
+        wanted, began = self.shortened + PUT_AWAY, time.monotonic()
+        while self.shortened < wanted and time.monotonic() - began < PATIENCE:
+            time.sleep(LOOK)
+        self.checks.true(f"a journal that gets full is put away {PUT_AWAY} times in one run, {self.shortened + PUT_AWAY - wanted}", self.shortened >= wanted)
+        ends.set()
 
     def talk(self, client, daemon: Daemon, ends: threading.Event):
         """One connection of a client after another."""
@@ -411,11 +435,12 @@ class Load:
         self.full += is_full
         return is_full or ran.status == status
 
-    def ends_well(self, seconds: float):
-        """A load of so many seconds without a kill, and a clean end; then a last start, which still has all that was open."""
+    def ends_well(self, seconds: float, is_small: bool = False):
+        """A load of so many seconds without a kill, or until a small journal got full a few times, and a clean end; then a last start,
+        which still has all that was open."""
         with self.daemon() as daemon:
             self.checks.true("the run after the last kill serves", self.serves(daemon))
-            self.work(daemon, seconds, threading.Event.set)
+            self.work(daemon, seconds, self.wait_shortened if is_small else threading.Event.set)
             self.stop(daemon)
         with self.daemon() as daemon:
             self.checks.true("the last run serves", self.serves(daemon, forgets=True))
@@ -437,8 +462,12 @@ class Load:
         self.model.check_letters()
         self.model.check_open_lines(ended.notes)
 
+    def check_full(self, what: str):
+        """A journal that got full ended no run."""
+        self.checks.equal(f"{what}: runs that a full journal ended", self.full, 0)
+
     def told(self, what: str):
         """Prints what came of it."""
         it = self.model
         print(f"  {what}: {self.runs} runs, {it.asked} requests answered, {len(it.sums)} notices, {it.repeats} of them twice, {it.cut} cut, "
-              f"{self.full} runs ended by a full journal")
+              f"a full journal put away {self.shortened} times, {self.full} runs ended by one")

@@ -62,12 +62,13 @@ def crates_below(room: Path) -> dict:
 
 
 def work_for(crate):
-    """The folder where checks of the crate, in any checkout on this machine, kept what the next one best begins with, as `rt`
-    itself finds it; none where there is none."""
+    """The folder where checks of the crate kept what the next one best begins with: in any checkout on this machine, as `rt` itself
+    finds it, or in this one, where this kit's `rt` doesn't look for others; none where there is none."""
     try:
         return module("rt_of_kit", Path(RT).resolve()).work_for(crate)
     except (AttributeError, ImportError, OSError, SyntaxError):
-        return None
+        own = Path(crate.folder) / "out/incremental"
+        return str(own) if own.is_dir() else None
 
 
 @functools.lru_cache(maxsize=None)

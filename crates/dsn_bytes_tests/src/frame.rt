@@ -3,5 +3,5 @@ mod answers;
 mod bodies;
 mod buffers;
 mod encodings;
-mod frames;
+pub(crate) mod frames;
 mod requests;

@@ -8,6 +8,8 @@ mod assert_same;
 #[cfg(test)]
 mod frame;
 #[cfg(test)]
+mod postfix_list;
+#[cfg(test)]
 mod postfix_log;
 #[cfg(test)]
 mod postfix_plan;

@@ -10,6 +10,9 @@ pub mod AttributeLaws
 pub mod AttributeLemmas
 pub mod FieldReadings
 pub mod ListLaws
+mod ListPlaceExamples
+pub mod ListPlaceLemmas
+pub mod ListReadingLemmas
 pub mod NoticePlanLaws
 pub mod NoticePlanLemmas
 pub mod NumberLemmas

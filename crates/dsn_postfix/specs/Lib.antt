@@ -1,11 +1,14 @@
 pub mod Attribute
 pub mod AttributeValues
+pub mod ListBuffer
+pub mod ListPlace
 pub mod LoggedAppend
 pub mod NoticePlan
 pub mod PlannedNotice
 pub mod PostfixAnswer
 pub mod PostfixRequest
 pub mod QuotedAddress
+pub mod ReceivedRequest
 pub mod RecipientSet
 pub mod RequestReading
 pub mod VerpPath

@@ -1,0 +1,124 @@
+-- Lists of attributes that are read from a device in pieces: what a buffer holds, how much room it has, and how reading
+-- ends.
+use Rattle.std.specs.Prelude.{◌≡◌, ℕ, ◌+◌, ◌*◌, ◌<◌, ◌≤◌, max, Bool, true, false, List, [], length, take, drop, Option, Some, None, Result, Ok, Err}
+use Rattle.std.specs.Io.KnownBytes.{Consumes, IsAtEnd}
+use Rattle.dsn_postfix.specs.Attribute.{Attribute, BeginsWithList, attributes_at}
+use Rattle.dsn_postfix.specs.declared.list_fault.ListFault.{ListFault}
+use Rattle.dsn_postfix.specs.declared.list_fault.ListFault.TheVariants.{NoMemory, Nothing, CutShort, TooLong, Trailing, Read}
+
+-- the longest list that is read, in bytes
+abbrev pub longest_list : ℕ
+longest_list = 65536
+
+-- the room of a buffer that has any, in bytes, at least
+abbrev pub least_room : ℕ
+least_room = 1024
+
+-- bytes that are one list, all of them
+pub record IsList (bytes : List ℕ) : Type 0 where
+  pub attributes : List Attribute
+  pub whole : BeginsWithList bytes attributes []
+
+-- bytes that begin with a list, after which there are more
+pub record HasMore (bytes : List ℕ) : Type 0 where
+  pub attributes : List Attribute
+  pub rest : List ℕ
+  pub begins : BeginsWithList bytes attributes rest
+  pub some : 0 < length rest
+
+-- bytes in which no list ends
+abbrev pub HasNoList : List ℕ → Type 0
+HasNoList bytes = attributes_at bytes ≡ None
+
+-- ---- a buffer
+
+-- what contracts see of a buffer: for how many bytes of a list it has room, and the list that it holds, if any
+pub record BufferedList : Type 0 where
+  pub room : ℕ
+  pub held : Option (List ℕ)
+
+-- the list at the front of these bytes, which has so many of them
+abbrev pub list_at_front : List ℕ → Option ℕ → Option (List ℕ)
+list_at_front bytes None = None
+list_at_front bytes (Some size) = Some (take size bytes)
+
+-- so many bytes at the front of these are a list
+abbrev pub IsListAtFront : List ℕ → Option ℕ → Type 0
+IsListAtFront bytes None = Unit {0}
+IsListAtFront bytes (Some size) = (size ≤ length bytes) × IsList (take size bytes)
+
+-- the room after so many bytes were read: no less than there was, and no more but for twice these bytes
+pub record RoomAfterBytes (size before after : ℕ) : Type 0 where
+  pub kept : before ≤ after
+  pub modest : after ≤ max before (max least_room (2 * size))
+
+-- ---- one list, read from a source whose bytes may be known
+
+-- a list that was read, and nothing after it
+pub record ReadsList (old new : Option (List ℕ)) (before after : ℕ) (bytes : List ℕ) : Type 0 where
+  pub list : IsList bytes
+  pub short : length bytes ≤ longest_list
+  pub consumed : Consumes old new bytes
+  pub room : RoomAfterBytes (length bytes) before after
+
+-- a buffer holds a list that was read
+abbrev pub HoldsList : Option (List ℕ) → Option (List ℕ) → ℕ → ℕ → Option (List ℕ) → Type 0
+HoldsList old new before after None = ⊥
+HoldsList old new before after (Some bytes) = ReadsList old new before after bytes
+
+-- what a fault says of the bytes that were read before it, and of the room that there is then
+abbrev pub StopsReading : ListFault → ℕ → List ℕ → Type 0
+StopsReading NoMemory room part = HasNoList part × ((length part < longest_list) × (length part ≡ room))
+StopsReading Nothing room part = part ≡ []
+StopsReading CutShort room part = HasNoList part × (0 < length part)
+StopsReading TooLong room part = HasNoList part × (length part ≡ longest_list)
+StopsReading Trailing room part = HasMore part
+StopsReading Read room part = HasNoList part × (length part < longest_list)
+
+-- the input's end is met where a list isn't there or isn't whole
+abbrev pub EndsInput : ListFault → Option (List ℕ) → Type 0
+EndsInput NoMemory new = Unit {0}
+EndsInput Nothing new = IsAtEnd new
+EndsInput CutShort new = IsAtEnd new
+EndsInput TooLong new = Unit {0}
+EndsInput Trailing new = Unit {0}
+EndsInput Read new = Unit {0}
+
+-- no list could be read: these bytes were
+pub record ReadsNoList (old new : Option (List ℕ)) (before after : ℕ) (fault : ListFault) : Type 0 where
+  pub part : List ℕ
+  pub short : length part ≤ longest_list
+  pub consumed : Consumes old new part
+  pub stops : StopsReading fault after part
+  pub ends : EndsInput fault new
+  pub room : RoomAfterBytes (length part) before after
+
+-- no piece could be read after so many bytes
+abbrev pub StopsAtPiece : ListFault → ℕ → ℕ → Type 0
+StopsAtPiece NoMemory size room = size ≡ room
+StopsAtPiece Nothing size room = size ≡ 0
+StopsAtPiece CutShort size room = 0 < size
+StopsAtPiece TooLong size room = ⊥
+StopsAtPiece Trailing size room = ⊥
+StopsAtPiece Read size room = Unit {0}
+
+pub record ReadsNoPiece (old new : Option (List ℕ)) (size room : ℕ) (fault : ListFault) : Type 0 where
+  pub consumed : Consumes old new []
+  pub stops : StopsAtPiece fault size room
+  pub ends : EndsInput fault new
+
+-- a piece that was read after so many bytes at the front of a buffer
+pub record ReadsPiece (old new : Option (List ℕ)) (size : ℕ) (bytes : List ℕ) (count : ℕ) : Type 0 where
+  pub some : 0 < count
+  pub fits : size + count ≤ length bytes
+  pub consumed : Consumes old new (take count (drop size bytes))
+
+-- whether a result says that the device failed
+abbrev pub device_failed : {T : Type 0} → Result T ListFault → Bool
+device_failed (Ok value) = false
+device_failed (Err NoMemory) = false
+device_failed (Err Nothing) = false
+device_failed (Err CutShort) = false
+device_failed (Err TooLong) = false
+device_failed (Err Trailing) = false
+device_failed (Err Read) = true

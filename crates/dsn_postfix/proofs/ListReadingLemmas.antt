@@ -64,10 +64,10 @@ piece_short count bytes = rw length-take (omega arith)
 -- the list ends with the piece
 pub list_read : (a b c : Option (List ℕ)) (before : ℕ) (filled : ℕ) (old new : List ℕ) (place : ListPlace) (count size : ℕ) → ReadOn a b c filled old new place count
     → Ended size ≡ step_over place (take count (drop filled new)) → size ≡ count → length new ≤ longest_list → RoomAfterBytes (filled + count) before (length new)
-    → ReadsList a c before (length new) (take (filled + count) new)
-list_read a b c before filled old new place count size on ends all bounded room =
+    → (whole : ℕ) → whole ≡ filled + count → ReadsList a c before (length new) (take whole new)
+list_read a b c before filled old new place count size on ends all bounded room whole is =
     let long = long_on a b c filled old new place count on in
-    record {
+    rw is record {
       list = whole_list (take (filled + count) new) (filled + size) (step_on a b c filled old new place count (Ended size) on ends) (omega (arith, all, long));
       short = omega (arith, long, bounded, on.piece.fits);
       consumed = consumed_on a b c filled old new place count on;

@@ -31,10 +31,10 @@ returns-in-Ended-2-clause-list g c =
     list_read _ _ _ _ c.loop-filled.filled c.loop-filled.bytes.items c.read_piece.new.bytes.items c.loop-filled.place c.in_ok-count.count c.in-Ended.size
     (record { within = kept.in_range; front = read.front; consumed = kept.consumed; scanned = kept.scanned; piece = read.piece })
     (c.in-Ended.ensures.step ∙ ap (step_over c.loop-filled.place) (piece_is c.loop-filled.filled c.in_ok-count.count c.deref.result.now c.read_piece.new.bytes.items c.deref.ensures.value))
-    (omega (arith, c.if-size-count.false, c.in-Ended.ensures.within, piece_short (c.loop-filled.filled + c.in_ok-count.count - c.loop-filled.filled) (drop c.loop-filled.filled c.deref.result.now))) read.bounded (room_on _ _ _ c.loop-filled.filled _ (omega arith) kept.room read.room)
+    (omega (arith, c.if-size-count.false, c.in-Ended.ensures.within, piece_short (c.loop-filled.filled + c.in_ok-count.count - c.loop-filled.filled) (drop c.loop-filled.filled c.deref.result.now))) read.bounded (room_on _ _ _ c.loop-filled.filled _ (omega arith) kept.room read.room) _ (omega arith)
 
 pub returns-in-Ended-2-clause-front : goal.returns-in-Ended-2-clause-front
-returns-in-Ended-2-clause-front g c = (c.in_ok-count.ensures.piece.fits, (returns-in-Ended-2-clause-list g c).list)
+returns-in-Ended-2-clause-front g c = (omega (arith, c.in_ok-count.ensures.piece.fits), (returns-in-Ended-2-clause-list g c).list)
 
 -- the list goes on
 pub loop-filled-preserved : goal.loop-filled-preserved

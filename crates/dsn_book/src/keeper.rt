@@ -1,6 +1,7 @@
 //! What carries out the requests of a crew.
 ghost use Rattle.std.specs.Prelude.{◌≡◌, ◌+◌, ◌-◌, ◌^◌, ◌<◌, ◌≤◌, List, [], ◌∷◌, ◌++◌, OnOk, IfErr};
-ghost use Rattle.dsn_book.specs.Crash.{LeavesThroughout, ReopensAfterSome};
+ghost use Rattle.dsn_device.specs.Throughout.{LeavesThroughout};
+ghost use Rattle.dsn_book.specs.Crash.{ReopensAfterSome};
 ghost use Rattle.dsn_book.specs.Step.{letters_in};
 ghost use Rattle.dsn_outcome.specs.History.{Exchange, answer_of, exchange_of, history_after, letter_of};
 ghost use Rattle.dsn_outcome.specs.Request.{Request};

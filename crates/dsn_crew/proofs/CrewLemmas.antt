@@ -24,6 +24,7 @@ use Rattle.dsn_outcome.specs.Request.{Request, Bye}
 use Rattle.dsn_outcome.specs.declared.answer.Answer.{Answer}
 use Rattle.dsn_outcome.specs.declared.answer.Reply.TheVariants.{Gone}
 use Rattle.dsn_post.specs.LetterSink.{LetterSink, TakesLetter}
+use Rattle.dsn_device.proofs.ThroughoutLemmas.{stands_still}
 use Rattle.dsn_post.specs.Posting.{IsPosted, IsUntouched}
 use Rattle.dsn_post.specs.declared.posted.Posted.{Posted}
 use Rattle.dsn_post.proofs.LetterSinkLemmas.{handed_letters}
@@ -223,7 +224,7 @@ never_begun_with cause outbox book = record { cause = cause; outbox = outbox; un
 
 -- an outbox that is as it was is untouched
 untouched : {W : Type 0} (drain : Drain W) (start end : W) → start ≡ end → IsUntouched drain start end
-untouched drain start end same = subst (IsUntouched drain start) same (record { nothing = Appends-nil (drain.contents start); failures = refl; flushes = refl })
+untouched drain start end same = subst (IsUntouched drain start) same (record { nothing = Appends-nil (drain.contents start); failures = refl; flushes = refl; marked = refl; no_moment = stands_still })
 
 -- what a run was given stands for what it did, where it never began
 given_back : {B : Type 0} (keeper : Keeper B) (before : List Exchange) (book : B) (cause : CrewCause) → (stands : StandsAtFault keeper [] before cause book) → IsHandedBack keeper (keeper.limits book) [] (history_after (keeper.limits book) before []) cause book

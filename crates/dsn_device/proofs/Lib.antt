@@ -1,3 +1,4 @@
 pub mod CountsLemmas
+pub mod ThroughoutLemmas
 pub mod TransferLemmas
 pub mod UntilFailureLemmas

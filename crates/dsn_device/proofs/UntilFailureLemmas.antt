@@ -6,9 +6,11 @@ use Rattle.std.specs.Io.KnownBytes.{Appends, Keeps}
 use Rattle.std.proofs.KnownBytes.{Appends-nil, Appends-trans, Appends-kept, Keeps-refl, Keeps-trans}
 use Rattle.dsn_device.specs.Failures.{counted}
 use Rattle.dsn_device.specs.Transfer.{AppendsFront}
-use Rattle.dsn_device.specs.Marking.{marked_by}
-use Rattle.dsn_device.specs.UntilFailure.{Sent, counts_failure, WritesUntilFailure, FlushesUntilFailure, MarksUntilFailure, Lost, in_text, at_flush, WrittenAndFlushed, Unmarked, unflushed, at_mark, WrittenAndMarked}
+use Rattle.dsn_device.specs.Marking.{SayCountOrNext, marked_by}
+use Rattle.dsn_device.specs.Throughout.{LeavesThroughout}
+use Rattle.dsn_device.specs.UntilFailure.{Sent, counts_failure, WritesUntilFailure, FlushesUntilFailure, MarksUntilFailure, LeavesMarked, LeavesMarkedOrNext, TakesNoTime, Lost, in_text, at_flush, WrittenAndFlushed, Unmarked, unflushed, at_mark, WrittenAndMarked}
 use Rattle.dsn_device.specs.declared.drain.Drain.{Ghosts as Drain}
+use Rattle.dsn_device.proofs.ThroughoutLemmas.{stands_still, stands_still_then, stood_still_first}
 use Rattle.dsn_device.proofs.TransferLemmas.{Appends-part, AppendsFront-all, AppendsFront-none, AppendsFront-part, AppendsPart-longer, AppendsPart-kept}
 
 -- nothing was asked
@@ -52,6 +54,7 @@ module _ {W : Type 0} {drain : Drain W} where
     count = counts-none failed (drain.failures w);
     no_flush = refl;
     marked = refl;
+    no_moment = stands_still;
     surely = λ h. h;
     stays_steady = λ h. (h, refl);
   }
@@ -63,6 +66,7 @@ module _ {W : Type 0} {drain : Drain W} where
     count = counts-then a b c (drain.contents x) (drain.contents y) (drain.contents z) s t (drain.failures x) (drain.failures y) (drain.failures z) p.sent q.sent p.count q.count;
     no_flush = q.no_flush ∙ p.no_flush;
     marked = q.marked ∙ p.marked;
+    no_moment = stands_still_then p.no_moment q.no_moment;
     surely = λ h. q.surely (p.surely h);
     stays_steady = λ h. let first = p.stays_steady h in let second = q.stays_steady first.0 in (second.0, second.1 ∙ first.1);
   }
@@ -138,11 +142,23 @@ unmarked serial None = refl
 unmarked serial (Some n) = refl
 
 module _ {W : Type 0} (drain : Drain W) where
+  -- what takes no time leaves what a crash leaves
+  pub leaves_still : (x y : W) → TakesNoTime drain x y → drain.marked y ≡ drain.marked x → LeavesMarked drain x → LeavesMarked drain y
+  leaves_still x y still same before left since =
+      rw same (before left (still.1 (drain.moment x) left (subst (λ t. drain.left_since y t left) still.0 since)))
+
+  -- where the text was written and flushed, a crash leaves what it left before, until the letter is marked
+  then_marked : (x y z : W) (serial : ℕ) → TakesNoTime drain x y → drain.marked y ≡ drain.marked x
+      → (LeavesMarked drain y → LeavesMarkedOrNext drain y z serial) → LeavesMarked drain x → LeavesMarkedOrNext drain x z serial
+  then_marked x y z serial still same marking before =
+      let from : LeavesThroughout drain.moment drain.left_since y z (SayCountOrNext drain.say (drain.marked y) serial) = marking (leaves_still x y still same before) in
+      stood_still_first drain.moment drain.left_since x y z _ still (rw same at from)
+
   marks : (a b c : Bool) (x y z : W) (text : List ℕ) (serial : ℕ)
-      → WrittenAndFlushed drain a b x y text → drain.marked y ≡ drain.marked x
+      → WrittenAndFlushed drain a b x y text → drain.marked y ≡ drain.marked x → TakesNoTime drain x y
       → MarksUntilFailure drain b c y z serial
       → WrittenAndMarked drain a c x z text serial
-  marks false false false x y z text serial made same q = record {
+  marks false false false x y z text serial made same still q = record {
     flushed = record {
       taken = Appends-kept _ _ _ text made.taken q.kept;
       once = q.no_flush ∙ made.once;
@@ -150,18 +166,21 @@ module _ {W : Type 0} (drain : Drain W) where
       surely = λ h. (q.surely (made.surely h)).0;
     };
     marked = rw same at q.marked;
+    any_moment = then_marked x y z serial still same q.any_moment;
+    leaves = λ before. q.leaves refl (leaves_still x y still same before);
   }
-  marks false false true x y z text serial made same q =
-      at_mark (Appends-kept _ _ _ text made.taken q.kept) (q.no_flush ∙ made.once)
+  marks false false true x y z text serial made same still q =
+      at_mark (Appends-kept _ _ _ text made.taken q.kept) (q.no_flush ∙ made.once) (q.unflushed ∙ made.passed_on)
       (q.marked ∙ unmarked serial (drain.marked y) ∙ same)
       (λ none. never (sym (q.unmarking (same ∙ none))))
       (λ h. never (sym (q.surely (made.surely h)).1))
-  marks false true false x y z text serial made same q = absurd (never (q.idle refl).0)
-  marks false true true x y z text serial made same q =
-      unflushed (rw (sym (q.idle refl).1) at made) (ap drain.marked (q.idle refl).1 ∙ same)
-  marks true false c x y z text serial made same q = absurd made
-  marks true true false x y z text serial made same q = absurd (never (q.idle refl).0)
-  marks true true true x y z text serial made same q = (q.idle refl).1 ∙ made
+      (then_marked x y z serial still same q.any_moment)
+  marks false true false x y z text serial made same still q = absurd (never (q.idle refl).0)
+  marks false true true x y z text serial made same still q =
+      unflushed (rw (sym (q.idle refl).1) at made) (ap drain.marked (q.idle refl).1 ∙ same) (rw (sym (q.idle refl).1) at still)
+  marks true false c x y z text serial made same still q = absurd made
+  marks true true false x y z text serial made same still q = absurd (never (q.idle refl).0)
+  marks true true true x y z text serial made same still q = (q.idle refl).1 ∙ made
 
   -- a text that was written, flushed and marked, where nothing failed
   pub marked-whole : (a b : Bool) (old new : W) (text : List ℕ) (serial : ℕ) → b ≡ false → WrittenAndMarked drain a b old new text serial
@@ -170,15 +189,15 @@ module _ {W : Type 0} (drain : Drain W) where
   marked-whole true false old new text serial is p = absurd p
   marked-whole a true old new text serial is p = absurd (never (sym is))
 
-  unmarked-front : (old new : W) (text : List ℕ) → Unmarked drain old new text → AppendsFront (drain.contents old) (drain.contents new) text
-  unmarked-front old new text (unflushed lost same) = lost-front drain old new text lost
-  unmarked-front old new text (at_mark all once same some unsure) = AppendsFront-all _ _ text all
+  unmarked-front : (old new : W) (text : List ℕ) (serial : ℕ) → Unmarked drain old new text serial → AppendsFront (drain.contents old) (drain.contents new) text
+  unmarked-front old new text serial (unflushed lost same still) = lost-front drain old new text lost
+  unmarked-front old new text serial (at_mark all once passed_on same some unsure any_moment) = AppendsFront-all _ _ text all
 
   -- and whatever failed
   pub marked-front : (a b : Bool) (old new : W) (text : List ℕ) (serial : ℕ) → WrittenAndMarked drain a b old new text serial
       → AppendsFront (drain.contents old) (drain.contents new) text
   marked-front false false old new text serial p = AppendsFront-all _ _ text p.flushed.taken
-  marked-front false true old new text serial p = unmarked-front old new text p
+  marked-front false true old new text serial p = unmarked-front old new text serial p
   marked-front true false old new text serial p = absurd p
   marked-front true true old new text serial p = AppendsFront-none _ _ text (rw p (Keeps-refl (drain.contents old)))
 
@@ -187,4 +206,4 @@ module _ {W : Type 0} {drain : Drain W} where
   pub written-marked : {a b c d : Bool} {x y z w : W} {text : List ℕ} {serial : ℕ} → WritesUntilFailure drain a b x y text → FlushesUntilFailure drain b c y z
       → MarksUntilFailure drain c d z w serial → WrittenAndMarked drain a d x w text serial
   written-marked {a} {b} {c} {d} {x} {y} {z} {w} {text} {serial} p q r =
-      marks drain a c d x z w text serial (written-flushed p q) (q.marked ∙ p.marked) r
+      marks drain a c d x z w text serial (written-flushed p q) (q.marked ∙ p.marked) (stands_still_then p.no_moment q.no_moment) r

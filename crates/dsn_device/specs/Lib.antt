@@ -5,5 +5,6 @@ pub mod MemoryDrain
 pub mod Plain
 pub mod QuietWriter
 pub mod Marking
+pub mod Throughout
 pub mod Transfer
 pub mod UntilFailure

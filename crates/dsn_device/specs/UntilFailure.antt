@@ -4,9 +4,26 @@ use Rattle.std.specs.Prelude.{◌≡◌, ℕ, Bool, true, false, not, List, Opti
 use Rattle.std.specs.Io.KnownBytes.{Appends, Keeps}
 use Rattle.dsn_device.specs.Failures.{counted}
 use Rattle.dsn_device.specs.Flushes.{flushed}
-use Rattle.dsn_device.specs.Marking.{marked_by}
+use Rattle.dsn_device.specs.Marking.{LeavesItsCount, SayCountOrNext, marked_by}
+use Rattle.dsn_device.specs.Throughout.{LeavesThroughout, StandsStill}
 use Rattle.dsn_device.specs.Transfer.{AppendsPart}
 use Rattle.dsn_device.specs.declared.drain.Drain
+
+-- a call of a drain that takes no time: what a crash leaves of its marks stays
+abbrev pub TakesNoTime : {W : Type 0} → Drain.Ghosts W → W → W → Type 0
+TakesNoTime drain old new =
+    StandsStill (drain.moment old) (drain.moment new) (drain.left_since old) (drain.left_since new)
+
+-- a crash now leaves of a drain's marks what says its count, and nothing else
+abbrev pub LeavesMarked : {W : Type 0} → Drain.Ghosts W → W → Type 0
+LeavesMarked drain now = LeavesItsCount drain.moment drain.left_since drain.say drain.marked now
+
+-- at each moment a crash leaves what says the first one's count, or counts the letter with this serial
+-- too
+abbrev pub LeavesMarkedOrNext : {W : Type 0} → Drain.Ghosts W → W → W → ℕ → Type 0
+LeavesMarkedOrNext drain old new serial =
+    LeavesThroughout drain.moment drain.left_since old new
+    (SayCountOrNext drain.say (drain.marked old) serial)
 
 -- what became of a text, by whether the drain had failed before and whether it has failed now: all
 -- of it is there, a part and not all, or nothing is done
@@ -29,6 +46,7 @@ pub record WritesUntilFailure {W : Type 0} (drain : Drain.Ghosts W) (before afte
   pub count : drain.failures new ≡ counts_failure before after (drain.failures old)
   pub no_flush : drain.flushes new ≡ drain.flushes old
   pub marked : drain.marked new ≡ drain.marked old
+  pub no_moment : TakesNoTime drain old new
   pub surely : drain.flushes_surely old → drain.flushes_surely new
   pub stays_steady : drain.steady old → drain.steady new × (drain.failures new ≡ drain.failures old)
 
@@ -41,6 +59,7 @@ pub record FlushesUntilFailure {W : Type 0} (drain : Drain.Ghosts W) (before aft
   pub once : drain.flushes new ≡ counted (not before) (drain.flushes old)
   pub passed_on : after ≡ false → drain.unflushed new ≡ false
   pub marked : drain.marked new ≡ drain.marked old
+  pub no_moment : TakesNoTime drain old new
   pub surely : drain.flushes_surely old → drain.flushes_surely new × (after ≡ before)
   pub stays_steady : drain.steady old → drain.steady new × (drain.failures new ≡ drain.failures old)
 
@@ -54,6 +73,8 @@ pub record MarksUntilFailure {W : Type 0} (drain : Drain.Ghosts W) (before after
   pub unflushed : drain.unflushed new ≡ drain.unflushed old
   pub marked : drain.marked new ≡ marked_by (not after) serial (drain.marked old)
   pub unmarking : drain.marked old ≡ None → after ≡ before
+  pub any_moment : LeavesMarked drain old → LeavesMarkedOrNext drain old new serial
+  pub leaves : after ≡ false → LeavesMarked drain old → LeavesMarked drain new
   pub surely : drain.flushes_surely old → drain.flushes_surely new × (after ≡ before)
   pub stays_steady : drain.steady old → drain.steady new × (drain.failures new ≡ drain.failures old)
 
@@ -87,22 +108,27 @@ pub record TakenAndMarked {W : Type 0} (drain : Drain.Ghosts W) (old new : W)
     (text : List ℕ) (serial : ℕ) : Type 0 where
   pub flushed : TakenAndFlushed drain old new text
   pub marked : drain.marked new ≡ marked_by true serial (drain.marked old)
+  pub any_moment : LeavesMarked drain old → LeavesMarkedOrNext drain old new serial
+  pub leaves : LeavesMarked drain old → LeavesMarked drain new
 
--- the drain failed, and the letter is not marked: its text was lost; or the mark failed after the
--- flush, which it can't where the drain marks no letters, nor where it flushes surely
-pub data Unmarked {W : Type 0} (drain : Drain.Ghosts W) (old new : W) (text : List ℕ) : Type 0 where
+-- the drain failed, and the letter is not marked: its text was lost, and no crash marks it; or the
+-- mark failed after the flush, which it can't where the drain marks no letters, nor where it flushes
+-- surely, and then what a crash leaves may count it
+pub data Unmarked {W : Type 0} (drain : Drain.Ghosts W) (old new : W) (text : List ℕ) (serial : ℕ)
+    : Type 0 where
   unflushed : Lost drain old new text → drain.marked new ≡ drain.marked old
-      → Unmarked drain old new text
+      → TakesNoTime drain old new → Unmarked drain old new text serial
   at_mark : Appends (drain.contents old) (drain.contents new) text
-      → drain.flushes new ≡ flushed (drain.flushes old) → drain.marked new ≡ drain.marked old
-      → ¬ (drain.marked old ≡ None) → ¬ drain.flushes_surely old
-      → Unmarked drain old new text
+      → drain.flushes new ≡ flushed (drain.flushes old) → drain.unflushed new ≡ false
+      → drain.marked new ≡ drain.marked old → ¬ (drain.marked old ≡ None) → ¬ drain.flushes_surely old
+      → (LeavesMarked drain old → LeavesMarkedOrNext drain old new serial)
+      → Unmarked drain old new text serial
 
 -- what became of a text that was to be written, flushed once, and then marked by its serial, by
 -- whether the drain had failed before and whether it has failed now
 abbrev pub WrittenAndMarked :
     {W : Type 0} → Drain.Ghosts W → Bool → Bool → W → W → List ℕ → ℕ → Type 0
 WrittenAndMarked drain false false old new text serial = TakenAndMarked drain old new text serial
-WrittenAndMarked drain false true old new text serial = Unmarked drain old new text
+WrittenAndMarked drain false true old new text serial = Unmarked drain old new text serial
 WrittenAndMarked drain true false old new text serial = ⊥
 WrittenAndMarked drain true true old new text serial = new ≡ old

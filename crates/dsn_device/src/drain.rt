@@ -1,10 +1,11 @@
 //! What the daemon writes to.
-ghost use Rattle.std.specs.Prelude.{◌≡◌, ℕ, Bool, ◌&&◌, ◌||◌, false, List, Option, None, IsOk, is_err, is_ok};
+ghost use Rattle.std.specs.Prelude.{◌≡◌, ℕ, Bool, ◌&&◌, ◌||◌, false, List, Option, None, IsOk, OnOk, is_err, is_ok};
 ghost use Rattle.std.specs.Io.{WritesAtMost};
 ghost use Rattle.std.specs.Io.KnownBytes.{WriteAppends, Keeps};
 ghost use Rattle.dsn_device.specs.Failures.{counted, write_failed};
 ghost use Rattle.dsn_device.specs.Flushes.{flushed, took_bytes};
-ghost use Rattle.dsn_device.specs.Marking.{marked_by};
+ghost use Rattle.dsn_device.specs.Marking.{LeavesItsCount, SayCountOrNext, marked_by};
+ghost use Rattle.dsn_device.specs.Throughout.{LeavesThroughout, StandsStill};
 
 use crate::broken::Broken;
 
@@ -30,6 +31,16 @@ pub trait Drain {
     // later run writes it again.
     ghost marked: { Self → Option ℕ } = { λ _. None };
 
+    // The moment, as a number that doesn't fall.
+    ghost moment: { Self → ℕ } = { λ _. 0 };
+
+    // What a crash at some moment from that one on might have left of its marks, during a call or
+    // between two; nothing, where it marks no letters.
+    ghost left_since: { Self → ℕ → List ℕ → Type 0 } = { λ _ _ _. ⊥ };
+
+    // That a later run which finds these bytes of marks takes so many letters for marked.
+    ghost say: { List ℕ → ℕ → Type 0 } = { λ _ _. ⊥ };
+
     // While this holds the count stands still, and the device keeps it: no call fails.
     ghost steady: { Self → Type 0 };
 
@@ -46,6 +57,8 @@ pub trait Drain {
         ensures no_flush { flushes self.new ≡ flushes self.old }
         ensures unflushed { unflushed self.new ≡ (unflushed self.old || took_bytes result) }
         ensures marked { marked self.new ≡ marked self.old }
+        ensures no_moment { StandsStill (moment self.old) (moment self.new)
+            (left_since self.old) (left_since self.new) }
         ensures surely { flushes_surely self.old → flushes_surely self.new }
         ensures steady { steady self.old
             → steady self.new × (failures self.new ≡ failures self.old) };
@@ -58,6 +71,8 @@ pub trait Drain {
         ensures once { flushes self.new ≡ flushed (flushes self.old) }
         ensures passed_on { unflushed self.new ≡ (unflushed self.old && is_err result) }
         ensures marked { marked self.new ≡ marked self.old }
+        ensures no_moment { StandsStill (moment self.old) (moment self.new)
+            (left_since self.old) (left_since self.new) }
         ensures surely { flushes_surely self.old → flushes_surely self.new × IsOk result }
         ensures steady { steady self.old
             → steady self.new × (failures self.new ≡ failures self.old) };
@@ -77,6 +92,11 @@ pub trait Drain {
         ensures marked { marked self.new
             ≡ marked_by (is_ok result) serial (marked self.old) }
         ensures unmarking { marked self.old ≡ None → IsOk result }
+        ensures any_moment { LeavesItsCount moment left_since say marked self.old
+            → LeavesThroughout moment left_since self.old self.new
+            (SayCountOrNext say (marked self.old) serial) }
+        ensures leaves { LeavesItsCount moment left_since say marked self.old
+            → OnOk result (LeavesItsCount moment left_since say marked self.new) }
         ensures surely { flushes_surely self.old → flushes_surely self.new × IsOk result }
         ensures steady { steady self.old
             → steady self.new × (failures self.new ≡ failures self.old) };

@@ -3,6 +3,7 @@ ghost use Rattle.std.specs.Prelude.{◌≡◌, ◌<◌, length, take, IfOk, OnOk
 ghost use Rattle.std.specs.Io.{ReadsAtMost};
 ghost use Rattle.std.specs.Io.KnownBytes.{Appends, Consumes, IsAtEnd, Keeps};
 ghost use Rattle.dsn_device.specs.Failures.{counted};
+ghost use Rattle.dsn_device.specs.Throughout.{StandsStill};
 ghost use Rattle.dsn_device.specs.Transfer.{AppendsFront, AppendsPart, ConsumesFewer};
 
 use crate::broken::Broken;
@@ -21,6 +22,8 @@ pub fn send<D: Drain>(drain: &mut D, text: &[u8]) -> Result<(), Broken>
     ensures count { D.failures drain.new ≡ counted (is_err result) (D.failures drain.old) }
     ensures no_flush { D.flushes drain.new ≡ D.flushes drain.old }
     ensures marked { D.marked drain.new ≡ D.marked drain.old }
+    ensures no_moment { StandsStill (D.moment drain.old) (D.moment drain.new)
+        (D.left_since drain.old) (D.left_since drain.new) }
     ensures surely { D.flushes_surely drain.old → D.flushes_surely drain.new }
     ensures steady { D.steady drain.old
         → D.steady drain.new × (D.failures drain.new ≡ D.failures drain.old) }

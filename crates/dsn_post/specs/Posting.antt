@@ -2,6 +2,7 @@
 use Rattle.std.specs.Prelude.{◌≡◌, ◌↔◌, ℕ, ◌+◌, ◌≤◌, Bool, true, List, [], ◌++◌, length, None}
 use Rattle.std.specs.Io.KnownBytes.{Appends}
 use mathlib.Core.List.{IsPrefix}
+use Rattle.dsn_device.specs.UntilFailure.{TakesNoTime}
 use Rattle.dsn_device.specs.declared.drain.Drain.{Ghosts as Drain}
 use Rattle.dsn_lane.specs.Halves.{Identity}
 use Rattle.dsn_outcome.specs.Letter.{Letter}
@@ -29,11 +30,13 @@ pub record IsPosting {W : Type 0} (drain : Drain W) (begun : Outgoing W) (lane :
   pub idle : end.source.letters ≡ [] → end.outgoing ≡ begun
   pub ended : end.source.marked ≡ is_marked end.end
 
--- an outbox to which nothing was written
+-- an outbox to which nothing was written, of whose marks a crash leaves what it left before
 pub record IsUntouched {W : Type 0} (drain : Drain W) (start end : W) : Type 0 where
   pub nothing : Appends (drain.contents start) (drain.contents end) []
   pub failures : drain.failures end ≡ drain.failures start
   pub flushes : drain.flushes end ≡ drain.flushes start
+  pub marked : drain.marked end ≡ drain.marked start
+  pub no_moment : TakesNoTime drain start end
 
 -- an outbox at its end, of letters that were sent in this order over a lane in which at most so
 -- many wait: the first of them came to the poster, all but as many as wait; those are posted, or

@@ -1,6 +1,7 @@
 pub mod BlockLemmas
 mod BoundaryLaw
 mod BoundaryLemmas
+mod CountExamples
 mod CountLemmas
 mod DashLemmas
 mod DateText

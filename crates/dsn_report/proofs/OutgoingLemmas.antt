@@ -1,6 +1,6 @@
 -- Letters on their way: one letter more, and QUIT.
-use Rattle.std.proofs.Common.{◌≡◌, ℕ, Bool, true, false, List, [], ◌∷◌, ◌++◌, refl, ap, sym, ◌∙◌, append_assoc}
-use Rattle.std.specs.Prelude.{length, Option, None, Some, if◌then◌else◌, not}
+use Rattle.std.proofs.Common.{◌≡◌, inl, inr, ⊎_elim, ℕ, Bool, true, false, List, [], ◌∷◌, ◌++◌, refl, ap, sym, subst, ◌∙◌, append_assoc}
+use Rattle.std.specs.Prelude.{length, take, Option, None, Some, if◌then◌else◌, not}
 use Rattle.std.specs.Io.KnownBytes.{Appends}
 use Rattle.std.proofs.KnownBytes.{Appends-trans}
 use Rattle.std.specs.List.{flat_map}
@@ -9,16 +9,18 @@ use Rattle.std.proofs.lemmas.Grind.{flat_map-append}
 use Rattle.dsn_outcome.specs.Letter.{Letter}
 use Rattle.dsn_device.specs.Failures.{counted}
 use Rattle.dsn_device.specs.Flushes.{flushed, flushed_times}
-use Rattle.dsn_device.specs.Marking.{marked_by}
-use Rattle.dsn_device.specs.UntilFailure.{Lost, Unmarked, WrittenAndFlushed, WrittenAndMarked, counts_failure}
+use Rattle.dsn_device.specs.Marking.{SayCount, SayCountOrNext, marked_by}
+use Rattle.dsn_device.proofs.ThroughoutLemmas.{joined, stood_still, weaker}
+use Rattle.dsn_device.specs.UntilFailure.{LeavesMarked, LeavesMarkedOrNext, TakesNoTime, Lost, TakenAndMarked, Unmarked, WrittenAndFlushed, WrittenAndMarked, counts_failure}
 use Rattle.dsn_device.specs.UntilFailure as until
 use Rattle.dsn_device.specs.declared.drain.Drain.{Ghosts as Drain}
 use Rattle.dsn_device.specs.Transfer.{AppendsFront, AppendsPart}
+use Rattle.dsn_device.proofs.UntilFailureLemmas.{leaves_still}
 use Rattle.dsn_device.proofs.TransferLemmas.{Appends-part, AppendsFront-all, AppendsPart-longer}
 use Rattle.dsn_report.specs.declared.post_fault.PostFault.{PostFault}
 use Rattle.dsn_report.specs.Outbox.{greeting, goodbye, mail_transaction, outbox_of}
 use Rattle.dsn_report.specs.Poster.{Poster, post_text, finish_text, post_fault, letter_handed_back}
-use Rattle.dsn_report.specs.Outgoing.{written_of, are_some, text_until, AppendsAtLeast, FailedIn, in_text, at_flush, at_mark, marked_with, FrontWritten, StaysSteady, Delivered, IsOutbox}
+use Rattle.dsn_report.specs.Outgoing.{written_of, are_some, text_until, AppendsAtLeast, FailedIn, in_text, at_flush, at_mark, MarksAllOf, MarksFirstOf, SayCountOfFirst, marked_with, FrontWritten, StaysSteady, Delivered, IsOutbox}
 
 pub flat_map-more : {A : Type 0} (f : A → List ℕ) (xs : List A) (x : A) → flat_map f (xs ++ x ∷ []) ≡ flat_map f xs ++ f x
 flat_map-more f [] x = append-nil (f x)
@@ -84,13 +86,13 @@ once-flushed drain true b old new text good well made = absurd (not-both true re
 once-flushed drain false true old new text good well made = absurd (not-both true refl well)
 
 -- what is written, flushed and marked without a failure was flushed once, and marked
-once-marked : {W : Type 0} (drain : Drain W) (a b : Bool) (old new : W) (text : List ℕ) (serial : ℕ) → a ≡ false → b ≡ false → WrittenAndMarked drain a b old new text serial → (drain.flushes new ≡ flushed (drain.flushes old)) × (drain.marked new ≡ marked_by true serial (drain.marked old)) × (drain.flushes_surely old → drain.flushes_surely new)
-once-marked drain false false old new text serial good well made = (made.flushed.once, made.marked, made.flushed.surely)
+once-marked : {W : Type 0} (drain : Drain W) (a b : Bool) (old new : W) (text : List ℕ) (serial : ℕ) → a ≡ false → b ≡ false → WrittenAndMarked drain a b old new text serial → TakenAndMarked drain old new text serial
+once-marked drain false false old new text serial good well made = made
 once-marked drain true b old new text serial good well made = absurd (not-both true refl good)
 once-marked drain false true old new text serial good well made = absurd (not-both true refl well)
 
 -- what failed now is not marked
-unmarked-now : {W : Type 0} (drain : Drain W) (a b : Bool) (old new : W) (text : List ℕ) (serial : ℕ) → a ≡ false → b ≡ true → WrittenAndMarked drain a b old new text serial → Unmarked drain old new text
+unmarked-now : {W : Type 0} (drain : Drain W) (a b : Bool) (old new : W) (text : List ℕ) (serial : ℕ) → a ≡ false → b ≡ true → WrittenAndMarked drain a b old new text serial → Unmarked drain old new text serial
 unmarked-now drain false true old new text serial good failed made = made
 unmarked-now drain true b old new text serial good failed made = absurd (not-both true refl good)
 unmarked-now drain false false old new text serial good failed made = absurd (not-both false failed refl)
@@ -110,9 +112,51 @@ marked_with-some letters None some none = some (still letters)
 marked_with-some letters (Some n) some none = cc
 
 -- what is not marked is as it was
-not-marked : {W : Type 0} (drain : Drain W) (old new : W) (text : List ℕ) → Unmarked drain old new text → drain.marked new ≡ drain.marked old
-not-marked drain old new text (until.unflushed lost same) = same
-not-marked drain old new text (until.at_mark all once same some unsure) = same
+not-marked : {W : Type 0} (drain : Drain W) (old new : W) (text : List ℕ) (serial : ℕ) → Unmarked drain old new text serial → drain.marked new ≡ drain.marked old
+not-marked drain old new text serial (until.unflushed lost same still) = same
+not-marked drain old new text serial (until.at_mark all once passed_on same some unsure any_moment) = same
+
+-- ---- what a crash leaves of the marks
+
+-- what says the count of the first of some letters, says that of the first of more
+first_of_more : (say : List ℕ → ℕ → Type 0) (count : Option ℕ) (letters : List Letter) (letter : Letter) (left : List ℕ) → SayCountOfFirst say count letters left → SayCountOfFirst say count (letters ++ letter ∷ []) left
+first_of_more say count letters letter left some = record {
+  first = some.first;
+  rest = some.rest ++ letter ∷ [];
+  split = ap (λ all. all ++ letter ∷ []) some.split ∙ append_assoc some.first some.rest (letter ∷ []);
+  counted_are = some.counted_are;
+}
+
+-- and so does what says the count of all of them, or of one more
+all_or_more : (say : List ℕ → ℕ → Type 0) (count now : Option ℕ) (letters : List Letter) (letter : Letter) (left : List ℕ) → now ≡ marked_with letters count → SayCountOrNext say now letter.serial left → SayCountOfFirst say count (letters ++ letter ∷ []) left
+all_or_more say count now letters letter left is (inl all) = record {
+  first = letters;
+  rest = letter ∷ [];
+  split = refl;
+  counted_are = subst (λ it. SayCount say it left) is all;
+}
+all_or_more say count now letters letter left is (inr more) = record {
+  first = letters ++ letter ∷ [];
+  rest = [];
+  split = sym (append-nil (letters ++ letter ∷ []));
+  counted_are = subst (λ it. SayCount say it left) (ap (marked_by true letter.serial) is ∙ marked_with-more letters letter count) more;
+}
+
+module _ {W : Type 0} (drain : Drain W) (start old new : W) (letters : List Letter) where
+  -- one letter more is marked, or may be
+  marks-more : (letter : Letter) → MarksFirstOf drain start old letters → (LeavesMarked drain start → LeavesMarked drain old) → drain.marked old ≡ marked_with letters (drain.marked start)
+      → (LeavesMarked drain old → LeavesMarkedOrNext drain old new letter.serial) → MarksFirstOf drain start new (letters ++ letter ∷ [])
+  marks-more letter so_far leaves is marking begun =
+      joined drain.moment drain.left_since start old new _
+      (weaker drain.moment drain.left_since start old _ _ (λ left some. first_of_more drain.say (drain.marked start) letters letter left some) (so_far begun))
+      (weaker drain.moment drain.left_since old new _ _ (λ left some. all_or_more drain.say (drain.marked start) (drain.marked old) letters letter left is some) (marking (leaves begun)))
+
+  -- something was done that takes no time, and marks nothing
+  marks-still : MarksAllOf drain start old letters → TakesNoTime drain old new → drain.marked new ≡ drain.marked old → MarksAllOf drain start new letters
+  marks-still so_far still same = (
+    λ begun. stood_still drain.moment drain.left_since start old new _ still.0 still.1 (so_far.0 begun),
+    λ begun. leaves_still drain old new still same (so_far.1 begun),
+  )
 
 -- what failed now was lost
 lost-now : {W : Type 0} (drain : Drain W) (a b : Bool) (old new : W) (text : List ℕ) → a ≡ false → b ≡ true → WrittenAndFlushed drain a b old new text → Lost drain old new text
@@ -120,20 +164,21 @@ lost-now drain false true old new text good failed made = made
 lost-now drain true b old new text good failed made = absurd (not-both true refl good)
 lost-now drain false false old new text good failed made = absurd (not-both false failed refl)
 
--- a text that was lost after another one was written and flushed so many times
-failed-in : {W : Type 0} (drain : Drain W) (start old new : W) (times : ℕ) (least text : List ℕ) → Appends (drain.contents start) (drain.contents old) least → drain.flushes old ≡ flushed_times times (drain.flushes start) → (drain.flushes_surely start → drain.flushes_surely old) → Lost drain old new text → FailedIn drain start new times (least ++ text)
-failed-in drain start old new times least text all flushes surely (until.in_text part none) =
-    in_text (Appends-part (drain.contents start) (drain.contents old) (drain.contents new) least text all part) (none ∙ flushes)
-failed-in drain start old new times least text all flushes surely (until.at_flush whole once unsure) =
-    at_flush (Appends-trans (drain.contents start) (drain.contents old) (drain.contents new) least text all whole) (once ∙ ap flushed flushes) (λ h. unsure (surely h))
+-- a text that was lost once these letters were written and flushed
+failed-in : {W : Type 0} (drain : Drain W) (start old new : W) (posted with_next : List Letter) (least text : List ℕ) → Appends (drain.contents start) (drain.contents old) least → drain.flushes old ≡ flushed_times (length posted) (drain.flushes start) → (drain.flushes_surely start → drain.flushes_surely old) → MarksAllOf drain start new posted → Lost drain old new text → FailedIn drain start new posted with_next (least ++ text)
+failed-in drain start old new posted with_next least text all flushes surely marks (until.in_text part none) =
+    in_text (Appends-part (drain.contents start) (drain.contents old) (drain.contents new) least text all part) (none ∙ flushes) marks
+failed-in drain start old new posted with_next least text all flushes surely marks (until.at_flush whole once unsure) =
+    at_flush (Appends-trans (drain.contents start) (drain.contents old) (drain.contents new) least text all whole) (once ∙ ap flushed flushes) (λ h. unsure (surely h)) marks
 
 -- and so one that was not marked
-failed-unmarked : {W : Type 0} (drain : Drain W) (start old new : W) (letters : List Letter) (times : ℕ) (least text : List ℕ) → Appends (drain.contents start) (drain.contents old) least → drain.flushes old ≡ flushed_times times (drain.flushes start) → drain.marked old ≡ marked_with letters (drain.marked start) → (drain.flushes_surely start → drain.flushes_surely old) → Unmarked drain old new text → FailedIn drain start new times (least ++ text)
-failed-unmarked drain start old new letters times least text all flushes marks surely (until.unflushed lost same) =
-    failed-in drain start old new times least text all flushes surely lost
-failed-unmarked drain start old new letters times least text all flushes marks surely (until.at_mark whole once same some unsure) =
-    at_mark (Appends-trans (drain.contents start) (drain.contents old) (drain.contents new) least text all whole) (once ∙ ap flushed flushes)
-    (marked_with-some letters (drain.marked start) (λ none. some (marks ∙ none))) (λ h. unsure (surely h))
+failed-unmarked : {W : Type 0} (drain : Drain W) (start old new : W) (posted : List Letter) (letter : Letter) (least text : List ℕ) → Appends (drain.contents start) (drain.contents old) least → drain.flushes old ≡ flushed_times (length posted) (drain.flushes start) → drain.marked old ≡ marked_with posted (drain.marked start) → (drain.flushes_surely start → drain.flushes_surely old) → MarksAllOf drain start old posted → Unmarked drain old new text letter.serial → FailedIn drain start new posted (posted ++ letter ∷ []) (least ++ text)
+failed-unmarked drain start old new posted letter least text all flushes marked surely marks (until.unflushed lost same still) =
+    failed-in drain start old new posted (posted ++ letter ∷ []) least text all flushes surely (marks-still drain start old new posted marks still same) lost
+failed-unmarked drain start old new posted letter least text all flushes marked surely marks (until.at_mark whole once passed_on same some unsure any_moment) =
+    at_mark (Appends-trans (drain.contents start) (drain.contents old) (drain.contents new) least text all whole) (once ∙ ap flushed flushes) passed_on
+    (marked_with-some posted (drain.marked start) (λ none. some (marked ∙ none))) (λ h. unsure (surely h))
+    (marks-more drain start old new posted letter marks.0 marks.1 marked any_moment)
 
 -- the furthest that an outbox gets is a front of the text of all letters
 until-front : (host : List ℕ) (posted unsent : List Letter) → (more : List ℕ) × (outbox_of host (posted ++ unsent) ≡ text_until host posted unsent ++ more)
@@ -144,12 +189,12 @@ until-front host posted (first ∷ rest) =
     (flat_map f rest ++ goodbye, rw (flat_map-append f posted (first ∷ rest), flat_map-more f posted first) (simp append_assoc))
 
 -- where the device flushes surely, an outbox that failed lacks some of the text of all letters
-short-of : {W : Type 0} (drain : Drain W) (host : List ℕ) (start end : W) (times : ℕ) (posted unsent letters : List Letter) → letters ≡ posted ++ unsent → FailedIn drain start end times (text_until host posted unsent) → drain.flushes_surely start → AppendsPart (drain.contents start) (drain.contents end) (outbox_of host letters)
-short-of drain host start end times posted unsent letters split (in_text part none) surely =
+short-of : {W : Type 0} (drain : Drain W) (host : List ℕ) (start end : W) (posted with_next unsent letters : List Letter) → letters ≡ posted ++ unsent → FailedIn drain start end posted with_next (text_until host posted unsent) → drain.flushes_surely start → AppendsPart (drain.contents start) (drain.contents end) (outbox_of host letters)
+short-of drain host start end posted with_next unsent letters split (in_text part none marks) surely =
     let front = until-front host posted unsent in
     rw (split, front.1) (AppendsPart-longer (drain.contents start) (drain.contents end) _ front.0 part)
-short-of drain host start end times posted unsent letters split (at_flush whole once unsure) surely = absurd (unsure surely)
-short-of drain host start end times posted unsent letters split (at_mark whole once some unsure) surely = absurd (unsure surely)
+short-of drain host start end posted with_next unsent letters split (at_flush whole once unsure marks) surely = absurd (unsure surely)
+short-of drain host start end posted with_next unsent letters split (at_mark whole once passed_on some unsure marks) surely = absurd (unsure surely)
 
 -- what is steady through two steps is steady through both
 stays-steady : {W : Type 0} (drain : Drain W) (a b c : W) → StaysSteady drain a b → StaysSteady drain b c → StaysSteady drain a c
@@ -172,16 +217,19 @@ module _ {W : Type 0} (drain : Drain W) (host : List ℕ) (start : W) (old new :
   pub hand-ok : Appends (drain.contents old.outbox) (drain.contents new.outbox) (post_text old letter) → (old.failed ≡ true → new ≡ old) → new.failed ≡ false → new.greeted ≡ true → new.host ≡ old.host → drain.failures new.outbox ≡ counts_failure old.failed false (drain.failures old.outbox) → WrittenAndMarked drain old.failed new.failed old.outbox new.outbox (post_text old letter) letter.serial → StaysSteady drain old.outbox new.outbox → Delivered drain host start (record { poster = new; unsent = unsent }) (letters ++ letter ∷ [])
   hand-ok sent nothing good greeted same_host count made steady =
       let was : old.failed ≡ false = was-good old.failed refl nothing good in
-      let all = before.while_good was in record {
+      let all = before.while_good was in
+      let now = once-marked drain old.failed new.failed old.outbox new.outbox _ _ was good made in record {
         host_kept = same_host ∙ before.host_kept;
         while_good = λ _. record {
           none_unsent = all.none_unsent;
           written = rw (same_host, greeted, ← post_text-after old letters letter (none-where letters old.greeted all.greeted_is)) (Appends-trans (drain.contents start) (drain.contents old.outbox) (drain.contents new.outbox) _ _ all.written sent);
           greeted_is = greeted ∙ sym (are_some-more letters letter);
           good = count ∙ still-good old.failed (drain.failures old.outbox) was ∙ all.good;
-          flushes = (once-marked drain old.failed new.failed old.outbox new.outbox _ _ was good made).0 ∙ ap flushed all.flushes ∙ flushed_times-more letters letter (drain.flushes start);
-          marked = (once-marked drain old.failed new.failed old.outbox new.outbox _ _ was good made).1 ∙ ap (marked_by true letter.serial) all.marked ∙ marked_with-more letters letter (drain.marked start);
-          surely = λ h. (once-marked drain old.failed new.failed old.outbox new.outbox _ _ was good made).2 (all.surely h);
+          flushes = now.flushed.once ∙ ap flushed all.flushes ∙ flushed_times-more letters letter (drain.flushes start);
+          marked = now.marked ∙ ap (marked_by true letter.serial) all.marked ∙ marked_with-more letters letter (drain.marked start);
+          passed_on = λ _. now.flushed.passed_on;
+          marks = (marks-more drain start old.outbox new.outbox letters letter all.marks.0 all.marks.1 all.marked now.any_moment, λ begun. now.leaves (all.marks.1 begun));
+          surely = λ h. now.flushed.surely (all.surely h);
         };
         after_fault = λ is. absurd (not-both new.failed is good);
         steady = stays-steady drain start old.outbox new.outbox before.steady steady;
@@ -198,8 +246,8 @@ module _ {W : Type 0} (drain : Drain W) (host : List ℕ) (start : W) (old new :
         unsent_is = rw all.none_unsent refl;
         split = refl;
         written = rw (same_host, ← all.greeted_is, ← post_text-after old letters letter first) (Appends-least (drain.contents start) (drain.contents old.outbox) (drain.contents new.outbox) _ _ all.written front);
-        lost = rw (same_host, ← post_text-after old letters letter first) (failed-unmarked drain start old.outbox new.outbox letters (length letters) _ _ all.written all.flushes all.marked all.surely (unmarked-now drain old.failed new.failed old.outbox new.outbox _ _ good failed made));
-        marked = not-marked drain old.outbox new.outbox _ (unmarked-now drain old.failed new.failed old.outbox new.outbox _ _ good failed made) ∙ all.marked;
+        lost = rw (same_host, ← post_text-after old letters letter first) (failed-unmarked drain start old.outbox new.outbox letters letter _ _ all.written all.flushes all.marked all.surely all.marks (unmarked-now drain old.failed new.failed old.outbox new.outbox _ _ good failed made));
+        marked = not-marked drain old.outbox new.outbox _ _ (unmarked-now drain old.failed new.failed old.outbox new.outbox _ _ good failed made) ∙ all.marked;
         count = rw good at count ∙ ap (counted true) all.good;
       }
 
@@ -237,11 +285,12 @@ module _ {W : Type 0} (drain : Drain W) (host : List ℕ) (start : W) (old : Pos
   any-front outbox true text sent front = AppendsFront-all (drain.contents old.outbox) (drain.contents outbox) text (sent refl)
   any-front outbox false text sent front = front refl
 
-  finished-good : old.failed ≡ false → (outbox : W) (whole : Bool) → (whole ≡ true → Appends (drain.contents old.outbox) (drain.contents outbox) (finish_text old)) → (whole ≡ false → AppendsFront (drain.contents old.outbox) (drain.contents outbox) (finish_text old)) → drain.failures outbox ≡ counts_failure old.failed (not whole) (drain.failures old.outbox) → WrittenAndFlushed drain old.failed (not whole) old.outbox outbox (finish_text old) → StaysSteady drain old.outbox outbox → drain.marked outbox ≡ drain.marked old.outbox → IsOutbox drain host start outbox whole unsent letters
-  finished-good good outbox whole sent front count made steady same =
+  finished-good : old.failed ≡ false → (outbox : W) (whole : Bool) → (whole ≡ true → Appends (drain.contents old.outbox) (drain.contents outbox) (finish_text old)) → (whole ≡ false → AppendsFront (drain.contents old.outbox) (drain.contents outbox) (finish_text old)) → drain.failures outbox ≡ counts_failure old.failed (not whole) (drain.failures old.outbox) → WrittenAndFlushed drain old.failed (not whole) old.outbox outbox (finish_text old) → StaysSteady drain old.outbox outbox → drain.marked outbox ≡ drain.marked old.outbox → TakesNoTime drain old.outbox outbox → IsOutbox drain host start outbox whole unsent letters
+  finished-good good outbox whole sent front count made steady same still =
       let all = before.while_good good in
       let ends = finish_text-after old letters (none-where letters old.greeted all.greeted_is) in
-      let lost : (whole ≡ false → FailedIn drain start outbox (length letters) (text_until host letters unsent)) = λ part. rw (all.none_unsent, ← before.host_kept, ← ends) (failed-in drain start old.outbox outbox (length letters) _ _ all.written all.flushes all.surely (lost-now drain old.failed (not whole) old.outbox outbox _ good (ap not part) made)) in record {
+      let marks = marks-still drain start old.outbox outbox letters all.marks still same in
+      let lost : (whole ≡ false → FailedIn drain start outbox letters (letters ++ take 1 unsent) (text_until host letters unsent)) = λ part. rw (all.none_unsent, ← before.host_kept, ← ends) (failed-in drain start old.outbox outbox letters _ _ _ all.written all.flushes all.surely marks (lost-now drain old.failed (not whole) old.outbox outbox _ good (ap not part) made)) in record {
         posted = letters;
         split = rw all.none_unsent (sym (append-nil letters));
         written = rw (all.none_unsent, ← before.host_kept, ← all.greeted_is, ← ends) (Appends-least (drain.contents start) (drain.contents old.outbox) (drain.contents outbox) _ _ all.written (any-front outbox whole _ sent front));
@@ -251,15 +300,16 @@ module _ {W : Type 0} (drain : Drain W) (host : List ℕ) (start : W) (old : Pos
         flushes = λ done. (once-flushed drain old.failed (not whole) old.outbox outbox _ good (ap not done) made).0 ∙ ap flushed all.flushes;
         passed_on = λ done. (once-flushed drain old.failed (not whole) old.outbox outbox _ good (ap not done) made).1;
         marked = same ∙ all.marked;
+        marks = λ done. marks;
         lost = lost;
-        short = λ part. short-of drain host start outbox (length letters) letters unsent letters (rw all.none_unsent (sym (append-nil letters))) (lost part);
+        short = λ part. short-of drain host start outbox letters _ unsent letters (rw all.none_unsent (sym (append-nil letters))) (lost part);
         steady = stays-steady drain start old.outbox outbox before.steady steady;
       }
 
   finished-lost : old.failed ≡ true → (outbox : W) (whole : Bool) → (outbox ≡ old.outbox) × (whole ≡ false) → StaysSteady drain old.outbox outbox → IsOutbox drain host start outbox whole unsent letters
   finished-lost failed outbox whole nothing steady =
       let some = before.after_fault failed in
-      let lost : FailedIn drain start outbox (length some.posted) (text_until host some.posted unsent) = rw (nothing.0, some.unsent_is, ← before.host_kept) some.lost in record {
+      let lost : FailedIn drain start outbox some.posted (some.posted ++ take 1 unsent) (text_until host some.posted unsent) = rw (nothing.0, some.unsent_is, ← before.host_kept) some.lost in record {
         posted = some.posted;
         split = rw some.unsent_is some.split;
         written = rw (nothing.0, some.unsent_is, ← before.host_kept) some.written;
@@ -269,15 +319,16 @@ module _ {W : Type 0} (drain : Drain W) (host : List ℕ) (start : W) (old : Pos
         flushes = λ done. absurd (not-both whole done nothing.1);
         passed_on = λ done. absurd (not-both whole done nothing.1);
         marked = rw nothing.0 some.marked;
+        marks = λ done. absurd (not-both whole done nothing.1);
         lost = λ _. lost;
-        short = λ _. short-of drain host start outbox (length some.posted) some.posted unsent letters (rw some.unsent_is some.split) lost;
+        short = λ _. short-of drain host start outbox some.posted _ unsent letters (rw some.unsent_is some.split) lost;
         steady = stays-steady drain start old.outbox outbox before.steady steady;
       }
 
-  finished-by : (failed : Bool) → old.failed ≡ failed → (outbox : W) (whole : Bool) → (whole ≡ true → Appends (drain.contents old.outbox) (drain.contents outbox) (finish_text old)) → (whole ≡ false → AppendsFront (drain.contents old.outbox) (drain.contents outbox) (finish_text old)) → (old.failed ≡ true → (outbox ≡ old.outbox) × (whole ≡ false)) → drain.failures outbox ≡ counts_failure old.failed (not whole) (drain.failures old.outbox) → WrittenAndFlushed drain old.failed (not whole) old.outbox outbox (finish_text old) → StaysSteady drain old.outbox outbox → drain.marked outbox ≡ drain.marked old.outbox → IsOutbox drain host start outbox whole unsent letters
-  finished-by true is outbox whole sent front nothing count made steady same = finished-lost is outbox whole (nothing is) steady
-  finished-by false is outbox whole sent front nothing count made steady same = finished-good is outbox whole sent front count made steady same
+  finished-by : (failed : Bool) → old.failed ≡ failed → (outbox : W) (whole : Bool) → (whole ≡ true → Appends (drain.contents old.outbox) (drain.contents outbox) (finish_text old)) → (whole ≡ false → AppendsFront (drain.contents old.outbox) (drain.contents outbox) (finish_text old)) → (old.failed ≡ true → (outbox ≡ old.outbox) × (whole ≡ false)) → drain.failures outbox ≡ counts_failure old.failed (not whole) (drain.failures old.outbox) → WrittenAndFlushed drain old.failed (not whole) old.outbox outbox (finish_text old) → StaysSteady drain old.outbox outbox → drain.marked outbox ≡ drain.marked old.outbox → TakesNoTime drain old.outbox outbox → IsOutbox drain host start outbox whole unsent letters
+  finished-by true is outbox whole sent front nothing count made steady same still = finished-lost is outbox whole (nothing is) steady
+  finished-by false is outbox whole sent front nothing count made steady same still = finished-good is outbox whole sent front count made steady same still
 
   -- the outbox ended
-  pub finished : (outbox : W) (whole : Bool) → (whole ≡ true → Appends (drain.contents old.outbox) (drain.contents outbox) (finish_text old)) → (whole ≡ false → AppendsFront (drain.contents old.outbox) (drain.contents outbox) (finish_text old)) → (old.failed ≡ true → (outbox ≡ old.outbox) × (whole ≡ false)) → drain.failures outbox ≡ counts_failure old.failed (not whole) (drain.failures old.outbox) → WrittenAndFlushed drain old.failed (not whole) old.outbox outbox (finish_text old) → StaysSteady drain old.outbox outbox → drain.marked outbox ≡ drain.marked old.outbox → IsOutbox drain host start outbox whole unsent letters
+  pub finished : (outbox : W) (whole : Bool) → (whole ≡ true → Appends (drain.contents old.outbox) (drain.contents outbox) (finish_text old)) → (whole ≡ false → AppendsFront (drain.contents old.outbox) (drain.contents outbox) (finish_text old)) → (old.failed ≡ true → (outbox ≡ old.outbox) × (whole ≡ false)) → drain.failures outbox ≡ counts_failure old.failed (not whole) (drain.failures old.outbox) → WrittenAndFlushed drain old.failed (not whole) old.outbox outbox (finish_text old) → StaysSteady drain old.outbox outbox → drain.marked outbox ≡ drain.marked old.outbox → TakesNoTime drain old.outbox outbox → IsOutbox drain host start outbox whole unsent letters
   finished outbox whole = finished-by old.failed refl outbox whole

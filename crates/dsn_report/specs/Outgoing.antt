@@ -1,11 +1,13 @@
 -- Letters on their way to the outbox: what was written of them, and which could not be written.
-use Rattle.std.specs.Prelude.{◌≡◌, ℕ, Bool, true, false, not, List, [], ◌∷◌, ◌++◌, length, Option, None, if◌then◌else◌}
+use Rattle.std.specs.Prelude.{◌≡◌, ℕ, Bool, true, false, not, List, [], ◌∷◌, ◌++◌, length, take, Option, None, if◌then◌else◌}
 use Rattle.std.specs.Io.KnownBytes.{Appends}
 use Rattle.std.specs.List.{flat_map}
 use Rattle.dsn_device.specs.Failures.{counted}
 use Rattle.dsn_device.specs.Flushes.{flushed, flushed_times}
-use Rattle.dsn_device.specs.Marking.{marked_by}
+use Rattle.dsn_device.specs.Marking.{SayCount, marked_by}
+use Rattle.dsn_device.specs.Throughout.{LeavesThroughout}
 use Rattle.dsn_device.specs.Transfer.{AppendsPart}
+use Rattle.dsn_device.specs.UntilFailure.{LeavesMarked}
 use Rattle.dsn_device.specs.declared.drain.Drain
 use Rattle.dsn_outcome.specs.Letter.{Letter}
 use Rattle.dsn_report.specs.Outbox.{greeting, mail_transaction, outbox_of}
@@ -40,22 +42,47 @@ abbrev pub marked_with : List Letter → Option ℕ → Option ℕ
 marked_with [] count = count
 marked_with (first ∷ rest) count = marked_with rest (marked_by true first.serial count)
 
--- how an outbox failed that was flushed so many times before: within this text, and then it was not
--- flushed again; at the one flush after all of it, which it can't where it flushes surely; or at the
--- mark after that flush, which it can't either, nor where it marks no letters
-pub data FailedIn {W : Type 0} (drain : Drain.Ghosts W) (start end : W) (times : ℕ)
-    (text : List ℕ) : Type 0 where
+-- bytes that say the count after the first of these letters was marked: none of them, some or all
+pub record SayCountOfFirst (say : List ℕ → ℕ → Type 0) (count : Option ℕ) (letters : List Letter)
+    (left : List ℕ) : Type 0 where
+  pub first : List Letter
+  pub rest : List Letter
+  pub split : letters ≡ first ++ rest
+  pub counted_are : SayCount say (marked_with first count) left
+
+-- a device that marks letters: at each moment a crash leaves marks that count the first of these
+-- letters, behind those that were counted at the start, and no others
+abbrev pub MarksFirstOf : {W : Type 0} → Drain.Ghosts W → W → W → List Letter → Type 0
+MarksFirstOf drain start end letters =
+    LeavesMarked drain start
+    → LeavesThroughout drain.moment drain.left_since start end
+    (SayCountOfFirst drain.say (drain.marked start) letters)
+
+-- and at the end marks that count all of these letters
+abbrev pub MarksAllOf : {W : Type 0} → Drain.Ghosts W → W → W → List Letter → Type 0
+MarksAllOf drain start end letters =
+    MarksFirstOf drain start end letters × (LeavesMarked drain start → LeavesMarked drain end)
+
+-- how an outbox failed once these letters were posted, each flushed once: within this text, and then
+-- it was not flushed again; at the one flush after all of it, which it can't where it flushes surely;
+-- or at the mark after that flush, which it can't either, nor where it marks no letters. A crash
+-- leaves marks of posted letters alone, and at the end of all of them; where the mark failed, also of
+-- that letter, all of whose text is there
+pub data FailedIn {W : Type 0} (drain : Drain.Ghosts W) (start end : W)
+    (posted with_next : List Letter) (text : List ℕ) : Type 0 where
   in_text : AppendsPart (drain.contents start) (drain.contents end) text
-      → drain.flushes end ≡ flushed_times times (drain.flushes start)
-      → FailedIn drain start end times text
+      → drain.flushes end ≡ flushed_times (length posted) (drain.flushes start)
+      → MarksAllOf drain start end posted
+      → FailedIn drain start end posted with_next text
   at_flush : Appends (drain.contents start) (drain.contents end) text
-      → drain.flushes end ≡ flushed (flushed_times times (drain.flushes start))
-      → ¬ drain.flushes_surely start
-      → FailedIn drain start end times text
+      → drain.flushes end ≡ flushed (flushed_times (length posted) (drain.flushes start))
+      → ¬ drain.flushes_surely start → MarksAllOf drain start end posted
+      → FailedIn drain start end posted with_next text
   at_mark : Appends (drain.contents start) (drain.contents end) text
-      → drain.flushes end ≡ flushed (flushed_times times (drain.flushes start))
-      → ¬ (drain.marked start ≡ None) → ¬ drain.flushes_surely start
-      → FailedIn drain start end times text
+      → drain.flushes end ≡ flushed (flushed_times (length posted) (drain.flushes start))
+      → drain.unflushed end ≡ false → ¬ (drain.marked start ≡ None) → ¬ drain.flushes_surely start
+      → MarksFirstOf drain start end with_next
+      → FailedIn drain start end posted with_next text
 
 -- whether there are letters
 abbrev pub are_some : List Letter → Bool
@@ -67,7 +94,8 @@ abbrev pub text_until : List ℕ → List Letter → List Letter → List ℕ
 text_until host posted [] = outbox_of host posted
 text_until host posted (first ∷ rest) = written_of host true (posted ++ first ∷ [])
 
--- while nothing failed, each letter is written, flushed and marked
+-- while nothing failed, each letter is written, flushed and marked, and nothing was written after the
+-- last flush
 pub record AllWritten {W : Type 0} (drain : Drain.Ghosts W) (start : W) (out : Outgoing W)
     (letters : List Letter) : Type 0 where
   pub none_unsent : out.unsent ≡ []
@@ -78,6 +106,8 @@ pub record AllWritten {W : Type 0} (drain : Drain.Ghosts W) (start : W) (out : O
   pub flushes : drain.flushes out.poster.outbox
       ≡ flushed_times (length letters) (drain.flushes start)
   pub marked : drain.marked out.poster.outbox ≡ marked_with letters (drain.marked start)
+  pub passed_on : are_some letters ≡ true → drain.unflushed out.poster.outbox ≡ false
+  pub marks : MarksAllOf drain start out.poster.outbox letters
   pub surely : drain.flushes_surely start → drain.flushes_surely out.poster.outbox
 
 -- after a failure the letters before the failed one are written, each of them flushed and marked, and
@@ -92,7 +122,7 @@ pub record FrontWritten {W : Type 0} (drain : Drain.Ghosts W) (start : W) (out :
   pub written : AppendsAtLeast (drain.contents start) (drain.contents out.poster.outbox)
       (written_of out.poster.host (are_some posted) posted)
       (written_of out.poster.host true (posted ++ failed ∷ []))
-  pub lost : FailedIn drain start out.poster.outbox (length posted)
+  pub lost : FailedIn drain start out.poster.outbox posted (posted ++ failed ∷ [])
       (written_of out.poster.host true (posted ++ failed ∷ []))
   pub marked : drain.marked out.poster.outbox ≡ marked_with posted (drain.marked start)
   pub count : drain.failures out.poster.outbox ≡ counted true (drain.failures start)
@@ -115,7 +145,8 @@ pub record Delivered {W : Type 0} (drain : Drain.Ghosts W) (host : List ℕ) (st
 -- it isn't whole, and else not; a whole one was flushed once for each letter and once at QUIT,
 -- after all of its text, and another one once for each letter before those that are unsent, and
 -- once more where it failed at a flush or at a mark; each letter before those that are unsent was
--- marked, and no other; where the device flushes surely, some of the text of all letters is missing
+-- marked, and no other; at each moment a crash leaves marks of posted letters alone, but for the one
+-- whose mark failed; where the device flushes surely, some of the text of all letters is missing
 -- from one that isn't whole
 pub record IsOutbox {W : Type 0} (drain : Drain.Ghosts W) (host : List ℕ) (start end : W) (whole : Bool)
     (unsent letters : List Letter) : Type 0 where
@@ -131,8 +162,9 @@ pub record IsOutbox {W : Type 0} (drain : Drain.Ghosts W) (host : List ℕ) (sta
       → drain.flushes end ≡ flushed (flushed_times (length letters) (drain.flushes start))
   pub passed_on : whole ≡ true → drain.unflushed end ≡ false
   pub marked : drain.marked end ≡ marked_with posted (drain.marked start)
+  pub marks : whole ≡ true → MarksAllOf drain start end letters
   pub lost : whole ≡ false
-      → FailedIn drain start end (length posted) (text_until host posted unsent)
+      → FailedIn drain start end posted (posted ++ take 1 unsent) (text_until host posted unsent)
   pub short : whole ≡ false → drain.flushes_surely start
       → AppendsPart (drain.contents start) (drain.contents end) (outbox_of host letters)
   pub steady : StaysSteady drain start end

@@ -2,7 +2,7 @@
 ghost use Rattle.std.specs.Prelude.{◌≡◌, true, false, not, IsTrue, IsFalse, Err, OnOk, OnErr, IfErr, is_err};
 ghost use Rattle.std.specs.Io.KnownBytes.{Appends};
 ghost use Rattle.dsn_device.specs.Transfer.{AppendsFront};
-ghost use Rattle.dsn_device.specs.UntilFailure.{WrittenAndFlushed, WrittenAndMarked, counts_failure};
+ghost use Rattle.dsn_device.specs.UntilFailure.{TakesNoTime, WrittenAndFlushed, WrittenAndMarked, counts_failure};
 ghost use Rattle.dsn_report.specs.Poster.{post_fault, post_text, finish_text};
 
 use crate::line_writer::LineWriter;
@@ -138,6 +138,7 @@ impl<W: Drain> Poster<W> {
         ensures flushed { WrittenAndFlushed W.Drain self.failed
             (not result.whole) self.outbox result.outbox (finish_text self) }
         ensures marked { W.marked result.outbox ≡ W.marked self.outbox }
+        ensures no_moment { TakesNoTime W.Drain self.outbox result.outbox }
         ensures nothing { IsTrue self.failed
             → result ≡ record { outbox = self.outbox; whole = false } }
 

@@ -60,7 +60,11 @@ pub(crate) fn run_serve<R: Threads + Wait + Clock + Sync>(
             waiting, alloc, &listener, &watch, site, agents, max_use, outbox, notes,
         ),
         Some(folder) => {
-            let JournaledEnd { end, journal: _ } = serve_journaled(
+            let JournaledEnd {
+                end,
+                journal: _,
+                marks: _,
+            } = serve_journaled(
                 waiting, alloc, &listener, &watch, site, agents, max_use, outbox, folder, notes,
             );
             end

@@ -48,7 +48,7 @@ reads : Source Memory
 reads = record { remaining = λ s. Some s.0; holds = λ s. Some s.1; flushes = λ _. 0; unflushed = λ _. false; failures = λ _. 0; steady = λ _. Unit {0} }
 
 writes : Drain Memory
-writes = record { contents = λ s. Some s.1; left = λ s. Some s.0; failures = λ _. 0; flushes = λ _. 0; unflushed = λ _. false; marked = λ _. None; steady = λ _. Unit {0}; flushes_surely = λ _. Unit {0} }
+writes = record { contents = λ s. Some s.1; left = λ s. Some s.0; failures = λ _. 0; flushes = λ _. 0; unflushed = λ _. false; marked = λ _. None; moment = λ _. 0; left_since = λ _ _ _. ⊥; say = λ _ _. ⊥; steady = λ _. Unit {0}; flushes_surely = λ _. Unit {0} }
 
 -- the frame of an answer "none discarded" to the first frame of a connection
 none_discarded : List ℕ

@@ -4,7 +4,8 @@ use Rattle.std.proofs.lemmas.List.{append-nil}
 use Rattle.dsn_book.specs.Crash.{ReopensAfterSome}
 use Rattle.dsn_book.specs.Keeper.{MayCrash}
 use Rattle.dsn_book.specs.declared.keeper.Keeper.{Ghosts as Keeper}
-use Rattle.dsn_book.proofs.CrashLemmas.{crash_joined, some_of_all, started}
+use Rattle.dsn_book.proofs.CrashLemmas.{crash_joined, some_of_all}
+use Rattle.dsn_device.proofs.ThroughoutLemmas.{started}
 use Rattle.dsn_outcome.specs.History.{Limits, Exchange, history_after}
 use Rattle.dsn_outcome.specs.Request.{Request}
 

@@ -1,5 +1,5 @@
 -- Runs over memory: a run over devices that tell their bytes is one over these bytes.
-use Rattle.std.proofs.Common.{◌≡◌, ℕ, Bool, List, [], ◌∷◌, refl, subst}
+use Rattle.std.proofs.Common.{◌≡◌, ℕ, Bool, List, [], ◌∷◌, refl, subst, arith}
 use Rattle.std.specs.Prelude.{Option, None, Some}
 use Rattle.std.specs.Io.KnownBytes.{Appends}
 use Rattle.dsn_device.specs.declared.drain.Drain.{Ghosts as Drain}
@@ -7,7 +7,7 @@ use Rattle.dsn_device.specs.declared.source.Source.{Ghosts as Source}
 use Rattle.dsn_frame.specs.declared.bodies.spoken.Spoken.{Spoken}
 use Rattle.dsn_outcome.specs.History.{Limits}
 use Rattle.dsn_outcome.specs.Letter.{Letter}
-use Rattle.dsn_report.specs.Outgoing.{FailedIn, in_text, at_flush, at_mark, marked_with}
+use Rattle.dsn_report.specs.Outgoing.{FailedIn, MarksAllOf, in_text, at_flush, at_mark, marked_with}
 use Rattle.noticed_lib.specs.batch_run.Batch.{NotesSent, IsBatch}
 use Rattle.noticed_lib.specs.batch_run.MemoryRun.{Memory, memory_source, memory_drain, no_bytes}
 use Rattle.noticed_lib.specs.declared.batch_run.batch_end.BatchEnd.{BatchEnd}
@@ -26,6 +26,10 @@ none_marked : (letters : List Letter) → None ≡ marked_with letters None
 none_marked [] = refl
 none_marked (first ∷ rest) = none_marked rest
 
+-- a crash leaves nothing of memory
+none_left : (start end : Memory) (letters : List Letter) → MarksAllOf memory_drain start end letters
+none_left start end letters = (λ begun. record { later = omega arith; each = λ left since. absurd since; before = λ t left le since. absurd since }, λ begun left since. absurd since)
+
 -- a drain that tells its bytes, as memory
 abbrev pub memory_of : {W : Type 0} → Drain W → List ℕ → W → Memory
 memory_of drain bytes device = record { bytes = bytes; failures = drain.failures device; flushes = drain.flushes device; unflushed = drain.unflushed device }
@@ -38,10 +42,10 @@ pub record IsUnwritten {W : Type 0} (drain : Drain W) (device : W) : Type 0 wher
   pub surely : drain.flushes_surely device
 
 module _ {R W N : Type 0} (source : Source R) (outbox_drain : Drain W) (notes_drain : Drain N) (limits : Limits) (host : List ℕ) (input now : R) (start : W) (notes later : N) (end : BatchEnd W) (bytes unread outbox_bytes notes_bytes : List ℕ) where
-  failed-known : (times : ℕ) (text : List ℕ) → IsUnwritten outbox_drain start → outbox_drain.contents end.outbox ≡ Some outbox_bytes → FailedIn outbox_drain start end.outbox times text → FailedIn memory_drain no_bytes (memory_of outbox_drain outbox_bytes end.outbox) times text
-  failed-known times text unwritten end_is (in_text part flushes) = in_text (rw (unwritten.contents, end_is) at part) (rw unwritten.flushes at flushes)
-  failed-known times text unwritten end_is (at_flush whole flushes unsure) = absurd (unsure unwritten.surely)
-  failed-known times text unwritten end_is (at_mark whole flushes some unsure) = absurd (unsure unwritten.surely)
+  failed-known : (posted with_next : List Letter) (text : List ℕ) → IsUnwritten outbox_drain start → outbox_drain.contents end.outbox ≡ Some outbox_bytes → FailedIn outbox_drain start end.outbox posted with_next text → FailedIn memory_drain no_bytes (memory_of outbox_drain outbox_bytes end.outbox) posted with_next text
+  failed-known posted with_next text unwritten end_is (in_text part flushes marks) = in_text (rw (unwritten.contents, end_is) at part) (rw unwritten.flushes at flushes) (none_left _ _ posted)
+  failed-known posted with_next text unwritten end_is (at_flush whole flushes unsure marks) = absurd (unsure unwritten.surely)
+  failed-known posted with_next text unwritten end_is (at_mark whole flushes passed_on some unsure marks) = absurd (unsure unwritten.surely)
 
   pub in-memory : source.remaining input ≡ Some bytes → source.remaining now ≡ Some unread → source.failures input ≡ 0 → source.failures now ≡ 0
       → IsUnwritten outbox_drain start → outbox_drain.contents end.outbox ≡ Some outbox_bytes → IsUnwritten notes_drain notes → notes_drain.contents later ≡ Some notes_bytes
@@ -66,7 +70,8 @@ module _ {R W N : Type 0} (source : Source R) (outbox_drain : Drain W) (notes_dr
       flushes = λ whole. rw unwritten.flushes at (batch.outbox.flushes whole);
       passed_on = batch.outbox.passed_on;
       marked = none_marked batch.outbox.posted;
-      lost = λ part. failed-known _ _ unwritten end_is (batch.outbox.lost part);
+      marks = λ whole. none_left _ _ _;
+      lost = λ part. failed-known _ _ _ unwritten end_is (batch.outbox.lost part);
       short = λ part surely. rw (unwritten.contents, end_is) at (batch.outbox.short part unwritten.surely);
       steady = λ never. absurd never;
     };

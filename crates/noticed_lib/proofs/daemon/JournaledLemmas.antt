@@ -5,9 +5,10 @@ use Rattle.std.proofs.lemmas.Bool.{false≢true}
 use Rattle.std.proofs.Math.Nat.{min-eq_left}
 use Rattle.std.proofs.lemmas.List.{append-nil}
 use Rattle.dsn_device.specs.declared.drain.Drain.{Ghosts as Drain}
-use Rattle.dsn_outcome.specs.History.{Limits, Exchange, answers_to, history_after}
+use Rattle.dsn_outcome.specs.History.{Limits, Exchange, answers_to, history_after, sealed_letters}
 use Rattle.dsn_outcome.specs.Letter.{Letter}
 use Rattle.dsn_outcome.specs.Request.{Request}
+use Rattle.dsn_book.specs.Book.{Book}
 use Rattle.dsn_book.specs.Keeper.{MayCrash}
 use Rattle.dsn_crew.specs.desk.Desk.{BeginsWith}
 use Rattle.dsn_journal.specs.EarlierRuns.{HaveHistoryOfLedger, of_earlier_run}
@@ -20,10 +21,10 @@ use Rattle.dsn_journal.specs.KeptBook.{HasKept, ledger_keeper}
 use Rattle.dsn_journal.specs.Ledger.{AreKept, earlier_agent, records_of}
 use Rattle.dsn_journal.specs.OpenLedger.{AwaitsInPlaceOf, AwaitsRequests, Ledger}
 use Rattle.dsn_journal.specs.MarkedOutbox.{MarkedOutbox}
-use Rattle.dsn_journal.specs.Marks.{IsForeignToMarks, SayMark, SayNoMark}
+use Rattle.dsn_journal.specs.Marks.{IsForeignToMarks, LeavesTheMark, SayMark, SayNoMark}
 use Rattle.dsn_journal.specs.Posting.{AreToPost}
 use Rattle.dsn_journal.specs.Moments.{LeavesOnly}
-use Rattle.dsn_journal.specs.Opening.{IsLeftByOpening}
+use Rattle.dsn_journal.specs.Opening.{IsForeign, IsLeftByOpening}
 use Rattle.dsn_journal.specs.Records.{StandsForSome, encoded, recovered}
 use Rattle.dsn_journal.specs.declared.disk.Disk
 use Rattle.dsn_journal.specs.declared.journal_error.JournalError.TheVariants.{Memory, Failed, Full}
@@ -35,7 +36,7 @@ use Rattle.dsn_journal.proofs.KeptBooks.{has_kept, nothing_kept, some_kept}
 use Rattle.dsn_journal.proofs.LedgersInPlace.{headed}
 use Rattle.dsn_journal.proofs.Moments.{joined, started, weaker}
 use Rattle.dsn_report.specs.Outgoing.{Delivered, Outgoing}
-use Rattle.noticed_lib.specs.daemon.Journaled.{BeginsAnew, HasPostedFirst, IsNoStart, IsNoStartOverLedger, IsPostedFirst, IsStartOver, IsStartOverLedger, LeavesStart, StartsWith, WhyNoStart, marking_drain, no_outbox, not_put_away, of_journal, of_letters, of_outbox, too_many_letters}
+use Rattle.noticed_lib.specs.daemon.Journaled.{BeginsAnew, HasPostedFirst, IsNoStart, IsNoStartOverLedger, IsPostedFirst, IsMarkOfJournal, IsStartOver, IsStartOverLedger, LeavesMarksOpened, LeavesStart, StartsWith, WhyNoStart, marking_drain, no_outbox, not_put_away, of_journal, of_letters, of_outbox, too_many_letters}
 use Rattle.noticed_lib.specs.listing.Folder.{AreMarksRefusedFor, IsOnlyRead}
 
 -- letters before no others are all of them
@@ -123,35 +124,42 @@ handed (Some left) some = (left, refl)
 module _ {D M W : Type 0} (disk : Disk.Ghosts D) (marks_disk : Disk.Ghosts M) (drain : Drain W) (host : List ℕ) (limits : Limits) (journal : D) (marks : M) (outbox : W) (marked : MarkedOutbox W M) (letters : List Letter) (opened ledger : Ledger D) (poster : Outgoing (MarkedOutbox W M)) where
   -- all letters that were handed out were given to the poster
   pub first_is : marked.outbox ≡ outbox → SayMark (recovered (marks_disk.seen marks)) marked.marks.mark
+      → LeavesMarksOpened marks_disk marks marked.marks.journal.disk → LeavesTheMark marks_disk marked.marks
+      → IsMarkOfJournal limits (disk.seen journal) marked.marks.mark
       → recovered (disk.seen opened.journal.disk) ≡ with_header limits (recovered (disk.seen journal))
       → AreToPost limits marked.marks.mark (recovered (disk.seen opened.journal.disk)) letters
-      → Delivered (marking_drain drain) host marked poster letters
+      → Delivered (marking_drain drain marks_disk) host marked poster letters
       → IsPostedFirst disk marks_disk drain host limits journal marks outbox poster
-  first_is outbox_is mark_is same to_post delivered = record {
+  first_is outbox_is mark_is marks_opened leaves of_journal_is same to_post delivered = record {
     from = record { host = host; start = marked; first = letters; outbox = poster.poster.outbox };
     posted = record { delivered = delivered; outbox = refl };
     host_is = refl;
     outbox_is = outbox_is;
     mark_is = mark_is;
+    opened = marks_opened;
+    leaves = leaves;
+    of_journal_is = of_journal_is;
     first_are = subst (λ rs. AreToPost limits marked.marks.mark rs letters) same to_post;
   }
 
   pub start_is : marked.outbox ≡ outbox → SayMark (recovered (marks_disk.seen marks)) marked.marks.mark
+      → LeavesMarksOpened marks_disk marks marked.marks.journal.disk → LeavesTheMark marks_disk marked.marks
+      → IsMarkOfJournal limits (disk.seen journal) marked.marks.mark
       → opened.book.limits ≡ limits
       → recovered (disk.seen opened.journal.disk) ≡ with_header limits (recovered (disk.seen journal))
       → ((long : List Exchange) → AreRecordsInPlaceOf limits (recovered (disk.seen opened.journal.disk)) long → IsLedgerInPlaceOf opened.book opened.base (recovered (disk.seen opened.journal.disk)) long)
       → AreToPost limits marked.marks.mark (recovered (disk.seen opened.journal.disk)) letters
       → LeavesOnly disk journal opened.journal.disk (λ left. disk.may_leave journal left ⊎ IsLeftByOpening limits (disk.seen journal) left)
-      → IsStartOverLedger disk drain host marked letters opened ledger poster
+      → IsStartOverLedger disk marks_disk drain host marked letters opened ledger poster
       → IsStartOver disk marks_disk drain host limits journal marks outbox ledger poster
-  start_is outbox_is mark_is limits_are same in_place to_post opening start = record {
+  start_is outbox_is mark_is marks_opened leaves of_journal_is limits_are same in_place to_post opening start = record {
     limits_are = start.limits_are ∙ limits_are;
     few = start.few;
     all_sent = start.all_sent;
     begins = start.begins;
     begins_with = λ long records. start.begins_with long (in_place long (subst (λ rs. AreRecordsInPlaceOf limits rs long) (sym same) records));
     crash = once_opened disk limits journal opened ledger.journal.disk limits_are same in_place opening start.crash;
-    first = first_is outbox_is mark_is same to_post start.delivered;
+    first = first_is outbox_is mark_is marks_opened leaves of_journal_is same to_post start.delivered;
   }
 
 -- where so many letters aren't all that a mark may count, they are too many
@@ -170,23 +178,39 @@ marks_refused file (no_marks_for.Journal Full) foreign damaged full = absurd (fu
 marks_refused file no_marks_for.Foreign foreign damaged full = foreign refl
 marks_refused file no_marks_for.Damaged foreign damaged full = damaged refl
 
--- a journal that was not opened
+-- the mark under which a journal was opened is one of it
+pub mark_of_opened : (limits : Limits) (mark : ℕ) (journal : List ℕ) (book : Book) (base : ℕ) (records : List (List ℕ)) → (IsForeign limits journal → ⊥) → book.limits ≡ limits
+    → records ≡ with_header limits (recovered journal) → StandsForFile book base records → base ≤ mark → mark ≤ base + book.sealed → IsMarkOfJournal limits journal mark
+mark_of_opened limits mark journal book base records own limits_are same file reached counted =
+    let sealed : book.sealed ≡ length (sealed_letters file.history) = file.stands.sealed in
+    record {
+      base = base;
+      history = file.history;
+      has = record {
+        own = own;
+        said = subst (λ (rs : List (List ℕ)). SayHistory limits base rs file.history) same (subst (λ (l : Limits). SayHistory l base records file.history) limits_are file.said);
+        reached = reached;
+        sealed = omega (arith, counted, sealed);
+      };
+    }
+
+-- marks or a journal that were not opened
 pub only_read : {D : Type 0} (disk : Disk.Ghosts D) (journal last : D) (failed : Type 0) → failed ⊎ (disk.seen last ≡ disk.seen journal) → failed ⊎ LeavesOnly disk journal last (disk.may_leave journal) → failed ⊎ IsOnlyRead disk journal last
 only_read disk journal last failed untouched unwritten = ⊎_elim (λ is. inl is) (λ seen. ⊎_elim (λ is. inl is) (λ crash. inr (record { seen = seen; crash = crash })) unwritten) untouched
 
 -- why a start over an opened ledger came to nothing is why the start did
-module _ {D M W : Type 0} (disk : Disk.Ghosts D) (marks_disk : Disk.Ghosts M) (drain : Drain W) (host : List ℕ) (limits : Limits) (journal last : D) (marks : M) (outbox back : W) (opened : Ledger D) (code : ℕ)
+module _ {D M W : Type 0} (disk : Disk.Ghosts D) (marks_disk : Disk.Ghosts M) (drain : Drain W) (host : List ℕ) (limits : Limits) (journal last : D) (marks last_marks : M) (outbox back : W) (opened : Ledger D) (code : ℕ)
     (limits_are : opened.book.limits ≡ limits) (same : recovered (disk.seen opened.journal.disk) ≡ with_header limits (recovered (disk.seen journal))) (size : length (disk.seen opened.journal.disk) ≡ length (disk.seen journal))
     (file : StandsForFile opened.book opened.base (recovered (disk.seen opened.journal.disk))) where
   stands : StandsForFile opened.book opened.base (with_header limits (recovered (disk.seen journal)))
   stands = subst (StandsForFile opened.book opened.base) same file
 
-  no_start_for : (failed : Bool) → WhyNoStart disk opened failed code → HasPostedFirst disk marks_disk drain host limits journal marks outbox failed back → IsNoStart disk marks_disk drain host limits journal last marks outbox back code
-  no_start_for failed (of_outbox is code_is) posted = no_outbox code_is (subst (λ f. HasPostedFirst disk marks_disk drain host limits journal marks outbox f back) is posted)
+  no_start_for : (failed : Bool) → WhyNoStart disk opened failed code → HasPostedFirst disk marks_disk drain host limits journal marks outbox failed back last_marks → IsNoStart disk marks_disk drain host limits journal last marks last_marks outbox back code
+  no_start_for failed (of_outbox is code_is) posted = no_outbox code_is (subst (λ f. HasPostedFirst disk marks_disk drain host limits journal marks outbox f back last_marks) is posted)
   no_start_for failed (of_journal is cause code_is settled longer) posted =
       not_put_away cause code_is settled
       (λ full. record { book = opened.book; base = opened.base; stands = stands; limits_are = limits_are; longer = subst (λ n. n < length (encoded (compacted opened.book opened.base []))) size (longer full) })
-      (subst (λ f. HasPostedFirst disk marks_disk drain host limits journal marks outbox f back) is posted)
+      (subst (λ f. HasPostedFirst disk marks_disk drain host limits journal marks outbox f back last_marks) is posted)
   no_start_for failed (of_letters is code_is many) posted =
       too_many_letters code_is
       (record {
@@ -195,18 +219,21 @@ module _ {D M W : Type 0} (disk : Disk.Ghosts D) (marks_disk : Disk.Ghosts M) (d
         said = subst (λ l. SayHistory l opened.base (with_header limits (recovered (disk.seen journal))) stands.history) limits_are stands.said;
         many = subst (λ n. base_limit ≤ opened.base + n) stands.stands.sealed many;
       })
-      (subst (λ f. HasPostedFirst disk marks_disk drain host limits journal marks outbox f back) is posted)
+      (subst (λ f. HasPostedFirst disk marks_disk drain host limits journal marks outbox f back last_marks) is posted)
 
   pub no_start : (marked : MarkedOutbox W M) (letters : List Letter) → marked.outbox ≡ outbox → SayMark (recovered (marks_disk.seen marks)) marked.marks.mark
+      → LeavesMarksOpened marks_disk marks marked.marks.journal.disk → LeavesTheMark marks_disk marked.marks
+      → IsMarkOfJournal limits (disk.seen journal) marked.marks.mark
       → AreToPost limits marked.marks.mark (recovered (disk.seen opened.journal.disk)) letters
-      → IsNoStartOverLedger disk drain host marked letters opened back code → IsNoStart disk marks_disk drain host limits journal last marks outbox back code
-  no_start marked letters outbox_is mark_is to_post none =
+      → IsNoStartOverLedger disk marks_disk drain host marked letters opened back last_marks code → IsNoStart disk marks_disk drain host limits journal last marks last_marks outbox back code
+  no_start marked letters outbox_is mark_is marks_opened leaves of_journal_is to_post none =
       no_start_for none.poster.poster.failed none.why
       (record {
         poster = none.poster;
-        first = first_is disk marks_disk drain host limits journal marks outbox marked letters opened opened none.poster outbox_is mark_is same to_post none.delivered;
+        first = first_is disk marks_disk drain host limits journal marks outbox marked letters opened opened none.poster outbox_is mark_is marks_opened leaves of_journal_is same to_post none.delivered;
         failed_is = refl;
         back_is = none.back_is;
+        last_marks_are = none.last_marks_are;
       })
 
 -- at each moment of a call that lets the closed keys go, or doesn't, a crash leaves the history with the first of the requests

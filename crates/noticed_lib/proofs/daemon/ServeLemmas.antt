@@ -90,18 +90,19 @@ module _ {P S : Type 0} (port : Port P S) (untold : (one : P) → port.conns one
     })
 
   -- and of a run over a journal
-  module _ {D M W N : Type 0} (disk : Disk.Ghosts D) (marks_disk : Disk.Ghosts M) (drain : Drain W) (notes_device : Drain N) (host : List ℕ) (limits : Limits) (ports : List P) (fit : All Fits ports) (journal : D) (marks : M) (outbox : W) (notes later : N) (end : ServeEnd W) (last : D) where
-    run-uses : (ledger : Ledger D) (poster : Outgoing (MarkedOutbox W M)) → IsRunOver disk (λ _. Unit {0}) port drain notes_device ports ledger poster notes later end last
-        → IsRunOver disk (λ _. Unit {0}) (socket_port may_end) drain notes_device (replicate (length ports) uses) ledger poster notes later end last
+  module _ {D M W N : Type 0} (disk : Disk.Ghosts D) (marks_disk : Disk.Ghosts M) (drain : Drain W) (notes_device : Drain N) (host : List ℕ) (limits : Limits) (ports : List P) (fit : All Fits ports) (journal : D) (marks : M) (outbox : W) (notes later : N) (end : ServeEnd W) (last : D) (last_marks : M) where
+    run-uses : (ledger : Ledger D) (poster : Outgoing (MarkedOutbox W M)) → IsRunOver disk marks_disk (λ _. Unit {0}) port drain notes_device ports ledger poster notes later end last last_marks
+        → IsRunOver disk marks_disk (λ _. Unit {0}) (socket_port may_end) drain notes_device (replicate (length ports) uses) ledger poster notes later end last last_marks
     run-uses ledger poster (inl served) = inl (record {
       account = served.account;
       crew = λ from by before with_it.
           let has = served.crew from by before with_it in
-          record { letters = has.letters; sealed = has.sealed; is = account-uses (ledger_keeper disk) (marking_drain drain) from ledger.book.limits before has.letters ports served.account fit has.is };
+          record { letters = has.letters; sealed = has.sealed; is = account-uses (ledger_keeper disk) (marking_drain drain marks_disk) from ledger.book.limits before has.letters ports served.account fit has.is };
       count = rw (length-replicate (length ports)) served.count;
       noted = served.noted;
       crash = served.crash;
       forgets = served.forgets;
+      last_marks_are = served.last_marks_are;
     })
     run-uses ledger poster (inr faulted) = inr (record {
       fault = faulted.fault;
@@ -111,11 +112,12 @@ module _ {P S : Type 0} (port : Port P S) (untold : (one : P) → port.conns one
       left = faulted.left;
       left_is = faulted.left_is;
       last_is = faulted.last_is;
+      last_marks_are = faulted.last_marks_are;
       crash = rw (length-replicate (length ports)) faulted.crash;
     })
 
-    pub over-uses : IsServeOver disk marks_disk port drain notes_device host limits ports journal marks outbox notes later end last
-        → IsServeOver disk marks_disk (socket_port may_end) drain notes_device host limits (replicate (length ports) uses) journal marks outbox notes later end last
+    pub over-uses : IsServeOver disk marks_disk port drain notes_device host limits ports journal marks outbox notes later end last last_marks
+        → IsServeOver disk marks_disk (socket_port may_end) drain notes_device host limits (replicate (length ports) uses) journal marks outbox notes later end last last_marks
     over-uses (inl none) = inl (record { code = none.code; back = none.back; why = none.why; noted = none.noted; crash = none.crash })
     over-uses (inr started) = inr (record {
       ledger = started.ledger;

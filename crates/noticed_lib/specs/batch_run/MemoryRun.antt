@@ -36,6 +36,9 @@ memory_drain = record {
   flushes = λ memory. memory.flushes;
   unflushed = λ memory. memory.unflushed;
   marked = λ memory. None;
+  moment = λ memory. 0;
+  left_since = λ memory t left. ⊥;
+  say = λ left count. ⊥;
   steady = λ memory. ⊥;
   flushes_surely = λ memory. Unit {0};
 }

@@ -20,8 +20,8 @@ use Rattle.dsn_journal.specs.KeptBook.{HasKept, keeper_of_ledger, ledger_keeper}
 use Rattle.dsn_journal.specs.Ledger.{records_of}
 use Rattle.dsn_journal.specs.LedgerError.{is_of_ledgers_disk, ledger_error_code}
 use Rattle.dsn_journal.specs.MarkedOutbox.{MarkedOutbox}
-use Rattle.dsn_journal.specs.Marks.{SayMark}
-use Rattle.dsn_journal.specs.MarksError.{marks_error_code}
+use Rattle.dsn_journal.specs.Marks.{IsLeftByOpeningMarks, LeavesTheMark, SayMark}
+use Rattle.dsn_journal.specs.MarksError.{is_of_disk, marks_error_code}
 use Rattle.dsn_journal.specs.Moments.{LeavesOnly}
 use Rattle.dsn_journal.specs.Opening.{IsLeftByOpening}
 use Rattle.dsn_journal.specs.OpenLedger.{Ledger}
@@ -35,11 +35,12 @@ use Rattle.dsn_journal.specs.declared.keep_error.KeepError.TheVariants.{Unsettle
 use Rattle.dsn_journal.specs.declared.ledger_error.LedgerError.{LedgerError}
 use Rattle.dsn_journal.specs.declared.ledger_error.LedgerError.TheVariants as no_ledger_for
 use Rattle.dsn_journal.specs.declared.marks_error.MarksError.{MarksError}
+use Rattle.dsn_journal.specs.declared.marks_error.MarksError.TheVariants as no_marks_for
 use Rattle.dsn_text.specs.FaultCode.{journal_full_code, outbox_write_code}
 use Rattle.dsn_report.specs.Outgoing.{Delivered, Outgoing}
 use Rattle.noticed_lib.specs.daemon.SocketUses.{socket_port}
 use Rattle.noticed_lib.specs.daemon.Serve.{WritesAccount, WritesFault, WritesNumber}
-use Rattle.noticed_lib.specs.listing.Folder.{AreMarksRefusedFor, HaveMark, IsJournalRefusedFor, IsOnlyRead}
+use Rattle.noticed_lib.specs.listing.Folder.{AreMarksRefusedFor, HasHistory, HaveMark, IsJournalRefusedFor, IsOnlyRead}
 use Rattle.noticed_lib.specs.declared.daemon.serve_end.ServeEnd.{ServeEnd}
 
 -- a history that a start over this file begins with, as one of earlier runs
@@ -56,14 +57,17 @@ pub record BeginsAnew {D : Type 0} (disk : Disk.Ghosts D) (ledger : Ledger D) : 
       → BeginsWith (ledger_keeper disk) ledger (of_earlier_run long)
 
 -- what contracts see of an outbox that marks its letters, as a device
-abbrev pub marking_drain : {W M : Type 0} → Drain W → Drain (MarkedOutbox W M)
-marking_drain drain = record {
+abbrev pub marking_drain : {W M : Type 0} → Drain W → Disk.Ghosts M → Drain (MarkedOutbox W M)
+marking_drain drain marks_disk = record {
   contents = λ marked. drain.contents marked.outbox;
   left = λ marked. drain.left marked.outbox;
   failures = λ marked. marked.failures;
   flushes = λ marked. drain.flushes marked.outbox;
   unflushed = λ marked. drain.unflushed marked.outbox;
   marked = λ marked. Some marked.marks.mark;
+  moment = λ marked. marks_disk.moment marked.marks.journal.disk;
+  left_since = λ marked. marks_disk.left_since marked.marks.journal.disk;
+  say = λ left count. SayMark (recovered left) count;
   steady = λ marked. ⊥;
   flushes_surely = λ marked. ⊥;
 }
@@ -71,10 +75,10 @@ marking_drain drain = record {
 -- what a run begins with whose ledger was opened, with these letters that were still to be posted: they
 -- were posted, none of them is unsent, fewer than 2^63 letters were sealed, and each history that the
 -- ledger was in place of is one to begin with, and what a crash leaves at each moment until then
-pub record IsStartOverLedger {D M W : Type 0} (disk : Disk.Ghosts D) (drain : Drain W)
-    (host : List ℕ) (outbox : MarkedOutbox W M) (letters : List Letter) (opened ledger : Ledger D)
-    (poster : Outgoing (MarkedOutbox W M)) : Type 0 where
-  pub delivered : Delivered (marking_drain drain) host outbox poster letters
+pub record IsStartOverLedger {D M W : Type 0} (disk : Disk.Ghosts D) (marks_disk : Disk.Ghosts M)
+    (drain : Drain W) (host : List ℕ) (outbox : MarkedOutbox W M) (letters : List Letter)
+    (opened ledger : Ledger D) (poster : Outgoing (MarkedOutbox W M)) : Type 0 where
+  pub delivered : Delivered (marking_drain drain marks_disk) host outbox poster letters
   pub limits_are : ledger.book.limits ≡ opened.book.limits
   pub few : ledger.base + ledger.book.sealed < 2 ^ 63
   pub all_sent : poster.unsent ≡ []
@@ -87,27 +91,46 @@ pub record IsStartOverLedger {D M W : Type 0} (disk : Disk.Ghosts D) (drain : Dr
       → LeavesOnly disk opened.journal.disk ledger.journal.disk
       (λ left. ReopensTo opened.book.limits left long)
 
+-- at each moment from one disk of marks to another a crash leaves what it might have left of the first,
+-- or the same records, or a file in which marks may be begun where there are none
+abbrev pub LeavesMarksOpened : {M : Type 0} → Disk.Ghosts M → M → M → Type 0
+LeavesMarksOpened marks_disk marks last =
+    LeavesOnly marks_disk marks last
+    (λ left. marks_disk.may_leave marks left ⊎ IsLeftByOpeningMarks (marks_disk.seen marks) left)
+
+-- a mark of this journal: it counts no fewer letters than the journal's base, and no more than were
+-- sealed
+pub record IsMarkOfJournal (limits : Limits) (journal : List ℕ) (mark : ℕ) : Type 0 where
+  pub base : ℕ
+  pub history : List Exchange
+  pub has : HasHistory limits mark journal base history
+
 -- a poster that was given all letters of the journal's records that the mark of the marks doesn't count,
--- over this outbox, and no other
+-- over this outbox, and no other; it began with marks that were opened, of which a crash leaves that
+-- mark, and which is one of this journal
 pub record IsPostedFirst {D M W : Type 0} (disk : Disk.Ghosts D) (marks_disk : Disk.Ghosts M)
     (drain : Drain W) (host : List ℕ) (limits : Limits) (journal : D) (marks : M) (outbox : W)
     (poster : Outgoing (MarkedOutbox W M)) : Type 0 where
   pub from : PostedBefore (MarkedOutbox W M)
-  pub posted : IsPostedBy (marking_drain drain) from poster
+  pub posted : IsPostedBy (marking_drain drain marks_disk) from poster
   pub host_is : from.host ≡ host
   pub outbox_is : from.start.outbox ≡ outbox
   pub mark_is : SayMark (recovered (marks_disk.seen marks)) from.start.marks.mark
+  pub of_journal_is : IsMarkOfJournal limits (disk.seen journal) from.start.marks.mark
+  pub opened : LeavesMarksOpened marks_disk marks from.start.marks.journal.disk
+  pub leaves : LeavesTheMark marks_disk from.start.marks
   pub first_are : AreToPost limits from.start.marks.mark
       (with_header limits (recovered (disk.seen journal))) from.first
 
--- it has failed, or not, and its outbox is handed back
+-- it has failed, or not, and its outbox and the disk of its marks are handed back
 pub record HasPostedFirst {D M W : Type 0} (disk : Disk.Ghosts D) (marks_disk : Disk.Ghosts M)
     (drain : Drain W) (host : List ℕ) (limits : Limits) (journal : D) (marks : M) (outbox : W)
-    (failed : Bool) (back : W) : Type 0 where
+    (failed : Bool) (back : W) (last_marks : M) : Type 0 where
   pub poster : Outgoing (MarkedOutbox W M)
   pub first : IsPostedFirst disk marks_disk drain host limits journal marks outbox poster
   pub failed_is : poster.poster.failed ≡ failed
   pub back_is : back ≡ poster.poster.outbox.outbox
+  pub last_marks_are : last_marks ≡ poster.poster.outbox.marks.journal.disk
 
 -- records by which 2^63 letters or more were sealed in all
 pub record SealTooMany (limits : Limits) (records : List (List ℕ)) : Type 0 where
@@ -150,14 +173,18 @@ pub record IsStartOver {D M W : Type 0} (disk : Disk.Ghosts D) (marks_disk : Dis
 -- why a run did not begin, by the number of its fault, the outbox that is handed back, and the journal:
 -- its marks or its ledger were not opened, for this cause, and the outbox is as it was; or the outbox
 -- failed while the first letters were posted, the journal could not be put away, or 2^63 letters were
--- sealed. A journal that was not opened is as it was, whatever it is, and so is what a crash leaves of it;
--- where its disk failed that is as it was, or a journal with the same records, or a new one still
+-- sealed. Both disks are handed back. Marks or a journal that were not opened are as they were, whatever
+-- they are, and so is what a crash leaves of them; where their disk failed that is as it was, or a file
+-- with the same records, or a new one still
 pub data IsNoStart {D M W : Type 0} (disk : Disk.Ghosts D) (marks_disk : Disk.Ghosts M)
-    (drain : Drain W) (host : List ℕ) (limits : Limits) (journal last : D) (marks : M)
+    (drain : Drain W) (host : List ℕ) (limits : Limits) (journal last : D) (marks last_marks : M)
     (outbox back : W) (code : ℕ) : Type 0 where
   no_marks : (cause : MarksError) → code ≡ marks_error_code cause → back ≡ outbox
       → AreMarksRefusedFor (marks_disk.seen marks) cause → last ≡ journal
-      → IsNoStart disk marks_disk drain host limits journal last marks outbox back code
+      → (cause ≡ no_marks_for.Journal Failed) ⊎ IsOnlyRead marks_disk marks last_marks
+      → LeavesMarksOpened marks_disk marks last_marks
+      → marks_disk.failures last_marks ≡ counted (is_of_disk cause) (marks_disk.failures marks)
+      → IsNoStart disk marks_disk drain host limits journal last marks last_marks outbox back code
   no_ledger : (cause : LedgerError) (mark : ℕ) → code ≡ ledger_error_code cause → back ≡ outbox
       → HaveMark (marks_disk.seen marks) mark
       → IsJournalRefusedFor limits mark (disk.seen journal) cause
@@ -165,18 +192,22 @@ pub data IsNoStart {D M W : Type 0} (disk : Disk.Ghosts D) (marks_disk : Disk.Gh
       → LeavesOnly disk journal last
       (λ left. disk.may_leave journal left ⊎ IsLeftByOpening limits (disk.seen journal) left)
       → disk.failures last ≡ counted (is_of_ledgers_disk cause) (disk.failures journal)
-      → IsNoStart disk marks_disk drain host limits journal last marks outbox back code
+      → LeavesMarksOpened marks_disk marks last_marks
+      → IsNoStart disk marks_disk drain host limits journal last marks last_marks outbox back code
   no_outbox : code ≡ outbox_write_code
       → HasPostedFirst disk marks_disk drain host limits journal marks outbox true back
-      → IsNoStart disk marks_disk drain host limits journal last marks outbox back code
+      last_marks
+      → IsNoStart disk marks_disk drain host limits journal last marks last_marks outbox back code
   not_put_away : (cause : KeepError) → code ≡ keep_error_code cause → cause ≢ Unsettled
       → (cause ≡ not_kept_for.Journal Full → HasNoRoomForShorter limits (disk.seen journal))
       → HasPostedFirst disk marks_disk drain host limits journal marks outbox false back
-      → IsNoStart disk marks_disk drain host limits journal last marks outbox back code
+      last_marks
+      → IsNoStart disk marks_disk drain host limits journal last marks last_marks outbox back code
   too_many_letters : code ≡ journal_full_code
       → SealTooMany limits (with_header limits (recovered (disk.seen journal)))
       → HasPostedFirst disk marks_disk drain host limits journal marks outbox false back
-      → IsNoStart disk marks_disk drain host limits journal last marks outbox back code
+      last_marks
+      → IsNoStart disk marks_disk drain host limits journal last marks last_marks outbox back code
 
 -- and so of one whose ledger was opened, with these letters to post, by this poster
 pub data WhyNoStart {D : Type 0} (disk : Disk.Ghosts D) (opened : Ledger D) (failed : Bool)
@@ -190,12 +221,13 @@ pub data WhyNoStart {D : Type 0} (disk : Disk.Ghosts D) (opened : Ledger D) (fai
   of_letters : failed ≡ false → code ≡ journal_full_code
       → base_limit ≤ opened.base + opened.book.sealed → WhyNoStart disk opened failed code
 
-pub record IsNoStartOverLedger {D M W : Type 0} (disk : Disk.Ghosts D) (drain : Drain W)
-    (host : List ℕ) (outbox : MarkedOutbox W M) (letters : List Letter) (opened : Ledger D)
-    (back : W) (code : ℕ) : Type 0 where
+pub record IsNoStartOverLedger {D M W : Type 0} (disk : Disk.Ghosts D) (marks_disk : Disk.Ghosts M)
+    (drain : Drain W) (host : List ℕ) (outbox : MarkedOutbox W M) (letters : List Letter)
+    (opened : Ledger D) (back : W) (last_marks : M) (code : ℕ) : Type 0 where
   pub poster : Outgoing (MarkedOutbox W M)
-  pub delivered : Delivered (marking_drain drain) host outbox poster letters
+  pub delivered : Delivered (marking_drain drain marks_disk) host outbox poster letters
   pub back_is : back ≡ poster.poster.outbox.outbox
+  pub last_marks_are : last_marks ≡ poster.poster.outbox.marks.journal.disk
   pub why : WhyNoStart disk opened poster.poster.failed code
 
 -- a ledger that let its closed keys go, or couldn't, and then its disk. Where it did, the held keys are
@@ -224,27 +256,29 @@ pub record IsForgottenIn {D : Type 0} (disk : Disk.Ghosts D) (ledger : Ledger D)
       (lets_go ledger.book.entries)
 
 -- a ledger and a poster that a run may begin with: the poster has posted what came before the run
-pub record MayRunOver {D M W : Type 0} (disk : Disk.Ghosts D) (drain : Drain W) (ledger : Ledger D)
+pub record MayRunOver {D M W : Type 0} (disk : Disk.Ghosts D) (marks_disk : Disk.Ghosts M)
+    (drain : Drain W) (ledger : Ledger D)
     (poster : Outgoing (MarkedOutbox W M)) : Type 0 where
   pub few : ledger.base + ledger.book.sealed < 2 ^ 63
   pub all_sent : poster.unsent ≡ []
   pub begins : (before : List Exchange) × BeginsWith (ledger_keeper disk) ledger before
   pub from : PostedBefore (MarkedOutbox W M)
-  pub posted : IsPostedBy (marking_drain drain) from poster
+  pub posted : IsPostedBy (marking_drain drain marks_disk) from poster
 
-module _ {D M P S W N : Type 0} (disk : Disk.Ghosts D) (reached : ℕ → Type 0)
-    (port : Port P S) (drain : Drain W) (notes_device : Drain N) (ports : List P) (ledger : Ledger D)
-    (poster : Outgoing (MarkedOutbox W M)) (notes later : N) (end : ServeEnd W)
-    (last : D) where
+module _ {D M P S W N : Type 0} (disk : Disk.Ghosts D) (marks_disk : Disk.Ghosts M)
+    (reached : ℕ → Type 0) (port : Port P S) (drain : Drain W) (notes_device : Drain N)
+    (ports : List P) (ledger : Ledger D) (poster : Outgoing (MarkedOutbox W M)) (notes later : N)
+    (end : ServeEnd W) (last : D) (last_marks : M) where
   -- a run of a crew that ended well, over this ledger and after what was posted before: all that is
   -- true of the crew, and its notes. At each moment of it a crash leaves the history with the first of
   -- the requests that were taken; and then, behind all of them, of those that let the closed keys go
   pub record IsServedOver : Type 0 where
     pub account : Account (MarkedOutbox W M) (Ledger D)
     pub crew : (from : PostedBefore (MarkedOutbox W M))
-        → IsPostedBy (marking_drain drain) from poster
+        → IsPostedBy (marking_drain drain marks_disk) from poster
         → (before : List Exchange) → BeginsWith (ledger_keeper disk) ledger before
-        → HasAccount (keeper_of_ledger disk reached) port (marking_drain drain) from ledger.book.limits before
+        → HasAccount (keeper_of_ledger disk reached) port (marking_drain drain marks_disk) from
+        ledger.book.limits before
         ports account
     pub count : (1 ≤ length ports) × (length ports ≤ most_ports)
     pub noted : (history : List Exchange) → Represents account.book.book history
@@ -252,15 +286,17 @@ module _ {D M P S W N : Type 0} (disk : Disk.Ghosts D) (reached : ℕ → Type 0
     pub crash : (before : List Exchange) → BeginsWith (ledger_keeper disk) ledger before
         → MayCrash (ledger_keeper disk) ledger account.book ledger.book.limits before account.taken
     pub forgets : IsForgottenIn disk account.book last
+    pub last_marks_are : last_marks ≡ account.outbox.marks.journal.disk
 
   -- and one whose crew ended with a fault: at each moment of it a crash leaves the history with the
   -- first of the requests that were carried out, and of those behind
   pub record IsFaultedOver : Type 0 where
     pub fault : CrewFault (MarkedOutbox W M) (Ledger D)
     pub crew : (from : PostedBefore (MarkedOutbox W M))
-        → IsPostedBy (marking_drain drain) from poster
+        → IsPostedBy (marking_drain drain marks_disk) from poster
         → (before : List Exchange) → BeginsWith (ledger_keeper disk) ledger before
-        → HasFault (keeper_of_ledger disk reached) (marking_drain drain) from ledger.book.limits before
+        → HasFault (keeper_of_ledger disk reached) (marking_drain drain marks_disk) from
+        ledger.book.limits before
         (length ports) fault
     pub counted : (fault.cause ≡ PortCount) ↔ ((length ports ≡ 0) ⊎ (most_ports < length ports))
     pub noted : WritesFault notes_device fault.cause fault.outbox.outbox fault.unsent notes later
@@ -268,6 +304,7 @@ module _ {D M P S W N : Type 0} (disk : Disk.Ghosts D) (reached : ℕ → Type 0
     pub left : Ledger D
     pub left_is : fault.book ≡ Some left
     pub last_is : last ≡ left.journal.disk
+    pub last_marks_are : last_marks ≡ fault.outbox.marks.journal.disk
     pub crash : (before : List Exchange) → BeginsWith (ledger_keeper disk) ledger before
         → MayCrashWithin (keeper_of_ledger disk reached) ledger ledger.book.limits before (length ports)
         fault.taken fault.behind left
@@ -278,13 +315,14 @@ module _ {D M P S W N : Type 0} (disk : Disk.Ghosts D) (reached : ℕ → Type 0
 module _ {D M P S W N : Type 0} (disk : Disk.Ghosts D) (marks_disk : Disk.Ghosts M)
     (port : Port P S) (drain : Drain W) (notes_device : Drain N) (host : List ℕ) (limits : Limits)
     (ports : List P) (journal : D) (marks : M) (outbox : W) (notes later : N)
-    (end : ServeEnd W) (last : D) where
+    (end : ServeEnd W) (last : D) (last_marks : M) where
   -- a run that did not begin: its notes have a number alone, and this is why. At each moment a crash
   -- leaves what it might have left before, or a journal that a later start begins with the same history
   pub record IsNotStarted : Type 0 where
     pub code : ℕ
     pub back : W
-    pub why : IsNoStart disk marks_disk drain host limits journal last marks outbox back code
+    pub why : IsNoStart disk marks_disk drain host limits journal last marks last_marks outbox back
+        code
     pub noted : WritesNumber notes_device code back [] notes later end
     pub crash : LeavesStart disk limits journal last
 
@@ -293,8 +331,8 @@ module _ {D M P S W N : Type 0} (disk : Disk.Ghosts D) (marks_disk : Disk.Ghosts
     pub ledger : Ledger D
     pub poster : Outgoing (MarkedOutbox W M)
     pub start : IsStartOver disk marks_disk drain host limits journal marks outbox ledger poster
-    pub run : IsRunOver disk (λ _. Unit {0}) port drain notes_device ports ledger poster notes later end
-        last
+    pub run : IsRunOver disk marks_disk (λ _. Unit {0}) port drain notes_device ports ledger poster
+        notes later end last last_marks
 
   -- a run over these ports, these disks and this outbox
   abbrev pub IsServeOver : Type 0
@@ -306,10 +344,12 @@ module _ {D M P S W N : Type 0} (disk : Disk.Ghosts D) (marks_disk : Disk.Ghosts
 pub record IsSocketServeOver {D M W N : Type 0} (disk : Disk.Ghosts D) (marks_disk : Disk.Ghosts M)
     (drain : Drain W) (notes_device : Drain N) (may_end : Type 0) (host : List ℕ) (limits : Limits)
     (agents uses : ℕ) (journal : D) (marks : M) (outbox : W) (notes later : N)
-    (end : ServeEnd W) (last : D) : Type 0 where
+    (end : ServeEnd W) (last : D) (last_marks : M) : Type 0 where
   pub crew : (1 ≤ agents) × (agents ≤ most_ports)
       → IsServeOver disk marks_disk (socket_port may_end) drain notes_device host limits
-      (replicate agents uses) journal marks outbox notes later end last
-      ⊎ (WritesFault notes_device Refused outbox [] notes later end × (last ≡ journal))
+      (replicate agents uses) journal marks outbox notes later end last last_marks
+      ⊎ (WritesFault notes_device Refused outbox [] notes later end × (last ≡ journal)
+      × (last_marks ≡ marks))
   pub none : (agents ≡ 0) ⊎ (most_ports < agents)
       → WritesFault notes_device PortCount outbox [] notes later end × (last ≡ journal)
+      × (last_marks ≡ marks)

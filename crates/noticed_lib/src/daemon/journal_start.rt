@@ -33,33 +33,35 @@ pub(crate) struct JournalStart<W, D: Replaceable, M: Replaceable, C: MarkCount> 
 
 /// Why a run over a journal didn't begin.
 #[derive(Drop)]
-pub(crate) struct NotStarted<W, D> {
+pub(crate) struct NotStarted<W, D, M> {
     /// The number of the fault.
     pub(crate) code: u32,
     /// The outbox.
     pub(crate) outbox: W,
     /// The disk of the journal.
     pub(crate) journal: D,
+    /// The disk of the marks.
+    pub(crate) marks: M,
 }
 
-impl<W, D: Replaceable + Drop> NotStarted<W, D> {
+impl<W: Drain, D: Replaceable + Drop, M: Replaceable + Drop> NotStarted<W, D, M> {
     /// The fault with this number, over a ledger that was opened, after letters were posted or not.
-    fn after<M: Replaceable + Drop, C: MarkCount + Drop>(
+    fn after<C: MarkCount + Drop>(
         code: u32,
         outgoing: Outgoing<CountedOutbox<MarkedOutbox<W, M>, C>>,
         ledger: Ledger<D>,
-    ) -> NotStarted<W, D>
-    where
-        W: Drain,
+    ) -> NotStarted<W, D, M>
         ensures code { result.code ≡ code }
         ensures outbox { result.outbox ≡ outgoing.poster.outbox.outbox }
         ensures journal { result.journal ≡ ledger.journal.disk }
+        ensures marks { result.marks ≡ outgoing.poster.outbox.marks.journal.disk }
     {
-        let (outbox, _marks) = outgoing.into_outbox().into_outbox().into_parts();
+        let (outbox, marks) = outgoing.into_outbox().into_outbox().into_parts();
         NotStarted {
             code,
             outbox,
             journal: ledger.into_disk(),
+            marks: marks.into_disk(),
         }
     }
 }
@@ -82,11 +84,11 @@ pub(crate) fn start_over<
     outbox: W,
     folder: JournalFolder<D, M>,
     count: C,
-) -> Result<JournalStart<W, D, M, C>, NotStarted<W, D>>
+) -> Result<JournalStart<W, D, M, C>, NotStarted<W, D, M>>
     ensures start { IfOk result (λ start. IsStartOver D.Disk M.Disk W.Drain site limits
         folder.journal folder.marks outbox start.keeper start.outgoing) }
     ensures fault { IfErr result (λ not. IsNoStart D.Disk M.Disk W.Drain site limits
-        folder.journal not.journal folder.marks outbox not.outbox not.code) }
+        folder.journal not.journal folder.marks not.marks outbox not.outbox not.code) }
     ensures crash { IfErr result (λ not. LeavesStart D.Disk limits folder.journal not.journal) }
 {
     let JournalFolder { journal, marks } = folder;
@@ -98,6 +100,7 @@ pub(crate) fn start_over<
                 code,
                 outbox,
                 journal,
+                marks: left.disk,
             });
         }
     };
@@ -114,6 +117,7 @@ pub(crate) fn start_over<
                 code,
                 outbox,
                 journal: left.disk,
+                marks: marks.into_disk(),
             })
         }
     }
@@ -127,7 +131,7 @@ fn start_over_ledger<W: Drain, D: Replaceable + Drop, M: Replaceable + Drop, C: 
     opened: Opened<D>,
     mark: u64,
     count: C,
-) -> Result<JournalStart<W, D, M, C>, NotStarted<W, D>>
+) -> Result<JournalStart<W, D, M, C>, NotStarted<W, D, M>>
     requires awaits { AwaitsRequests D.Disk opened.ledger [] }
     requires settled { opened.ledger.settled ≡ true }
     requires durable { IsSettled D.Disk opened.ledger.journal.disk opened.ledger.journal.used }
@@ -135,10 +139,10 @@ fn start_over_ledger<W: Drain, D: Replaceable + Drop, M: Replaceable + Drop, C: 
         (recovered (D.seen opened.ledger.journal.disk)) opened.letters.items }
     requires posted { opened.ledger.base ≤ mark }
     requires sealed { mark ≤ opened.ledger.base + opened.ledger.book.sealed }
-    ensures start { IfOk result (λ start. IsStartOverLedger D.Disk W.Drain site outbox
+    ensures start { IfOk result (λ start. IsStartOverLedger D.Disk M.Disk W.Drain site outbox
         opened.letters.items opened.ledger start.keeper start.outgoing) }
-    ensures fault { IfErr result (λ not. IsNoStartOverLedger D.Disk W.Drain site outbox
-        opened.letters.items opened.ledger not.outbox not.code) }
+    ensures fault { IfErr result (λ not. IsNoStartOverLedger D.Disk M.Disk W.Drain site outbox
+        opened.letters.items opened.ledger not.outbox not.marks not.code) }
     ensures crash { IfErr result (λ not. (long : List Exchange)
         → IsLedgerInPlaceOf opened.ledger.book opened.ledger.base
         (recovered (D.seen opened.ledger.journal.disk)) long

@@ -58,12 +58,13 @@ pub(crate) fn write_kept_account<
     alloc: Global,
     account: Account<CountedOutbox<MarkedOutbox<W, M>, C>, KeptBook<D, C>>,
     notes: &mut N,
-) -> JournaledEnd<W, D>
+) -> JournaledEnd<W, D, M>
     requires none { account.book.settled ≡ true → AwaitsRequests D.Disk account.book [] }
     ensures notes { (history : List Exchange) → Represents account.book.book history
         → WritesAccount N.Drain history account account.outbox.outbox notes.old notes.new
         result.end }
     ensures crash { IsForgottenIn D.Disk account.book result.journal }
+    ensures marks { result.marks ≡ account.outbox.marks.journal.disk }
 {
     let Account {
         agents,
@@ -83,10 +84,11 @@ pub(crate) fn write_kept_account<
         notes,
     );
     drop(ledger.forget_closed(alloc));
-    let (outbox, _marks) = outbox.into_outbox().into_parts();
+    let (outbox, marks) = outbox.into_outbox().into_parts();
     JournaledEnd {
         end: ServeEnd { outbox, status },
         journal: ledger.into_disk(),
+        marks: marks.into_disk(),
     }
 }
 

@@ -32,7 +32,8 @@ use std::time::Clock;
 ///
 /// At each moment a crash leaves a journal that a later start begins with the history from before
 /// this run, and the first of the requests that were taken, and no other. Each request is among them
-/// before its answer is sent. Of the marks no more is said than each call of [`MarkedOutbox`](dsn_journal::MarkedOutbox) does.
+/// before its answer is sent. Of the marks a crash leaves, once they are opened, a count of the first
+/// letters, all of which are written to `outbox` and flushed by the end of the run.
 pub fn serve_ports_over<
     R: Threads + Wait + Clock + Sync,
     P: Port + Drop + Send,
@@ -51,10 +52,11 @@ pub fn serve_ports_over<
     folder: JournalFolder<D, M>,
     gate: &G,
     notes: &mut N,
-) -> JournaledEnd<W, D>
+) -> JournaledEnd<W, D, M>
     requires asked { All P.may_be_asked ports.items }
     ensures { IsServeOver D.Disk M.Disk P.Port W.Drain N.Drain site limits ports.items
-        folder.journal folder.marks outbox notes.old notes.new result.end result.journal }
+        folder.journal folder.marks outbox notes.old notes.new result.end result.journal
+        result.marks }
 {
     let count = SharedMarkCount::new(rt);
     match start_over(alloc, site, limits, outbox, folder, &count) {
@@ -64,10 +66,12 @@ pub fn serve_ports_over<
                 code,
                 outbox,
                 journal,
+                marks,
             },
         ) => JournaledEnd {
             end: write_fault(alloc, code, outbox, Letters::new(), notes),
             journal,
+            marks,
         },
     }
 }
@@ -89,11 +93,11 @@ fn run_over<
     ports: Vec<P>,
     gate: &G,
     notes: &mut N,
-) -> JournaledEnd<W, D>
+) -> JournaledEnd<W, D, M>
     requires asked { All P.may_be_asked ports.items }
-    requires start { MayRunOver D.Disk W.Drain start.keeper start.outgoing }
-    ensures { IsRunOver D.Disk C.may_reach P.Port W.Drain N.Drain ports.items start.keeper start.outgoing
-        notes.old notes.new result.end result.journal }
+    requires start { MayRunOver D.Disk M.Disk W.Drain start.keeper start.outgoing }
+    ensures { IsRunOver D.Disk M.Disk C.may_reach P.Port W.Drain N.Drain ports.items start.keeper
+        start.outgoing notes.old notes.new result.end result.journal result.marks }
 {
     let JournalStart { outgoing, keeper } = start;
     match run_crew_over(rt, alloc, keeper, ports, outgoing, gate) {
@@ -106,10 +110,11 @@ fn run_over<
                 book,
                 ..
             } = fault;
-            let (outbox, _marks) = outbox.into_outbox().into_parts();
+            let (outbox, marks) = outbox.into_outbox().into_parts();
             JournaledEnd {
                 end: write_fault(alloc, cause.code(), outbox, unsent, notes),
                 journal: disk_of(book),
+                marks: marks.into_disk(),
             }
         }
     }

@@ -95,10 +95,10 @@ pub fn serve_journaled<
     outbox: W,
     folder: JournalFolder<D, M>,
     notes: &mut N,
-) -> JournaledEnd<W, D>
+) -> JournaledEnd<W, D, M>
     ensures { IsSocketServeOver D.Disk M.Disk W.Drain N.Drain (H.may_end watch.now) site
         (limits_of 4096 1000 1000000) agents max_use folder.journal folder.marks outbox notes.old
-        notes.new result.end result.journal }
+        notes.new result.end result.journal result.marks }
 {
     if !is_crew(agents) {
         let code = CrewCause::PortCount.code();
@@ -106,6 +106,7 @@ pub fn serve_journaled<
         return JournaledEnd {
             end,
             journal: folder.journal,
+            marks: folder.marks,
         };
     }
     match socket_ports(alloc, listener, watch, agents, max_use) {
@@ -121,6 +122,7 @@ pub fn serve_journaled<
             JournaledEnd {
                 end,
                 journal: folder.journal,
+                marks: folder.marks,
             }
         }
     }

@@ -1,6 +1,7 @@
 use Rattle.std.proofs.Common.{take, arith, ◌++◌, ◌∙◌}
 use Rattle.std.proofs.lemmas.Bool.Decides.{nat_tests}
 use Rattle.std.proofs.KnownBytes.{Appends-trans, Keeps-trans}
+use Rattle.dsn_device.proofs.ThroughoutLemmas.{stands_still_then}
 use Rattle.dsn_device.proofs.TransferLemmas.{split-moved}
 use Rattle.dsn_device.proofs.transfer.send.Goals as goal
 
@@ -13,6 +14,7 @@ loop-unsent-preserved g c =
       sent = (done ++ take n c.loop-unsent.unsent.now, split-moved _ done _ n split, Appends-trans _ _ _ _ _ appended took.bytes);
       unread = Keeps-trans _ _ _ c.loop-unsent.invariant.unread took.unread;
       marked = took.marked ∙ c.loop-unsent.invariant.marked;
+      no_moment = stands_still_then c.loop-unsent.invariant.no_moment took.no_moment;
       no_flush = took.no_flush ∙ c.loop-unsent.invariant.no_flush;
       count = grind (arith, nat_tests, took.count);
       surely = λ h. took.surely (c.loop-unsent.invariant.surely h);

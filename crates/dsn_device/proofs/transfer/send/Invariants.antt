@@ -1,6 +1,7 @@
 -- What is gone from `unsent` was appended, and the drain did not fail and was not flushed.
 use Rattle.std.proofs.Common.{◌≡◌, List, ◌++◌, length, ℕ}
 use Rattle.std.specs.Io.KnownBytes.{Appends, Keeps}
+use Rattle.dsn_device.specs.Throughout.{StandsStill}
 use Rattle.dsn_device.proofs.transfer.send.Given as goal
 
 abbrev pub invariant-loop-unsent : goal.invariant-loop-unsent
@@ -10,6 +11,7 @@ invariant-loop-unsent g l = record {
   no_flush : g.D.Drain.flushes l.drain ≡ g.D.Drain.flushes l.initial.drain;
   count : g.D.Drain.failures l.drain ≡ g.D.Drain.failures l.initial.drain;
   marked : g.D.Drain.marked l.drain ≡ g.D.Drain.marked l.initial.drain;
+  no_moment : StandsStill (g.D.Drain.moment l.initial.drain) (g.D.Drain.moment l.drain) (g.D.Drain.left_since l.initial.drain) (g.D.Drain.left_since l.drain);
   surely : g.D.Drain.flushes_surely l.initial.drain → g.D.Drain.flushes_surely l.drain;
   steady : g.D.Drain.steady l.initial.drain → g.D.Drain.steady l.drain;
 }

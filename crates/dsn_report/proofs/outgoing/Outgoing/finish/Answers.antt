@@ -9,4 +9,4 @@ returns-clause-outbox g c = λ host start letters delivered.
     let ended = c.finish-outbox.ensures in
     finished _ host start _ _ letters before c.finish-outbox.result.outbox c.finish-outbox.result.whole ended.sent ended.front
     (λ failed. (ap (λ end. end.outbox) (ended.nothing failed), ap (λ end. end.whole) (ended.nothing failed)))
-    ended.count ended.flushed ended.steady ended.marked
+    ended.count ended.flushed ended.steady ended.marked ended.no_moment

@@ -29,6 +29,7 @@ returns-then-has_failed-clause-fault g c = record {
   poster = c.post_first-outgoing.result;
   delivered = c.post_first-outgoing.ensures;
   back_is = c.after.ensures.outbox;
+  last_marks_are = c.after.ensures.marks;
   why = of_outbox (sym c.has_failed.ensures ∙ c.if-has_failed.true) c.after.ensures.code;
 }
 
@@ -41,6 +42,7 @@ returns-in-Ok-false-clause-fault g c =
       poster = c.post_first-outgoing.result;
       delivered = c.post_first-outgoing.ensures;
       back_is = c.after-in-Ok-false.ensures.outbox;
+      last_marks_are = c.after-in-Ok-false.ensures.marks;
       why = of_letters (sym c.has_failed.ensures ∙ c.if-has_failed.false) c.after-in-Ok-false.ensures.code
           (many_sealed (ledger.base + ledger.book.sealed) c.saturating_add-all.result all (λ both. true≢false (sym (c.in-Ok-false.ensures.all.1 both) ∙ c.in-Ok-false.field-0-test)));
     }
@@ -50,6 +52,7 @@ returns-in-Err-clause-fault g c = record {
   poster = c.post_first-outgoing.result;
   delivered = c.post_first-outgoing.ensures;
   back_is = c.after-in-Err.ensures.outbox;
+  last_marks_are = c.after-in-Err.ensures.marks;
   why = of_journal (sym c.has_failed.ensures ∙ c.if-has_failed.false) c.in-Err.error (c.after-in-Err.ensures.code ∙ c.code.ensures)
       (λ unsettled. true≢false (sym c.requires.settled ∙ c.in-Err.ensures.unsettled.0 (ap Err unsettled))) (λ full. c.in-Err.ensures.full (ap Err full));
 }

@@ -5,6 +5,6 @@ use Rattle.noticed_lib.proofs.daemon.serve_over_sockets.serve_journaled.Goals as
 pub returns-in-Ok : goal.returns-in-Ok
 returns-in-Ok g c = record {
   crew = λ _.
-      inl (rw (← c.in-Ok.ensures.count, ← c.of_program-program.ensures) (over-uses _ (λ one. refl) _ _ _ _ _ _ _ _ _ (ports-fit g.H.Watch.may_end (λ port. port.watch.now) (λ port. port.left) c.args.watch.now c.args.max_use _ c.in-Ok.ensures.uses) _ _ _ _ _ _ _ c.serve_ports_over.ensures));
+      inl (rw (← c.in-Ok.ensures.count, ← c.of_program-program.ensures) (over-uses _ (λ one. refl) _ _ _ _ _ _ _ _ _ (ports-fit g.H.Watch.may_end (λ port. port.watch.now) (λ port. port.left) c.args.watch.now c.args.max_use _ c.in-Ok.ensures.uses) _ _ _ _ _ _ _ _ c.serve_ports_over.ensures));
   none = λ few. absurd (no_crew c.args.agents (c.is_crew.ensures.crew c.if-not-is_crew.false) few);
 }

@@ -15,6 +15,7 @@ mod LinesLemmas
 pub mod OutgoingLemmas
 mod PieceLemmas
 mod PlainLemmas
+pub mod PosterLemmas
 mod ReaderExamples
 mod RoomLemmas
 pub mod Rules

@@ -88,7 +88,7 @@ impl<W: Drain> Poster<W> {
     /// Writes the letter's notice, after the greeting if that isn't written, then flushes the
     /// outbox, once, and then has it mark the letter. `Write` comes where the outbox fails now, and
     /// `Failed` from every later call; the letter comes back. It takes no memory.
-    #[tactic(auto, unfolding(crate::specs::Poster::post_text))]
+    #[tactic(auto, using(crate::proofs::PosterLemmas::marked_by_serial), unfolding(crate::specs::Poster::post_text))]
     pub fn post(&mut self, letter: Letter) -> Result<(), PostFault>
         ensures sent { OnOk result
             (Appends (W.contents self.old.outbox) (W.contents self.new.outbox)

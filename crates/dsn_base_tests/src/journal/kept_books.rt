@@ -132,25 +132,37 @@ fn kept_with<C: MarkCount + Drop>(
     Ok((kept, keeper.into_ledger().into_disk()))
 }
 
-/// How often K1 is appended to.
+/// How often K1 is appended to, and how many requests come with each append.
 const APPENDS: u32 = 5;
 
-/// Requests, the last one first: appends to K1, and between them three times one to K2, which is
-/// then discarded and forgotten.
-fn mostly_forgotten(alloc: Global) -> Result<Vec<Request>, Fail> {
+const TOGETHER: u32 = 10;
+
+/// The key of a bounce log with this id.
+fn bounce(id: &[u8]) -> Result<Key, Fail> {
     let service = Service::Bounce;
-    let id = QueueId::new(b"K1").ok_or("not an id")?;
-    let kept = Key { service, id };
-    let id = QueueId::new(b"K2").ok_or("not an id")?;
-    let other = Key { service, id };
+    let id = QueueId::new(id).ok_or("not an id")?;
+    Ok(Key { service, id })
+}
+
+/// What is asked at a step of a turn: first an append to K1, and then three times one to K2, which is
+/// then discarded and forgotten.
+fn ask_at(turn: u32, step: u32) -> Result<Ask, Fail> {
+    if step == 0 {
+        return Ok(Ask::Append(bounce(b"K1")?, turn));
+    }
+    let other = bounce(b"K2")?;
+    Ok(match step % 3 {
+        1 => Ask::Append(other, step),
+        2 => Ask::Discard(other),
+        _ => Ask::Forget(other),
+    })
+}
+
+/// The requests of all turns, the last one first.
+fn mostly_forgotten(alloc: Global) -> Result<Vec<Request>, Fail> {
     let mut asks = Vec::new(alloc);
-    for turn in 0..APPENDS {
-        asks.push(Ask::Append(kept, turn))?;
-        for more in 0..3u32 {
-            asks.push(Ask::Append(other, more))?;
-            asks.push(Ask::Discard(other))?;
-            asks.push(Ask::Forget(other))?;
-        }
+    for place in 0..APPENDS * TOGETHER {
+        asks.push(ask_at(place / TOGETHER, place % TOGETHER)?)?;
     }
     let mut requests = make_group(alloc, asks.as_slice())?;
     requests.reverse();

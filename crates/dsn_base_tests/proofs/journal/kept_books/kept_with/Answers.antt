@@ -10,7 +10,7 @@ use Rattle.dsn_base_tests.proofs.journal.kept_books.kept_with.Goals as goal
 
 pub carry_all-kept-requires-clause-has : goal.carry_all-kept-requires-clause-has
 carry_all-kept-requires-clause-has g c =
-    let ledger = c.new-keeper.result in
+    let ledger = c.with_marks-keeper.result in
     let none : AwaitsRequests memory.ghosts ledger [] = search rules in
     let settled : ledger.settled ≡ true = search rules in
     let base : ledger.base ≡ 0 = search rules in
@@ -18,5 +18,5 @@ carry_all-kept-requires-clause-has g c =
     let own : IsLedgerInPlaceOf ledger.book ledger.base none.front file.history =
     subst (λ (b : ℕ). IsLedgerInPlaceOf ledger.book b none.front file.history) (sym base) (c.ledgers_have_one_history.ensures.own_ledger ledger.book none.front file) in
     let durable : IsSettled memory.ghosts ledger.journal.disk ledger.journal.used =
-    subst (λ (it : Ledger _). IsSettled memory.ghosts it.journal.disk it.journal.used) (sym c.new-keeper.ensures) (c.book.ensures.stands.settled (search rules)) in
+    subst (λ (it : Ledger _). IsSettled memory.ghosts it.journal.disk it.journal.used) (sym c.with_marks-keeper.ensures) (c.book.ensures.stands.settled (search rules)) in
     (file.history, has_kept memory.ghosts ledger file.history [] (record { many = none.many; front = none.front; in_place = own; kept = none.kept; file = none.file }) settled durable)

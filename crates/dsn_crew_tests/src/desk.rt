@@ -1,5 +1,6 @@
 //! Tests of agents and their collector, over what `dsn_crew` makes public.
 mod alone;
+mod behind;
 mod bodies;
 mod collect;
 mod gone;

@@ -13,7 +13,7 @@ use std::sync::Wait;
 use std::test::Fail;
 
 /// Sends an append of the agent, and gives the half by which it is answered.
-fn send_append(rt: &impl Wait, alloc: Global, agent: Agent) -> Option<LaneOut<Answer>> {
+pub(super) fn send_append(rt: &impl Wait, alloc: Global, agent: Agent) -> Option<LaneOut<Answer>> {
     let agent_number = agent.number();
     let body = append(alloc, b"K1")?;
     let (mut requests, answers) = agent.into_halves();

@@ -1,0 +1,25 @@
+-- A ledger that was opened without a base, and awaits nothing, has the history that its records say, as that of an earlier run.
+use Rattle.std.proofs.Common.{rules, ◌≡◌, ℕ, [], sym, subst, true}
+use Rattle.dsn_journal.specs.EarlierRuns.{of_earlier_run}
+use Rattle.dsn_journal.specs.Header.{StandsForFile}
+use Rattle.dsn_journal.specs.InPlace.{IsLedgerInPlaceOf}
+use Rattle.dsn_journal.specs.Journal.{IsSettled}
+use Rattle.dsn_journal.specs.OpenLedger.{AwaitsRequests, Ledger}
+use Rattle.dsn_journal.proofs.KeptBooks.{has_kept}
+use Rattle.dsn_crew_tests.proofs.desk.behind.crew_over.Goals as goal
+
+pub open_crew_over-requires-clause-begins : goal.open_crew_over-requires-clause-begins
+open_crew_over-requires-clause-begins g c =
+    let ledger = c.new.result in
+    let none : AwaitsRequests g.D.Disk ledger [] = search rules in
+    let settled : ledger.settled ≡ true = search rules in
+    let base : ledger.base ≡ 0 = search rules in
+    let file : StandsForFile ledger.book 0 none.front = subst (λ (b : ℕ). StandsForFile ledger.book b none.front) base none.stands in
+    let own : IsLedgerInPlaceOf ledger.book ledger.base none.front file.history =
+    subst (λ (b : ℕ). IsLedgerInPlaceOf ledger.book b none.front file.history) (sym base) (c.ledgers_have_one_history.ensures.own_ledger ledger.book none.front file) in
+    let earlier = c.ledgers_have_earlier_histories.ensures.earlier_ledger ledger.book ledger.base none.front file.history own in
+    let durable : IsSettled g.D.Disk ledger.journal.disk ledger.journal.used =
+    subst (λ (it : Ledger _). IsSettled g.D.Disk it.journal.disk it.journal.used) (sym c.new.ensures) (c.book.ensures.stands.settled (search rules)) in (
+      of_earlier_run file.history,
+      (has_kept g.D.Disk ledger (of_earlier_run file.history) [] (record { many = none.many; front = none.front; in_place = earlier; kept = none.kept; file = none.file }) settled durable, λ agent few. c.ledgers_have_earlier_histories.ensures.unanswered agent file.history few),
+    )

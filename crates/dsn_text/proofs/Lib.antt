@@ -1,4 +1,6 @@
 mod Dates
+mod ExtensionExamples
+pub mod ExtensionLemmas
 pub mod KeyLemmas
 pub mod KeyOrderLemmas
 pub mod StampLemmas

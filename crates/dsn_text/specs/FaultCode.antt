@@ -42,6 +42,30 @@ no_memory_code = 9
 abbrev pub retry_until_code : ℕ
 retry_until_code = 10
 
+-- the type of the final recipient is neither empty nor the name of a type
+abbrev pub recipient_type_code : ℕ
+recipient_type_code = 15
+
+-- the type of the original recipient is none, or there is no original recipient
+abbrev pub original_type_code : ℕ
+original_type_code = 16
+
+-- the type of the diagnostic is none, or there is no diagnostic
+abbrev pub diagnostic_type_code : ℕ
+diagnostic_type_code = 17
+
+-- it is unknown whether the header field holds the header or the message
+abbrev pub returned_code : ℕ
+returned_code = 18
+
+-- the wording of a notice is unknown
+abbrev pub wording_code : ℕ
+wording_code = 19
+
+-- the extension fields are no text of them
+abbrev pub extension_code : ℕ
+extension_code = 20
+
 -- a frame is longer than a frame may be
 abbrev pub frame_too_long_code : ℕ
 frame_too_long_code = 11

@@ -1,4 +1,5 @@
 pub mod Action
+pub mod Extension
 pub mod FaultCode
 pub mod Key
 pub mod Optional

@@ -2,7 +2,7 @@
 use Rattle.std.specs.Prelude.{◌≡◌, ℕ, Bool, ◌&&◌, ◌||◌, not, ◌==◌, nat_le, List, ◌++◌, ◌-◌, length, take, replicate, map, IsTrue, if◌then◌else◌}
 use Rattle.std.specs.List.{list_all}
 use Rattle.dsn_text.specs.declared.text.Alphabet.{Alphabet}
-use Rattle.dsn_text.specs.declared.text.Alphabet.TheVariants.{Digits, LettersAndDigits, AddressBytes, Visible, Printable}
+use Rattle.dsn_text.specs.declared.text.Alphabet.TheVariants.{Digits, LettersAndDigits, AddressBytes, AtomBytes, Visible, Printable}
 
 -- whether a byte is between two others, both included
 abbrev pub is_between : ℕ → ℕ → ℕ → Bool
@@ -26,11 +26,23 @@ is_visible byte = is_between 33 126 byte
 abbrev pub is_address_byte : ℕ → Bool
 is_address_byte byte = is_visible byte && (not (byte == 60) && not (byte == 62))
 
+-- the specials (RFC 5322 section 3.2.3): the quote, ( ) , . : ; < > @ [ \ ]
+abbrev pub is_mail_special : ℕ → Bool
+is_mail_special byte =
+    ((byte == 34) || (is_between 40 41 byte || (byte == 44)))
+    || ((byte == 46) || (is_between 58 60 byte
+    || ((byte == 62) || ((byte == 64) || is_between 91 93 byte))))
+
+-- what an atom may hold (RFC 5322 section 3.2.3, atext)
+abbrev pub is_atom_byte : ℕ → Bool
+is_atom_byte byte = is_visible byte && not (is_mail_special byte)
+
 -- whether a text of this alphabet may hold the byte
 abbrev pub allows : Alphabet → ℕ → Bool
 allows Digits = is_digit
 allows LettersAndDigits = is_letter_or_digit
 allows AddressBytes = is_address_byte
+allows AtomBytes = is_atom_byte
 allows Visible = is_visible
 allows Printable = is_printable
 
@@ -63,6 +75,14 @@ longest_mta_name = 255
 -- a host's name as a remote mail system gave it (RFC 3464 section 2.3.5)
 abbrev pub is_mta_name : List ℕ → Bool
 is_mta_name = is_text is_visible 1 longest_mta_name
+
+-- the longest name of a type, in bytes (this project's profile)
+abbrev pub longest_type_name : ℕ
+longest_type_name = 32
+
+-- the type of an address or of a diagnostic, an atom (RFC 3464 sections 2.1.2 and 2.3.6)
+abbrev pub is_type_name : List ℕ → Bool
+is_type_name = is_text is_atom_byte 1 longest_type_name
 
 -- the longest envelope id, in bytes, decoded (RFC 3461 section 4.4)
 abbrev pub longest_envelope_id : ℕ
@@ -109,6 +129,9 @@ IsAddress text = IsTrue (is_address text)
 
 abbrev pub IsMtaName : List ℕ → Type 0
 IsMtaName text = IsTrue (is_mta_name text)
+
+abbrev pub IsTypeName : List ℕ → Type 0
+IsTypeName text = IsTrue (is_type_name text)
 
 abbrev pub IsEnvelopeId : List ℕ → Type 0
 IsEnvelopeId text = IsTrue (is_envelope_id text)

@@ -1,9 +1,9 @@
 //! The numbers of refusals and of faults, each once: all of FORMATS section 16. The same numbers
 //! stand in the contracts' FaultCode.
 //!
-//! 1 to 10 and 21 to 30 are refusals of a request's body, 11 to 14 faults of a frame, 31 to 35 of
-//! what is written, 41 to 45 of a crew, 46 to 48 of a session, 51 of a site, 61 of a socket and 71
-//! to 77 of a journal.
+//! 1 to 10 and 15 to 30 are refusals of a request's body, 11 to 14 faults of a frame, 31
+//! to 35 of what is written, 41 to 45 of a crew, 46 to 48 of a session, 51 of a site, 61 of a socket
+//! and 71 to 77 of a journal.
 //! Each is what `code()` of an error type of this project gives.
 
 /// The final recipient is no address.
@@ -26,6 +26,19 @@ pub const LONG_REASON: u32 = 8;
 pub const NO_MEMORY: u32 = 9;
 /// A recipient that is not delayed is not tried again.
 pub const RETRY_UNTIL: u32 = 10;
+
+/// The type of the final recipient is neither empty nor the name of a type.
+pub const RECIPIENT_TYPE: u32 = 15;
+/// The type of the original recipient is none, or there is no original recipient.
+pub const ORIGINAL_TYPE: u32 = 16;
+/// The type of the diagnostic is none, or there is no diagnostic.
+pub const DIAGNOSTIC_TYPE: u32 = 17;
+/// It is unknown whether the header field holds the header or the message.
+pub const RETURNED: u32 = 18;
+/// The wording of a notice is unknown.
+pub const WORDING: u32 = 19;
+/// The extension fields are no text of them.
+pub const EXTENSION: u32 = 20;
 
 /// A frame is longer than a frame may be.
 pub const FRAME_TOO_LONG: u32 = 11;

@@ -6,6 +6,7 @@ mod address;
 mod block_order;
 mod clean;
 mod envelope_id;
+mod extension;
 pub mod fault_code;
 mod kept_stamp;
 mod key;
@@ -19,11 +20,16 @@ mod short_text;
 mod stamp;
 mod status;
 mod text;
+mod type_name;
 
 pub use action::Action;
 pub use address::{Address, LONGEST_ADDRESS};
 pub use clean::{Clean, LONGEST_CLEAN, replace_unprintable};
 pub use envelope_id::{EnvelopeId, LONGEST_ENVELOPE_ID};
+pub use extension::{
+    LONGEST_EXTENSION_NAME, LONGEST_EXTENSION_TEXT, LONGEST_EXTENSION_VALUE, MOST_EXTENSIONS,
+    first_ended_line, is_extension_text,
+};
 pub use kept_stamp::KeptStamp;
 pub use key::Key;
 pub use laws::keys_are_ordered;
@@ -36,3 +42,4 @@ pub use short_text::{SHORT_ROOM, ShortText};
 pub use stamp::{LAST_MOMENT, Stamp};
 pub use status::{LONGEST_STATUS, Status};
 pub use text::TextFault;
+pub use type_name::{LONGEST_TYPE_NAME, is_type_name};

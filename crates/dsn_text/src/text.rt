@@ -2,7 +2,7 @@
 //! is kept.
 ghost use Rattle.std.specs.Prelude.{◌≡◌, IfOk};
 ghost use Rattle.std.specs.List.{list_all};
-ghost use Rattle.dsn_text.specs.Text.{allows, is_text, is_visible, is_printable};
+ghost use Rattle.dsn_text.specs.Text.{allows, is_mail_special, is_text, is_visible, is_printable};
 
 use crate::no_memory::NoMemory;
 use std::alloc::Global;
@@ -38,6 +38,8 @@ pub(crate) enum Alphabet {
     LettersAndDigits,
     /// Printable ASCII without the space, `<` and `>`.
     AddressBytes,
+    /// What an atom holds: printable ASCII without the space and `()<>[]:;@\\,."`.
+    AtomBytes,
     /// Printable ASCII without the space.
     Visible,
     /// Printable ASCII.
@@ -53,6 +55,7 @@ impl Alphabet {
             Alphabet::Digits => byte.is_ascii_digit(),
             Alphabet::LettersAndDigits => matches!(byte, b'0'..=b'9' | b'A'..=b'Z' | b'a'..=b'z'),
             Alphabet::AddressBytes => matches!(byte, b'!'..=b'~') && byte != b'<' && byte != b'>',
+            Alphabet::AtomBytes => matches!(byte, b'!'..=b'~') && !is_mail_special(byte),
             Alphabet::Visible => matches!(byte, b'!'..=b'~'),
             Alphabet::Printable => matches!(byte, b' '..=b'~'),
         }
@@ -69,6 +72,16 @@ impl Alphabet {
         }
         all
     }
+}
+
+/// Whether a byte is one of the specials, which no atom holds (RFC 5322 section 3.2.3).
+fn is_mail_special(byte: u8) -> bool
+    ensures { result ≡ is_mail_special byte }
+{
+    matches!(
+        byte,
+        b'"' | b'('..=b')' | b',' | b'.' | b':'..=b'<' | b'>' | b'@' | b'['..=b']'
+    )
 }
 
 /// Whether a text has so many bytes, both bounds included, and only bytes that it may hold.

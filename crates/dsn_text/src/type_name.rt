@@ -1,0 +1,16 @@
+//! The names of types: which kind of address or of diagnostic a text is.
+ghost use Rattle.std.specs.Prelude.{◌↔◌, IsTrue};
+ghost use Rattle.dsn_text.specs.Text.{IsTypeName};
+
+use crate::text::{Alphabet, has_form};
+
+/// The longest name of a type, in bytes (this project's profile).
+pub const LONGEST_TYPE_NAME: usize = 32;
+
+/// Whether a text can be the name of a type (RFC 3464 sections 2.1.2 and 2.3.6): an atom (RFC 5322
+/// section 3.2.3) of 1 to 32 bytes. It takes no memory.
+pub fn is_type_name(text: &[u8]) -> bool
+    ensures { IsTrue result ↔ IsTypeName text.now }
+{
+    has_form(text, 1, LONGEST_TYPE_NAME, Alphabet::AtomBytes)
+}

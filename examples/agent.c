@@ -159,7 +159,7 @@ static const struct {
 } REPLIES[] = {
     { "logged", 1 }, { "closed", 0 }, { "table full", 0 }, { "log full", 0 }, { "nothing", 0 },
     { "no return", 1 }, { "sealed", 1 }, { "discarded", 1 }, { "gone", 0 }, { "refused", 1 },
-    { "forgotten", 0 }, { "not closed", 0 },
+    { "forgotten", 0 }, { "not closed", 0 }, { "differs", 1 },
 };
 
 static uint32_t number_at(const unsigned char *bytes)
@@ -172,7 +172,7 @@ static int fault_of(const unsigned char *body, size_t length)
 {
     if (length > 0 && body[0] != 1)
         return 21;
-    if (length > 1 && (body[1] < 1 || body[1] > 12))
+    if (length > 1 && (body[1] < 1 || body[1] > 13))
         return 22;
     if (length < ANSWER_BODY)
         return 23;

@@ -5,7 +5,8 @@ r"""A delivery agent's client: it asks a daemon what becomes of one message, ove
 
 FILE, or standard input, has the message's requests in their order: the lines of examples/frames.py (the numbers there
 are left aside), or with --json a list of objects such as these. A flush says its return path ("" or return= for the null
-one), its moment and its arrival: there are no others in their place.
+one), its moment and its arrival: there are no others in their place. It may say how many outcomes its log is to have
+(expects=2 or "expected": 2): no notice is made of another number.
 
     {"request": "append", "service": "bounce", "queue_id": "A1B2C3", "recipient": "bob@example.org",
      "action": "failed", "status": "5.1.1", "diagnostic": "550 5.1.1 no such user"}
@@ -35,9 +36,10 @@ sys.dont_write_bytecode = True
 sys.path.insert(0, os.path.dirname(os.path.abspath(__file__)))
 import frames  # noqa: E402
 
-(LOGGED, CLOSED, TABLE_FULL, LOG_FULL, NOTHING, NO_RETURN, SEALED, DISCARDED, GONE, REFUSED, FORGOTTEN, NOT_CLOSED) = range(1, 13)
+(LOGGED, CLOSED, TABLE_FULL, LOG_FULL, NOTHING, NO_RETURN, SEALED, DISCARDED, GONE, REFUSED, FORGOTTEN, NOT_CLOSED,
+ DIFFERS) = range(1, 14)
 WORDS = ["logged %d", "closed", "table full", "log full", "nothing", "no return %d", "sealed %d", "discarded %d", "gone", "refused %d",
-         "forgotten", "not closed"]
+         "forgotten", "not closed", "differs %d"]
 NO_MEMORY, USED_UP, OUT_OF_TURN = 9, 44, 46
 ADDRESS = re.compile(rb"[!-;=?-~]{1,256}")  # what the daemon takes for one
 LONGEST_TEXT, LONGEST_HEADER = 800, 32_768
@@ -214,19 +216,24 @@ class Message:
 
     def flush(self, request: Request, again: bool = True) -> tuple:
         """Closes a log; where it has nothing of what was logged, a daemon has ended with it, and it is logged again, once. Where
-        it has a part of it, the notice is made: what it lacks is told."""
+        it has a part of it, the notice is made: what it lacks is told. A flush that says how many outcomes it expects makes no
+        notice then, and leaves the log open, which is told too."""
         reply, value = self.asked(request)
         key = request.key()
         logged = self.logged.pop(key, [])
         if reply == NOTHING:
             self.empty.add(key)
-            if logged and not again:
-                raise GivenUp(f"flush of {shown(key[1])}: nothing, though {len(logged)} were logged")
-            if logged:
+        if logged and (reply, value) in ((NOTHING, 0), (DIFFERS, 0)):
+            if not again:
+                raise GivenUp(f"flush of {shown(key[1])}: {words_of(reply, value)}, though {len(logged)} were logged")
+            if reply == NOTHING:
                 self.forget(key)
-                for it in logged:
-                    self.answer(it)
-                return self.flush(request, again=False)
+            for it in logged:
+                self.answer(it)
+            return self.flush(request, again=False)
+        if reply == DIFFERS:
+            self.logged[key] = logged
+            self.lacks(f"no notice of {shown(key[1])}: its log has {value} outcomes, which isn't the number expected")
         if reply == SEALED and value < len(logged):
             self.lacks(f"the notice of {shown(key[1])} has {value} of the {len(logged)} outcomes that were logged")
         return reply, value

@@ -9,8 +9,10 @@ A description has one frame a line; empty lines and lines that begin with '#' ar
 standard input, and each frame is written as soon as its line is there.
 
     append NUMBER SERVICE ID RECIPIENT ACTION STATUS [original=T] [mta=T] [diagnostic=T] [reason=T]
-           [attempt=N] [retry=N]
-    flush NUMBER SERVICE ID [return=T] [moment=N] [arrival=N] [envelope=T] [header=T]
+           [attempt=N] [retry=N] [type=T] [original-type=T] [diagnostic-type=T]
+           [extension="X-Name: value"] ..
+    flush NUMBER SERVICE ID [return=T] [moment=N] [arrival=N] [envelope=T] [header=T] [expects=N]
+          [returns=header|message] [wording=service|outcome]
     discard NUMBER SERVICE ID
     forget NUMBER SERVICE ID
     hex DIGITS               these bytes as they are, for input that is not as it should be
@@ -19,7 +21,9 @@ NUMBER is the frame's place, from 0; a dot stands for it. SERVICE is bounce, def
 byte's number). A word may stand in quotes, as in a shell, and in a text T, RECIPIENT, STATUS and ID these stand
 for other bytes: \n LF, \r CR, \t tab, \s space, \\ a backslash, \xE9 the byte of that number, \{1200*a} so many
 times the one character. A flush has moment=1700000000, arrival=1699996400 and return=ann@example.com unless said;
-return= is the null return path, moment=now and arrival=now are this moment.
+return= is the null return path, moment=now and arrival=now are this moment; with expects=N it is carried out only
+where its log has N outcomes; with returns=message the text of header= is the message, which is returned whole where
+it can be. The word extension may be repeated; LF follows each.
 
 docs/FORMATS.md has the layout of the frames. Nothing here tests a value: the daemon does.
 """
@@ -33,7 +37,11 @@ SERVICES = {"bounce": 1, "defer": 2, "trace": 3}
 ACTIONS = {"failed": 1, "delayed": 2, "delivered": 3, "relayed": 4, "expanded": 5}
 VERSION, APPEND, FLUSH, DISCARD = 1, 1, 2, 3
 SECOND_VERSION, FORGET = 2, 4
+THIRD_VERSION = 3
 NO_MOMENT = 2**64 - 1
+ANY_COUNT = 2**32 - 1
+RETURNED = {"header": 0, "message": 1}
+WORDINGS = {"service": 0, "outcome": 1}
 
 
 def text(value: bytes) -> bytes:
@@ -51,18 +59,31 @@ def start(kind: int, number: int, service: int, queue_id: bytes, version: int = 
     return struct.pack(">BBIB", version, kind, number, service) + text(queue_id)
 
 
-def append(number, service, queue_id, recipient, action, status, original=b"", mta=b"", diagnostic=b"", reason=b"", last_attempt=None, retry_until=None):
-    """The frame of a request to add one recipient's outcome to a log; it is of version 2 where it has one of the two moments."""
+def append(
+    number, service, queue_id, recipient, action, status, original=b"", mta=b"", diagnostic=b"", reason=b"", last_attempt=None, retry_until=None,
+    recipient_type=b"", original_type=b"", diagnostic_type=b"", extensions=b"",
+):  # fmt: skip
+    """The frame of a request to add one recipient's outcome to a log; it is of version 3 where it says a type or has extension
+    fields (each a line that LF ends), else of version 2 where it has one of the two moments."""
     moments = [NO_MOMENT if it is None else it for it in (last_attempt, retry_until)]
-    dated = moments != [NO_MOMENT, NO_MOMENT]
-    body = start(APPEND, number, service, queue_id, SECOND_VERSION if dated else VERSION) + text(original) + text(recipient) + bytes([action])
-    return frame(body + text(status) + text(mta) + text(diagnostic) + text(reason) + (struct.pack(">QQ", *moments) if dated else b""))
+    types = [recipient_type, original_type, diagnostic_type, extensions]
+    version = THIRD_VERSION if any(types) else VERSION if moments == [NO_MOMENT, NO_MOMENT] else SECOND_VERSION
+    body = start(APPEND, number, service, queue_id, version) + text(original) + text(recipient) + bytes([action])
+    body += text(status) + text(mta) + text(diagnostic) + text(reason)
+    body += struct.pack(">QQ", *moments) if version > VERSION else b""
+    return frame(body + (b"".join(map(text, types)) if version == THIRD_VERSION else b""))
 
 
-def flush(number, service, queue_id, return_path=b"ann@example.com", moment=1700000000, arrival=1699996400, envelope=b"", header=b""):
-    """The frame of a request to close a log and to make its notice."""
-    body = start(FLUSH, number, service, queue_id) + struct.pack(">QQ", moment, arrival)
-    return frame(body + text(return_path) + text(envelope) + text(header))
+def flush(
+    number, service, queue_id, return_path=b"ann@example.com", moment=1700000000, arrival=1699996400, envelope=b"", header=b"", expected=None,
+    returned=0, wording=0,
+):  # fmt: skip
+    """The frame of a request to close a log and to make its notice; it is of version 3 where it says how many outcomes the
+    log is to have, that the header is a message, or that the words go by the outcome."""
+    wishes = struct.pack(">IBB", ANY_COUNT if expected is None else expected, returned, wording)
+    usual = wishes == struct.pack(">IBB", ANY_COUNT, 0, 0)
+    body = start(FLUSH, number, service, queue_id, VERSION if usual else THIRD_VERSION) + struct.pack(">QQ", moment, arrival)
+    return frame(body + text(return_path) + text(envelope) + text(header) + (b"" if usual else wishes))
 
 
 def discard(number, service, queue_id):
@@ -107,6 +128,10 @@ def moment_of(word: str) -> int:
     return int(time.time()) if word == "now" else int(word)
 
 
+# The options of a description that fields have other names for.
+NAMES = {"return": "return_path", "type": "recipient_type", "original-type": "original_type", "diagnostic-type": "diagnostic_type"}
+
+
 def request_of_line(line: str) -> tuple:
     """What one line of a description asks: the request, its number (None for a dot), and its fields as append, flush, discard
     and forget take them."""
@@ -114,17 +139,27 @@ def request_of_line(line: str) -> tuple:
     named = {"append": 6, "flush": 3, "discard": 3, "forget": 3}.get(kind)
     if named is None or len(words) < named:
         raise ValueError("not a request")
-    fixed, options = words[:named], dict(it.partition("=")[::2] for it in words[named:])
+    fixed, given = words[:named], [it.partition("=")[::2] for it in words[named:]]
+    options = {it: value for it, value in given if it != "extension"}
+    extensions = [value for it, value in given if it == "extension"]
     number = None if fixed[0] == "." else int(fixed[0])
     fields = {"service": SERVICES.get(fixed[1]) or int(fixed[1]), "queue_id": unescaped(fixed[2])}
     if kind == "append":
         fields |= {"recipient": unescaped(fixed[3]), "action": ACTIONS.get(fixed[4]) or int(fixed[4]), "status": unescaped(fixed[5])}
+        fields |= {"extensions": b"".join(unescaped(it) + b"\n" for it in extensions)} if extensions else {}
         fields |= {name: moment_of(options.pop(it)) for it, name in (("attempt", "last_attempt"), ("retry", "retry_until")) if it in options}
     elif kind == "flush":
         fields |= {it: moment_of(options.pop(it)) for it in ("moment", "arrival") if it in options}
-    elif options:
+        fields |= {"expected": int(options.pop("expects"))} if "expects" in options else {}
+        for name, field, values in (("returns", "returned", RETURNED), ("wording", "wording", WORDINGS)):
+            if name in options:
+                word = options.pop(name)
+                fields[field] = values[word] if word in values else int(word)
+    if extensions and kind != "append":
+        raise ValueError(f"a {kind} has no extension fields")
+    if kind not in ("append", "flush") and options:
         raise ValueError(f"a {kind} has nothing after the queue id")
-    return kind, number, fields | {"return_path" if it == "return" else it: unescaped(value) for it, value in options.items()}
+    return kind, number, fields | {NAMES.get(it, it): unescaped(value) for it, value in options.items()}
 
 
 def frame_of(kind: str, number: int, fields: dict) -> bytes:

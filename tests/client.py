@@ -17,7 +17,7 @@ from pathlib import Path
 
 sys.path.insert(0, str(Path(__file__).parent / "support"))
 from daemon_and_clients import OUTBOX, Daemon, answer, append, asked, flush, frames, heard, line  # noqa: E402
-from formats.logs import CLOSED, DISCARDED, FORGOTTEN, GONE, LOG_FULL, LOGGED, NO_RETURN, NOT_CLOSED, NOTHING, REFUSED, SEALED, TABLE_FULL  # noqa: E402
+from formats.logs import CLOSED, DIFFERS, DISCARDED, FORGOTTEN, GONE, LOG_FULL, LOGGED, NO_RETURN, NOT_CLOSED, NOTHING, REFUSED, SEALED, TABLE_FULL  # noqa: E402
 from running import EXAMPLES, LIMIT, Checks, Ran, empty_outbox  # noqa: E402
 
 CLIENT = EXAMPLES / "client.py"
@@ -130,6 +130,11 @@ def two(number: int) -> bytes:
     return append(number, recipient=b"z@y")
 
 
+def counted(number: int) -> bytes:
+    """The frame of a flush that expects two outcomes."""
+    return frames.flush(number, 1, b"Q1", expected=2)
+
+
 def forget(number: int) -> bytes:
     """The frame of a forget."""
     return frames.forget(number, 1, b"Q1")
@@ -209,7 +214,7 @@ def endings(checks: Checks):
     talk(checks, "ended before the first answer", ONE, [[END], done], [bodies(), (one,)], b"0 logged 0\n")
     talk(checks, "silent before the first answer", ONE, [[SILENCE], done], [bodies(), (one,)], b"0 logged 0\n", words=UNGREETED)
     for what, step in (("ended", END), ("silent", SILENCE), ("cut", answer(LOGGED, 1)[:9]), ("for another place", answer(LOGGED, 0)), ("too long", b"\0\0\0\x0b" + answer(LOGGED, 1)[4:]),
-                       ("of version 2", b"\0\0\0\x0a\x02" + answer(LOGGED, 1)[5:]), ("reply 13", answer(13, 1)), ("reply 0", answer(0, 1))):
+                       ("of version 2", b"\0\0\0\x0a\x02" + answer(LOGGED, 1)[5:]), ("reply 14", answer(14, 1)), ("reply 0", answer(0, 1))):
         talk(checks, f"an append's answer: {what}", ONE, [[GREETED, step], done], [(one,), (one,)], b"0 logged 0\n", 0, b"x@y may be logged twice", UNANSWERED)
     for what, given, frame, again in (("flush", FLUSH, flush, CLOSED), ("forget", FORGET, forget, NOT_CLOSED), ("discard", DISCARD, lambda at: frames.discard(at, 1, b"Q1"), CLOSED)):
         words = b"0 closed\n" if again == CLOSED else b"0 not closed\n"
@@ -259,6 +264,19 @@ def daemons_in_turn(checks: Checks):
     talk(checks, "nothing was logged", FLUSH, [[GREETED, (NOTHING, 0)]], [(flush,)], b"0 nothing\n")
 
 
+def counts(checks: Checks):
+    """Flushes that say how many outcomes they expect: what went to a daemon that has ended is logged again, and else a log
+    with another number is told."""
+    given = ONE + TWO + FLUSH.rstrip() + " expects=2\n"
+    found = [GREETED, (DIFFERS, 0), (LOGGED, 0), (LOGGED, 1), (SEALED, 2)]
+    talk(checks, "a counted flush of another daemon", given, [[GREETED, (LOGGED, 0), (LOGGED, 1), END], found], [(one, two, counted), (counted, one, two, counted)],
+         b"0 logged 0\n1 logged 1\n2 sealed 2\n")
+    talk(checks, "a log with another number", given, [[GREETED, (LOGGED, 1), (LOGGED, 2), (DIFFERS, 3)]], [(one, two, counted)], b"0 logged 1\n1 logged 2\n2 differs 3\n", 1,
+         b"no notice of Q1: its log has 3 outcomes")
+    gone = [GREETED, (LOGGED, 0), (LOGGED, 1), (DIFFERS, 0), (LOGGED, 0), (LOGGED, 1), (DIFFERS, 0)]
+    talk(checks, "a counted log is gone twice", given, [gone], [(one, two, counted, one, two, counted)], b"0 logged 0\n1 logged 1\n", 75, b"differs 0, though 2 were logged")
+
+
 def fields(checks: Checks):
     """Addresses that can't be logged are told and the rest goes on; texts that are too long are cut."""
     for what, address in (("a space", '"a b@y"'), ("257 bytes", "x" * 257), ("an angle bracket", '"<x@y>"'), ("a byte that isn't ASCII", "\\xE9@y")):
@@ -293,7 +311,7 @@ def wrong_words(checks: Checks):
 
 def main():
     checks = Checks("client: examples/client.py against the daemon, and against false ones for each row of what an answer means")
-    for check in (real, unreachable, endings, replies, daemons_in_turn, fields, wrong_words):
+    for check in (real, unreachable, endings, replies, daemons_in_turn, counts, fields, wrong_words):
         check(checks)
     checks.done()
 

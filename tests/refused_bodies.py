@@ -23,7 +23,7 @@ SHORT_APPEND = b"\x01\x01\0\0\0\0\x01\0\x06A1B2C3\0\0\0\x0fbob@example.org\x01\0
 
 # Another byte at a place, and what comes of it.
 CHANGED_APPEND = [
-    (0, 0, 21), (0, 2, 23), (0, 3, 21), (0, 255, 21), (1, 0, 22), (1, 4, 22), (1, 2, 23), (1, 3, 24), (6, 0, 25), (6, 4, 25), (6, 1, 0),
+    (0, 0, 21), (0, 2, 23), (0, 3, 23), (0, 4, 21), (0, 255, 21), (1, 0, 22), (1, 4, 22), (1, 2, 23), (1, 3, 24), (6, 0, 25), (6, 4, 25), (6, 1, 0),
     (6, 2, 3), (7, 1, 23), (8, 0, 23), (8, 1, 23), (8, 3, 23), (9, ord("-"), 26), (9, ord("_"), 26), (10, ord(" "), 26), (10, 0x80, 26),
     (11, 1, 23), (12, 2, 23), (12, 4, 23), (13, ord("<"), 2), (14, ord(" "), 2), (15, 0x7F, 2), (17, 2, 23), (18, ord(">"), 1),
     (19, ord(" "), 1), (20, 0x7F, 1), (20, ord("~"), 0), (21, 0, 3), (21, 6, 3), (21, 2, 5), (21, 3, 5), (21, 4, 5), (21, 5, 5),
@@ -32,20 +32,21 @@ CHANGED_APPEND = [
     (34, 3, 23), (35, 7, 0), (37, 1, 23), (38, 0, 24), (38, 1, 24), (38, 3, 23), (40, ord("\n"), 0),
 ]  # fmt: skip
 CHANGED_FLUSH = [
-    (1, 1, 23), (6, 5, 25), (9, ord("."), 26), (11, 1, 27), (13, 1, 27), (14, 0x3B, 27), (14, 0x3A, 0), (19, 0x80, 27), (22, 0x3B, 27),
+    (0, 2, 0), (0, 3, 23), (0, 4, 21), (1, 1, 23), (6, 5, 25), (9, ord("."), 26), (11, 1, 27), (13, 1, 27), (14, 0x3B, 27), (14, 0x3A, 0), (19, 0x80, 27), (22, 0x3B, 27),
     (22, 0x3A, 0), (28, 2, 23), (29, ord("<"), 29), (30, ord(" "), 29), (31, 0, 29), (31, 0x7F, 29), (33, 1, 23), (34, 0x1F, 30),
     (34, 0xE9, 30), (35, 0x7F, 30), (35, ord(" "), 0), (36, 0x80, 23), (37, 0, 24), (37, 2, 23), (38, 0, 0),
 ]  # fmt: skip
-CHANGED_DISCARD = [(0, 9, 21), (1, 1, 23), (1, 2, 23), (6, 9, 25), (8, 1, 24), (8, 3, 23), (10, ord("-"), 26)]
+CHANGED_DISCARD = [(0, 2, 0), (0, 3, 0), (0, 9, 21), (1, 1, 23), (1, 2, 23), (6, 9, 25), (8, 1, 24), (8, 3, 23), (10, ord("-"), 26)]
 
 # Bodies as they are.
 WHOLE = [
-    (b"\x00", 21), (b"\x01", 23), (b"\x01\x04", 22), (b"\x01\x09", 22), (b"\x01\x03", 23), (b"\x03\x01", 21), (b"\x02\x01", 23),
-    (b"\x02\x05", 22), (b"\x02\x09", 22), (b"\x02\x04", 23), (b"\x03\x09", 21), (b"\x02\x04\0\0\0\0\x01\0\x02K1", ACCEPTED),
+    (b"\x00", 21), (b"\x01", 23), (b"\x01\x04", 22), (b"\x01\x09", 22), (b"\x01\x03", 23), (b"\x03\x01", 23), (b"\x02\x01", 23),
+    (b"\x02\x05", 22), (b"\x02\x09", 22), (b"\x02\x04", 23), (b"\x03\x09", 22), (b"\x02\x04\0\0\0\0\x01\0\x02K1", ACCEPTED),
     (b"\x02\x04\0\0\0\0\x01\0\x02K1\0", 24), (b"\x02\x04\0\0\0\0\x01\0\x02K-", 26), (b"\x02\x03\0\0\0\0\x01\0\x02K1", ACCEPTED),
-    (b"\x01\x04\0\0\0\0\x01\0\x02K1", 22), (b"\x03\x04\0\0\0\0\x01\0\x02K1", 21), (b"\x01\x03\0\0\0\0\x01\0\x02K1", ACCEPTED),
+    (b"\x01\x04\0\0\0\0\x01\0\x02K1", 22), (b"\x03\x04\0\0\0\0\x01\0\x02K1", ACCEPTED), (b"\x01\x03\0\0\0\0\x01\0\x02K1", ACCEPTED),
     (b"\x01\x03\0\0\0\0\x01\0\x02K", 23), (b"\x01\x03\0\0\0\0\x01\0\x02K1\0", 24), (b"\x01\x03\0\0\0\0\x01\0\x02K-", 26),
-    (b"\x01\x03\0\0\0\0\x04\0\x02K-", 25),
+    (b"\x01\x03\0\0\0\0\x04\0\x02K-", 25), (b"\x04\x01", 21), (b"\x04\x09", 21), (b"\x03\x05", 22), (b"\x03\x00", 22),
+    (b"\x03\x04\0\0\0\0\x01\0\x02K1\0", 24), (b"\x03\x03\0\0\0\0\x01\0\x02K1\0", 24), (b"\x04\x04\0\0\0\0\x01\0\x02K1", 21),
 ]  # fmt: skip
 
 
@@ -88,6 +89,57 @@ BOUNDS = [
     (discard(b"012345678901234567890123456789aBc"), 26),
 ]  # fmt: skip
 
+# A flush of version 3, which ends with how many outcomes it expects, any number of four bytes, with what is returned, and with
+# the wording.
+COUNTED = b"\x03" + FLUSH[1:]
+BAD_ENVELOPE_ID = COUNTED.replace(b"\0\x02Q1", b"\0\x02Q\n")
+COUNTS = [
+    (COUNTED + bytes(6), ACCEPTED), (COUNTED + b"\0\0\0\1\0\0", ACCEPTED), (COUNTED + b"\xff" * 4 + bytes(2), ACCEPTED),
+    (COUNTED + b"\xff\xff\xff\xfe\0\0", ACCEPTED), (COUNTED, 23), (COUNTED + bytes(1), 23), (COUNTED + bytes(3), 23), (COUNTED + bytes(4), 23),
+    (COUNTED + bytes(5), 23), (COUNTED + bytes(7), 24), (b"\x02" + FLUSH[1:] + bytes(6), 24),
+    (COUNTED[:11] + b"\1" + COUNTED[12:] + bytes(6), 27), (COUNTED[:9] + b"-" + COUNTED[10:] + bytes(6), 26),
+    (COUNTED + bytes(4) + b"\1\0", ACCEPTED), (COUNTED + bytes(4) + b"\0\1", ACCEPTED), (COUNTED + bytes(4) + b"\1\1", ACCEPTED),
+    (COUNTED + bytes(4) + b"\2\0", 18), (COUNTED + bytes(4) + b"\xff\2", 18), (COUNTED + bytes(4) + b"\0\2", 19), (COUNTED + bytes(4) + b"\1\xff", 19),
+    (BAD_ENVELOPE_ID + bytes(4) + b"\2\2", 30),
+]  # fmt: skip
+
+TYPED = {"original": b"o@p", "diagnostic": b"busy"}
+
+
+def typed(*types: bytes, extensions=b"", after=b"", **fields) -> bytes:
+    """An append of version 3 without moments, which ends with these types: of its recipient, of the original one and of its
+    diagnostic; and with these extension fields."""
+    return b"\x03" + append(**TYPED | fields, moments=[NONE, NONE])[1:] + b"".join(map(text, types)) + text(extensions) + after
+
+
+TYPES = [
+    (typed(b"", b"", b""), ACCEPTED), (typed(b"fax", b"x400", b"X-Postfix"), ACCEPTED), (typed(b"a" * 32, b"a" * 32, b"a" * 32), ACCEPTED),
+    (typed(b"a" * 33, b"", b""), 15), (typed(b"", b"a" * 33, b""), 16), (typed(b"", b"", b"a" * 33), 17), (typed(b"a;", b"b;", b"c;"), 15),
+    (typed(b"", b"b;", b"c;"), 16), (typed(b"a b", b"", b""), 15), (typed(b"a\xe9", b"", b""), 15), (typed(b"", b"", b'"'), 17),
+    (typed(b"", b"x400", b"", original=b""), 16), (typed(b"", b"", b"smtp", diagnostic=b""), 17),
+    (typed(b"x", b"", b"", original=b"", diagnostic=b""), ACCEPTED), (typed(b"a;", b"", b"", recipient=b"<"), 1),
+    (typed(b"", b"", b"", after=b"\0"), 24), (typed(b"", b"", b"")[:-1], 23), (typed(b"", b""), 23), (typed(), 23),
+    (b"\x02" + typed(b"", b"", b"")[1:], 24),
+]  # fmt: skip
+
+LONGEST_LINE = b"X-%s: %s\n" % (b"a" * 62, b"b" * 255)
+
+
+def extended(extensions: bytes, **fields) -> bytes:
+    """An append of version 3 of the usual types with these extension fields."""
+    return typed(b"", b"", b"", extensions=extensions, **fields)
+
+
+EXTENSIONS = [
+    (extended(b"X-A: b\n"), ACCEPTED), (extended(b"X-A: b\nX-A: : b \n"), ACCEPTED), (extended(LONGEST_LINE * 8), ACCEPTED),
+    (extended(b"X-A: b\n" * 9), 20), (extended(b"X-%s: b\n" % (b"a" * 63)), 20), (extended(b"X-A: %s\n" % (b"b" * 256)), 20),
+    (extended(b"A: b\n"), 20), (extended(b"x-A: b\n"), 20), (extended(b"X-: b\n"), 20), (extended(b"X-A:b\n"), 20), (extended(b"X-A: \n"), 20),
+    (extended(b"X-A b\n"), 20), (extended(b"X-A:B: c\n"), 20), (extended(b"X-A : b\n"), 20), (extended(b"X-A: b"), 20),
+    (extended(b"X-A: b\r\n"), 20), (extended(b"X-A: b\nX-C: d"), 20), (extended(b"X-A: \xe9\n"), 20), (extended(b"X-A: \t\n"), 20),
+    (extended(b"X-A: b\n\n"), 20), (extended(b"\n"), 20), (extended(b"A", recipient=b"<"), 1), (extended(b"X-A: b\n", after=b"\0"), 24),
+    (extended(b"X-A: b\n")[:-1], 23), (typed(b"", b"", b'"', extensions=b"A"), 17), (b"\x02" + extended(b"X-A: b\n")[1:], 24),
+]  # fmt: skip
+
 DELAYED = {"service": DEFER, "recipient": b"bob@example.org", "action": 2, "status": b"4.4.1"}
 SPOILED = {**DELAYED, "recipient": b"<"}
 MOMENTS = [
@@ -122,7 +174,7 @@ def refusal(body: bytes) -> int:
 def main():
     checks = Checks("refused bodies: bodies near a legal one and at the bounds of each field")
     cases = changed(APPEND, CHANGED_APPEND) + changed(FLUSH, CHANGED_FLUSH) + changed(DISCARD, CHANGED_DISCARD)
-    cases += WHOLE + BOUNDS + MOMENTS + cut_and_longer()
+    cases += WHOLE + BOUNDS + COUNTS + TYPES + EXTENSIONS + MOMENTS + cut_and_longer()
     with ThreadPoolExecutor(os.cpu_count()) as pool:
         for (body, wanted), found in zip(cases, pool.map(refusal, [body for body, _ in cases])):
             checks.equal(f"{body[:80]!r} of {len(body)} bytes", found, wanted)

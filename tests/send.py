@@ -78,7 +78,7 @@ def answers(checks: Checks):
         ("an empty answer", [bytes(4)], fault(12)),
         ("an answer that is too long", [bytes.fromhex("00010001")], fault(11)),
         ("version 2", [bytes.fromhex("0000000a02010000000000000000")], fault(21)),
-        ("reply 13", [bytes.fromhex("0000000a010d0000000000000000")], fault(22)),
+        ("reply 14", [bytes.fromhex("0000000a010e0000000000000000")], fault(22)),
         ("reply 0", [bytes.fromhex("0000000a01000000000000000000")], fault(22)),
         ("an answer of nine bytes", [bytes.fromhex("00000009010100000000000000")], fault(23)),
         ("an answer of eleven bytes", [bytes.fromhex("0000000b010100000000000000000000")[:15]], fault(24)),
@@ -92,7 +92,7 @@ def answers(checks: Checks):
             checks.equal(what, run(["send", daemon.path], FRAMES), wanted)
     for reply, value, words in ((1, 7, b"logged 7"), (2, 0, b"closed"), (3, 0, b"table full"), (4, 0, b"log full"), (5, 0, b"nothing"),
                                 (6, 2, b"no return 2"), (7, 3, b"sealed 3"), (8, 0, b"discarded 0"), (9, 0, b"gone"), (10, 46, b"refused 46"),
-                                (11, 0, b"forgotten"), (12, 0, b"not closed")):
+                                (11, 0, b"forgotten"), (12, 0, b"not closed"), (13, 2, b"differs 2")):
         with Answering([answer(reply, 0, value)], reads_on=True) as daemon:
             checks.equal(f"reply {reply}", run(["send", daemon.path], FRAMES[:FIRST_FRAME]), Ran(b"0 " + words + b"\n", b"", 0))
 

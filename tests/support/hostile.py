@@ -2,10 +2,11 @@
 several faults in one body, bytes changed, frames cut. Everything follows from a `random.Random` that is handed in."""
 import random
 
-from formats.bodies import ACTIONS, APPEND, CLASSES, DISCARD, FLUSH, FORGET, LAST_MOMENT, LONGEST_HEADER, LONGEST_TEXT, NO_MOMENT
+from formats.bodies import ACTIONS, ANY_COUNT, APPEND, CLASSES, DISCARD, FLUSH, FORGET, LAST_MOMENT, LONGEST_HEADER, LONGEST_TEXT, NO_MOMENT
 
 VISIBLE = bytes(range(33, 127))
 ADDRESS_BYTES = VISIBLE.replace(b"<", b"").replace(b">", b"")
+ATOM_BYTES = b"!#$%&'*+-/0123456789=?ABCXYZ^_`abcxyz{|}~"
 LETTERS_AND_DIGITS = b"0123456789ABCDEFGHIJKLMNOPQRSTUVWXYZabcdefghijklmnopqrstuvwxyz"
 KEYS = [b"K", b"K1", b"K10", b"K2", b"k1", b"A1B2C3", b"Z" * 31, b"Z" * 32]
 STRANGE = [b"", b"<", b">", b"a b", b"\t", b"\x7f", b"\xe9", b"\0", b"\r\n", b"x@y\n"]
@@ -52,12 +53,12 @@ class Hostile:
 
     def body(self, number: int) -> bytes:
         """A request's body."""
-        version = 2 if self.chance(0.4) else 1
-        kind = self.dice.choices([APPEND, FLUSH, DISCARD, FORGET], [12, 3, 1, 3 if version == 2 else 0])[0]
+        version = self.dice.choices([1, 2, 3], [5, 3, 3])[0]
+        kind = self.dice.choices([APPEND, FLUSH, DISCARD, FORGET], [12, 6 if version == 3 else 3, 1, 0 if version == 1 else 3])[0]
         service, queue_id = self.dice.choice(self.keys)
         layout = {APPEND: self.append, FLUSH: self.flush}.get(kind, lambda *_: b"")(version, service, queue_id)
         if self.chance(self.faulty):
-            version, kind = self.dice.choice([(0, kind), (3, kind), (version, 0), (version, 5), (1, FORGET), (255, 255), (version, self.dice.randint(1, 4))])
+            version, kind = self.dice.choice([(0, kind), (3, kind), (4, kind), (version, 0), (version, 5), (1, FORGET), (255, 255), (version, self.dice.randint(1, 4))])
         if self.chance(self.faulty):
             service = self.dice.choice([0, 4, 66, 255])
         if self.chance(self.faulty):
@@ -74,8 +75,28 @@ class Hostile:
             status = self.dice.choice(BAD_STATUSES + STATUSES)
         texts = [self.text(ADDRESS_BYTES, 256), self.text(ADDRESS_BYTES, 256, 0)]
         body = b"".join(text(it) for it in texts) + bytes([action]) + text(status) + text(self.text(VISIBLE, 255))
-        body += text(self.spoken()) + text(self.spoken())
-        return body + (self.last_date() + self.last_date(action) if version == 2 else b"")
+        diagnostic = self.spoken()
+        body += text(diagnostic) + text(self.spoken())
+        body += self.last_date() + self.last_date(action) if version > 1 else b""
+        return body + (self.types(texts[0], diagnostic) + text(self.extensions()) if version > 2 else b"")
+
+    def types(self, original: bytes, diagnostic: bytes) -> bytes:
+        """The types of a recipient, of the original one and of a diagnostic; where one of these is missing, seldom one."""
+        there = [True, bool(original), bool(diagnostic)]
+        return b"".join(text(self.text(ATOM_BYTES, 32, 0.6) if it or self.chance(self.faulty) else b"") for it in there)
+
+    def extensions(self) -> bytes:
+        """Extension fields: mostly none or a few, seldom as many or as long as may be, or lines that are none."""
+        if self.chance(0.5):
+            return b""
+        count = self.dice.choice([1, 1, 2, 3, 8, 9 if self.chance(self.faulty) else 7])
+        lines = [b"X-%s: %s\n" % (self.bytes_of(ATOM_BYTES, self.size(62) % 63 or 1), self.bytes_of(bytes(range(32, 127)), self.size(255) % 256 or 1)) for _ in range(count)]
+        if self.chance(self.faulty):
+            lines[self.dice.randrange(count)] = self.dice.choice([
+                b"A: b\n", b"x-A: b\n", b"X-: b\n", b"X-A:b\n", b"X-A: \n", b"X-A b\n", b"X-A:B: c\n", b"X-A : b\n", b"X-A: b", b"X-A: b\r\n", b"X-A: \xe9\n",
+                b"X-A: \t\n", b"\n", b"", b"X-%s: b\n" % (b"a" * 63), b"X-A: %s\n" % (b"b" * 256),
+            ])  # fmt: skip
+        return b"".join(lines)
 
     def spoken(self) -> bytes:
         """A diagnostic or a reason: any bytes."""
@@ -88,12 +109,35 @@ class Hostile:
         absent = 0.5 if action == 2 else 1 - self.faulty
         return (NO_MOMENT if self.chance(absent) else self.moment()).to_bytes(8, "big")
 
-    def flush(self, _version: int, service: int, queue_id: bytes) -> bytes:
+    def count(self) -> int:
+        """How many outcomes a flush expects: often a number that a log may have, or any."""
+        return self.dice.choice([ANY_COUNT, ANY_COUNT - 1, 1000, 256, 0, 1, 1, 2, 2, 3, 4, self.dice.randint(0, 12)])
+
+    def wishes(self) -> bytes:
+        """What a flush of version 3 asks for besides: a count, and two bytes that are 0 or 1, seldom others."""
+        two = [self.dice.choice([2, 3, 255] if self.chance(self.faulty) else [0, 1, 1]) for _ in range(2)]
+        return self.count().to_bytes(4, "big") + bytes(two)
+
+    def flush(self, version: int, service: int, queue_id: bytes) -> bytes:
         """What a flush has after its key."""
         moment, arrival = self.moment(), self.moment()
-        header = self.header(STEM % (b"?BDT"[service : service + 1], queue_id, moment)) if self.chance(0.5) else b""
+        wishes = self.wishes() if version == 3 else b""
+        stem = STEM % (b"?BDT"[service : service + 1], queue_id, moment)
+        header = (self.message(stem) if wishes[4:5] == b"\1" else self.header(stem)) if self.chance(0.5) else b""
         envelope = self.text(bytes(range(32, 127)), 100)
-        return moment.to_bytes(8, "big") + arrival.to_bytes(8, "big") + text(self.text(ADDRESS_BYTES, 256, 0.1)) + text(envelope) + text(header)
+        texts = text(self.text(ADDRESS_BYTES, 256, 0.1)) + text(envelope) + text(header)
+        return moment.to_bytes(8, "big") + arrival.to_bytes(8, "big") + texts + wishes
+
+    def message(self, stem: bytes) -> bytes:
+        """A message: mostly lines that stand in a 7bit mail as they are, escapes and empty ones among them; seldom others."""
+        if self.chance(0.2):
+            return self.header(stem)
+        lines = []
+        for at in range(self.dice.randint(0, 12)):
+            begin = self.dice.choice([b"", b".", b"..", b"--", stem + b"%04d" % self.dice.choice([0, at, at // 2]), b"\t", b"Subject: "])
+            size = self.dice.choice([997, 998, 999] if self.chance(0.03) else [0, 0, 1, 5, 40])
+            lines.append((begin + self.bytes_of(b"abc xyz.-\t\x1b\x7f\x01", size))[: max(size, 40)] + self.dice.choice([b"\n", b"\n", b"\r\n"]))
+        return b"".join(lines)
 
     def header(self, stem: bytes) -> bytes:
         """A message's header: lines that begin with dots and dashes, that are long, that rule boundaries out, that end otherwise."""

@@ -2,5 +2,6 @@
 mod boundaries;
 mod letters;
 mod longest;
+mod messages;
 mod notices;
 mod outboxes;

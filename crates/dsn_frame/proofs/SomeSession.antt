@@ -15,8 +15,8 @@ use Rattle.dsn_outcome.specs.declared.outcome_fault.OutcomeFault.{OutcomeFault}
 use Rattle.dsn_text.specs.declared.service.Service.{Service}
 use Rattle.dsn_frame.specs.bodies.BodyFault.{body_fault_code, outcome_refusal}
 use Rattle.dsn_frame.specs.bodies.FrameBody.{frame, IsFrameBody}
-use Rattle.dsn_frame.specs.bodies.Request.{Encodes, layout_checks, head_checks, flush_checks, retry_checks, undated_fields, dated_fields, or_else, first_append_fault, first_own_fault, first_field_fault, first_body_fault}
-use Rattle.dsn_frame.specs.bodies.Wire.{WireBody, AppendFields, DatedAppendFields, FlushFieldsOf, DiscardFields, ForgetFields, head_of, body_at}
+use Rattle.dsn_frame.specs.bodies.Request.{Encodes, layout_checks, head_checks, flush_checks, usual_wishes, retry_checks, undated_fields, dated_fields, typed_fields, or_else, first_append_fault, first_own_fault, first_field_fault, first_body_fault}
+use Rattle.dsn_frame.specs.bodies.Wire.{WireBody, AppendFields, DatedAppendFields, TypedAppendFields, FlushFieldsOf, CountedFlushFields, DiscardFields, ForgetFields, head_of, body_at}
 use Rattle.dsn_frame.specs.declared.bodies.body_fault.BodyFault.{BodyFault}
 use Rattle.dsn_frame.specs.declared.bodies.spoken.Spoken.{Spoken}
 use Rattle.dsn_frame.specs.declared.bodies.spoken.Spoken.TheVariants as spoken
@@ -56,7 +56,7 @@ outcome_checks_from_bytes (check ∷ rest) all = outcome_checked check.0 check.1
 outcome_from_bytes : (service : Service) (fields : Fields) → ComesFromBytes (option_map outcome_refusal (first_outcome_fault service fields))
 unfolding first_outcome_fault
 outcome_from_bytes service fields =
-    outcome_checks_from_bytes (outcome_checks service fields) (refl, (refl, (refl, (refl, (refl, (refl, (refl, (refl, (refl, tt)))))))))
+    outcome_checks_from_bytes (outcome_checks service fields) (refl, (refl, (refl, (refl, (refl, (refl, (refl, (refl, (refl, (refl, (refl, (refl, (refl, tt)))))))))))))
 
 append_from_bytes : (fields : Fields) (service : Option Service) → ComesFromBytes (option_and_then (λ service. option_map outcome_refusal (first_outcome_fault service fields)) service)
 append_from_bytes fields None = refl
@@ -72,7 +72,11 @@ own_from_bytes (AppendFields head fields) = append_from_bytes (undated_fields fi
 own_from_bytes (DatedAppendFields head fields dates) =
     either (first_failed (retry_checks dates)) (first_append_fault head (dated_fields fields dates)) (checks_from_bytes (retry_checks dates) (refl, tt))
     (append_from_bytes (dated_fields fields dates) (service_of_byte head.service))
-own_from_bytes (FlushFieldsOf head fields) = checks_from_bytes (flush_checks fields) (refl, (refl, (refl, (refl, tt))))
+own_from_bytes (TypedAppendFields head fields dates types) =
+    either (first_failed (retry_checks dates)) (first_append_fault head (typed_fields fields dates types)) (checks_from_bytes (retry_checks dates) (refl, tt))
+    (append_from_bytes (typed_fields fields dates types) (service_of_byte head.service))
+own_from_bytes (FlushFieldsOf head fields) = checks_from_bytes (flush_checks fields usual_wishes) (refl, (refl, (refl, (refl, (refl, (refl, tt))))))
+own_from_bytes (CountedFlushFields head fields wishes) = checks_from_bytes (flush_checks fields wishes) (refl, (refl, (refl, (refl, (refl, (refl, tt))))))
 own_from_bytes (DiscardFields head) = refl
 own_from_bytes (ForgetFields head) = refl
 

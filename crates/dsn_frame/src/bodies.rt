@@ -24,3 +24,6 @@ const VERSION: u8 = 1;
 
 /// The second version: the first byte of a Forget's body, and of an append's with moments.
 const SECOND_VERSION: u8 = 2;
+
+/// The third version: the first byte of the body of a flush that says how many outcomes it expects.
+const THIRD_VERSION: u8 = 3;

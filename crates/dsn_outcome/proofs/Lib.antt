@@ -1,6 +1,7 @@
 pub mod CloseRule
 pub mod LetterCellLemmas
 mod Examples
+pub mod Expecting
 pub mod Forgetting
 pub mod HistoryLaws
 pub mod HistoryLemmas

@@ -1,15 +1,19 @@
 -- Outcomes: what it means that their fields have no fault.
-use Rattle.std.proofs.Common.{◌≡◌, ℕ, ◌≤◌, Bool, true, false, List, [], ◌∷◌, length, refl, arith}
-use Rattle.std.specs.Prelude.{Option, Some, None, IsTrue, if◌then◌else◌}
+use Rattle.std.proofs.Common.{◌≡◌, ℕ, ◌+◌, ◌-◌, ◌≤◌, Bool, true, false, List, [], ◌∷◌, ◌++◌, length, take, drop, refl, ap, ◌∙◌, arith}
+use Rattle.std.specs.Prelude.{Option, Some, None, IsSome, is_some, IsTrue, if◌then◌else◌}
+use Rattle.std.specs.List.{slice_range}
 use Rattle.std.specs.Option.{option_map_or}
-use Rattle.std.proofs.lemmas.Bool.{leb-true}
+use Rattle.std.proofs.lemmas.Bool.{and_parts, false≢true, leb-true}
+use Rattle.std.proofs.Math.Seq.{drop-append_seam, take-append_seam}
 use Rattle.std.proofs.lemmas.Grind.{common_steps}
 use Rattle.dsn_text.specs.Action.{action_of_byte, fits_class, fits_retry}
-use Rattle.dsn_outcome.specs.Outcome.{Fields, Outcome, first_failed, first_outcome_fault, outcome_checks, AreDated, IsLegalOutcome, IsOutcomeOf}
+use Rattle.dsn_outcome.specs.Outcome.{Fields, Outcome, first_failed, first_outcome_fault, outcome_checks, is_type_of, AreDated, IsLegalOutcome, IsOutcomeOf}
+use Rattle.dsn_text.specs.Extension.{is_extension_text, longest_extension_text}
 use Rattle.dsn_text.specs.Optional.{unless_empty, is_none_or}
 use Rattle.dsn_text.specs.Service.{takes}
 use Rattle.dsn_text.specs.Status.{is_status_code, status_class}
-use Rattle.dsn_text.specs.Text.{is_address, is_mta_name, is_remark, is_text, clean_text, longest_address, longest_mta_name, longest_clean}
+use Rattle.dsn_text.specs.Text.{is_address, is_mta_name, is_remark, is_type_name, is_text, clean_text, longest_address, longest_mta_name, longest_type_name, longest_clean}
+use Rattle.dsn_text.proofs.ExtensionLemmas.{extension_text_read}
 use Rattle.dsn_text.proofs.TextLemmas.{is_remark-clean_text}
 use Rattle.dsn_text.specs.declared.service.Service.{Service}
 
@@ -40,6 +44,10 @@ pub record Passes (service : Service) (fields : Fields) : Type 0 where
   pub diagnostic : length fields.diagnostic ≤ longest_clean
   pub reason : length fields.reason ≤ longest_clean
   pub retry : IsTrue (option_map_or (λ action. fits_retry action fields.retry_until) (action_of_byte fields.action) false)
+  pub recipient_type : IsTrue (is_none_or is_type_name (unless_empty fields.recipient_type))
+  pub original_type : IsTrue (is_type_of fields.original fields.original_type)
+  pub diagnostic_type : IsTrue (is_type_of fields.diagnostic fields.diagnostic_type)
+  pub extensions : IsTrue (is_extension_text fields.extensions)
 
 pub passes-none : (service : Service) (fields : Fields) → first_outcome_fault service fields ≡ None → Passes service fields
 unfolding first_outcome_fault
@@ -53,6 +61,10 @@ passes-none service fields none =
     let diagnostic = mta.1 in
     let reason = diagnostic.1 in
     let retry = reason.1 in
+    let recipient_type = retry.1 in
+    let original_type = recipient_type.1 in
+    let diagnostic_type = original_type.1 in
+    let extensions = diagnostic_type.1 in
     record {
       recipient = recipient.0;
       original = original.0;
@@ -63,6 +75,10 @@ passes-none service fields none =
       diagnostic = leb-true _ _ diagnostic.0;
       reason = leb-true _ _ reason.0;
       retry = retry.0;
+      recipient_type = recipient_type.0;
+      original_type = original_type.0;
+      diagnostic_type = diagnostic_type.0;
+      extensions = extensions.0;
     }
 
 -- a text of a kind is no longer than its kind allows
@@ -74,11 +90,30 @@ length-unless_empty : (allowed : ℕ → Bool) (least most : ℕ) (text : List �
 length-unless_empty allowed least most [] is = omega arith
 length-unless_empty allowed least most (byte ∷ rest) is = length-is_text allowed least most (byte ∷ rest) is
 
+-- a type that fits its text is the name of one where it is said, and is no longer than that
+name-is_type_of : (text name : List ℕ) → IsTrue (is_type_of text name) → IsTrue (is_none_or is_type_name (unless_empty name))
+name-is_type_of text [] is = refl
+name-is_type_of text (byte ∷ rest) is = (and_parts (is_type_name (byte ∷ rest)) (is_some (unless_empty text)) is).0
+
+-- there is a text where its type is said
+text-is_type_of : (text name : List ℕ) → IsTrue (is_type_of text name) → IsSome (unless_empty name) → IsSome (unless_empty text)
+text-is_type_of text [] is said = absurd (false≢true said)
+text-is_type_of text (byte ∷ rest) is said = (and_parts (is_type_name (byte ∷ rest)) (is_some (unless_empty text)) is).1
+
+-- cleaning a text leaves it there
+unless_empty-clean_text : (text : List ℕ) → IsSome (unless_empty text) → IsSome (unless_empty (clean_text text))
+unless_empty-clean_text [] is = is
+unless_empty-clean_text (byte ∷ rest) is = refl
+
 -- how long the texts of fields without a fault are
 pub record AreShort (fields : Fields) : Type 0 where
   pub recipient : length fields.recipient ≤ longest_address
   pub original : length fields.original ≤ longest_address
   pub mta : length fields.mta ≤ longest_mta_name
+  pub recipient_type : length fields.recipient_type ≤ longest_type_name
+  pub original_type : length fields.original_type ≤ longest_type_name
+  pub diagnostic_type : length fields.diagnostic_type ≤ longest_type_name
+  pub extensions : length fields.extensions ≤ longest_extension_text
   pub diagnostic : length fields.diagnostic ≤ longest_clean
   pub reason : length fields.reason ≤ longest_clean
 
@@ -89,6 +124,10 @@ short_none service fields none =
       recipient = length-is_text _ _ _ fields.recipient passes.recipient;
       original = length-unless_empty _ _ _ fields.original passes.original;
       mta = length-unless_empty _ _ _ fields.mta passes.mta;
+      recipient_type = length-unless_empty _ _ _ fields.recipient_type passes.recipient_type;
+      original_type = length-unless_empty _ _ _ fields.original_type (name-is_type_of fields.original fields.original_type passes.original_type);
+      diagnostic_type = length-unless_empty _ _ _ fields.diagnostic_type (name-is_type_of fields.diagnostic fields.diagnostic_type passes.diagnostic_type);
+      extensions = (extension_text_read fields.extensions passes.extensions).short;
       diagnostic = passes.diagnostic;
       reason = passes.reason;
     }
@@ -112,4 +151,17 @@ legal-IsOutcomeOf service fields outcome passes dated of = record {
   last_attempt_dated = rw of.last_attempt_is dated.last_attempt;
   retry_until_dated = rw of.retry_until_is dated.retry_until;
   retry_fits = rw of.retry_until_is (rw of.action_is at passes.retry);
+  recipient_type_legal = rw of.recipient_type_is passes.recipient_type;
+  original_type_legal = rw of.original_type_is (name-is_type_of fields.original fields.original_type passes.original_type);
+  original_typed = λ said. rw of.original_is (text-is_type_of fields.original fields.original_type passes.original_type (rw of.original_type_is at said));
+  diagnostic_type_legal = rw of.diagnostic_type_is (name-is_type_of fields.diagnostic fields.diagnostic_type passes.diagnostic_type);
+  diagnostic_typed = λ said. rw of.diagnostic_is (unless_empty-clean_text fields.diagnostic (text-is_type_of fields.diagnostic fields.diagnostic_type passes.diagnostic_type (rw of.diagnostic_type_is at said)));
+  extensions_legal = rw of.extensions_is passes.extensions;
 }
+
+-- a text stands between what is before it and what is after it
+pub text-between : (before text after : List ℕ) → slice_range (before ++ (text ++ after)) (length before) (length before + length text) ≡ text
+text-between before text after =
+    let size : length before + length text - length before ≡ length text = omega arith in
+    ap (λ (n : ℕ). take n (drop (length before) (before ++ (text ++ after)))) size
+    ∙ ap (take (length text)) (drop-append_seam before (text ++ after)) ∙ take-append_seam text after

@@ -4,12 +4,13 @@ use Rattle.std.specs.Prelude.{◌≢◌, Option, Some, None, is_none}
 use Rattle.std.specs.Option.{option_map_or}
 use Rattle.dsn_outcome.proofs.HistoryLemmas.{and_false}
 use Rattle.dsn_text.proofs.KeyLemmas.{same_key-equal}
+use Rattle.dsn_outcome.specs.Draft.{differs}
 use Rattle.dsn_outcome.specs.History.{Limits, Exchange, is_closed, is_forgotten, is_forget, forgets, is_empty, is_held, held_keys, log_of, reply_when_open, reply_about, reply_to, exchange_of}
 use Rattle.dsn_text.specs.Key.{same_key}
 use Rattle.dsn_outcome.specs.Outcome.{Outcome}
 use Rattle.dsn_outcome.specs.Request.{Request, Body, Append, Flush, Discard, Forget, Bye, key_of}
 use Rattle.dsn_outcome.specs.declared.answer.Reply.{Reply}
-use Rattle.dsn_outcome.specs.declared.answer.Reply.TheVariants.{Logged, Closed, TableFull, LogFull, Nothing, NoReturn, Sealed}
+use Rattle.dsn_outcome.specs.declared.answer.Reply.TheVariants.{Logged, Closed, TableFull, LogFull, Nothing, NoReturn, Sealed, Differs}
 use Rattle.dsn_text.specs.declared.key.Key.{Key}
 
 either-keeps : (b : Bool) (first second : Reply) → is_forgotten first ≡ false → is_forgotten second ≡ false → is_forgotten (cond b first second) ≡ false
@@ -21,8 +22,10 @@ pub when_open-keeps : (limits : Limits) (log : List Outcome) (body : Body) → i
 unfolding reply_when_open is_forgotten
 when_open-keeps limits log (Append id outcome) = either-keeps (length log == limits.entries) LogFull (Logged (length log)) refl refl
 when_open-keeps limits log (Flush key draft) =
-    either-keeps (is_empty log) Nothing (cond (is_none draft.return_path) (NoReturn (length log)) (Sealed (length log))) refl
-    (either-keeps (is_none draft.return_path) (NoReturn (length log)) (Sealed (length log)) refl refl)
+    either-keeps (differs draft.expected (length log)) (Differs (length log))
+    (cond (is_empty log) Nothing (cond (is_none draft.return_path) (NoReturn (length log)) (Sealed (length log)))) refl
+    (either-keeps (is_empty log) Nothing (cond (is_none draft.return_path) (NoReturn (length log)) (Sealed (length log))) refl
+    (either-keeps (is_none draft.return_path) (NoReturn (length log)) (Sealed (length log)) refl refl))
 when_open-keeps limits log (Discard key) = refl
 when_open-keeps limits log (Forget key) = refl
 when_open-keeps limits log Bye = refl

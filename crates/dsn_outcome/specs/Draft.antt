@@ -1,38 +1,66 @@
 -- Drafts: what a flush says of the notice that it asks for, before the outcomes are added.
-use Rattle.std.specs.Prelude.{ℕ, ◌≤◌, nat_le, Bool, List, [], ◌∷◌, length, Option, IsTrue}
+use Rattle.std.specs.Prelude.{ℕ, ◌-◌, ◌^◌, ◌≤◌, nat_le, nat_lt, Bool, false, not, ◌==◌, List, [], ◌∷◌, length, Option, Some, None, is_some, IsTrue}
 use Rattle.dsn_outcome.specs.Outcome.{first_failed}
 use Rattle.dsn_text.specs.Optional.{is_none_or, unless_empty}
 use Rattle.dsn_text.specs.Stamp.{last_moment}
 use Rattle.dsn_text.specs.Text.{is_address, is_envelope_id, longest_header}
 use Rattle.dsn_outcome.specs.declared.draft_fault.DraftFault.{DraftFault}
-use Rattle.dsn_outcome.specs.declared.draft_fault.DraftFault.TheVariants.{Header, ReturnPath, EnvelopeId}
+use Rattle.dsn_outcome.specs.declared.draft_fault.DraftFault.TheVariants as faults
+use Rattle.dsn_outcome.specs.Returned.{returned_of_byte}
+use Rattle.dsn_outcome.specs.Wording.{wording_of_byte}
+use Rattle.dsn_outcome.specs.declared.returned.Returned.{Returned}
+use Rattle.dsn_outcome.specs.declared.wording.Wording.{Wording}
 
 -- moment and arrival in whole seconds since 1970; no return path means the null path (RFC 5321
--- section 4.5.5); the header is the returned header as it came
+-- section 4.5.5); the header is the message's header as it came, or the message, which returned says;
+-- expected is how many outcomes the log is to have, none for any; the wording is how the notice's words
+-- are chosen
 pub record Draft : Type 0 where
   pub moment : ℕ
   pub arrival : ℕ
   pub return_path : Option (List ℕ)
   pub envelope_id : Option (List ℕ)
   pub header : List ℕ
+  pub expected : Option ℕ
+  pub returned : Returned
+  pub wording : Wording
 
--- a legal draft: each moment has a date of four digits of years, and each text is within its bounds
+-- a number of outcomes that can be expected: the largest number of 32 bits stands for none
+abbrev pub is_count : ℕ → Bool
+is_count count = nat_lt count (2 ^ 32 - 1)
+
+-- whether so many outcomes aren't the number that is expected, where one is
+abbrev pub differs : Option ℕ → ℕ → Bool
+differs None count = false
+differs (Some expected) count = not (expected == count)
+
+-- a legal draft: each moment has a date of four digits of years, and each text is within its bounds, and so is the number of outcomes
 pub record IsLegalDraft (draft : Draft) : Type 0 where
   pub moment_dated : draft.moment ≤ last_moment
   pub arrival_dated : draft.arrival ≤ last_moment
   pub return_path_legal : IsTrue (is_none_or is_address draft.return_path)
   pub envelope_id_legal : IsTrue (is_none_or is_envelope_id draft.envelope_id)
   pub header_short : length draft.header ≤ longest_header
+  pub expected_counted : IsTrue (is_none_or is_count draft.expected)
 
--- what is asked of a draft's texts, in the order in which a refusal names it
-abbrev pub draft_checks : List ℕ → List ℕ → List ℕ → List (Bool × DraftFault)
-draft_checks header return_path envelope_id =
-    (nat_le (length header) longest_header, Header)
-    ∷ (is_none_or is_address (unless_empty return_path), ReturnPath)
-    ∷ (is_none_or is_envelope_id (unless_empty envelope_id), EnvelopeId)
+-- the fields of a draft that are judged, as they are handed in
+pub record DraftFields : Type 0 where
+  pub return_path : List ℕ
+  pub envelope_id : List ℕ
+  pub header : List ℕ
+  pub returned : ℕ
+  pub wording : ℕ
+
+-- what is asked of a draft's fields, in the order in which a refusal names it
+abbrev pub draft_checks : DraftFields → List (Bool × DraftFault)
+draft_checks fields =
+    (nat_le (length fields.header) longest_header, faults.Header)
+    ∷ (is_none_or is_address (unless_empty fields.return_path), faults.ReturnPath)
+    ∷ (is_none_or is_envelope_id (unless_empty fields.envelope_id), faults.EnvelopeId)
+    ∷ (is_some (returned_of_byte fields.returned), faults.Returned)
+    ∷ (is_some (wording_of_byte fields.wording), faults.Wording)
     ∷ []
 
--- the first fault of a draft's texts, if they have one
-abbrev pub first_draft_fault : List ℕ → List ℕ → List ℕ → Option DraftFault
-first_draft_fault header return_path envelope_id =
-    first_failed (draft_checks header return_path envelope_id)
+-- the first fault of a draft's fields, if they have one
+abbrev pub first_draft_fault : DraftFields → Option DraftFault
+first_draft_fault fields = first_failed (draft_checks fields)

@@ -1,6 +1,6 @@
 -- Letters: a sealed log with the draft of its notice.
-use Rattle.std.specs.Prelude.{◌≡◌, ◌≢◌, ℕ, ◌-◌, ◌^◌, List, [], All, IsSome}
-use Rattle.dsn_outcome.specs.Draft.{Draft}
+use Rattle.std.specs.Prelude.{◌≡◌, ◌≢◌, ℕ, ◌-◌, ◌^◌, false, List, [], length, All, IsSome}
+use Rattle.dsn_outcome.specs.Draft.{Draft, differs}
 use Rattle.dsn_outcome.specs.Outcome.{Outcome}
 use Rattle.dsn_text.specs.declared.key.Key.{Key}
 
@@ -16,9 +16,10 @@ pub record Letter : Type 0 where
 abbrev pub most_counted : ℕ
 most_counted = 2 ^ 64 - 1
 
--- a letter can be sent: it reports some outcome (RFC 3464 section 2.1), all of its service, and
--- somebody gets it
+-- a letter can be sent: it reports some outcome (RFC 3464 section 2.1), all of its service,
+-- somebody gets it, and its outcomes are as many as its flush expects
 pub record IsLetter (letter : Letter) : Type 0 where
   pub reports : letter.outcomes ≢ []
   pub of_service : All (λ outcome. outcome.service ≡ letter.key.service) letter.outcomes
   pub returns : IsSome letter.draft.return_path
+  pub counted : differs letter.draft.expected (length letter.outcomes) ≡ false

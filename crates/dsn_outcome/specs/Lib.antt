@@ -2,6 +2,8 @@ pub mod Agents
 pub mod Body
 pub mod CloseRule
 pub mod Draft
+pub mod DraftParts
+pub mod Expecting
 pub mod Forgetting
 pub mod History
 pub mod Letter
@@ -14,3 +16,5 @@ pub mod OutcomeParts
 pub mod OutcomeTexts
 pub mod Outcomes
 pub mod Request
+pub mod Returned
+pub mod Wording

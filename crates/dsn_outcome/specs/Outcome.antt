@@ -1,46 +1,74 @@
 -- Outcomes: what became of one recipient, and which of them are legal (RFC 3464 section 2.3).
-use Rattle.std.specs.Prelude.{◌≡◌, ℕ, Bool, true, false, List, [], ◌∷◌, length, Option, Some, None, IsTrue, if◌then◌else◌, nat_le}
+use Rattle.std.specs.Prelude.{◌≡◌, ℕ, Bool, true, false, ◌&&◌, List, [], ◌∷◌, length, Option, Some, None, is_some, IsSome, IsTrue, if◌then◌else◌, nat_le}
 use Rattle.std.specs.Option.{option_map_or}
 use Rattle.dsn_text.specs.Action.{action_of_byte, fits_class, fits_retry}
+use Rattle.dsn_text.specs.Extension.{is_extension_text}
 use Rattle.dsn_text.specs.Optional.{is_none_or, unless_empty}
 use Rattle.dsn_text.specs.Service.{takes}
 use Rattle.dsn_text.specs.Stamp.{is_moment}
-use Rattle.dsn_text.specs.Text.{is_address, is_mta_name, is_remark, longest_clean, clean_text}
+use Rattle.dsn_text.specs.Text.{is_address, is_mta_name, is_remark, is_type_name, longest_clean, clean_text}
 use Rattle.dsn_text.specs.Status.{is_status_code, status_class}
 use Rattle.dsn_text.specs.declared.action.Action.{Action}
 use Rattle.dsn_outcome.specs.declared.outcome_fault.OutcomeFault.{OutcomeFault}
-use Rattle.dsn_outcome.specs.declared.outcome_fault.OutcomeFault.TheVariants.{BadRecipient, BadOriginal, BadAction, BadStatus, StatusClass, BadMta, LongDiagnostic, LongReason, RetryUntil}
+use Rattle.dsn_outcome.specs.declared.outcome_fault.OutcomeFault.TheVariants.{BadRecipient, BadOriginal, BadAction, BadStatus, StatusClass, BadMta, LongDiagnostic, LongReason, RetryUntil, RecipientType, OriginalType, DiagnosticType, Extension}
 use Rattle.dsn_text.specs.declared.service.Service.{Service}
 
--- what became of one recipient; the texts are clean, the two moments in whole seconds since 1970
+-- what became of one recipient; the texts are clean, the two moments in whole seconds since 1970;
+-- where no type of a text is said, it is the usual one; the extension fields are lines, each ended
+-- by LF, none where the text is empty
 pub record Outcome : Type 0 where
   pub service : Service
   pub recipient : List ℕ
+  pub recipient_type : Option (List ℕ)
   pub original : Option (List ℕ)
+  pub original_type : Option (List ℕ)
   pub action : Action
   pub status : List ℕ
   pub mta : Option (List ℕ)
   pub diagnostic : Option (List ℕ)
+  pub diagnostic_type : Option (List ℕ)
   pub reason : Option (List ℕ)
   pub last_attempt : Option ℕ
   pub retry_until : Option ℕ
+  pub extensions : List ℕ
 
 -- the fields of an outcome as an agent hands them in; an empty text means that there is none
 pub record Fields : Type 0 where
   pub recipient : List ℕ
+  pub recipient_type : List ℕ
   pub original : List ℕ
+  pub original_type : List ℕ
   pub action : ℕ
   pub status : List ℕ
   pub mta : List ℕ
   pub diagnostic : List ℕ
+  pub diagnostic_type : List ℕ
   pub reason : List ℕ
   pub last_attempt : Option ℕ
   pub retry_until : Option ℕ
+  pub extensions : List ℕ
 
 -- the fault of the first check that fails
 abbrev pub first_failed : {F : Type 0} → List (Bool × F) → Option F
 first_failed [] = None
 first_failed (check ∷ rest) = if check.0 then first_failed rest else Some check.1
+
+-- the type of a text that may be missing (RFC 3464 sections 2.3.1 and 2.3.6): none is said, or it
+-- is the name of a type and there is a text
+abbrev pub is_type_of : List ℕ → List ℕ → Bool
+is_type_of text [] = true
+is_type_of text (byte ∷ rest) = is_type_name (byte ∷ rest) && is_some (unless_empty text)
+
+-- what is asked of the types of its texts, of the final recipient, which is there, of the original
+-- one, and of the diagnostic; and then of its extension fields
+abbrev pub later_checks : (original diagnostic recipient_type original_type diagnostic_type extensions : List ℕ)
+    → List (Bool × OutcomeFault)
+later_checks original diagnostic recipient_type original_type diagnostic_type extensions =
+    (is_none_or is_type_name (unless_empty recipient_type), RecipientType)
+    ∷ (is_type_of original original_type, OriginalType)
+    ∷ (is_type_of diagnostic diagnostic_type, DiagnosticType)
+    ∷ (is_extension_text extensions, Extension)
+    ∷ []
 
 -- what is asked of an outcome's fields, in the order in which a refusal names it
 abbrev pub outcome_checks : Service → Fields → List (Bool × OutcomeFault)
@@ -62,7 +90,8 @@ outcome_checks service fields =
           (action_of_byte fields.action) false,
       RetryUntil,
     )
-    ∷ []
+    ∷ later_checks fields.original fields.diagnostic fields.recipient_type fields.original_type
+    fields.diagnostic_type fields.extensions
 
 -- the first fault of an outcome's fields, if they have one
 unfoldable pub first_outcome_fault : Service → Fields → Option OutcomeFault
@@ -72,14 +101,18 @@ first_outcome_fault service fields = first_failed (outcome_checks service fields
 pub record IsOutcomeOf (service : Service) (fields : Fields) (outcome : Outcome) : Type 0 where
   pub service_is : outcome.service ≡ service
   pub recipient_is : outcome.recipient ≡ fields.recipient
+  pub recipient_type_is : outcome.recipient_type ≡ unless_empty fields.recipient_type
   pub original_is : outcome.original ≡ unless_empty fields.original
+  pub original_type_is : outcome.original_type ≡ unless_empty fields.original_type
   pub action_is : action_of_byte fields.action ≡ Some outcome.action
   pub status_is : outcome.status ≡ fields.status
   pub mta_is : outcome.mta ≡ unless_empty fields.mta
   pub diagnostic_is : outcome.diagnostic ≡ unless_empty (clean_text fields.diagnostic)
+  pub diagnostic_type_is : outcome.diagnostic_type ≡ unless_empty fields.diagnostic_type
   pub reason_is : outcome.reason ≡ unless_empty (clean_text fields.reason)
   pub last_attempt_is : outcome.last_attempt ≡ fields.last_attempt
   pub retry_until_is : outcome.retry_until ≡ fields.retry_until
+  pub extensions_is : outcome.extensions ≡ fields.extensions
 
 -- each of the two moments of an outcome's fields has a date, where there is one
 pub record AreDated (fields : Fields) : Type 0 where
@@ -89,7 +122,8 @@ pub record AreDated (fields : Fields) : Type 0 where
 -- a legal outcome (RFC 3464 sections 2.3.1 to 2.3.9): the service takes the action, the status is a
 -- code whose class fits the action, and each text is within its bounds; a diagnostic or a reason
 -- that is there says something; the two moments have dates, and only a delayed recipient's delivery
--- is tried again
+-- is tried again; each type that is said is the name of one, and is that of a text; the extension
+-- fields are such (RFC 3464 section 2.4)
 pub record IsLegalOutcome (outcome : Outcome) : Type 0 where
   pub recipient_legal : IsTrue (is_address outcome.recipient)
   pub original_legal : IsTrue (is_none_or is_address outcome.original)
@@ -102,3 +136,9 @@ pub record IsLegalOutcome (outcome : Outcome) : Type 0 where
   pub last_attempt_dated : IsTrue (is_none_or is_moment outcome.last_attempt)
   pub retry_until_dated : IsTrue (is_none_or is_moment outcome.retry_until)
   pub retry_fits : IsTrue (fits_retry outcome.action outcome.retry_until)
+  pub recipient_type_legal : IsTrue (is_none_or is_type_name outcome.recipient_type)
+  pub original_type_legal : IsTrue (is_none_or is_type_name outcome.original_type)
+  pub original_typed : IsSome outcome.original_type → IsSome outcome.original
+  pub diagnostic_type_legal : IsTrue (is_none_or is_type_name outcome.diagnostic_type)
+  pub diagnostic_typed : IsSome outcome.diagnostic_type → IsSome outcome.diagnostic
+  pub extensions_legal : IsTrue (is_extension_text outcome.extensions)

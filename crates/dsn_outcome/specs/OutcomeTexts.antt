@@ -11,6 +11,10 @@ pub record OutcomeTexts : Type 0 where
   pub recipient : List ℕ
   pub original : List ℕ
   pub mta : List ℕ
+  pub recipient_type : List ℕ
+  pub original_type : List ℕ
+  pub diagnostic_type : List ℕ
+  pub extensions : List ℕ
   pub diagnostic : List ℕ
   pub reason : List ℕ
 
@@ -20,7 +24,11 @@ texts_in bytes offsets = record {
   recipient = take offsets.recipient bytes;
   original = slice_range bytes offsets.recipient offsets.original;
   mta = slice_range bytes offsets.original offsets.mta;
-  diagnostic = slice_range bytes offsets.mta offsets.diagnostic;
+  recipient_type = slice_range bytes offsets.mta offsets.recipient_type;
+  original_type = slice_range bytes offsets.recipient_type offsets.original_type;
+  diagnostic_type = slice_range bytes offsets.original_type offsets.diagnostic_type;
+  extensions = slice_range bytes offsets.diagnostic_type offsets.extensions;
+  diagnostic = slice_range bytes offsets.extensions offsets.diagnostic;
   reason = drop offsets.diagnostic bytes;
 }
 
@@ -28,7 +36,11 @@ texts_in bytes offsets = record {
 pub record AreInOrder (bytes : List ℕ) (offsets : Offsets) : Type 0 where
   pub original : offsets.recipient ≤ offsets.original
   pub mta : offsets.original ≤ offsets.mta
-  pub diagnostic : offsets.mta ≤ offsets.diagnostic
+  pub recipient_type : offsets.mta ≤ offsets.recipient_type
+  pub original_type : offsets.recipient_type ≤ offsets.original_type
+  pub diagnostic_type : offsets.original_type ≤ offsets.diagnostic_type
+  pub extensions : offsets.diagnostic_type ≤ offsets.extensions
+  pub diagnostic : offsets.extensions ≤ offsets.diagnostic
   pub reason : offsets.diagnostic ≤ length bytes
 
 -- the outcome with these texts
@@ -36,12 +48,16 @@ abbrev pub outcome_of : OutcomeTexts → Service → Action → List ℕ → Opt
 outcome_of texts service action status last_attempt retry_until = record {
   service = service;
   recipient = texts.recipient;
+  recipient_type = unless_empty texts.recipient_type;
   original = unless_empty texts.original;
+  original_type = unless_empty texts.original_type;
   action = action;
   status = status;
   mta = unless_empty texts.mta;
   diagnostic = unless_empty texts.diagnostic;
+  diagnostic_type = unless_empty texts.diagnostic_type;
   reason = unless_empty texts.reason;
   last_attempt = last_attempt;
   retry_until = retry_until;
+  extensions = texts.extensions;
 }

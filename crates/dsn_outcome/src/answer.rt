@@ -26,6 +26,8 @@ pub enum Reply {
     Forgotten,
     /// The log is open, or there is none: there is no closed one to forget; nothing changed.
     NotClosed,
+    /// The log has another number of outcomes than the flush expects; nothing changed.
+    Differs(u32),
 }
 
 /// A reply with the agent and the number of the request that it answers.

@@ -1,14 +1,20 @@
 //! What a flush says of the notice that it asks for.
 ghost use Rattle.std.specs.Prelude.{◌≡◌, ◌≤◌, ◌↔◌, length, IsTrue, IsSome, IfOk, IfErr, OnOk, Some, None, unwrap_or};
-ghost use Rattle.dsn_outcome.specs.Draft.{first_draft_fault};
+ghost use Rattle.dsn_outcome.specs.Draft.{first_draft_fault, is_count};
+ghost use Rattle.dsn_outcome.specs.DraftParts.{draft_fields_of};
+ghost use Rattle.dsn_outcome.specs.Returned.{returned_of_byte};
+ghost use Rattle.dsn_outcome.specs.Wording.{wording_of_byte};
 ghost use Rattle.dsn_text.specs.Optional.{is_none_or, unless_empty};
 ghost use Rattle.dsn_text.specs.Text.{is_address, is_envelope_id};
 
 use crate::draft_fault::DraftFault;
+use crate::draft_parts::{DraftParts, Wishes};
 use crate::letter_cell::{LetterCell, Terms};
 use crate::optional_texts::{
     is_optional_address, is_optional_envelope_id, optional_address, optional_envelope_id,
 };
+use crate::returned::Returned;
+use crate::wording::Wording;
 use dsn_text::{Address, EnvelopeId, LONGEST_HEADER, NoMemory, RawHeader, Stamp};
 use std::alloc::Global;
 use std::marker::Model;
@@ -40,12 +46,17 @@ impl Draft {
         return_path: Option<Address>,
         envelope_id: Option<EnvelopeId>,
         header: RawHeader,
+        wishes: Wishes,
     ) -> Result<Draft, NoMemory>
+        requires counted { IsTrue (is_none_or is_count wishes.expected) }
         ensures moment { IfOk result (λ draft. draft.moment ≡ moment) }
         ensures arrival { IfOk result (λ draft. draft.arrival ≡ arrival) }
         ensures return_path { IfOk result (λ draft. draft.return_path ≡ return_path) }
         ensures envelope_id { IfOk result (λ draft. draft.envelope_id ≡ envelope_id) }
         ensures header { IfOk result (λ draft. draft.header ≡ header) }
+        ensures expected { IfOk result (λ draft. draft.expected ≡ wishes.expected) }
+        ensures returned { IfOk result (λ draft. draft.returned ≡ wishes.returned) }
+        ensures wording { IfOk result (λ draft. draft.wording ≡ wishes.wording) }
     {
         let terms = Terms {
             moment,
@@ -53,6 +64,9 @@ impl Draft {
             return_path,
             envelope_id,
             header,
+            expected: wishes.expected,
+            returned: wishes.returned,
+            wording: wishes.wording,
         };
         let cell = LetterCell {
             terms,
@@ -65,36 +79,50 @@ impl Draft {
         }
     }
 
-    /// The draft of these texts, which are tested in the order of `DraftFault`'s variants before
-    /// memory is taken. An empty return path is the null path, and an empty envelope id none.
+    /// The draft of these fields, which are tested in the order of `DraftFault`'s variants before
+    /// memory is taken.
     pub fn read(
         alloc: Global,
         moment: Stamp,
         arrival: Stamp,
-        return_path: &[u8],
-        envelope_id: &[u8],
-        header: &[u8],
+        parts: DraftParts<'_>,
     ) -> Result<Draft, DraftFault>
+        requires counted { IsTrue (is_none_or is_count parts.expected) }
         ensures moment { IfOk result (λ draft. draft.moment ≡ moment) }
         ensures arrival { IfOk result (λ draft. draft.arrival ≡ arrival) }
         ensures return_path { IfOk result
-            (λ draft. draft.return_path ≡ unless_empty return_path.now) }
+            (λ draft. draft.return_path ≡ unless_empty parts.entry.return_path.now) }
         ensures envelope_id { IfOk result
-            (λ draft. draft.envelope_id ≡ unless_empty envelope_id.now) }
-        ensures header { IfOk result (λ draft. draft.header ≡ header.now) }
-        ensures accepted { OnOk result
-            (first_draft_fault header.now return_path.now envelope_id.now ≡ None) }
+            (λ draft. draft.envelope_id ≡ unless_empty parts.entry.envelope_id.now) }
+        ensures header { IfOk result (λ draft. draft.header ≡ parts.entry.header.now) }
+        ensures expected { IfOk result (λ draft. draft.expected ≡ parts.entry.expected) }
+        ensures returned { IfOk result
+            (λ draft. returned_of_byte parts.entry.returned ≡ Some draft.returned) }
+        ensures wording { IfOk result
+            (λ draft. wording_of_byte parts.entry.wording ≡ Some draft.wording) }
+        ensures accepted { OnOk result (first_draft_fault (draft_fields_of parts.entry) ≡ None) }
         ensures refused { IfErr result
             (λ fault. fault
-            ≡ unwrap_or
-            (first_draft_fault header.now return_path.now envelope_id.now)
-            DraftFault.NoMemory) }
+            ≡ unwrap_or (first_draft_fault (draft_fields_of parts.entry)) DraftFault.NoMemory) }
     {
-        check(header, return_path, envelope_id)?;
-        let return_path = optional_address(alloc, return_path)?;
-        let envelope_id = optional_envelope_id(alloc, envelope_id)?;
-        let header = RawHeader::kept(alloc, header)?;
-        Ok(Draft::new(alloc, moment, arrival, return_path, envelope_id, header)?)
+        let (returned, wording) = check(parts)?;
+        let return_path = optional_address(alloc, parts.return_path)?;
+        let envelope_id = optional_envelope_id(alloc, parts.envelope_id)?;
+        let header = RawHeader::kept(alloc, parts.header)?;
+        let wishes = Wishes {
+            expected: parts.expected,
+            returned,
+            wording,
+        };
+        Ok(Draft::new(
+            alloc,
+            moment,
+            arrival,
+            return_path,
+            envelope_id,
+            header,
+            wishes,
+        )?)
     }
 
     /// Whether the notice has somebody to go to.
@@ -112,26 +140,29 @@ impl Draft {
     }
 }
 
-/// The first fault of a draft's texts, if they have one.
-fn check(header: &[u8], return_path: &[u8], envelope_id: &[u8]) -> Result<(), DraftFault>
-    ensures accepted { OnOk result
-        (first_draft_fault header.now return_path.now envelope_id.now ≡ None) }
-    ensures header { OnOk result (length header.now ≤ LONGEST_HEADER) }
+/// What is returned and the wording, where the fields have no fault; else the first one.
+fn check(parts: DraftParts<'_>) -> Result<(Returned, Wording), DraftFault>
+    ensures accepted { OnOk result (first_draft_fault (draft_fields_of parts.entry) ≡ None) }
+    ensures header { OnOk result (length parts.entry.header.now ≤ LONGEST_HEADER) }
     ensures return_path { OnOk result
-        (IsTrue (is_none_or is_address (unless_empty return_path.now))) }
+        (IsTrue (is_none_or is_address (unless_empty parts.entry.return_path.now))) }
     ensures envelope_id { OnOk result
-        (IsTrue (is_none_or is_envelope_id (unless_empty envelope_id.now))) }
+        (IsTrue (is_none_or is_envelope_id (unless_empty parts.entry.envelope_id.now))) }
+    ensures returned { IfOk result (λ read. returned_of_byte parts.entry.returned ≡ Some read.0) }
+    ensures wording { IfOk result (λ read. wording_of_byte parts.entry.wording ≡ Some read.1) }
     ensures refused { IfErr result
-        (λ fault. first_draft_fault header.now return_path.now envelope_id.now ≡ Some fault) }
+        (λ fault. first_draft_fault (draft_fields_of parts.entry) ≡ Some fault) }
 {
-    if !RawHeader::is_valid(header) {
+    if !RawHeader::is_valid(parts.header) {
         return Err(DraftFault::Header);
     }
-    if !is_optional_address(return_path) {
+    if !is_optional_address(parts.return_path) {
         return Err(DraftFault::ReturnPath);
     }
-    if !is_optional_envelope_id(envelope_id) {
+    if !is_optional_envelope_id(parts.envelope_id) {
         return Err(DraftFault::EnvelopeId);
     }
-    Ok(())
+    let returned = Returned::from_byte(parts.returned).ok_or(DraftFault::Returned)?;
+    let wording = Wording::from_byte(parts.wording).ok_or(DraftFault::Wording)?;
+    Ok((returned, wording))
 }

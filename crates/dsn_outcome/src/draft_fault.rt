@@ -16,6 +16,12 @@ pub enum DraftFault {
     /// The envelope id is neither empty nor 1 to 100 printable bytes.
     #[error("the envelope id is neither empty nor 1 to 100 printable bytes")]
     EnvelopeId,
+    /// What the header field holds is neither the header nor the message.
+    #[error("it is unknown whether the header field holds the header or the message")]
+    Returned,
+    /// The wording is none.
+    #[error("the wording of the notice is unknown")]
+    Wording,
     /// Memory for the draft was refused.
     #[error("out of memory")]
     NoMemory,

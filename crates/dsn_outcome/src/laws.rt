@@ -1,9 +1,10 @@
 //! Laws of the history of requests, as the contracts of functions that do nothing.
-ghost use Rattle.std.specs.Prelude.{◌≡◌, ℕ, false, List, length, map};
+ghost use Rattle.std.specs.Prelude.{◌≡◌, ℕ, true, false, List, length, map};
 ghost use Rattle.dsn_outcome.specs.Agents.{from_agent};
 ghost use Rattle.dsn_outcome.specs.CloseRule.{StaysClosed, AnswersClosed, TakesNoOutcome, TakesNoOutcomeUntilForgotten, LeavesEveryLog, LeavesHeldKeys, LeavesSealedLetters};
+ghost use Rattle.dsn_outcome.specs.Expecting.{AnswersDiffers, AreAsExpected, DiffersChangesNothing};
 ghost use Rattle.dsn_outcome.specs.Forgetting.{AreNumbered, ForgetsIt, KeepsIt};
-ghost use Rattle.dsn_outcome.specs.History.{Limits, Exchange, IsClosed, is_closed, answers_to, history_of};
+ghost use Rattle.dsn_outcome.specs.History.{Limits, Exchange, IsClosed, is_closed, is_held, answers_to, history_of, sealed_letters};
 ghost use Rattle.dsn_outcome.specs.Request.{Request};
 ghost use Rattle.dsn_text.specs.declared.key.Key.{Key};
 
@@ -35,6 +36,19 @@ pub fn closed_keys_alone_are_forgotten()
         → IsClosed key history → ForgetsIt limits key history }
     ensures other { (limits : Limits) (key : Key) (history : List Exchange)
         → is_closed key history ≡ false → KeepsIt limits key history }
+{}
+
+/// A flush that expects another number of outcomes than its open log has is answered with the
+/// number that it has, and changes nothing. So each letter has as many outcomes as its flush
+/// expects.
+pub fn flushes_seal_what_they_expect()
+    ensures answered { (limits : Limits) (key : Key) (history : List Exchange)
+        → is_closed key history ≡ false → is_held key history ≡ true
+        → AnswersDiffers limits key history }
+    ensures unchanged { (limits : Limits) (history : List Exchange)
+        → DiffersChangesNothing limits history }
+    ensures sealed { (limits : Limits) (requests : List Request)
+        → AreAsExpected (sealed_letters (history_of limits requests)) }
 {}
 
 /// A history's letters are numbered from 0, over all keys and forgettings.

@@ -1,5 +1,5 @@
 //! A sealed log with the draft of its notice.
-ghost use Rattle.std.specs.Prelude.{◌≡◌, ◌≢◌, ◌+◌, ◌^◌, ◌<◌, [], IsSome, All, Some};
+ghost use Rattle.std.specs.Prelude.{◌≡◌, ◌≢◌, ◌+◌, ◌^◌, ◌<◌, false, [], length, IsSome, All, Some};
 ghost use Rattle.std.specs.Option.{option_copied};
 
 use crate::chain::Chain;
@@ -10,7 +10,7 @@ use dsn_text::{Address, EnvelopeId, Key, RawHeader, Stamp};
 use std::marker::Model;
 
 /// A sealed log: what a notice is made of. It has at least one outcome, each of them of its key's
-/// service, and somebody whom the notice goes to.
+/// service, as many as its flush expects, and somebody whom the notice goes to.
 #[derive(Drop)]
 pub struct Letter {
     pub(crate) cell: Box<LetterCell>,
@@ -28,6 +28,7 @@ impl Model for Letter {
 }
 
 impl Letter {
+    ghost use Rattle.dsn_outcome.specs.Draft.{differs};
     ghost use Rattle.dsn_outcome.specs.Letter.{IsLetter};
     ghost use Rattle.dsn_outcome.specs.Outcomes.{outcomes_left};
 
@@ -37,6 +38,7 @@ impl Letter {
         requires reports { chain ≢ [] }
         requires of_service { All (λ outcome. outcome.service ≡ key.service) chain }
         requires returns { IsSome draft.return_path }
+        requires counted { differs draft.expected (length chain) ≡ false }
         ensures key { result.key ≡ key }
         ensures draft { result.draft ≡ draft }
         ensures outcomes { result.outcomes ≡ chain }
@@ -123,7 +125,7 @@ impl Letter {
         self.cell.terms.envelope_id.as_ref()
     }
 
-    /// The message's header as it came.
+    /// The message's header as it came, or the message.
     pub fn header(&self) -> &RawHeader
         ensures { result.now ≡ self.now.draft.header }
     {

@@ -1,9 +1,13 @@
 //! The one cell of memory that a draft, a letter and a letter in a queue are, so that sealing and
 //! queueing take no memory.
-ghost use Rattle.std.specs.Prelude.{◌≡◌};
+ghost use Rattle.std.specs.Prelude.{◌≡◌, IsTrue};
 ghost use Rattle.std.specs.Option.{option_copied};
+ghost use Rattle.dsn_outcome.specs.Draft.{is_count};
+ghost use Rattle.dsn_text.specs.Optional.{is_none_or};
 
 use crate::outcome_links::OutcomeLinks;
+use crate::returned::Returned;
+use crate::wording::Wording;
 use dsn_text::{Address, EnvelopeId, Key, RawHeader, Stamp};
 use std::marker::Model;
 
@@ -16,10 +20,15 @@ pub struct Terms {
     pub(crate) return_path: Option<Address>,
     pub(crate) envelope_id: Option<EnvelopeId>,
     pub(crate) header: RawHeader,
+    pub(crate) expected: Option<u32>,
+    pub(crate) returned: Returned,
+    pub(crate) wording: Wording,
 }
 
 impl Model for Terms {
-    ghost use Rattle.dsn_outcome.specs.Draft.{Draft};
+    ghost use Rattle.std.specs.Prelude.{IsTrue};
+    ghost use Rattle.dsn_outcome.specs.Draft.{Draft, is_count};
+    ghost use Rattle.dsn_text.specs.Optional.{is_none_or};
 
     ghost Value = { Draft };
 
@@ -29,7 +38,12 @@ impl Model for Terms {
       return_path = t.return_path;
       envelope_id = t.envelope_id;
       header = t.header;
+      expected = t.expected;
+      returned = t.returned;
+      wording = t.wording;
     } };
+
+    ghost invariant = { λ t. IsTrue (is_none_or is_count t.expected) };
 }
 
 impl Terms {
@@ -61,11 +75,33 @@ impl Terms {
         self.envelope_id.as_ref()
     }
 
-    /// The message's header as it came.
+    /// The message's header as it came, or the message.
     pub fn header(&self) -> &RawHeader
         ensures { result.now ≡ self.now.header }
     {
         &self.header
+    }
+
+    /// How many outcomes the log is to have; `None` for any.
+    pub fn expected(&self) -> Option<u32>
+        ensures same { result ≡ self.now.expected }
+        ensures counted { IsTrue (is_none_or is_count self.now.expected) }
+    {
+        self.expected
+    }
+
+    /// What the header holds, and so what is returned.
+    pub fn returned(&self) -> Returned
+        ensures { result ≡ self.now.returned }
+    {
+        self.returned
+    }
+
+    /// How the notice's words are chosen.
+    pub fn wording(&self) -> Wording
+        ensures { result ≡ self.now.wording }
+    {
+        self.wording
     }
 }
 

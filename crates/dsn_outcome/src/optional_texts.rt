@@ -2,9 +2,10 @@
 ghost use Rattle.std.specs.Prelude.{◌≡◌, ◌↔◌, IsTrue, IfOk};
 ghost use Rattle.std.specs.Option.{option_copied};
 ghost use Rattle.dsn_text.specs.Optional.{unless_empty, is_none_or};
-ghost use Rattle.dsn_text.specs.Text.{is_address, is_envelope_id, is_mta_name};
+ghost use Rattle.dsn_text.specs.Text.{is_address, is_envelope_id, is_mta_name, is_type_name};
+ghost use Rattle.dsn_outcome.specs.Outcome.{is_type_of};
 
-use dsn_text::{Address, EnvelopeId, MtaName, NoMemory};
+use dsn_text::{Address, EnvelopeId, MtaName, NoMemory, is_type_name};
 use std::alloc::Global;
 
 /// Whether a text is empty or can be an address.
@@ -19,6 +20,21 @@ pub(crate) fn is_optional_mta_name(text: &[u8]) -> bool
     ensures { IsTrue result ↔ IsTrue (is_none_or is_mta_name (unless_empty text.now)) }
 {
     text.is_empty() || MtaName::is_valid(text)
+}
+
+/// Whether a text is empty or can be the name of a type.
+pub(crate) fn is_optional_type_name(text: &[u8]) -> bool
+    ensures { IsTrue result ↔ IsTrue (is_none_or is_type_name (unless_empty text.now)) }
+{
+    text.is_empty() || is_type_name(text)
+}
+
+/// Whether a type can be that of a text: none is said, or it is the name of a type and there is a
+/// text.
+pub(crate) fn is_type_of(text: &[u8], name: &[u8]) -> bool
+    ensures { IsTrue result ↔ IsTrue (is_type_of text.now name.now) }
+{
+    name.is_empty() || (is_type_name(name) && !text.is_empty())
 }
 
 /// Whether a text is empty or can be an envelope id.

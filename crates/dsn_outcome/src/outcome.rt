@@ -1,18 +1,21 @@
 //! What became of one recipient (RFC 3464 section 2.3).
-ghost use Rattle.std.specs.Prelude.{◌≡◌, [], IsTrue, IfOk, IfErr, unwrap_or};
+ghost use Rattle.std.specs.Prelude.{◌≡◌, [], IsTrue, IfOk, IfErr, OnOk, unwrap_or};
 ghost use Rattle.dsn_text.specs.Action.{action_of_byte};
 
-use crate::optional_texts::{is_optional_address, is_optional_mta_name, unless_empty};
+use crate::optional_texts::{
+    is_optional_address, is_optional_mta_name, is_optional_type_name, is_type_of, unless_empty,
+};
 use crate::outcome_fault::OutcomeFault;
 use crate::outcome_node::Node;
-use crate::outcome_parts::Parts;
+use crate::outcome_parts::{Parts, Types};
 use crate::outcome_texts::OutcomeTexts;
-use dsn_text::{Action, Address, Clean, KeptStamp, Service, Stamp, Status};
+use dsn_text::{Action, Address, Clean, KeptStamp, Service, Stamp, Status, is_extension_text};
 use std::alloc::Global;
 use std::marker::Model;
 
 /// A legal outcome: the service's log takes its action, its status stands with the action, its
-/// texts are within their bounds, and only a delayed recipient's delivery is tried again.
+/// texts are within their bounds, only a delayed recipient's delivery is tried again, each type is
+/// that of a text, and its extension fields are such.
 #[derive(Drop)]
 pub struct Outcome {
     texts: OutcomeTexts,
@@ -39,9 +42,10 @@ impl Model for Outcome {
 impl Outcome {
     ghost use Rattle.std.specs.Option.{option_copied};
     ghost use Rattle.dsn_outcome.specs.Outcome.{IsLegalOutcome, IsOutcomeOf, first_outcome_fault};
+    ghost use Rattle.dsn_text.specs.Extension.{is_extension_text};
     ghost use Rattle.dsn_text.specs.Optional.{is_none_or};
     ghost use Rattle.dsn_outcome.specs.OutcomeParts.{fields_of};
-    ghost use Rattle.dsn_text.specs.Text.{IsAddress, is_address, is_mta_name, is_remark};
+    ghost use Rattle.dsn_text.specs.Text.{IsAddress, is_address, is_mta_name, is_remark, is_type_name};
 
     /// The outcome of a service's log that these fields describe, ready to be linked into its
     /// log. The fields are tested, in the order of `OutcomeFault`'s variants, before memory is
@@ -70,6 +74,8 @@ impl Outcome {
             reason,
             last_attempt,
             retry_until,
+            types,
+            extensions,
         } = parts;
         let (action, status) = check(
             service,
@@ -83,10 +89,14 @@ impl Outcome {
                 reason,
                 last_attempt,
                 retry_until,
+                types,
+                extensions,
             },
         )?;
         let outcome = Outcome {
-            texts: OutcomeTexts::new(alloc, recipient, original, mta, diagnostic, reason)?,
+            texts: OutcomeTexts::new(
+                alloc, recipient, original, mta, types, extensions, diagnostic, reason,
+            )?,
             last_attempt: KeptStamp::new(last_attempt),
             retry_until: KeptStamp::new(retry_until),
             service,
@@ -165,6 +175,40 @@ impl Outcome {
         self.last_attempt.get()
     }
 
+    /// The type of the final recipient, if it isn't the usual `rfc822` (RFC 3464 section 2.3.2).
+    pub fn recipient_type(&self) -> Option<&[u8]>
+        ensures same { option_copied result ≡ self.now.recipient_type }
+        ensures legal { IsTrue (is_none_or is_type_name (option_copied result)) }
+    {
+        unless_empty(self.texts.recipient_type())
+    }
+
+    /// The type of the original recipient, if it isn't the usual `rfc822` (RFC 3464 section
+    /// 2.3.1); none where there is no original recipient.
+    pub fn original_type(&self) -> Option<&[u8]>
+        ensures same { option_copied result ≡ self.now.original_type }
+        ensures legal { IsTrue (is_none_or is_type_name (option_copied result)) }
+    {
+        unless_empty(self.texts.original_type())
+    }
+
+    /// The type of the diagnostic, if it isn't the usual `smtp` (RFC 3464 section 2.3.6); none
+    /// where there is no diagnostic.
+    pub fn diagnostic_type(&self) -> Option<&[u8]>
+        ensures same { option_copied result ≡ self.now.diagnostic_type }
+        ensures legal { IsTrue (is_none_or is_type_name (option_copied result)) }
+    {
+        unless_empty(self.texts.diagnostic_type())
+    }
+
+    /// The extension fields (RFC 3464 section 2.4), each a line that LF ends; none where it is empty.
+    pub fn extensions(&self) -> &[u8]
+        ensures same { result.now ≡ self.now.extensions }
+        ensures legal { IsTrue (is_extension_text result.now) }
+    {
+        self.texts.extensions()
+    }
+
     /// Until when delivery is tried again (RFC 3464 section 2.3.9), if that is known.
     pub fn retry_until(&self) -> Option<Stamp>
         ensures { result ≡ self.now.retry_until }
@@ -173,7 +217,7 @@ impl Outcome {
     }
 }
 
-ghost use Rattle.dsn_outcome.specs.Outcome.{IsLegalOutcome, IsOutcomeOf, first_outcome_fault};
+ghost use Rattle.dsn_outcome.specs.Outcome.{IsLegalOutcome, IsOutcomeOf, first_failed, first_outcome_fault, later_checks};
 ghost use Rattle.dsn_outcome.specs.OutcomeParts.{fields_of};
 
 /// An outcome in a node of its own, linked to nothing.
@@ -235,5 +279,40 @@ fn check(service: Service, parts: Parts<'_>) -> Result<(Action, Status), Outcome
     if !action.fits_retry(parts.retry_until) {
         return Err(OutcomeFault::RetryUntil);
     }
+    check_later(
+        parts.original,
+        parts.diagnostic,
+        parts.types,
+        parts.extensions,
+    )?;
     Ok((action, status))
+}
+
+/// The first fault of the types or of the extension fields, if they have one. It takes no memory.
+fn check_later(
+    original: &[u8],
+    diagnostic: &[u8],
+    types: Types<'_>,
+    extensions: &[u8],
+) -> Result<(), OutcomeFault>
+    ensures none { OnOk result
+        (first_failed (later_checks original.now diagnostic.now types.entry.recipient.now
+        types.entry.original.now types.entry.diagnostic.now extensions.now) ≡ None) }
+    ensures first { IfErr result
+        (λ fault. first_failed (later_checks original.now diagnostic.now types.entry.recipient.now
+        types.entry.original.now types.entry.diagnostic.now extensions.now) ≡ Some fault) }
+{
+    if !is_optional_type_name(types.recipient) {
+        return Err(OutcomeFault::RecipientType);
+    }
+    if !is_type_of(original, types.original) {
+        return Err(OutcomeFault::OriginalType);
+    }
+    if !is_type_of(diagnostic, types.diagnostic) {
+        return Err(OutcomeFault::DiagnosticType);
+    }
+    if !is_extension_text(extensions) {
+        return Err(OutcomeFault::Extension);
+    }
+    Ok(())
 }

@@ -35,13 +35,25 @@ pub enum OutcomeFault {
     /// It is said until when delivery is tried again, of a recipient that isn't delayed.
     #[error("only a delayed recipient is tried again")]
     RetryUntil,
+    /// The type of the recipient is neither empty nor the name of a type.
+    #[error("the type of the recipient is neither empty nor the name of a type")]
+    RecipientType,
+    /// The type of the original recipient is no name of a type, or there is no original recipient.
+    #[error("the type of the original recipient is none, or is that of no recipient")]
+    OriginalType,
+    /// The type of the diagnostic is no name of a type, or there is no diagnostic.
+    #[error("the type of the diagnostic is none, or is that of no diagnostic")]
+    DiagnosticType,
+    /// The extension fields are no text of them.
+    #[error("the extension fields are no lines of a name that begins with X- and a value")]
+    Extension,
     /// Memory for the outcome was refused.
     #[error("out of memory")]
     NoMemory,
 }
 
 impl OutcomeFault {
-    /// The number of the refusal, 1 to 10, as an answer carries it.
+    /// The number of the refusal, 1 to 10, 15 to 17 or 20, as an answer carries it.
     pub fn code(&self) -> u32
         ensures { result ≡ outcome_fault_code self.now }
     {
@@ -55,6 +67,10 @@ impl OutcomeFault {
             OutcomeFault::LongDiagnostic => fault_code::LONG_DIAGNOSTIC,
             OutcomeFault::LongReason => fault_code::LONG_REASON,
             OutcomeFault::RetryUntil => fault_code::RETRY_UNTIL,
+            OutcomeFault::RecipientType => fault_code::RECIPIENT_TYPE,
+            OutcomeFault::OriginalType => fault_code::ORIGINAL_TYPE,
+            OutcomeFault::DiagnosticType => fault_code::DIAGNOSTIC_TYPE,
+            OutcomeFault::Extension => fault_code::EXTENSION,
             OutcomeFault::NoMemory => fault_code::NO_MEMORY,
         }
     }

@@ -1,4 +1,6 @@
 //! The fields of an outcome as a delivery agent hands them in.
+ghost use Rattle.std.specs.Prelude.{◌≡◌, []};
+
 use dsn_text::Stamp;
 
 /// What a delivery agent says of one recipient. An empty original, remote system, diagnostic or
@@ -24,4 +26,36 @@ pub struct Parts<'a> {
     /// Until when delivery is tried again (RFC 3464 section 2.3.9); with a delayed recipient
     /// alone.
     pub retry_until: Option<Stamp>,
+    /// The types of the recipients and of the diagnostic.
+    pub types: Types<'a>,
+    /// The extension fields (RFC 3464 section 2.4): at most 8 lines, each ended by LF alone, of a
+    /// name that begins with `X-`, a colon, a space and a value. Empty for none.
+    pub extensions: &'a [u8],
+}
+
+/// What kind of text each of an outcome's typed texts is: the name of a type, 1 to 32 bytes. An
+/// empty one means the usual type: `rfc822` of a recipient, `smtp` of a diagnostic.
+#[derive(Clone, Copy)]
+pub struct Types<'a> {
+    /// The type of the final recipient (RFC 3464 section 2.3.2).
+    pub recipient: &'a [u8],
+    /// The type of the original recipient (RFC 3464 section 2.3.1, RFC 3461 section 4.2).
+    pub original: &'a [u8],
+    /// The type of the diagnostic (RFC 3464 section 2.3.6).
+    pub diagnostic: &'a [u8],
+}
+
+impl Types<'_> {
+    /// The usual types.
+    pub fn usual() -> Types<'static>
+        ensures recipient { result.recipient.now ≡ [] }
+        ensures original { result.original.now ≡ [] }
+        ensures diagnostic { result.diagnostic.now ≡ [] }
+    {
+        Types {
+            recipient: b"",
+            original: b"",
+            diagnostic: b"",
+        }
+    }
 }

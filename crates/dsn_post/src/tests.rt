@@ -1,12 +1,13 @@
 //! Letters on their way from a collector's sink to the outbox.
-ghost use Rattle.std.specs.Prelude.{◌≡◌, IfOk, IsSome};
+ghost use Rattle.std.specs.Prelude.{◌≡◌, None, IfOk, IsSome};
 
 use crate::assert_same::same;
 use crate::posting::post_all;
 use crate::{LetterSink, LettersEnd, Posted, Sink, end_posting, open_post, start_posting};
 use dsn_device::Plain;
 use dsn_outcome::{
-    Address, Chain, Draft, Key, Letter, Letters, Outcome, Parts, QueueId, RawHeader, Service, Stamp,
+    Address, Chain, Draft, Key, Letter, Letters, Outcome, Parts, QueueId, RawHeader, Service,
+    Stamp, Types, Wishes,
 };
 use dsn_report::{Ended, Outgoing, Poster, Site};
 use std::alloc::Global;
@@ -61,13 +62,15 @@ fn site(alloc: Global) -> Result<Site, Fail> {
 
 /// A draft of a notice to the sender.
 fn draft(alloc: Global) -> Result<Draft, Fail>
-    ensures { IfOk result (λ draft. IsSome draft.return_path) }
+    ensures returns { IfOk result (λ draft. IsSome draft.return_path) }
+    ensures any { IfOk result (λ draft. draft.expected ≡ None) }
 {
     let moment = Stamp::new(1_700_000_000).ok_or("the moment")?;
     let arrival = Stamp::new(1_699_996_400).ok_or("the arrival")?;
     let sender = Address::new(alloc, b"ann@example.com")?;
     let header = RawHeader::new(alloc, b"")?;
-    Ok(Draft::new(alloc, moment, arrival, Some(sender), None, header)?)
+    let wishes = Wishes::usual();
+    Ok(Draft::new(alloc, moment, arrival, Some(sender), None, header, wishes)?)
 }
 
 /// A letter about the message with this queue id.
@@ -82,6 +85,8 @@ fn letter(alloc: Global, id: &[u8]) -> Result<Letter, Fail> {
         reason: b"",
         last_attempt: None,
         retry_until: None,
+        types: Types::usual(),
+        extensions: b"",
     };
     let key = Key {
         service: Service::Bounce,

@@ -1,15 +1,17 @@
 -- Pieces of the text of several lines, of which each may reach over several lines: a block is put together from its
 -- lines, and each of them from its parts.
-use Rattle.std.proofs.Common.{◌≡◌, ℕ, Bool, true, false, not, List, [], ◌∷◌, ◌++◌, refl, sym, ap, ◌∙◌, ◌-◌, take, length, arith, length-append, append_assoc}
+use Rattle.std.proofs.Common.{◌≡◌, ℕ, Bool, true, false, not, List, [], ◌∷◌, ◌++◌, codes, refl, sym, ap, ◌∙◌, ◌-◌, take, length, arith, length-append, append_assoc}
 use Rattle.std.proofs.Math.Seq.{take-append_seam}
 use Rattle.std.specs.Prelude.{◌==◌}
 use Rattle.std.proofs.lemmas.Bool.{or_from}
 use Rattle.std.specs.List.{list_any}
 use Rattle.dsn_text.specs.declared.service.Service.{Service}
 use Rattle.dsn_text.specs.declared.service.Service.TheVariants.{Bounce, Defer, Trace}
+use Rattle.dsn_outcome.specs.declared.wording.Wording.{Wording}
+use Rattle.dsn_outcome.specs.declared.wording.Wording.TheVariants.{ByService, ByOutcome}
 use Rattle.dsn_report.specs.LineWriter.{IsBlock, begins_plainly}
 use Rattle.dsn_report.specs.Lines.{begins_with_dot, text_of_lines}
-use Rattle.dsn_report.specs.Notice.{opening_of}
+use Rattle.dsn_report.specs.Notice.{words_by}
 
 -- a line of these parts, put together as definitions write it
 abbrev pub joined : List ℕ → List (List ℕ) → List ℕ
@@ -45,10 +47,14 @@ pub block-empty : {lines : List (List ℕ)} {text : List ℕ} → IsBlock lines 
 block-empty block = block-line [] [] refl block
 
 -- no opening begins with a dot
-pub opening-plain : (service : Service) → begins_with_dot (opening_of service) ≡ false
-opening-plain Bounce = refl
-opening-plain Defer = refl
-opening-plain Trace = refl
+pub opening-plain : (wording : Wording) (service : Service) (arrived : Bool) → begins_with_dot (words_by wording service arrived).opening ≡ false
+opening-plain ByService Bounce arrived = refl
+opening-plain ByService Defer arrived = refl
+opening-plain ByService Trace arrived = refl
+opening-plain ByOutcome Bounce arrived = refl
+opening-plain ByOutcome Defer arrived = refl
+opening-plain ByOutcome Trace true = refl
+opening-plain ByOutcome Trace false = refl
 
 -- a line that begins with a name begins with no dot, whatever follows
 pub plain-line : (name value : List ℕ) → begins_plainly name ≡ true → begins_with_dot (name ++ value) ≡ false
@@ -58,6 +64,20 @@ plain-line (byte ∷ rest) value plain = here (byte == 46) plain
     here : (dot : Bool) → not dot ≡ true → dot ≡ false
     here true e = cc
     here false e = refl
+
+-- a recipient and what was done for it, as pieces have them and as definitions do
+pub told-alone : (recipient action status : List ℕ)
+    → (codes "<" ++ recipient ++ codes ">: " ++ action ++ codes " (" ++ status ++ codes ")") ∷ []
+    ≡ ((codes "<" ++ recipient ++ codes ">") ++ codes ": " ++ action ++ codes " (" ++ status ++ codes ")") ∷ []
+told-alone recipient action status =
+    ap (λ front. (front ++ action ++ codes " (" ++ status ++ codes ")") ∷ []) (sym (append_assoc (codes "<" ++ recipient) (codes ">") (codes ": ")))
+
+pub told-expanded : (recipient origin action status : List ℕ)
+    → (codes "<" ++ recipient ++ codes "> (expanded from <" ++ origin ++ codes ">): " ++ action ++ codes " (" ++ status ++ codes ")") ∷ []
+    ≡ ((codes "<" ++ recipient ++ codes "> (expanded from <" ++ origin ++ codes ">)") ++ codes ": " ++ action ++ codes " (" ++ status ++ codes ")") ∷ []
+told-expanded recipient origin action status =
+    ap (λ front. (front ++ action ++ codes " (" ++ status ++ codes ")") ∷ [])
+    (sym (append_assoc (codes "<" ++ recipient ++ codes "> (expanded from <" ++ origin) (codes ">)") (codes ": ")))
 
 -- a boundary without its number is its front
 pub boundary-front : (front number : List ℕ) → length number ≡ 4 → take (length (front ++ number) - 4) (front ++ number) ≡ front

@@ -1,4 +1,4 @@
--- A header has too few bytes to rule out all numbers, so the search finds the least number that none of its lines rules
+-- A text has too few bytes to rule out all numbers, so the search finds the least number that none of its lines rules
 -- out.
 use Rattle.std.proofs.Common.{◌≡◌, ℕ, zero, suc, ◌+◌, ◌*◌, ◌<◌, ◌≤◌, inl, inr, Bool, true, false, List, [], ◌∷◌, ◌++◌, length, drop, codes, refl, sym, ap, subst, ◌∙◌, arith, if◌then◌else◌, length-append}
 use Rattle.std.specs.List.{list_any}
@@ -65,13 +65,13 @@ count-lines letter (line ∷ ls) n few =
     let both = count_below-or (λ k. is_delimiter (boundary_text letter k) line) (λ k. list_any (is_delimiter (boundary_text letter k)) ls) n in
     omega (arith, both, count-line letter line n few, count-lines letter ls n few)
 
--- no header rules out the first 2,980 numbers
+-- no text rules out the first 2,980 numbers
 pub some-free : (letter : Letter) → length letter.draft.header ≤ 32768 → ((k : ℕ) → k < 2980 → is_ruled_out letter k ≡ true) → ⊥
 unfolding is_ruled_out
 some-free letter short all =
-    let everything = count_below-all (λ k. list_any (is_delimiter (boundary_text letter k)) (returned_lines letter.draft.header)) 2980 all in
-    let cost = count-lines letter (returned_lines letter.draft.header) 2980 (omega arith) in
-    omega (arith, everything, cost, room-returned letter.draft.header)
+    let everything = count_below-all (λ k. list_any (is_delimiter (boundary_text letter k)) (returned_lines letter.draft)) 2980 all in
+    let cost = count-lines letter (returned_lines letter.draft) 2980 (omega arith) in
+    omega (arith, everything, cost, room-returned letter.draft)
 
 -- the search passed each smaller number
 passed-step : (test : ℕ → Bool) (number found k : ℕ) (here : Bool) → test number ≡ here → number ≤ k → k < (if here then found else number)

@@ -1,4 +1,4 @@
--- What one line of a header says of the boundary's number, and how the table of the numbers that are ruled out grows.
+-- What one returned line says of the boundary's number, and how the table of the numbers that are ruled out grows.
 use Rattle.std.proofs.Common.{◌≡◌, ℕ, suc, cond, ◌+◌, ◌/◌, ◌%◌, ◌<◌, inl, inr, Bool, true, false, ◌||◌, List, [], ◌∷◌, ◌++◌, length, length-append, append_assoc, take, drop, map, get_or, codes, refl, sym, ap, subst, ◌∙◌, arith, if◌then◌else◌, slice_set}
 use Rattle.std.specs.Prelude.{not, position, ◌==◌, nat_eq, IfSome, IfNone, IsTrue, IsFalse, Option, Some, None}
 use Rattle.std.specs.List.{list_any, position_or_len, starts_with}
@@ -12,7 +12,8 @@ use Rattle.std.proofs.lemmas.List.Sums.{fails_before_first}
 use Rattle.std.proofs.lemmas.Slice.Eq.{starts_is}
 use Rattle.dsn_outcome.specs.Letter.{Letter}
 use Rattle.dsn_text.specs.Text.{is_printable}
-use Rattle.dsn_report.specs.Boundary.{IsBoundaryNumber, boundary_front, boundary_text, four_digits, header_lines, is_dashed, is_delimiter, is_ruled_out, returned_lines, rules_out, shown_byte, shown_line}
+use Rattle.dsn_report.specs.Boundary.{IsBoundaryNumber, boundary_front, boundary_text, four_digits, is_dashed, is_delimiter, is_ruled_out, returned_lines, rules_out}
+use Rattle.dsn_report.specs.ReturnedLines.{byte_shown, line_shown, lines_shown, taken_lines}
 
 -- a text that begins with another
 begins-with : (front text : List ℕ) → starts_with nat_eq text front ≡ true → text ≡ front ++ drop (length front) text
@@ -89,31 +90,32 @@ no-front front line inner outer other k =
     ∙ append_assoc front (four_digits k) _))
 
 -- a byte that is shown as a dash is one
-shown-dash : (byte : ℕ) → shown_byte byte ≡ 45 → byte ≡ 45
-shown-dash byte shown = here (is_printable byte || (byte == 9)) shown
+shown-dash : (whole : Bool) (byte : ℕ) → byte_shown whole byte ≡ 45 → byte ≡ 45
+shown-dash true byte shown = shown
+shown-dash false byte shown = here (is_printable byte || (byte == 9)) shown
   where
     here : (plain : Bool) → (if plain then byte else 63) ≡ 45 → byte ≡ 45
     here true e = e
     here false e = absurd (omega (arith, e))
 
 -- a line that doesn't begin with two dashes is no delimiter as it is shown
-not-dashed : (boundary line : List ℕ) → is_dashed line ≡ false → is_delimiter boundary (shown_line line) ≡ false
-not-dashed boundary line other = false_from_ne_true _ (λ is. dashed line other (delimiter-begins boundary (shown_line line) is))
+not-dashed : (whole : Bool) (boundary line : List ℕ) → is_dashed line ≡ false → is_delimiter boundary (line_shown whole line) ≡ false
+not-dashed whole boundary line other = false_from_ne_true _ (λ is. dashed line other (delimiter-begins boundary (line_shown whole line) is))
   where
-    dashed : (line : List ℕ) → is_dashed line ≡ false → shown_line line ≡ (codes "--" ++ boundary) ++ drop (length (codes "--" ++ boundary)) (shown_line line) → ⊥
+    dashed : (line : List ℕ) → is_dashed line ≡ false → line_shown whole line ≡ (codes "--" ++ boundary) ++ drop (length (codes "--" ++ boundary)) (line_shown whole line) → ⊥
     dashed [] other e = cc
     dashed (a ∷ []) other e = cc
     dashed (a ∷ b ∷ more) other e =
-        let first : a ≡ 45 = shown-dash a (ap (λ l. get_or l 0 0) e) in
-        let second : b ≡ 45 = shown-dash b (ap (λ l. get_or l 1 0) e) in
+        let first : a ≡ 45 = shown-dash whole a (ap (λ l. get_or l 0 0) e) in
+        let second : b ≡ 45 = shown-dash whole b (ap (λ l. get_or l 1 0) e) in
         false≢true (sym other ∙ rw (first, second) refl)
 
 -- lines that don't begin with two dashes rule out nothing
-none-dashed : (boundary : List ℕ) (lines : List (List ℕ)) → list_any is_dashed lines ≡ false → list_any (is_delimiter boundary) (map shown_line lines) ≡ false
-none-dashed boundary [] none = refl
-none-dashed boundary (line ∷ lines) none =
+none-dashed : (whole : Bool) (boundary : List ℕ) (lines : List (List ℕ)) → list_any is_dashed lines ≡ false → list_any (is_delimiter boundary) (map (line_shown whole) lines) ≡ false
+none-dashed whole boundary [] none = refl
+none-dashed whole boundary (line ∷ lines) none =
     let parts = or_parts (is_dashed line) (list_any is_dashed lines) none in
-    rw (not-dashed boundary line parts.0, none-dashed boundary lines parts.1) refl
+    rw (not-dashed whole boundary line parts.0, none-dashed whole boundary lines parts.1) refl
 
 -- what the table and the lines that are left say of a number, once a line is read
 marked-other : (all marked here rest : Bool) → all ≡ (marked || (here || rest)) → here ≡ false → all ≡ (marked || rest)
@@ -135,29 +137,29 @@ marked-more all here rest table found number room once back read_off = elim (eqb
 ]
 
 -- a number that the next line doesn't rule out, and one that it does
-abbrev pub IsMarked : List ℕ → List ℕ → List Bool → List (List ℕ) → Type 0
-IsMarked front header table left =
+abbrev pub IsMarked : List ℕ → Bool → List (List ℕ) → List Bool → List (List ℕ) → Type 0
+IsMarked front whole all table left =
     (number : ℕ) → number < 2980
-    → rules_out front header number ≡ (get_or table number false || list_any (is_delimiter (front ++ four_digits number)) (map shown_line left))
+    → rules_out front all number ≡ (get_or table number false || list_any (is_delimiter (front ++ four_digits number)) (map (line_shown whole) left))
 
-pub IsMarked-none : (front header line : List ℕ) (table : List Bool) (left rest : List (List ℕ)) → left ≡ line ∷ rest
-    → ((number : ℕ) → number < 2980 → is_delimiter (front ++ four_digits number) (shown_line line) ≡ false)
-    → IsMarked front header table left → IsMarked front header table rest
-IsMarked-none front header line table left rest e none so_far = λ number below.
-    marked-other (rules_out front header number) (get_or table number false) (is_delimiter (front ++ four_digits number) (shown_line line))
-    (list_any (is_delimiter (front ++ four_digits number)) (map shown_line rest))
-    (so_far number below ∙ ap (λ left. get_or table number false || list_any (is_delimiter (front ++ four_digits number)) (map shown_line left)) e)
+pub IsMarked-none : (front line : List ℕ) (whole : Bool) (all : List (List ℕ)) (table : List Bool) (left rest : List (List ℕ)) → left ≡ line ∷ rest
+    → ((number : ℕ) → number < 2980 → is_delimiter (front ++ four_digits number) (line_shown whole line) ≡ false)
+    → IsMarked front whole all table left → IsMarked front whole all table rest
+IsMarked-none front line whole all table left rest e none so_far = λ number below.
+    marked-other (rules_out front all number) (get_or table number false) (is_delimiter (front ++ four_digits number) (line_shown whole line))
+    (list_any (is_delimiter (front ++ four_digits number)) (map (line_shown whole) rest))
+    (so_far number below ∙ ap (λ left. get_or table number false || list_any (is_delimiter (front ++ four_digits number)) (map (line_shown whole) left)) e)
     (none number below)
 
-pub IsMarked-some : (front header line : List ℕ) (table : List Bool) (left rest : List (List ℕ)) (found : ℕ) → left ≡ line ∷ rest → length table ≡ 2980
-    → found < 2980 → is_delimiter (front ++ four_digits found) (shown_line line) ≡ true
-    → IsMarked front header table left → IsMarked front header (slice_set table found true) rest
-IsMarked-some front header line table left rest found e size low is so_far = λ number below.
-    marked-more (rules_out front header number) (is_delimiter (front ++ four_digits number) (shown_line line))
-    (list_any (is_delimiter (front ++ four_digits number)) (map shown_line rest)) table found number (omega arith)
-    (λ also. delimiter-once front (shown_line line) found number (omega arith) (omega arith) is also)
-    (λ same. subst (λ n. is_delimiter (front ++ four_digits n) (shown_line line) ≡ true) same is)
-    (so_far number below ∙ ap (λ left. get_or table number false || list_any (is_delimiter (front ++ four_digits number)) (map shown_line left)) e)
+pub IsMarked-some : (front line : List ℕ) (whole : Bool) (all : List (List ℕ)) (table : List Bool) (left rest : List (List ℕ)) (found : ℕ) → left ≡ line ∷ rest → length table ≡ 2980
+    → found < 2980 → is_delimiter (front ++ four_digits found) (line_shown whole line) ≡ true
+    → IsMarked front whole all table left → IsMarked front whole all (slice_set table found true) rest
+IsMarked-some front line whole all table left rest found e size low is so_far = λ number below.
+    marked-more (rules_out front all number) (is_delimiter (front ++ four_digits number) (line_shown whole line))
+    (list_any (is_delimiter (front ++ four_digits number)) (map (line_shown whole) rest)) table found number (omega arith)
+    (λ also. delimiter-once front (line_shown whole line) found number (omega arith) (omega arith) is also)
+    (λ same. subst (λ n. is_delimiter (front ++ four_digits n) (line_shown whole line) ≡ true) same is)
+    (so_far number below ∙ ap (λ left. get_or table number false || list_any (is_delimiter (front ++ four_digits number)) (map (line_shown whole) left)) e)
 
 -- where no element passes, each fails
 position-None : {X : Type 0} (p : X → Bool) (xs : List X) (d : X) → position p xs ≡ None → (k : ℕ) → k < length xs → p (get_or xs k d) ≡ false
@@ -170,45 +172,46 @@ position-None p xs d none k below = elim (leb_tells (suc (position_or_len p xs))
     some≢none n e = cc
 
 -- the whole table says of each number whether it is ruled out
-ruled_out-rules_out : (letter : Letter) (front header : List ℕ) (number : ℕ) → front ≡ boundary_front letter → header ≡ letter.draft.header
-    → rules_out front header number ≡ is_ruled_out letter number
+ruled_out-rules_out : (letter : Letter) (front : List ℕ) (all : List (List ℕ)) (number : ℕ) → front ≡ boundary_front letter → all ≡ returned_lines letter.draft
+    → rules_out front all number ≡ is_ruled_out letter number
 unfolding is_ruled_out boundary_text
-ruled_out-rules_out letter front header number f h = rw (f, h) refl
+ruled_out-rules_out letter front all number f l = rw (f, l) refl
 
-abbrev pub IsTable : List ℕ → List ℕ → List Bool → Type 0
-IsTable front header table = (number : ℕ) → number < 2980 → get_or table number false ≡ rules_out front header number
+abbrev pub IsTable : List ℕ → List (List ℕ) → List Bool → Type 0
+IsTable front all table = (number : ℕ) → number < 2980 → get_or table number false ≡ rules_out front all number
 
 -- the first free number of the table is the boundary's
-pub IsBoundaryNumber-first : (letter : Letter) (front header : List ℕ) (table : List Bool) (number : ℕ) → front ≡ boundary_front letter → header ≡ letter.draft.header
-    → length table ≡ 2980 → IsTable front header table → position not table ≡ Some number → IsBoundaryNumber letter number
-IsBoundaryNumber-first letter front header table number f h size read_off first =
+pub IsBoundaryNumber-first : (letter : Letter) (front : List ℕ) (all : List (List ℕ)) (table : List Bool) (number : ℕ) → front ≡ boundary_front letter → all ≡ returned_lines letter.draft
+    → length table ≡ 2980 → IsTable front all table → position not table ≡ Some number → IsBoundaryNumber letter number
+IsBoundaryNumber-first letter front all table number f l size read_off first =
     let found = position-Some not table number false first in
     record {
       free =
-          sym (ruled_out-rules_out letter front header number f h) ∙ sym (read_off number (omega (arith, found.0, size)))
+          sym (ruled_out-rules_out letter front all number f l) ∙ sym (read_off number (omega (arith, found.0, size)))
           ∙ not-true (get_or table number false) found.1;
       least = λ smaller below.
-          sym (ruled_out-rules_out letter front header smaller f h) ∙ sym (read_off smaller (omega (arith, found.0, size, below)))
+          sym (ruled_out-rules_out letter front all smaller f l) ∙ sym (read_off smaller (omega (arith, found.0, size, below)))
           ∙ not-false (get_or table smaller false) (found.2 smaller below);
     }
 
 -- a table with no free number rules out all of them
-pub all-ruled_out : (letter : Letter) (front header : List ℕ) (table : List Bool) → front ≡ boundary_front letter → header ≡ letter.draft.header
-    → length table ≡ 2980 → IsTable front header table → position not table ≡ None → (number : ℕ) → number < 2980 → is_ruled_out letter number ≡ true
-all-ruled_out letter front header table f h size read_off none number below =
-    sym (ruled_out-rules_out letter front header number f h) ∙ sym (read_off number below)
+pub all-ruled_out : (letter : Letter) (front : List ℕ) (all : List (List ℕ)) (table : List Bool) → front ≡ boundary_front letter → all ≡ returned_lines letter.draft
+    → length table ≡ 2980 → IsTable front all table → position not table ≡ None → (number : ℕ) → number < 2980 → is_ruled_out letter number ≡ true
+all-ruled_out letter front all table f l size read_off none number below =
+    sym (ruled_out-rules_out letter front all number f l) ∙ sym (read_off number below)
     ∙ not-false (get_or table number false) (position-None not table false none number (omega (arith, size, below)))
 
--- a header with no line that begins with two dashes rules out no number
-none-ruled_out : (letter : Letter) (header : List ℕ) (number : ℕ) → header ≡ letter.draft.header → list_any is_dashed (header_lines header) ≡ false
-    → is_ruled_out letter number ≡ false
-unfolding is_ruled_out returned_lines
-none-ruled_out letter header number h none =
-    none-dashed (boundary_text letter number) (header_lines letter.draft.header) (ap (λ header. list_any is_dashed (header_lines header)) (sym h) ∙ none)
+-- lines none of which begins with two dashes rule out no number
+none-ruled_out : (letter : Letter) (whole : Bool) (text : List ℕ) (number : ℕ) → lines_shown whole text ≡ returned_lines letter.draft
+    → list_any is_dashed (taken_lines whole text) ≡ false → is_ruled_out letter number ≡ false
+unfolding is_ruled_out
+none-ruled_out letter whole text number shown none =
+    ap (list_any (is_delimiter (boundary_text letter number))) (sym shown) ∙ none-dashed whole (boundary_text letter number) (taken_lines whole text) none
 
 -- without a line that begins with two dashes no number is ruled out
-pub none_ruled_out : (letter : Letter) → list_any is_dashed (header_lines letter.draft.header) ≡ false → IsBoundaryNumber letter 0
-none_ruled_out letter none = record {
-  free = none-ruled_out letter letter.draft.header 0 refl none;
+pub none_ruled_out : (letter : Letter) (whole : Bool) (text : List ℕ) → lines_shown whole text ≡ returned_lines letter.draft
+    → list_any is_dashed (taken_lines whole text) ≡ false → IsBoundaryNumber letter 0
+none_ruled_out letter whole text shown none = record {
+  free = none-ruled_out letter whole text 0 shown none;
   least = λ smaller below. absurd (omega (arith, below));
 }

@@ -1,4 +1,4 @@
--- A header without a dash has no line that begins with two.
+-- A text without a dash has no line that begins with two.
 use Rattle.std.proofs.Common.{◌≡◌, ℕ, ◌-◌, zero, suc, cond, Bool, true, false, List, [], ◌∷◌, length, get_or, take, codes, refl, sym, ap, ◌∙◌, if◌then◌else◌}
 use Rattle.std.specs.Prelude.{◌==◌}
 use Rattle.std.specs.List.{list_any, onto_first, slice_split}
@@ -7,6 +7,7 @@ use Rattle.std.proofs.lemmas.Bool.{false_from_ne_true, false≢true, or_parts, o
 use Rattle.std.proofs.lemmas.Bool.Decides.{Decides-eqb}
 use Rattle.std.proofs.lemmas.Slice.Eq.{starts_is}
 use Rattle.dsn_report.specs.Boundary.{header_lines, is_dashed}
+use Rattle.dsn_report.specs.ReturnedLines.{taken_lines}
 
 abbrev has_dash : List ℕ → Bool
 has_dash text = list_any (λ byte. byte == 45) text
@@ -59,6 +60,7 @@ lines-plain (part ∷ next ∷ more) none =
     or_from (is_dashed (strip_carriage_return part)) (list_any is_dashed (lines_of_parts (next ∷ more)))
     (not-dashed-stripped part both.0) (lines-plain (next ∷ more) both.1)
 
-pub no-dashed_line : (header : List ℕ) → list_any (λ byte. byte == 45) header ≡ false → list_any is_dashed (header_lines header) ≡ false
+pub no-dashed_line : (whole : Bool) (text : List ℕ) → list_any (λ byte. byte == 45) text ≡ false → list_any is_dashed (taken_lines whole text) ≡ false
 unfolding header_lines
-no-dashed_line header none = none-taken is_dashed _ (lines header) (lines-plain (slice_split (λ b. b == 10) header) (parts-plain (λ b. b == 10) header none))
+no-dashed_line true text none = lines-plain (slice_split (λ b. b == 10) text) (parts-plain (λ b. b == 10) text none)
+no-dashed_line false text none = none-taken is_dashed _ (lines text) (lines-plain (slice_split (λ b. b == 10) text) (parts-plain (λ b. b == 10) text none))

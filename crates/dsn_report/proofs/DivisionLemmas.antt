@@ -1,6 +1,6 @@
 -- A notice divides into its parts.
-use Rattle.std.proofs.Common.{◌≡◌, ℕ, ◌≤◌, map, true, false, List, [], ◌∷◌, ◌++◌, Option, Some, None, length, take, codes, refl, sym, ap, ◌∙◌, arith, append_assoc, append-nil, length-append, nat_eq}
-use Rattle.std.specs.Prelude.{option_map}
+use Rattle.std.proofs.Common.{◌≡◌, ℕ, suc, ◌≤◌, map, Bool, true, false, List, [], ◌∷◌, ◌++◌, Option, Some, None, length, take, codes, refl, sym, ap, ◌∙◌, arith, append_assoc, append-nil, length-append, nat_eq}
+use Rattle.std.specs.Prelude.{All, option_map}
 use Rattle.std.specs.List.{list_any, flat_map}
 use Rattle.std.specs.Cmp.Lexicographic.{unequal}
 use Rattle.std.proofs.lemmas.Bool.{or_from, or_parts}
@@ -9,17 +9,21 @@ use Rattle.std.proofs.lemmas.List.{length-take}
 use Rattle.std.proofs.lemmas.Slice.Eq.{starts_is}
 use Rattle.dsn_text.specs.Action.{action_word}
 use Rattle.dsn_outcome.specs.Letter.{Letter}
-use Rattle.dsn_outcome.specs.Outcome.{Outcome}
+use Rattle.dsn_outcome.specs.Outcome.{Outcome, IsLegalOutcome}
+use Rattle.dsn_text.specs.Extension.{lines_ended_by_lf}
 use Rattle.dsn_text.specs.Stamp.{date_text}
+use Rattle.dsn_outcome.specs.declared.wording.Wording.{Wording}
+use Rattle.dsn_outcome.specs.declared.wording.Wording.TheVariants.{ByService, ByOutcome}
 use Rattle.dsn_text.specs.declared.service.Service.{Service}
 use Rattle.dsn_text.specs.declared.service.Service.TheVariants.{Bounce, Defer, Trace}
 use Rattle.dsn_report.proofs.BoundaryLaw.{boundary_number-is}
-use Rattle.dsn_report.specs.Boundary.{boundary_of, is_delimiter, is_ruled_out, returned_lines}
-use Rattle.dsn_report.specs.DeliveryStatus.{line_if_any, per_message_fields, per_recipient_fields, recipient_group, delivery_status}
+use Rattle.dsn_report.specs.Boundary.{boundary_of, is_delimiter, is_ruled_out, returned_lines, returns_message}
+use Rattle.dsn_report.specs.DeliveryStatus.{line_if_any, per_message_fields, per_recipient_fields, recipient_group, delivery_status, typed, usual_address_type, usual_diagnostic_type}
 use Rattle.dsn_report.specs.Multipart.{DividesIntoParts, divide, divide_more, message_body, multipart_of, multipart_of_pieces, part_lines, returned_parts, notice_parts, is_last_delimiter}
-use Rattle.dsn_report.specs.Notice.{notice_header, part_header, part_of, outcome_lines, notification, opening_of, returned_part, lines_with_boundary, notice_lines, notice_of}
+use Rattle.dsn_report.specs.Notice.{notice_header, part_header, part_of, outcome_lines, notification, origin_told, recipient_told, returned_description, returned_part, returned_type, words_by, words_of, lines_with_boundary, notice_lines, notice_of}
 use Rattle.dsn_report.specs.Lines.{text_of_pieces}
 use Rattle.dsn_report.specs.WellFormed.{IsWellFormed}
+use Rattle.dsn_report.proofs.ExtensionLemmas.{extension_lines-pass, none-delimits}
 use Rattle.dsn_report.proofs.LinesLemmas.{notice_lines-legal}
 use Rattle.dsn_report.proofs.PieceLemmas.{has_line_bytes-legal, map-text_of_pieces, pieces-lines}
 
@@ -45,21 +49,37 @@ unfolding line_if_any
 none-if-any boundary byte name None other = refl
 none-if-any boundary byte name (Some value) other = rw other refl
 
-none-opening : (boundary : List ℕ) (service : Service) → is_delimiter boundary (opening_of service) ≡ false
-none-opening boundary Bounce = refl
-none-opening boundary Defer = refl
-none-opening boundary Trace = refl
+none-opening : (boundary : List ℕ) (wording : Wording) (service : Service) (arrived : Bool) → is_delimiter boundary (words_by wording service arrived).opening ≡ false
+none-opening boundary ByService Bounce arrived = refl
+none-opening boundary ByService Defer arrived = refl
+none-opening boundary ByService Trace arrived = refl
+none-opening boundary ByOutcome Bounce arrived = refl
+none-opening boundary ByOutcome Defer arrived = refl
+none-opening boundary ByOutcome Trace true = refl
+none-opening boundary ByOutcome Trace false = refl
 
-none-outcome : (boundary : List ℕ) (outcome : Outcome) → NoneDelimits boundary (outcome_lines outcome)
+none-told : (boundary recipient rest : List ℕ) (origin : Option (List ℕ)) → is_delimiter boundary (recipient_told recipient origin ++ rest) ≡ false
+unfolding recipient_told
+none-told boundary recipient rest None = refl
+none-told boundary recipient rest (Some original) = refl
+
+none-outcome : (boundary : List ℕ) (wording : Wording) (outcome : Outcome) → NoneDelimits boundary (outcome_lines wording outcome)
 unfolding outcome_lines
-none-outcome boundary outcome = none-if-any boundary 32 (codes "   ") outcome.reason refl
+none-outcome boundary wording outcome =
+    let told = recipient_told outcome.recipient (origin_told wording outcome) in
+    let line = told ++ codes ": " ++ action_word outcome.action ++ codes " (" ++ outcome.status ++ codes ")" in
+    let rest = codes ": " ++ (action_word outcome.action ++ (codes " (" ++ (outcome.status ++ codes ")"))) in
+    let regrouped : line ≡ told ++ rest = simp append_assoc refl in
+    or_from (is_delimiter boundary line) (list_any (is_delimiter boundary) (line_if_any (codes "    ") outcome.reason))
+    (ap (is_delimiter boundary) regrouped ∙ none-told boundary outcome.recipient rest (origin_told wording outcome))
+    (none-if-any boundary 32 (codes "   ") outcome.reason refl)
 
 none-notification : (boundary host : List ℕ) (letter : Letter) → NoneDelimits boundary (notification host letter)
 unfolding notification
 none-notification boundary host letter =
-    or_from (is_delimiter boundary (opening_of letter.key.service)) (list_any (is_delimiter boundary) (flat_map outcome_lines letter.outcomes))
-    (none-opening boundary letter.key.service)
-    (none-flat_map boundary outcome_lines letter.outcomes (none-outcome boundary))
+    or_from (is_delimiter boundary (words_of letter).opening) (list_any (is_delimiter boundary) (flat_map (outcome_lines letter.draft.wording) letter.outcomes))
+    (none-opening boundary letter.draft.wording letter.key.service _)
+    (none-flat_map boundary (outcome_lines letter.draft.wording) letter.outcomes (none-outcome boundary letter.draft.wording))
 
 none-message : (boundary host : List ℕ) (letter : Letter) → NoneDelimits boundary (per_message_fields host letter)
 unfolding per_message_fields
@@ -67,32 +87,40 @@ none-message boundary host letter =
     none-append boundary (line_if_any (codes "Original-Envelope-Id: ") letter.draft.envelope_id) _
     (none-if-any boundary 79 (codes "riginal-Envelope-Id: ") letter.draft.envelope_id refl) refl
 
-none-recipient : (boundary : List ℕ) (outcome : Outcome) → NoneDelimits boundary (recipient_group outcome)
+none-recipient : (boundary : List ℕ) (outcome : Outcome) → IsLegalOutcome outcome → NoneDelimits boundary (recipient_group outcome)
 unfolding per_recipient_fields
-none-recipient boundary outcome =
-    let original = line_if_any (codes "Original-Recipient: rfc822; ") outcome.original in
+none-recipient boundary outcome legal =
+    let original = line_if_any (typed (codes "Original-Recipient: ") usual_address_type outcome.original_type) outcome.original in
     let always =
-    (codes "Final-Recipient: rfc822; " ++ outcome.recipient) ∷ (codes "Action: " ++ action_word outcome.action) ∷ (codes "Status: " ++ outcome.status) ∷ [] in
+    (typed (codes "Final-Recipient: ") usual_address_type outcome.recipient_type ++ outcome.recipient) ∷ (codes "Action: " ++ action_word outcome.action) ∷ (codes "Status: " ++ outcome.status) ∷ [] in
     let mta = line_if_any (codes "Remote-MTA: dns; ") outcome.mta in
-    let diagnostic = line_if_any (codes "Diagnostic-Code: smtp; ") outcome.diagnostic in
+    let diagnostic = line_if_any (typed (codes "Diagnostic-Code: ") usual_diagnostic_type outcome.diagnostic_type) outcome.diagnostic in
     let last_attempt = line_if_any (codes "Last-Attempt-Date: ") (option_map date_text outcome.last_attempt) in
     let retry_until = line_if_any (codes "Will-Retry-Until: ") (option_map date_text outcome.retry_until) in
-    none-append boundary (original ++ always ++ mta ++ diagnostic ++ last_attempt) retry_until
+    none-append boundary (original ++ always ++ mta ++ diagnostic ++ last_attempt ++ retry_until) (lines_ended_by_lf outcome.extensions)
+    (none-append boundary (original ++ always ++ mta ++ diagnostic ++ last_attempt) retry_until
     (none-append boundary (original ++ always ++ mta ++ diagnostic) last_attempt
     (none-append boundary (original ++ always ++ mta) diagnostic
     (none-append boundary (original ++ always) mta
-    (none-append boundary original always (none-if-any boundary 79 (codes "riginal-Recipient: rfc822; ") outcome.original refl) refl)
+    (none-append boundary original always (none-if-any boundary 79 (typed (codes "riginal-Recipient: ") usual_address_type outcome.original_type) outcome.original refl) refl)
     (none-if-any boundary 82 (codes "emote-MTA: dns; ") outcome.mta refl))
-    (none-if-any boundary 68 (codes "iagnostic-Code: smtp; ") outcome.diagnostic refl))
+    (none-if-any boundary 68 (typed (codes "iagnostic-Code: ") usual_diagnostic_type outcome.diagnostic_type) outcome.diagnostic refl))
     (none-if-any boundary 76 (codes "ast-Attempt-Date: ") (option_map date_text outcome.last_attempt) refl))
-    (none-if-any boundary 87 (codes "ill-Retry-Until: ") (option_map date_text outcome.retry_until) refl)
+    (none-if-any boundary 87 (codes "ill-Retry-Until: ") (option_map date_text outcome.retry_until) refl))
+    (none-delimits boundary (lines_ended_by_lf outcome.extensions) (extension_lines-pass outcome.extensions legal.extensions_legal))
 
-none-status : (boundary host : List ℕ) (letter : Letter) → NoneDelimits boundary (delivery_status host letter)
+none-groups : (boundary : List ℕ) (outcomes : List Outcome) → All IsLegalOutcome outcomes → NoneDelimits boundary (flat_map recipient_group outcomes)
+none-groups boundary [] legal = refl
+none-groups boundary (outcome ∷ outcomes) legal =
+    none-append boundary (recipient_group outcome) (flat_map recipient_group outcomes) (none-recipient boundary outcome (legal 0 outcome (omega arith)))
+    (none-groups boundary outcomes (λ k d below. legal (suc k) d (omega arith)))
+
+none-status : (boundary host : List ℕ) (letter : Letter) → All IsLegalOutcome letter.outcomes → NoneDelimits boundary (delivery_status host letter)
 unfolding delivery_status
-none-status boundary host letter =
+none-status boundary host letter legal =
     none-append boundary (per_message_fields host letter) (flat_map recipient_group letter.outcomes)
     (none-message boundary host letter)
-    (none-flat_map boundary recipient_group letter.outcomes (none-recipient boundary))
+    (none-groups boundary letter.outcomes legal)
 
 none-part : (boundary description content_type : List ℕ) (body : List (List ℕ)) → NoneDelimits boundary body → NoneDelimits boundary (part_lines description content_type body ++ [] ∷ [])
 unfolding part_lines
@@ -150,44 +178,49 @@ divide-last : (boundary : List ℕ) (tail : List (List ℕ)) → divide boundary
 unfolding divide divide_more
 divide-last boundary tail = rw (delimiter-is boundary (codes "--"), last-is boundary) refl
 
-divide-returned : (boundary : List ℕ) (ls tail : List (List ℕ)) → NoneDelimits boundary ls
-    → divide boundary (returned_part boundary ls ++ ((codes "--" ++ boundary ++ codes "--") ∷ tail))
-    ≡ record { before = []; parts = map (λ part. part ++ [] ∷ []) (returned_parts ls); after = Some tail }
+divide-returned : (boundary description content_type : List ℕ) (ls tail : List (List ℕ)) → NoneDelimits boundary ls
+    → divide boundary (returned_part boundary description content_type ls ++ ((codes "--" ++ boundary ++ codes "--") ∷ tail))
+    ≡ record { before = []; parts = map (λ part. part ++ [] ∷ []) (returned_parts description content_type ls); after = Some tail }
 unfolding returned_part returned_parts
-divide-returned boundary [] tail none = divide-last boundary tail
-divide-returned boundary (line ∷ ls) tail none =
-    divide-part boundary (codes "Undelivered Message Headers") (codes "text/rfc822-headers") (line ∷ ls) ((codes "--" ++ boundary ++ codes "--") ∷ tail) [] tail none (divide-last boundary tail)
+divide-returned boundary description content_type [] tail none = divide-last boundary tail
+divide-returned boundary description content_type (line ∷ ls) tail none =
+    divide-part boundary description content_type (line ∷ ls) ((codes "--" ++ boundary ++ codes "--") ∷ tail) [] tail none (divide-last boundary tail)
+
+-- the part that a letter's notice returns
+abbrev own_returned : Letter → List ℕ → List (List ℕ)
+own_returned letter boundary =
+    returned_part boundary (returned_description (words_of letter) (returns_message letter.draft)) (returned_type (returns_message letter.draft)) (returned_lines letter.draft)
 
 -- the body of a notice is its parts and the last delimiter
 body-is : (host : List ℕ) (letter : Letter) (boundary : List ℕ) (tail : List (List ℕ)) → message_body (lines_with_boundary host letter boundary ++ tail) ≡
     part_of boundary (codes "Notification") (codes "text/plain; charset=us-ascii") (notification host letter)
     ++ (part_of boundary (codes "Delivery report") (codes "message/delivery-status") (delivery_status host letter)
-    ++ (returned_part boundary (returned_lines letter.draft.header) ++ ((codes "--" ++ boundary ++ codes "--") ∷ tail)))
+    ++ (own_returned letter boundary ++ ((codes "--" ++ boundary ++ codes "--") ∷ tail)))
 unfolding message_body lines_with_boundary notice_header
 body-is host letter boundary tail =
     let person = part_of boundary (codes "Notification") (codes "text/plain; charset=us-ascii") (notification host letter) in
     let program = part_of boundary (codes "Delivery report") (codes "message/delivery-status") (delivery_status host letter) in
-    let returned = returned_part boundary (returned_lines letter.draft.header) in
+    let returned = own_returned letter boundary in
     let end = (codes "--" ++ boundary ++ codes "--") ∷ [] in
     append_assoc (person ++ program ++ returned) end tail
     ∙ append_assoc (person ++ program) returned (end ++ tail)
     ∙ append_assoc person program (returned ++ (end ++ tail))
 
-notice-divides : (host : List ℕ) (letter : Letter) → length letter.draft.header ≤ 32768 → (tail : List (List ℕ))
+notice-divides : (host : List ℕ) (letter : Letter) → length letter.draft.header ≤ 32768 → All IsLegalOutcome letter.outcomes → (tail : List (List ℕ))
     → divide (boundary_of letter) (message_body (notice_lines host letter ++ tail))
     ≡ record { before = []; parts = map (λ part. part ++ [] ∷ []) (notice_parts host letter); after = Some tail }
 unfolding notice_lines notice_parts is_ruled_out
-notice-divides host letter short tail =
+notice-divides host letter short legal tail =
     let boundary = boundary_of letter in
     let free = (boundary_number-is letter short).free in
     ap (divide boundary) (body-is host letter boundary tail)
     ∙ divide-part boundary (codes "Notification") (codes "text/plain; charset=us-ascii") (notification host letter) _ _ tail (none-notification boundary host letter)
-    (divide-part boundary (codes "Delivery report") (codes "message/delivery-status") (delivery_status host letter) _ _ tail (none-status boundary host letter)
-    (divide-returned boundary (returned_lines letter.draft.header) tail free))
+    (divide-part boundary (codes "Delivery report") (codes "message/delivery-status") (delivery_status host letter) _ _ tail (none-status boundary host letter legal)
+    (divide-returned boundary _ _ (returned_lines letter.draft) tail free))
 
 pub division_law : (host : List ℕ) (letter : Letter) → IsWellFormed host letter → DividesIntoParts host letter
 unfolding multipart_of notice_of text_of_pieces
 division_law host letter formed =
     ap (λ pieces. multipart_of_pieces (divide (boundary_of letter) (message_body pieces))) (pieces-lines (notice_lines host letter) (has_line_bytes-legal (notice_lines host letter) (notice_lines-legal host letter formed)))
-    ∙ ap multipart_of_pieces (notice-divides host letter formed.header_short ([] ∷ []))
+    ∙ ap multipart_of_pieces (notice-divides host letter formed.header_short formed.outcomes_legal ([] ∷ []))
     ∙ ap (λ parts. record { preamble = None; parts = parts; epilogue = Some [] }) (map-text_of_pieces (notice_parts host letter))

@@ -7,11 +7,11 @@ use Rattle.std.proofs.lemmas.List.Elements.{All-head, All-tail}
 use Rattle.std.proofs.lemmas.List.Folds.{list_all-append}
 use Rattle.dsn_outcome.specs.Letter.{Letter}
 use Rattle.dsn_report.proofs.LineWriterLemmas.{text_of_lines-append}
-use Rattle.dsn_report.proofs.LinesLemmas.{fit-append, fit-known, fit-path, fit-plain, notice_lines-legal}
+use Rattle.dsn_report.proofs.LinesLemmas.{fit-append, fit-known, fit-mail, fit-path, fit-plain, notice_lines-legal}
 use Rattle.dsn_report.proofs.PieceLemmas.{has_line_bytes, has_line_bytes-legal, pieces-lines}
 use Rattle.dsn_report.proofs.PlainLemmas.{and-parts, host-plain}
 use Rattle.dsn_report.specs.Data.{ReceivesNotice, ReceivesNotices, data_after, ends_data, message_lines, message_of, messages_in, messages_of, without_dot}
-use Rattle.dsn_report.specs.LegalLines.{is_line_byte}
+use Rattle.dsn_report.specs.LegalLines.{is_mail_byte}
 use Rattle.dsn_report.specs.Lines.{begins_with_dot, dot_stuffed, pieces_of_text, text_of_lines}
 use Rattle.dsn_report.specs.Notice.{notice_lines, notice_of}
 use Rattle.dsn_report.specs.Outbox.{greeting, goodbye, mail_transaction, outbox_of, transaction_lines}
@@ -34,19 +34,19 @@ line-bytes-dot_stuffed : (lines : List (List ℕ)) → has_line_bytes lines ≡ 
 unfolding dot_stuffed
 line-bytes-dot_stuffed [] legal = refl
 line-bytes-dot_stuffed (line ∷ lines) legal =
-    let parts = and-parts (list_all is_line_byte line) (has_line_bytes lines) legal in
+    let parts = and-parts (list_all is_mail_byte line) (has_line_bytes lines) legal in
     rw (here (begins_with_dot line), line-bytes-dot_stuffed lines parts.1) refl
   where
-    here : (test : Bool) → list_all is_line_byte (if test then 46 ∷ line else line) ≡ true
-    here true = (and-parts (list_all is_line_byte line) (has_line_bytes lines) legal).0
-    here false = (and-parts (list_all is_line_byte line) (has_line_bytes lines) legal).0
+    here : (test : Bool) → list_all is_mail_byte (if test then 46 ∷ line else line) ≡ true
+    here true = (and-parts (list_all is_mail_byte line) (has_line_bytes lines) legal).0
+    here false = (and-parts (list_all is_mail_byte line) (has_line_bytes lines) legal).0
 
 transaction-bytes : (host : List ℕ) (letter : Letter) → IsWellFormed host letter → has_line_bytes (transaction_lines host letter) ≡ true
 unfolding transaction_lines
 transaction-bytes host letter formed =
     let path = fit-append (fit-append (fit-known 9 (codes "RCPT TO:<") refl refl) (fit-path letter.draft.return_path formed.path_legal)) (fit-known 1 (codes ">") refl refl) in
     let notice = line-bytes-dot_stuffed (notice_lines host letter) (has_line_bytes-legal (notice_lines host letter) (notice_lines-legal host letter formed)) in
-    rw (path.legal, list_all-append (list_all is_line_byte) (map dot_stuffed (notice_lines host letter)) (codes "." ∷ []), notice) refl
+    rw (fit-mail path, list_all-append (list_all is_mail_byte) (map dot_stuffed (notice_lines host letter)) (codes "." ∷ []), notice) refl
 
 pub dots_law : (host : List ℕ) (letter : Letter) → IsWellFormed host letter → ReceivesNotice host letter
 unfolding message_of mail_transaction notice_of data_after transaction_lines
@@ -118,7 +118,7 @@ outbox-text host letters =
 transactions-bytes : (host : List ℕ) (letters : List Letter) → All (IsWellFormed host) letters → has_line_bytes (flat_map (transaction_lines host) letters) ≡ true
 transactions-bytes host [] formed = refl
 transactions-bytes host (letter ∷ letters) formed =
-    list_all-append (list_all is_line_byte) (transaction_lines host letter) (flat_map (transaction_lines host) letters)
+    list_all-append (list_all is_mail_byte) (transaction_lines host letter) (flat_map (transaction_lines host) letters)
     ∙ rw (
       transaction-bytes host letter (All-head (IsWellFormed host) letter letters formed),
       transactions-bytes host letters (All-tail (IsWellFormed host) letter letters formed),
@@ -128,7 +128,7 @@ outbox-bytes : (host : List ℕ) (letters : List Letter) → IsHost host → All
 outbox-bytes host letters legal formed =
     let hello = fit-append (fit-known 5 (codes "EHLO ") refl refl) (fit-plain (host-plain host legal)) in
     let session = flat_map (transaction_lines host) letters in
-    rw (hello.legal, list_all-append (list_all is_line_byte) session (codes "QUIT" ∷ []), transactions-bytes host letters formed) refl
+    rw (fit-mail hello, list_all-append (list_all is_mail_byte) session (codes "QUIT" ∷ []), transactions-bytes host letters formed) refl
 
 notices-text : (host : List ℕ) (letters : List Letter) → map text_of_lines (map (notice_lines host) letters) ≡ map (notice_of host) letters
 unfolding notice_of

@@ -1,17 +1,20 @@
 -- Worked examples of notices and outboxes, computed by the definitions.
-use Rattle.std.proofs.Common.{◌≡◌, ℕ, List, [], ◌∷◌, ◌++◌, map, refl}
+use Rattle.std.proofs.Common.{◌≡◌, ℕ, true, false, List, [], ◌∷◌, ◌++◌, map, refl}
 use Rattle.std.specs.Fmt.{digits}
 use Rattle.std.specs.Prelude.{codes, Option, Some, None, replicate}
 use Rattle.dsn_outcome.specs.Draft.{Draft}
 use Rattle.dsn_outcome.specs.Letter.{Letter}
 use Rattle.dsn_outcome.specs.Outcome.{Outcome}
+use Rattle.dsn_text.specs.Extension.{lines_ended_by_lf}
 use Rattle.dsn_text.specs.Stamp.{date_text, civil_after}
 use Rattle.dsn_text.specs.declared.action.Action.TheVariants.{Failed, Delayed}
-use Rattle.dsn_text.specs.declared.service.Service.TheVariants.{Bounce, Defer}
-use Rattle.dsn_report.specs.Boundary.{returned_lines, header_lines, boundary_text, boundary_number, is_ruled_out, first_failing}
+use Rattle.dsn_outcome.specs.declared.returned.Returned.TheVariants.{Header, Message}
+use Rattle.dsn_outcome.specs.declared.wording.Wording.TheVariants.{ByService, ByOutcome}
+use Rattle.dsn_text.specs.declared.service.Service.TheVariants.{Bounce, Defer, Trace}
+use Rattle.dsn_report.specs.Boundary.{returned_lines, returns_message, stands_whole, header_lines, boundary_text, boundary_number, is_ruled_out, first_failing}
 use Rattle.dsn_report.specs.DeliveryStatus.{line_if_any, per_message_fields, per_recipient_fields, delivery_status}
 use Rattle.dsn_report.specs.Lines.{text_of_lines, dot_stuffed}
-use Rattle.dsn_report.specs.Notice.{notice_header, part_header, part_of, outcome_lines, notification, returned_part, lines_with_boundary, notice_lines, notice_of}
+use Rattle.dsn_report.specs.Notice.{notice_header, part_header, part_of, outcome_lines, recipient_told, notification, words_by, returned_part, lines_with_boundary, notice_lines, notice_of}
 use Rattle.dsn_report.specs.Outbox.{greeting, goodbye, transaction_lines, mail_transaction, outbox_of}
 
 abbrev host : List ℕ
@@ -28,14 +31,18 @@ abbrev bob_fails : Outcome
 bob_fails = record {
   service = Bounce;
   recipient = codes "bob@example.org";
+  recipient_type = None;
   original = None;
+  original_type = None;
   action = Failed;
   status = codes "5.1.1";
   mta = None;
   diagnostic = None;
+  diagnostic_type = None;
   reason = None;
   last_attempt = None;
   retry_until = None;
+  extensions = [];
 }
 
 abbrev to_ann : Option (List ℕ) → List ℕ → Draft
@@ -45,6 +52,9 @@ to_ann envelope_id header = record {
   return_path = Some (codes "ann@example.com");
   envelope_id = envelope_id;
   header = header;
+  expected = None;
+  returned = Header;
+  wording = ByService;
 }
 
 abbrev letter_with : Draft → Outcome → Letter
@@ -77,8 +87,43 @@ delayed_recipient :
     ∷ codes "Last-Attempt-Date: Tue, 14 Nov 2023 22:13:20 +0000"
     ∷ codes "Will-Retry-Until: Sun, 19 Nov 2023 22:13:20 +0000"
     ∷ []
-unfolding per_recipient_fields line_if_any
+unfolding per_recipient_fields line_if_any lines_ended_by_lf
 delayed_recipient = rw (flushed_at, retried_until) refl
+
+-- a recipient whose address, original address and diagnostic are of other types than the usual ones
+typed_recipient :
+    per_recipient_fields (record bob_fails {
+      recipient = codes "+15551234@example.org";
+      recipient_type = Some (codes "X-Fax");
+      original = Some (codes "/C=US/O=Acme/");
+      original_type = Some (codes "x400");
+      diagnostic = Some (codes "mail transport unavailable");
+      diagnostic_type = Some (codes "X-Postfix");
+    }) ≡
+    codes "Original-Recipient: x400; /C=US/O=Acme/"
+    ∷ codes "Final-Recipient: X-Fax; +15551234@example.org"
+    ∷ codes "Action: failed"
+    ∷ codes "Status: 5.1.1"
+    ∷ codes "Diagnostic-Code: X-Postfix; mail transport unavailable"
+    ∷ []
+unfolding per_recipient_fields line_if_any lines_ended_by_lf
+typed_recipient = refl
+
+-- a recipient of whom the mail system says more: its extension fields come last, as they stand
+extended_recipient :
+    per_recipient_fields (record bob_fails {
+      mta = Some (codes "mx.example.org");
+      extensions = codes "X-Postfix-Queue-ID: 4F9D195432C\nX-A: b\n";
+    }) ≡
+    codes "Final-Recipient: rfc822; bob@example.org"
+    ∷ codes "Action: failed"
+    ∷ codes "Status: 5.1.1"
+    ∷ codes "Remote-MTA: dns; mx.example.org"
+    ∷ codes "X-Postfix-Queue-ID: 4F9D195432C"
+    ∷ codes "X-A: b"
+    ∷ []
+unfolding per_recipient_fields line_if_any lines_ended_by_lf
+extended_recipient = refl
 
 -- one append and one flush: the whole outbox
 one_append_one_flush : outbox_of host (letter_with (to_ann None []) bob_fails ∷ []) ≡
@@ -120,7 +165,7 @@ one_append_one_flush : outbox_of host (letter_with (to_ann None []) bob_fails �
     ++ codes "--B.A1B2C3.1700000000.0000--" ++ crlf
     ++ codes "." ++ crlf
     ++ codes "QUIT" ++ crlf
-unfolding outbox_of greeting goodbye mail_transaction transaction_lines notice_lines lines_with_boundary notice_header part_header part_of notification outcome_lines returned_part delivery_status per_message_fields per_recipient_fields line_if_any text_of_lines dot_stuffed boundary_text boundary_number is_ruled_out first_failing returned_lines header_lines digits
+unfolding outbox_of greeting goodbye mail_transaction transaction_lines notice_lines lines_with_boundary notice_header part_header part_of notification recipient_told outcome_lines returned_part delivery_status per_message_fields per_recipient_fields line_if_any lines_ended_by_lf text_of_lines dot_stuffed boundary_text boundary_number is_ruled_out first_failing returned_lines returns_message header_lines digits
 one_append_one_flush = rw (flushed_at, arrived_at) refl
 
 abbrev bob_fails_with_all : Outcome
@@ -180,7 +225,7 @@ all_optional_fields : notice_of host (letter_with (to_ann (Some (codes "QQ314159
     ++ codes "X: y" ++ crlf
     ++ crlf
     ++ codes "--B.A1B2C3.1700000000.0000--" ++ crlf
-unfolding notice_of notice_lines lines_with_boundary notice_header part_header part_of notification outcome_lines returned_part delivery_status per_message_fields per_recipient_fields line_if_any text_of_lines boundary_text boundary_number is_ruled_out first_failing returned_lines header_lines digits
+unfolding notice_of notice_lines lines_with_boundary notice_header part_header part_of notification recipient_told outcome_lines returned_part delivery_status per_message_fields per_recipient_fields line_if_any lines_ended_by_lf text_of_lines boundary_text boundary_number is_ruled_out first_failing returned_lines returns_message header_lines digits
 all_optional_fields = rw (flushed_at, arrived_at) refl
 
 -- a returned line that begins with the delimiter of number 0: the boundary has number 1, and the body isn't returned
@@ -188,30 +233,124 @@ abbrev colliding_header : List ℕ
 colliding_header = codes "--B.A1B2C3.1700000000.0000x" ++ lf ++ codes "Subject: hi" ++ crlf ++ crlf ++ codes "body"
 
 boundary_collision : boundary_number (letter_with (to_ann None colliding_header) bob_fails) ≡ 1
-unfolding boundary_number first_failing is_ruled_out returned_lines header_lines boundary_text digits
+unfolding boundary_number first_failing is_ruled_out returned_lines returns_message header_lines boundary_text digits
 boundary_collision = refl
 
 boundary_collision_text : boundary_text (letter_with (to_ann None colliding_header) bob_fails) 1 ≡ codes "B.A1B2C3.1700000000.0001"
 unfolding boundary_text digits
 boundary_collision_text = refl
 
-boundary_collision_returned : returned_lines colliding_header ≡ codes "--B.A1B2C3.1700000000.0000x" ∷ codes "Subject: hi" ∷ []
-unfolding returned_lines header_lines
+boundary_collision_returned : returned_lines (to_ann None colliding_header) ≡ codes "--B.A1B2C3.1700000000.0000x" ∷ codes "Subject: hi" ∷ []
+unfolding returned_lines returns_message header_lines
 boundary_collision_returned = refl
 
 -- a dot, a long line, and bytes that a notice doesn't show; a carriage return is one where no line feed follows
 dots_long_lines_eight_bit :
-    map dot_stuffed (returned_lines (codes ".x" ++ lf ++ replicate 1200 97 ++ lf ++ 98 ∷ 233 ∷ 13 ∷ 99 ∷ 10 ∷ [])) ≡
+    map dot_stuffed (returned_lines (to_ann None (codes ".x" ++ lf ++ replicate 1200 97 ++ lf ++ 98 ∷ 233 ∷ 13 ∷ 99 ∷ 10 ∷ []))) ≡
     codes "..x" ∷ replicate 998 97 ∷ codes "b??c" ∷ []
-unfolding returned_lines header_lines dot_stuffed
+unfolding returned_lines returns_message header_lines dot_stuffed
 dots_long_lines_eight_bit = refl
 
 -- a header that begins with an empty line returns nothing, and so has no third part
-empty_first_line : returned_lines (crlf ++ codes "Subject: hi" ++ crlf) ≡ []
-unfolding returned_lines header_lines
+empty_first_line : returned_lines (to_ann None (crlf ++ codes "Subject: hi" ++ crlf)) ≡ []
+unfolding returned_lines returns_message header_lines
 empty_first_line = refl
 
 -- an empty outbox
 empty_outbox : outbox_of host [] ≡ codes "EHLO mx.example.net" ++ crlf ++ codes "QUIT" ++ crlf
 unfolding outbox_of greeting goodbye text_of_lines
 empty_outbox = refl
+
+-- ---- messages
+
+abbrev message_of_ann : List ℕ → Draft
+message_of_ann message = record (to_ann None message) { returned = Message }
+
+-- a message in ISO-2022-JP, with a dot, an empty line and a tab: each of its lines as it is, and a CR goes with its LF
+abbrev japanese : List ℕ
+japanese = 27 ∷ 36 ∷ 66 ∷ 70 ∷ 124 ∷ 75 ∷ 92 ∷ 27 ∷ 40 ∷ 66 ∷ []
+
+message_as_it_is :
+    returned_lines (message_of_ann (codes "Subject: " ++ japanese ++ crlf ++ crlf ++ codes ".x" ++ lf ++ 9 ∷ japanese ++ lf ++ lf)) ≡
+    (codes "Subject: " ++ japanese) ∷ [] ∷ codes ".x" ∷ (9 ∷ japanese) ∷ [] ∷ []
+unfolding returned_lines returns_message stands_whole
+message_as_it_is = refl
+
+-- where a line is too long, or has a byte above 127, a NUL or a CR of its own, the header is returned
+long_line_by_header : returned_lines (message_of_ann (codes "Subject: hi" ++ lf ++ lf ++ replicate 999 97)) ≡ codes "Subject: hi" ∷ []
+unfolding returned_lines returns_message stands_whole header_lines
+long_line_by_header = refl
+
+longest_line_whole : returned_lines (message_of_ann (replicate 998 97)) ≡ replicate 998 97 ∷ []
+unfolding returned_lines returns_message stands_whole
+longest_line_whole = refl
+
+eight_bit_by_header : returned_lines (message_of_ann (codes "Subject: hi" ++ lf ++ lf ++ 233 ∷ lf)) ≡ codes "Subject: hi" ∷ []
+unfolding returned_lines returns_message stands_whole header_lines
+eight_bit_by_header = refl
+
+nul_by_header : returned_lines (message_of_ann (codes "Subject: hi" ++ lf ++ lf ++ 0 ∷ lf)) ≡ codes "Subject: hi" ∷ []
+unfolding returned_lines returns_message stands_whole header_lines
+nul_by_header = refl
+
+carriage_return_by_header : returned_lines (message_of_ann (codes "Subject: hi" ++ lf ++ lf ++ codes "a" ++ 13 ∷ codes "b" ++ lf)) ≡ codes "Subject: hi" ∷ []
+unfolding returned_lines returns_message stands_whole header_lines
+carriage_return_by_header = refl
+
+-- a message may begin with an empty line
+empty_first_line_of_message : returned_lines (message_of_ann (crlf ++ codes "hi")) ≡ [] ∷ codes "hi" ∷ []
+unfolding returned_lines returns_message stands_whole
+empty_first_line_of_message = refl
+
+-- a line of a message's body rules a number out too
+abbrev colliding_message : List ℕ
+colliding_message = codes "Subject: hi" ++ lf ++ lf ++ codes "--B.A1B2C3.1700000000.0000--" ++ lf
+
+boundary_collision_in_body : boundary_number (letter_with (message_of_ann colliding_message) bob_fails) ≡ 1
+unfolding boundary_number first_failing is_ruled_out returned_lines returns_message stands_whole boundary_text digits
+boundary_collision_in_body = refl
+
+body_of_header_rules_nothing_out : boundary_number (letter_with (to_ann None colliding_message) bob_fails) ≡ 0
+unfolding boundary_number first_failing is_ruled_out returned_lines returns_message header_lines boundary_text digits
+body_of_header_rules_nothing_out = refl
+
+-- its part of the notice
+message_part : returned_part (codes "B") (words_by ByService Bounce true).message (codes "message/rfc822") (returned_lines (message_of_ann colliding_message)) ≡
+    codes "--B"
+    ∷ codes "Content-Description: Undelivered Message"
+    ∷ codes "Content-Type: message/rfc822"
+    ∷ []
+    ∷ codes "Subject: hi"
+    ∷ []
+    ∷ codes "--B.A1B2C3.1700000000.0000--"
+    ∷ []
+    ∷ []
+unfolding returned_part part_of part_header returned_lines returns_message stands_whole
+message_part = refl
+
+-- ---- words
+
+delayed_header_by_outcome : (words_by ByOutcome Defer false).header ≡ codes "Delayed Message Headers"
+delayed_header_by_outcome = refl
+
+delayed_header_by_service : (words_by ByService Defer false).header ≡ codes "Undelivered Message Headers"
+delayed_header_by_service = refl
+
+success_by_outcome : (words_by ByOutcome Trace true).subject ≡ codes "Successful Mail Delivery Report"
+success_by_outcome = refl
+
+success_by_service : (words_by ByService Trace true).subject ≡ codes "Mail Delivery Status Report"
+success_by_service = refl
+
+-- the original recipient is told where it is another one, and the wording is by outcome
+origin_by_outcome : outcome_lines ByOutcome (record bob_fails { original = Some (codes "list@example.org") }) ≡ codes "<bob@example.org> (expanded from <list@example.org>): failed (5.1.1)" ∷ []
+unfolding outcome_lines recipient_told line_if_any
+origin_by_outcome = refl
+
+same_origin_by_outcome : outcome_lines ByOutcome (record bob_fails { original = Some (codes "bob@example.org") }) ≡ codes "<bob@example.org>: failed (5.1.1)" ∷ []
+unfolding outcome_lines recipient_told line_if_any
+same_origin_by_outcome = refl
+
+origin_by_service : outcome_lines ByService (record bob_fails { original = Some (codes "list@example.org") }) ≡ codes "<bob@example.org>: failed (5.1.1)" ∷ []
+unfolding outcome_lines recipient_told line_if_any
+origin_by_service = refl

@@ -1,6 +1,6 @@
 -- A notice's second part is a delivery status.
-use Rattle.std.proofs.Common.{◌≡◌, ◌≢◌, ℕ, Bool, true, false, List, [], ◌∷◌, ◌++◌, Option, Some, None, map, codes, refl, sym, ap, subst, ◌∙◌, append_assoc, append-nil}
-use Rattle.std.specs.Prelude.{IsTrue, IsSome, IsSomeAnd, option_map, is_some, if◌then◌else◌}
+use Rattle.std.proofs.Common.{◌≡◌, ◌≢◌, ℕ, Bool, true, false, List, [], ◌∷◌, ◌++◌, Option, Some, None, map, codes, refl, sym, ap, subst, ◌∙◌, append_assoc, suc, arith}
+use Rattle.std.specs.Prelude.{All, IsTrue, IsSome, IfSome, IsSomeAnd, option_map, is_some, if◌then◌else◌}
 use Rattle.std.proofs.lemmas.List.Elements.{All-map}
 use Rattle.std.proofs.lemmas.List.Folds.{list_all-append, list_any-append}
 use Rattle.std.proofs.lemmas.Bool.{false≢true, leb-true}
@@ -12,16 +12,18 @@ use Rattle.dsn_text.specs.declared.action.Action.TheVariants.{Failed, Delayed, D
 use Rattle.dsn_outcome.specs.Letter.{Letter}
 use Rattle.dsn_outcome.specs.Outcome.{Outcome, IsLegalOutcome}
 use Rattle.dsn_text.specs.Optional.{is_none_or}
+use Rattle.dsn_text.specs.Extension.{lines_ended_by_lf, is_extension_line, is_extension_name}
 use Rattle.dsn_text.specs.Status.{is_status_code}
-use Rattle.dsn_text.specs.Text.{is_printable, is_address, is_mta_name, is_remark, is_envelope_id}
+use Rattle.dsn_text.specs.Text.{is_printable, is_address, is_mta_name, is_remark, is_type_name, is_envelope_id}
 use Rattle.dsn_report.proofs.DateText.{shown-append, shown-date}
 use Rattle.dsn_report.proofs.DivisionLemmas.{division_law}
+use Rattle.dsn_report.proofs.ExtensionLemmas.{all-extensions, choice-extensions, extension_field, extension_lines-pass, extensions-laid, none-of-extensions, plain-extensions}
 use Rattle.dsn_report.proofs.LinesLemmas.{delivery_status-legal}
 use Rattle.dsn_report.proofs.PieceLemmas.{has_line_bytes-legal, pieces-lines}
-use Rattle.dsn_report.proofs.PlainLemmas.{address-plain, mta-plain, remark-plain, envelope_id-plain, status-plain, host-plain}
+use Rattle.dsn_report.proofs.PlainLemmas.{address-plain, mta-plain, remark-plain, type_name-plain, envelope_id-plain, status-plain, host-plain}
 use Rattle.dsn_text.specs.Stamp.{date_text, is_moment, last_moment}
-use Rattle.dsn_report.specs.DeliveryStatus.{line_if_any, per_message_fields, per_recipient_fields, recipient_group, delivery_status}
-use Rattle.dsn_report.specs.Grammar.{Field, field_line, same_text, value_of, is_choice_of, IsMessageGroup, IsRecipientGroup, GivesOutcome, GivesMessage, EmptyLogLaw, ReportsOutcomes, delivery_status_in, per_message_names, per_recipient_names, has_plain_values, is_action_word}
+use Rattle.dsn_report.specs.DeliveryStatus.{line_if_any, per_message_fields, per_recipient_fields, recipient_group, delivery_status, typed, usual_address_type, usual_diagnostic_type}
+use Rattle.dsn_report.specs.Grammar.{Field, HasType, field_line, same_text, value_of, is_choice_of, extensions_in, IsMessageGroup, IsRecipientGroup, GivesOutcome, GivesMessage, EmptyLogLaw, ReportsOutcomes, delivery_status_in, per_message_names, per_recipient_names, has_plain_values, is_action_word}
 use Rattle.dsn_report.specs.Boundary.{boundary_of}
 use Rattle.dsn_report.specs.Multipart.{message_body, multipart_of, notice_parts, part_lines}
 use Rattle.dsn_report.specs.Notice.{notice_of}
@@ -40,29 +42,36 @@ message_fields host letter =
     field_if_any (codes "Original-Envelope-Id") [] letter.draft.envelope_id
     ++ (field (codes "Reporting-MTA") (codes "dns; " ++ host) ∷ field (codes "Arrival-Date") (date_text letter.draft.arrival) ∷ [])
 
--- the fields of a recipient from Will-Retry-Until on, from Last-Attempt-Date on, and so from each that may be missing
+-- the fields of a recipient from its extension fields on, from Will-Retry-Until on, from Last-Attempt-Date on, and so from each that may be missing
+abbrev extension_fields : Outcome → List Field
+extension_fields outcome = map extension_field (lines_ended_by_lf outcome.extensions)
+
+-- each of its extension fields is one
+abbrev ArePassed : Outcome → Type 0
+ArePassed outcome = list_all is_extension_line (lines_ended_by_lf outcome.extensions) ≡ true
+
 abbrev retry_fields : Outcome → List Field
-retry_fields outcome = field_if_any (codes "Will-Retry-Until") [] (option_map date_text outcome.retry_until) ++ []
+retry_fields outcome = field_if_any (codes "Will-Retry-Until") [] (option_map date_text outcome.retry_until) ++ extension_fields outcome
 
 abbrev attempt_fields : Outcome → List Field
 attempt_fields outcome =
     field_if_any (codes "Last-Attempt-Date") [] (option_map date_text outcome.last_attempt) ++ retry_fields outcome
 
 abbrev diagnostic_fields : Outcome → List Field
-diagnostic_fields outcome = field_if_any (codes "Diagnostic-Code") (codes "smtp; ") outcome.diagnostic ++ attempt_fields outcome
+diagnostic_fields outcome = field_if_any (codes "Diagnostic-Code") (typed [] usual_diagnostic_type outcome.diagnostic_type) outcome.diagnostic ++ attempt_fields outcome
 
 abbrev mta_fields : Outcome → List Field
 mta_fields outcome = field_if_any (codes "Remote-MTA") (codes "dns; ") outcome.mta ++ diagnostic_fields outcome
 
 abbrev final_fields : Outcome → List Field
 final_fields outcome =
-    field (codes "Final-Recipient") (codes "rfc822; " ++ outcome.recipient)
+    field (codes "Final-Recipient") (typed [] usual_address_type outcome.recipient_type ++ outcome.recipient)
     ∷ field (codes "Action") (action_word outcome.action)
     ∷ field (codes "Status") outcome.status
     ∷ mta_fields outcome
 
 abbrev recipient_fields : Outcome → List Field
-recipient_fields outcome = field_if_any (codes "Original-Recipient") (codes "rfc822; ") outcome.original ++ final_fields outcome
+recipient_fields outcome = field_if_any (codes "Original-Recipient") (typed [] usual_address_type outcome.original_type) outcome.original ++ final_fields outcome
 
 -- in order, whatever is missing
 message-in-order : (id : Option (List ℕ)) (host date : List ℕ)
@@ -106,21 +115,23 @@ choice-if-any : (name kind : List ℕ) (value : Option (List ℕ)) (names : List
 choice-if-any name kind None names rest same none e = choice-skips name names rest none e
 choice-if-any name kind (Some text) names rest same none e = rw same e
 
-module _ (outcome : Outcome) where
-  none-of-retry : (name : List ℕ) → same_text name (codes "Will-Retry-Until") ≡ false → value_of name (retry_fields outcome) ≡ None
-  none-of-retry name r = value-skips name (codes "Will-Retry-Until") [] (option_map date_text outcome.retry_until) [] r
+module _ (outcome : Outcome) (passed : ArePassed outcome) where
+  none-of-retry : (name : List ℕ) → same_text name (codes "Will-Retry-Until") ≡ false → ((rest : List ℕ) → same_text name (88 ∷ rest) ≡ false) → value_of name (retry_fields outcome) ≡ None
+  none-of-retry name r x =
+      value-skips name (codes "Will-Retry-Until") [] (option_map date_text outcome.retry_until) (extension_fields outcome) r
+      ∙ none-of-extensions name x (lines_ended_by_lf outcome.extensions) passed
 
   from-attempt : (name : List ℕ) → same_text name (codes "Last-Attempt-Date") ≡ false → value_of name (attempt_fields outcome) ≡ value_of name (retry_fields outcome)
   from-attempt name a = value-skips name (codes "Last-Attempt-Date") [] (option_map date_text outcome.last_attempt) (retry_fields outcome) a
 
   from-diagnostic : (name : List ℕ) → same_text name (codes "Diagnostic-Code") ≡ false → value_of name (diagnostic_fields outcome) ≡ value_of name (attempt_fields outcome)
-  from-diagnostic name d = value-skips name (codes "Diagnostic-Code") (codes "smtp; ") outcome.diagnostic (attempt_fields outcome) d
+  from-diagnostic name d = value-skips name (codes "Diagnostic-Code") (typed [] usual_diagnostic_type outcome.diagnostic_type) outcome.diagnostic (attempt_fields outcome) d
 
   from-mta : (name : List ℕ) → same_text name (codes "Remote-MTA") ≡ false → value_of name (mta_fields outcome) ≡ value_of name (diagnostic_fields outcome)
   from-mta name m = value-skips name (codes "Remote-MTA") (codes "dns; ") outcome.mta (diagnostic_fields outcome) m
 
   from-original : (name : List ℕ) → same_text name (codes "Original-Recipient") ≡ false → value_of name (recipient_fields outcome) ≡ value_of name (final_fields outcome)
-  from-original name o = value-skips name (codes "Original-Recipient") (codes "rfc822; ") outcome.original (final_fields outcome) o
+  from-original name o = value-skips name (codes "Original-Recipient") (typed [] usual_address_type outcome.original_type) outcome.original (final_fields outcome) o
 
   recipient-in-order : is_choice_of per_recipient_names (recipient_fields outcome) ≡ true
   recipient-in-order =
@@ -129,16 +140,17 @@ module _ (outcome : Outcome) where
       let attempt_names = codes "Last-Attempt-Date" ∷ log_names in
       let diagnostic_names = codes "Diagnostic-Code" ∷ attempt_names in
       let final_names = codes "Final-Recipient" ∷ codes "Action" ∷ codes "Status" ∷ codes "Remote-MTA" ∷ diagnostic_names in
-      let retry = choice-if-any (codes "Will-Retry-Until") [] (option_map date_text outcome.retry_until) [] [] refl refl refl in
-      let log = choice-skips (codes "Final-Log-ID") last_names (retry_fields outcome) (none-of-retry (codes "Final-Log-ID") refl) retry in
+      let retry = choice-if-any (codes "Will-Retry-Until") [] (option_map date_text outcome.retry_until) [] (extension_fields outcome) refl
+      (none-of-extensions (codes "Will-Retry-Until") (λ rest. refl) (lines_ended_by_lf outcome.extensions) passed) (choice-extensions (lines_ended_by_lf outcome.extensions) passed) in
+      let log = choice-skips (codes "Final-Log-ID") last_names (retry_fields outcome) (none-of-retry (codes "Final-Log-ID") refl (λ rest. refl)) retry in
       let attempt = choice-if-any (codes "Last-Attempt-Date") [] (option_map date_text outcome.last_attempt) log_names (retry_fields outcome) refl
-      (none-of-retry (codes "Last-Attempt-Date") refl) log in
-      let diagnostic = choice-if-any (codes "Diagnostic-Code") (codes "smtp; ") outcome.diagnostic attempt_names (attempt_fields outcome) refl
-      (from-attempt (codes "Diagnostic-Code") refl ∙ none-of-retry (codes "Diagnostic-Code") refl) attempt in
+      (none-of-retry (codes "Last-Attempt-Date") refl (λ rest. refl)) log in
+      let diagnostic = choice-if-any (codes "Diagnostic-Code") (typed [] usual_diagnostic_type outcome.diagnostic_type) outcome.diagnostic attempt_names (attempt_fields outcome) refl
+      (from-attempt (codes "Diagnostic-Code") refl ∙ none-of-retry (codes "Diagnostic-Code") refl (λ rest. refl)) attempt in
       let mta = choice-if-any (codes "Remote-MTA") (codes "dns; ") outcome.mta diagnostic_names (diagnostic_fields outcome) refl
-      (from-diagnostic (codes "Remote-MTA") refl ∙ from-attempt (codes "Remote-MTA") refl ∙ none-of-retry (codes "Remote-MTA") refl) diagnostic in
-      choice-if-any (codes "Original-Recipient") (codes "rfc822; ") outcome.original final_names (final_fields outcome) refl
-      (from-mta (codes "Original-Recipient") refl ∙ from-diagnostic (codes "Original-Recipient") refl ∙ from-attempt (codes "Original-Recipient") refl ∙ none-of-retry (codes "Original-Recipient") refl) mta
+      (from-diagnostic (codes "Remote-MTA") refl ∙ from-attempt (codes "Remote-MTA") refl ∙ none-of-retry (codes "Remote-MTA") refl (λ rest. refl)) diagnostic in
+      choice-if-any (codes "Original-Recipient") (typed [] usual_address_type outcome.original_type) outcome.original final_names (final_fields outcome) refl
+      (from-mta (codes "Original-Recipient") refl ∙ from-diagnostic (codes "Original-Recipient") refl ∙ from-attempt (codes "Original-Recipient") refl ∙ none-of-retry (codes "Original-Recipient") refl (λ rest. refl)) mta
 
 -- ---- the layout
 
@@ -156,71 +168,87 @@ unfolding line_if_any
 laid-if-any label name kind None lines rest is laid = laid
 laid-if-any label name kind (Some text) lines rest is laid = rw (is, laid) (simp append_assoc refl)
 
-regroup : (a b c d e f : List (List ℕ)) → a ++ b ++ c ++ d ++ e ++ f ≡ a ++ (b ++ (c ++ (d ++ (e ++ (f ++ [])))))
-regroup a b c d e f = simp (append_assoc, append-nil) refl
+regroup : (a b c d e f g : List (List ℕ)) → a ++ b ++ c ++ d ++ e ++ f ++ g ≡ a ++ (b ++ (c ++ (d ++ (e ++ (f ++ g)))))
+regroup a b c d e f g = simp append_assoc refl
 
-group-laid-out : (outcome : Outcome) → recipient_group outcome ≡ [] ∷ map field_line (recipient_fields outcome)
+group-laid-out : (outcome : Outcome) → ArePassed outcome → recipient_group outcome ≡ [] ∷ map field_line (recipient_fields outcome)
 unfolding per_recipient_fields
-group-laid-out outcome =
-    let retry = laid-if-any (codes "Will-Retry-Until: ") (codes "Will-Retry-Until") [] (option_map date_text outcome.retry_until) [] [] refl refl in
+group-laid-out outcome passed =
+    let retry = laid-if-any (codes "Will-Retry-Until: ") (codes "Will-Retry-Until") [] (option_map date_text outcome.retry_until) (lines_ended_by_lf outcome.extensions) (extension_fields outcome) refl
+    (extensions-laid (lines_ended_by_lf outcome.extensions) passed) in
     let attempt = laid-if-any (codes "Last-Attempt-Date: ") (codes "Last-Attempt-Date") [] (option_map date_text outcome.last_attempt) _ (retry_fields outcome) refl retry in
-    let diagnostic = laid-if-any (codes "Diagnostic-Code: smtp; ") (codes "Diagnostic-Code") (codes "smtp; ") outcome.diagnostic _ (attempt_fields outcome) refl attempt in
+    let diagnostic = laid-if-any (typed (codes "Diagnostic-Code: ") usual_diagnostic_type outcome.diagnostic_type) (codes "Diagnostic-Code") (typed [] usual_diagnostic_type outcome.diagnostic_type) outcome.diagnostic _ (attempt_fields outcome) refl attempt in
     let mta = laid-if-any (codes "Remote-MTA: dns; ") (codes "Remote-MTA") (codes "dns; ") outcome.mta _ (diagnostic_fields outcome) refl diagnostic in
-    let always = (codes "Final-Recipient: rfc822; " ++ outcome.recipient) ∷ (codes "Action: " ++ action_word outcome.action) ∷ (codes "Status: " ++ outcome.status) ∷ [] in
-    let original = laid-if-any (codes "Original-Recipient: rfc822; ") (codes "Original-Recipient") (codes "rfc822; ") outcome.original _ (final_fields outcome) refl
+    let always = (typed (codes "Final-Recipient: ") usual_address_type outcome.recipient_type ++ outcome.recipient) ∷ (codes "Action: " ++ action_word outcome.action) ∷ (codes "Status: " ++ outcome.status) ∷ [] in
+    let original = laid-if-any (typed (codes "Original-Recipient: ") usual_address_type outcome.original_type) (codes "Original-Recipient") (typed [] usual_address_type outcome.original_type) outcome.original _ (final_fields outcome) refl
     (ap (λ lines. always ++ lines) mta) in
     ap (λ lines. [] ∷ lines)
-    (regroup (line_if_any (codes "Original-Recipient: rfc822; ") outcome.original) always (line_if_any (codes "Remote-MTA: dns; ") outcome.mta) (line_if_any (codes "Diagnostic-Code: smtp; ") outcome.diagnostic)
-    (line_if_any (codes "Last-Attempt-Date: ") (option_map date_text outcome.last_attempt)) (line_if_any (codes "Will-Retry-Until: ") (option_map date_text outcome.retry_until)) ∙ original)
+    (regroup (line_if_any (typed (codes "Original-Recipient: ") usual_address_type outcome.original_type) outcome.original) always (line_if_any (codes "Remote-MTA: dns; ") outcome.mta) (line_if_any (typed (codes "Diagnostic-Code: ") usual_diagnostic_type outcome.diagnostic_type) outcome.diagnostic)
+    (line_if_any (codes "Last-Attempt-Date: ") (option_map date_text outcome.last_attempt)) (line_if_any (codes "Will-Retry-Until: ") (option_map date_text outcome.retry_until)) (lines_ended_by_lf outcome.extensions) ∙ original)
 
-groups-laid-out : (outcomes : List Outcome) → flat_map recipient_group outcomes ≡ flat_map (λ group. [] ∷ map field_line group) (map recipient_fields outcomes)
-groups-laid-out [] = refl
-groups-laid-out (outcome ∷ outcomes) =
-    ap (λ lines. lines ++ flat_map recipient_group outcomes) (group-laid-out outcome)
-    ∙ ap (λ lines. ([] ∷ map field_line (recipient_fields outcome)) ++ lines) (groups-laid-out outcomes)
+groups-laid-out : (outcomes : List Outcome) → All IsLegalOutcome outcomes → flat_map recipient_group outcomes ≡ flat_map (λ group. [] ∷ map field_line group) (map recipient_fields outcomes)
+groups-laid-out [] legal = refl
+groups-laid-out (outcome ∷ outcomes) legal =
+    ap (λ lines. lines ++ flat_map recipient_group outcomes) (group-laid-out outcome (extension_lines-pass outcome.extensions (legal 0 outcome (omega arith)).extensions_legal))
+    ∙ ap (λ lines. ([] ∷ map field_line (recipient_fields outcome)) ++ lines) (groups-laid-out outcomes (λ k d below. legal (suc k) d (omega arith)))
 
-status-laid-out : (host : List ℕ) (letter : Letter)
+status-laid-out : (host : List ℕ) (letter : Letter) → All IsLegalOutcome letter.outcomes
     → delivery_status host letter ≡ map field_line (message_fields host letter) ++ flat_map (λ group. [] ∷ map field_line group) (map recipient_fields letter.outcomes)
 unfolding delivery_status per_message_fields
-status-laid-out host letter =
+status-laid-out host letter legal =
     ap (λ lines. lines ++ flat_map recipient_group letter.outcomes) (message-laid-out letter.draft.envelope_id host (date_text letter.draft.arrival))
-    ∙ ap (λ lines. map field_line (message_fields host letter) ++ lines) (groups-laid-out letter.outcomes)
+    ∙ ap (λ lines. map field_line (message_fields host letter) ++ lines) (groups-laid-out letter.outcomes legal)
 
 -- ---- the values
 
-pub group-gives : (outcome : Outcome) → GivesOutcome outcome (recipient_fields outcome)
-group-gives outcome = record {
-  original = value-finds (codes "Original-Recipient") (codes "rfc822; ") outcome.original (final_fields outcome) refl (none (codes "Original-Recipient") refl refl refl refl);
-  recipient = from-original outcome (codes "Final-Recipient") refl;
-  action = from-original outcome (codes "Action") refl;
-  status = from-original outcome (codes "Status") refl;
+-- a field that may be missing is no extension field
+extensions-skip : (name kind : List ℕ) (value : Option (List ℕ)) (rest : List Field) → is_extension_name name ≡ false
+    → extensions_in (field_if_any name kind value ++ rest) ≡ extensions_in rest
+extensions-skip name kind None rest known = refl
+extensions-skip name kind (Some text) rest known = rw known refl
+
+pub group-gives : (outcome : Outcome) → ArePassed outcome → GivesOutcome outcome (recipient_fields outcome)
+group-gives outcome passed = record {
+  original = value-finds (codes "Original-Recipient") (typed [] usual_address_type outcome.original_type) outcome.original (final_fields outcome) refl (none (codes "Original-Recipient") refl refl refl refl (λ rest. refl));
+  recipient = from-original outcome passed (codes "Final-Recipient") refl;
+  action = from-original outcome passed (codes "Action") refl;
+  status = from-original outcome passed (codes "Status") refl;
   mta =
-      from-original outcome (codes "Remote-MTA") refl
+      from-original outcome passed (codes "Remote-MTA") refl
       ∙ value-finds (codes "Remote-MTA") (codes "dns; ") outcome.mta (diagnostic_fields outcome) refl
-      (from-diagnostic outcome (codes "Remote-MTA") refl ∙ from-attempt outcome (codes "Remote-MTA") refl ∙ none-of-retry outcome (codes "Remote-MTA") refl);
+      (from-diagnostic outcome passed (codes "Remote-MTA") refl ∙ from-attempt outcome passed (codes "Remote-MTA") refl ∙ none-of-retry outcome passed (codes "Remote-MTA") refl (λ rest. refl));
   diagnostic =
-      from-original outcome (codes "Diagnostic-Code") refl
-      ∙ from-mta outcome (codes "Diagnostic-Code") refl
-      ∙ value-finds (codes "Diagnostic-Code") (codes "smtp; ") outcome.diagnostic (attempt_fields outcome) refl
-      (from-attempt outcome (codes "Diagnostic-Code") refl ∙ none-of-retry outcome (codes "Diagnostic-Code") refl);
+      from-original outcome passed (codes "Diagnostic-Code") refl
+      ∙ from-mta outcome passed (codes "Diagnostic-Code") refl
+      ∙ value-finds (codes "Diagnostic-Code") (typed [] usual_diagnostic_type outcome.diagnostic_type) outcome.diagnostic (attempt_fields outcome) refl
+      (from-attempt outcome passed (codes "Diagnostic-Code") refl ∙ none-of-retry outcome passed (codes "Diagnostic-Code") refl (λ rest. refl));
   last_attempt =
-      from-original outcome (codes "Last-Attempt-Date") refl
-      ∙ from-mta outcome (codes "Last-Attempt-Date") refl
-      ∙ from-diagnostic outcome (codes "Last-Attempt-Date") refl
-      ∙ value-finds (codes "Last-Attempt-Date") [] (option_map date_text outcome.last_attempt) (retry_fields outcome) refl (none-of-retry outcome (codes "Last-Attempt-Date") refl)
+      from-original outcome passed (codes "Last-Attempt-Date") refl
+      ∙ from-mta outcome passed (codes "Last-Attempt-Date") refl
+      ∙ from-diagnostic outcome passed (codes "Last-Attempt-Date") refl
+      ∙ value-finds (codes "Last-Attempt-Date") [] (option_map date_text outcome.last_attempt) (retry_fields outcome) refl (none-of-retry outcome passed (codes "Last-Attempt-Date") refl (λ rest. refl))
       ∙ no-kind (option_map date_text outcome.last_attempt);
   retry_until =
-      from-original outcome (codes "Will-Retry-Until") refl
-      ∙ from-mta outcome (codes "Will-Retry-Until") refl
-      ∙ from-diagnostic outcome (codes "Will-Retry-Until") refl
-      ∙ from-attempt outcome (codes "Will-Retry-Until") refl
-      ∙ value-finds (codes "Will-Retry-Until") [] (option_map date_text outcome.retry_until) [] refl refl
+      from-original outcome passed (codes "Will-Retry-Until") refl
+      ∙ from-mta outcome passed (codes "Will-Retry-Until") refl
+      ∙ from-diagnostic outcome passed (codes "Will-Retry-Until") refl
+      ∙ from-attempt outcome passed (codes "Will-Retry-Until") refl
+      ∙ value-finds (codes "Will-Retry-Until") [] (option_map date_text outcome.retry_until) (extension_fields outcome) refl (none-of-extensions (codes "Will-Retry-Until") (λ rest. refl) (lines_ended_by_lf outcome.extensions) passed)
       ∙ no-kind (option_map date_text outcome.retry_until);
+  extensions =
+      ap (map field_line)
+      (extensions-skip (codes "Original-Recipient") (typed [] usual_address_type outcome.original_type) outcome.original (final_fields outcome) refl
+      ∙ extensions-skip (codes "Remote-MTA") (codes "dns; ") outcome.mta (diagnostic_fields outcome) refl
+      ∙ extensions-skip (codes "Diagnostic-Code") (typed [] usual_diagnostic_type outcome.diagnostic_type) outcome.diagnostic (attempt_fields outcome) refl
+      ∙ extensions-skip (codes "Last-Attempt-Date") [] (option_map date_text outcome.last_attempt) (retry_fields outcome) refl
+      ∙ extensions-skip (codes "Will-Retry-Until") [] (option_map date_text outcome.retry_until) (extension_fields outcome) refl
+      ∙ all-extensions (lines_ended_by_lf outcome.extensions) passed)
+      ∙ sym (extensions-laid (lines_ended_by_lf outcome.extensions) passed);
 }
   where
-    none : (name : List ℕ) → same_text name (codes "Remote-MTA") ≡ false → same_text name (codes "Diagnostic-Code") ≡ false → same_text name (codes "Last-Attempt-Date") ≡ false → same_text name (codes "Will-Retry-Until") ≡ false
+    none : (name : List ℕ) → same_text name (codes "Remote-MTA") ≡ false → same_text name (codes "Diagnostic-Code") ≡ false → same_text name (codes "Last-Attempt-Date") ≡ false → same_text name (codes "Will-Retry-Until") ≡ false → ((rest : List ℕ) → same_text name (88 ∷ rest) ≡ false)
         → value_of name (mta_fields outcome) ≡ None
-    none name m d a r = from-mta outcome name m ∙ from-diagnostic outcome name d ∙ from-attempt outcome name a ∙ none-of-retry outcome name r
+    none name m d a r x = from-mta outcome passed name m ∙ from-diagnostic outcome passed name d ∙ from-attempt outcome passed name a ∙ none-of-retry outcome passed name r x
 
 -- a recipient of whom it is said until when delivery is tried is delayed
 retry-delayed : (action : Action) (retry_until : Option ℕ) → fits_retry action retry_until ≡ true → IsSome (option_map date_text retry_until)
@@ -268,29 +296,54 @@ word-known Delivered = refl
 word-known Relayed = refl
 word-known Expanded = refl
 
+-- what stands before the text of a value that has a type
+typed-printable : (usual : List ℕ) (kind : Option (List ℕ)) → list_all is_printable usual ≡ true → is_none_or is_type_name kind ≡ true → list_all is_printable (typed [] usual kind) ≡ true
+typed-printable usual None u e = shown-append usual (codes "; ") u refl
+typed-printable usual (Some kind) u e = shown-append kind (codes "; ") (type_name-plain kind e).printable refl
+
+has-type : (usual : List ℕ) (kind : Option (List ℕ)) (text : List ℕ) → is_type_name usual ≡ true → is_none_or is_type_name kind ≡ true → HasType (typed [] usual kind ++ text)
+has-type usual None text u e = record { type_name = usual; text = text; is_name = u; is_laid_out = refl }
+has-type usual (Some kind) text u e = record { type_name = kind; text = text; is_name = e; is_laid_out = refl }
+
+has-type-if-any : (usual : List ℕ) (kind value : Option (List ℕ)) → is_type_name usual ≡ true → is_none_or is_type_name kind ≡ true → IfSome (option_map (λ text. typed [] usual kind ++ text) value) HasType
+has-type-if-any usual kind None u e = tt
+has-type-if-any usual kind (Some text) u e = has-type usual kind text u e
+
 recipient-plain : (outcome : Outcome) → IsLegalOutcome outcome → has_plain_values (recipient_fields outcome) ≡ true
 recipient-plain outcome legal =
-    let original = plain-if-any (codes "Original-Recipient") (codes "rfc822; ") outcome.original refl
+    let original = plain-if-any (codes "Original-Recipient") (typed [] usual_address_type outcome.original_type) outcome.original
+    (typed-printable usual_address_type outcome.original_type refl legal.original_type_legal)
     (optional-printable is_address (λ text e. (address-plain text e).printable) outcome.original legal.original_legal) in
     let mta = plain-if-any (codes "Remote-MTA") (codes "dns; ") outcome.mta refl
     (optional-printable is_mta_name (λ text e. (mta-plain text e).printable) outcome.mta legal.mta_legal) in
-    let diagnostic = plain-if-any (codes "Diagnostic-Code") (codes "smtp; ") outcome.diagnostic refl
+    let diagnostic = plain-if-any (codes "Diagnostic-Code") (typed [] usual_diagnostic_type outcome.diagnostic_type) outcome.diagnostic
+    (typed-printable usual_diagnostic_type outcome.diagnostic_type refl legal.diagnostic_type_legal)
     (optional-printable is_remark (λ text e. (remark-plain text e).printable) outcome.diagnostic legal.diagnostic_clean) in
-    let retry = plain-append (field_if_any (codes "Will-Retry-Until") [] (option_map date_text outcome.retry_until)) [] (plain-date-if-any (codes "Will-Retry-Until") outcome.retry_until legal.retry_until_dated) refl in
+    let retry = plain-append (field_if_any (codes "Will-Retry-Until") [] (option_map date_text outcome.retry_until)) (extension_fields outcome) (plain-date-if-any (codes "Will-Retry-Until") outcome.retry_until legal.retry_until_dated)
+    (plain-extensions (lines_ended_by_lf outcome.extensions) (extension_lines-pass outcome.extensions legal.extensions_legal)) in
     let attempt = plain-append (field_if_any (codes "Last-Attempt-Date") [] (option_map date_text outcome.last_attempt)) (retry_fields outcome) (plain-date-if-any (codes "Last-Attempt-Date") outcome.last_attempt legal.last_attempt_dated) retry in
     let later =
     plain-append (field_if_any (codes "Remote-MTA") (codes "dns; ") outcome.mta) (diagnostic_fields outcome) mta
-    (plain-append (field_if_any (codes "Diagnostic-Code") (codes "smtp; ") outcome.diagnostic) (attempt_fields outcome) diagnostic attempt) in
-    plain-append (field_if_any (codes "Original-Recipient") (codes "rfc822; ") outcome.original) _ original
-    (rw ((address-plain outcome.recipient legal.recipient_legal).printable, word-printable outcome.action, (status-plain outcome.status legal.status_legal).printable, later) refl)
+    (plain-append (field_if_any (codes "Diagnostic-Code") (typed [] usual_diagnostic_type outcome.diagnostic_type) outcome.diagnostic) (attempt_fields outcome) diagnostic attempt) in
+    plain-append (field_if_any (codes "Original-Recipient") (typed [] usual_address_type outcome.original_type) outcome.original) _ original
+    (rw (
+      shown-append (typed [] usual_address_type outcome.recipient_type) outcome.recipient
+          (typed-printable usual_address_type outcome.recipient_type refl legal.recipient_type_legal) (address-plain outcome.recipient legal.recipient_legal).printable,
+      word-printable outcome.action,
+      (status-plain outcome.status legal.status_legal).printable,
+      later,
+    ) refl)
 
 legal-group : (outcome : Outcome) → IsLegalOutcome outcome → IsRecipientGroup (recipient_fields outcome)
 legal-group outcome legal =
-    let gives = group-gives outcome in
+    let passed = extension_lines-pass outcome.extensions legal.extensions_legal in
+    let gives = group-gives outcome passed in
     record {
-      in_order = recipient-in-order outcome;
+      in_order = recipient-in-order outcome passed;
       plain = recipient-plain outcome legal;
-      recipient = ap is_some gives.recipient;
+      original = subst (λ value. IfSome value HasType) (sym gives.original) (has-type-if-any usual_address_type outcome.original_type outcome.original refl legal.original_type_legal);
+      recipient = subst (λ value. IsSomeAnd value HasType) (sym gives.recipient) (has-type usual_address_type outcome.recipient_type outcome.recipient refl legal.recipient_type_legal);
+      diagnostic = subst (λ value. IfSome value HasType) (sym gives.diagnostic) (has-type-if-any usual_diagnostic_type outcome.diagnostic_type outcome.diagnostic refl legal.diagnostic_type_legal);
       action = subst (λ value. IsSomeAnd value (λ word. IsTrue (is_action_word word))) (sym gives.action) (word-known outcome.action);
       status = subst (λ value. IsSomeAnd value (λ code. IsTrue (is_status_code code))) (sym gives.status) legal.status_legal;
       retry_until = λ some. gives.action ∙ retry-delayed outcome.action outcome.retry_until legal.retry_fits (subst IsSome gives.retry_until some);
@@ -301,6 +354,7 @@ gives-message host letter = record {
   envelope_id = of_id letter.draft.envelope_id;
   reporter = of_host letter.draft.envelope_id;
   arrival = of_arrival letter.draft.envelope_id;
+  no_extensions = of_none letter.draft.envelope_id;
 }
   where
     fields : Option (List ℕ) → List Field
@@ -318,6 +372,10 @@ gives-message host letter = record {
     of_arrival None = refl
     of_arrival (Some id) = refl
 
+    of_none : (id : Option (List ℕ)) → extensions_in (fields id) ≡ []
+    of_none None = refl
+    of_none (Some id) = refl
+
 message-group : (host : List ℕ) (letter : Letter) → IsWellFormed host letter → IsMessageGroup (message_fields host letter)
 message-group host letter formed = record {
   in_order = message-in-order letter.draft.envelope_id host (date_text letter.draft.arrival);
@@ -333,9 +391,12 @@ some-group : (outcomes : List Outcome) → outcomes ≢ [] → map recipient_fie
 some-group [] some = λ none. some refl
 some-group (outcome ∷ outcomes) some = λ none. absurd (cc)
 
-each-gives : (outcomes : List Outcome) → AllZip GivesOutcome outcomes (map recipient_fields outcomes)
-each-gives [] = tt
-each-gives (outcome ∷ outcomes) = (group-gives outcome, each-gives outcomes)
+each-gives : (outcomes : List Outcome) → All IsLegalOutcome outcomes → AllZip GivesOutcome outcomes (map recipient_fields outcomes)
+each-gives [] legal = tt
+each-gives (outcome ∷ outcomes) legal = (
+  group-gives outcome (extension_lines-pass outcome.extensions (legal 0 outcome (omega arith)).extensions_legal),
+  each-gives outcomes (λ k d below. legal (suc k) d (omega arith)),
+)
 
 -- a mail program finds the delivery status in the notice's bytes
 status-found : (host : List ℕ) (letter : Letter) → IsWellFormed host letter
@@ -353,13 +414,13 @@ grammar_law host letter formed = record {
   message = message_fields host letter;
   recipients = map recipient_fields letter.outcomes;
   grammar = record {
-    laid_out = status-laid-out host letter;
+    laid_out = status-laid-out host letter formed.outcomes_legal;
     message_group = message-group host letter formed;
     some_recipient = some-group letter.outcomes formed.sealed.reports;
     recipient_groups = All-map IsRecipientGroup recipient_fields letter.outcomes (λ k d below. legal-group _ (formed.outcomes_legal k d below));
   };
   gives_message = gives-message host letter;
-  gives_outcomes = each-gives letter.outcomes;
+  gives_outcomes = each-gives letter.outcomes formed.outcomes_legal;
 }
 
 -- ---- an empty log

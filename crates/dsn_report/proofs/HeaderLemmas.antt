@@ -1,15 +1,18 @@
 -- The lines of a header, one at a time.
-use Rattle.std.proofs.Common.{min, codes, ◌≡◌, ℕ, suc, ◌+◌, ◌-◌, ◌<◌, ◌≤◌, Bool, true, false, not, List, [], ◌∷◌, ◌++◌, length, take, drop, get_or, map, refl, sym, ap, subst, ◌∙◌, cond, arith, add-one, if◌then◌else◌}
+use Rattle.std.proofs.Common.{min, ◌≡◌, ℕ, suc, ◌+◌, ◌-◌, ◌<◌, ◌≤◌, Bool, true, false, not, List, [], ◌∷◌, ◌++◌, length, take, drop, get_or, map, refl, sym, ap, subst, ◌∙◌, cond, arith, add-one, if◌then◌else◌}
 use Rattle.std.specs.Prelude.{◌==◌}
-use Rattle.std.specs.List.{All, onto_first, slice_split, before_first, prefix_len}
+use Rattle.std.specs.List.{All, list_all, onto_first, slice_split, before_first, prefix_len}
 use Rattle.std.specs.Str.Lines.{lines, lines_of_parts, strip_carriage_return}
-use Rattle.std.proofs.lemmas.Bool.{false_from_ne_true}
+use Rattle.std.proofs.lemmas.Bool.{false_from_ne_true, false≢true, and_parts, leb-true}
 use Rattle.std.proofs.lemmas.List.{take-append-drop, length-take, take-take, take_all, take-map, get_or-take, get_or_default}
 use Rattle.std.proofs.lemmas.List.Splits.{slice_split_at, slice_split_none}
 use Rattle.std.proofs.Math.Seq.{drop-cons, take-length}
 use Rattle.bstr.specs.Find.{Nowhere, Passes, is_byte}
-use Rattle.dsn_report.specs.Boundary.{header_lines, returned_lines, shown_byte, shown_line}
+use Rattle.dsn_outcome.specs.Draft.{Draft}
+use Rattle.dsn_report.specs.Boundary.{header_lines, is_message, returned_lines, returns_message, shown_line, stands_whole}
+use Rattle.dsn_report.specs.LegalLines.{is_mail_byte, is_mail_line}
 use Rattle.dsn_report.specs.Notice.{part_of, returned_part}
+use Rattle.dsn_report.specs.ReturnedLines.{byte_shown, line_shown, lines_shown}
 
 -- a part before other parts is a line, since there is always a part after it
 part-before : (test : Bool) (x : List ℕ) (b : ℕ) (parts : List (List ℕ))
@@ -71,13 +74,63 @@ header_lines-last text e = ap (before_first (λ line. length line == 0)) e ∙ l
     last true is = refl
     last false is = rw is refl
 
+not-none : (n : ℕ) → (suc n == 0) ≡ false
+not-none n = grind arith
+
+-- a text that isn't empty goes on at its first line
+pub lines-some : (text line rest : List ℕ) → 0 < length text → lines text ≡ line ∷ lines rest
+    → lines text ≡ (if length text == 0 then [] else line ∷ lines rest)
+lines-some [] line rest some e = absurd (omega (arith, some))
+lines-some (byte ∷ text) line rest some e = rw (not-none (length text)) e
+
+-- a text that is one line, or none
+pub lines-last : (text : List ℕ) → lines text ≡ (if length text == 0 then [] else text ∷ [])
+    → lines text ≡ (if length text == 0 then [] else text ∷ lines [])
+lines-last text e = e
+
 -- the bytes of a line that are shown, as far as they go
-pub shown-whole : (line : List ℕ) (len : ℕ) → len ≡ min (length line) 998 → map shown_byte (take len (take len line)) ≡ shown_line line
-shown-whole line len e =
+pub shown-whole : (whole : Bool) (line : List ℕ) (len : ℕ) → len ≡ min (length line) 998 → map (byte_shown whole) (take len (take len line)) ≡ line_shown whole line
+shown-whole whole line len e =
     let short : len ≤ 998 = omega arith in
     let front : take len line ≡ take 998 line =
     sym (take-take len 998 line short) ∙ take_all len (take 998 line) (omega (arith, length-take 998 line)) in
-    ap (map shown_byte) (take-take len len line (omega arith) ∙ front) ∙ sym (take-map shown_byte 998 line)
+    ap (map (byte_shown whole)) (take-take len len line (omega arith) ∙ front) ∙ sym (take-map (byte_shown whole) 998 line)
+
+-- the lines of a message that is returned whole are shown as they are
+bytes-kept : (line : List ℕ) → map (byte_shown true) line ≡ line
+bytes-kept [] = refl
+bytes-kept (byte ∷ line) = rw (bytes-kept line) refl
+
+line-kept : (line : List ℕ) → is_mail_line line ≡ true → line_shown true line ≡ line
+line-kept line legal =
+    let short : length line ≤ 998 = leb-true (length line) 998 (and_parts _ (list_all is_mail_byte line) legal).0 in
+    ap (take 998) (bytes-kept line) ∙ take_all 998 line short
+
+lines-kept : (ls : List (List ℕ)) → list_all is_mail_line ls ≡ true → map (line_shown true) ls ≡ ls
+lines-kept [] legal = refl
+lines-kept (line ∷ ls) legal =
+    let parts = and_parts (is_mail_line line) (list_all is_mail_line ls) legal in
+    rw (line-kept line parts.0, lines-kept ls parts.1) refl
+
+-- whether there are lines to be shown
+one-or-none : (f : List ℕ → List ℕ) (empty : Bool) (line : List ℕ) (ls : List (List ℕ)) → (length (map f (if empty then [] else line ∷ ls)) == 0) ≡ empty
+one-or-none f true line ls = refl
+one-or-none f false line ls = not-none (length (map f ls))
+
+pub none_shown : (whole : Bool) (text line rest : List ℕ) → header_lines text ≡ (if length line == 0 then [] else line ∷ header_lines rest)
+    → lines text ≡ (if length text == 0 then [] else line ∷ lines rest)
+    → (if whole then length text == 0 else length line == 0) ≡ (length (lines_shown whole text) == 0)
+none_shown true text line rest header all = sym (ap (λ ls. length (map (line_shown true) ls) == 0) all ∙ one-or-none (line_shown true) (length text == 0) line (lines rest))
+none_shown false text line rest header all = sym (ap (λ ls. length (map (line_shown false) ls) == 0) header ∙ one-or-none (line_shown false) (length line == 0) line (header_lines rest))
+
+-- what is shown of a draft's text is what its notice returns
+pub shown-returned : (draft : Draft) → lines_shown (returns_message draft) draft.header ≡ returned_lines draft
+unfolding returned_lines returns_message stands_whole
+shown-returned draft = here (returns_message draft) refl
+  where
+    here : (whole : Bool) → returns_message draft ≡ whole → lines_shown whole draft.header ≡ (if whole then lines draft.header else map shown_line (header_lines draft.header))
+    here true is = lines-kept (lines draft.header) (and_parts (is_message draft.returned) _ is).1
+    here false is = refl
 
 -- the line that stands behind a dot
 pub line-behind : (len : ℕ) (shown line : List ℕ) → take (len + 1) shown ≡ 46 ∷ line → take (len + 1 - 1) (drop 1 shown) ≡ line
@@ -87,15 +140,15 @@ line-behind len (byte ∷ rest) line e =
     let same : len + 1 - 1 ≡ len = omega arith in
     rw same (cc)
 
--- a header whose first line is empty has no returned part
-pub returned_part-none : (boundary header line rest : List ℕ) → header_lines header ≡ (if length line == 0 then [] else line ∷ header_lines rest)
-    → (length line == 0) ≡ true → returned_part boundary (returned_lines header) ≡ []
-unfolding returned_part returned_lines
-returned_part-none boundary header line rest e empty = rw (e, empty) refl
+-- without lines there is no returned part
+pub returned_part-none : (boundary description content_type : List ℕ) (ls : List (List ℕ)) → (length ls == 0) ≡ true → returned_part boundary description content_type ls ≡ []
+unfolding returned_part
+returned_part-none boundary description content_type [] empty = refl
+returned_part-none boundary description content_type (line ∷ ls) empty = absurd (false≢true (sym (not-none (length ls)) ∙ empty))
 
--- any other header has one
-pub returned_part-some : (boundary header line rest : List ℕ) → header_lines header ≡ (if length line == 0 then [] else line ∷ header_lines rest)
-    → (length line == 0) ≡ false
-    → returned_part boundary (returned_lines header) ≡ part_of boundary (codes "Undelivered Message Headers") (codes "text/rfc822-headers") (returned_lines header)
-unfolding returned_part returned_lines
-returned_part-some boundary header line rest e some = rw (e, some) refl
+-- with some there is one
+pub returned_part-some : (boundary description content_type : List ℕ) (ls : List (List ℕ)) → (length ls == 0) ≡ false
+    → returned_part boundary description content_type ls ≡ part_of boundary description content_type ls
+unfolding returned_part
+returned_part-some boundary description content_type [] some = absurd cc
+returned_part-some boundary description content_type (line ∷ ls) some = refl

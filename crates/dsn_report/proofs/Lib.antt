@@ -8,6 +8,7 @@ mod DateText
 mod DivisionLemmas
 mod DotsLemmas
 mod Examples
+pub mod ExtensionLemmas
 mod GrammarLemmas
 pub mod HeaderLemmas
 pub mod LineWriterLemmas

@@ -1,8 +1,12 @@
 -- Each line of a notice is legal.
-use Rattle.std.proofs.Common.{◌≡◌, ℕ, zero, suc, ◌+◌, ◌-◌, ◌/◌, ◌%◌, ◌^◌, ◌<◌, ◌≤◌, Bool, true, false, ◌||◌, List, [], ◌∷◌, ◌++◌, Option, Some, None, length, take, map, get_or, codes, refl, ◌∙◌, arith, if◌then◌else◌, length-append}
-use Rattle.std.specs.Prelude.{nat_le, ◌==◌, All, decimal, unwrap_or, option_map}
+use Rattle.std.proofs.Common.{◌≡◌, ℕ, zero, suc, ◌+◌, ◌-◌, ◌/◌, ◌%◌, ◌^◌, ◌<◌, ◌≤◌, Bool, true, false, ◌||◌, List, [], ◌∷◌, ◌++◌, Option, Some, None, length, take, map, get_or, codes, refl, sym, subst, ◌∙◌, arith, inl, inr, if◌then◌else◌, length-append}
+use Rattle.std.specs.Prelude.{nat_eq, nat_le, ◌==◌, All, decimal, unwrap_or, option_map}
 use Rattle.std.specs.List.{list_all, flat_map}
-use Rattle.std.proofs.lemmas.Bool.{le-leb, leb-true}
+use Rattle.std.specs.Str.Lines.{lines}
+use lib.Pointwise.{pointwise}
+use Rattle.std.proofs.lemmas.Bool.{le-leb, leb-true, false≢true}
+use Rattle.std.proofs.lemmas.Bool.Decides.{Decides-eqb, eqb_tells, nat_tests}
+use Rattle.std.proofs.Math.Bool.{or-true}
 use Rattle.std.proofs.lemmas.List.{length-take}
 use Rattle.std.proofs.lemmas.List.Folds.{list_all-append}
 use Rattle.std.proofs.lemmas.Fmt.{decimal_is_IsNumeral, length-decimal-le}
@@ -14,20 +18,25 @@ use Rattle.dsn_text.specs.declared.action.Action.{Action}
 use Rattle.dsn_text.specs.declared.action.Action.TheVariants.{Failed, Delayed, Delivered, Relayed, Expanded}
 use Rattle.dsn_text.specs.declared.service.Service.{Service}
 use Rattle.dsn_text.specs.declared.service.Service.TheVariants.{Bounce, Defer, Trace}
+use Rattle.dsn_outcome.specs.Draft.{Draft}
 use Rattle.dsn_outcome.specs.Letter.{Letter}
+use Rattle.dsn_outcome.specs.declared.wording.Wording.{Wording}
+use Rattle.dsn_outcome.specs.declared.wording.Wording.TheVariants.{ByService, ByOutcome}
 use Rattle.dsn_outcome.specs.Outcome.{Outcome, IsLegalOutcome}
 use Rattle.dsn_text.specs.Optional.{is_none_or}
+use Rattle.dsn_text.specs.Extension.{lines_ended_by_lf, is_extension_line}
 use Rattle.dsn_text.specs.Service.{service_letter}
 use Rattle.dsn_text.specs.Stamp.{date_text, civil_after, weekday_after, day_names, month_names, last_moment, is_moment}
-use Rattle.dsn_text.specs.Text.{is_printable, is_address, is_queue_id, is_mta_name, is_remark, is_envelope_id}
+use Rattle.dsn_text.specs.Text.{is_printable, is_address, is_queue_id, is_mta_name, is_remark, is_type_name, is_envelope_id}
 use Rattle.dsn_report.proofs.DateText.{printable-between, shown-date}
 use Rattle.dsn_report.specs.WellFormed.{IsWellFormed}
-use Rattle.dsn_report.specs.Notice.{subject_of, opening_of, notice_header, part_header, part_of, outcome_lines, notification, returned_part, lines_with_boundary, notice_lines, notice_of}
-use Rattle.dsn_report.specs.DeliveryStatus.{line_if_any, per_message_fields, per_recipient_fields, recipient_group, delivery_status}
+use Rattle.dsn_report.specs.Notice.{notice_header, origin_if_other, origin_told, recipient_told, returned_description, returned_type, words_by, part_header, part_of, outcome_lines, notification, returned_part, lines_with_boundary, notice_lines, notice_of}
+use Rattle.dsn_report.specs.DeliveryStatus.{line_if_any, per_message_fields, per_recipient_fields, recipient_group, delivery_status, typed, usual_address_type, usual_diagnostic_type}
+use Rattle.dsn_report.proofs.ExtensionLemmas.{extension-laid, extension-name_plain, extension-value_plain, extension_lines-pass}
 use Rattle.dsn_report.proofs.BoundaryLaw.{boundary_number-few}
-use Rattle.dsn_report.proofs.PlainLemmas.{IsPlain, and-parts, address-plain, mta-plain, envelope_id-plain, remark-plain, id-plain, host-plain, status-plain}
-use Rattle.dsn_report.specs.Boundary.{letter_name, boundary_of, boundary_number, boundary_text, four_digits, shown_byte, shown_line, returned_lines, header_lines}
-use Rattle.dsn_report.specs.LegalLines.{HasLegalLines, is_line_byte, is_legal_line}
+use Rattle.dsn_report.proofs.PlainLemmas.{IsPlain, and-parts, or-parts, address-plain, mta-plain, envelope_id-plain, remark-plain, type_name-plain, id-plain, host-plain, status-plain}
+use Rattle.dsn_report.specs.Boundary.{letter_name, boundary_of, boundary_number, boundary_text, four_digits, shown_byte, shown_line, returned_lines, returns_message, stands_whole, header_lines, is_message}
+use Rattle.dsn_report.specs.LegalLines.{HasLegalLines, is_among, is_line_byte, is_legal_line, is_mail_byte, is_mail_line}
 
 -- a text of at most so many bytes, each of which a line may hold
 pub record IsFit (most : ℕ) (text : List ℕ) : Type 0 where
@@ -78,13 +87,78 @@ take-legal (suc n) (byte ∷ text) e =
 fit-shown : (line : List ℕ) → IsFit 998 (shown_line line)
 fit-shown line = record { legal = take-legal 998 (map shown_byte line) (shown-line-legal line); short = omega (arith, length-take 998 (map shown_byte line)) }
 
-returned-legal : (lines : List (List ℕ)) → list_all is_legal_line (map shown_line lines) ≡ true
-returned-legal [] = refl
-returned-legal (line ∷ lines) = rw (line-legal (fit-shown line) (omega arith), returned-legal lines) refl
+shown-legal-lines : (lines : List (List ℕ)) → list_all is_legal_line (map shown_line lines) ≡ true
+shown-legal-lines [] = refl
+shown-legal-lines (line ∷ lines) = rw (line-legal (fit-shown line) (omega arith), shown-legal-lines lines) refl
 
-pub returned_lines-legal : (header : List ℕ) → list_all is_legal_line (returned_lines header) ≡ true
+-- the returned lines of a header
+pub header-returned-legal : (draft : Draft) → returns_message draft ≡ false → list_all is_legal_line (returned_lines draft) ≡ true
 unfolding returned_lines
-returned_lines-legal header = returned-legal (header_lines header)
+header-returned-legal draft header = rw header (shown-legal-lines (header_lines draft.header))
+
+-- a tab or a printable byte may stand in a mail
+mail-byte : (byte : ℕ) → is_line_byte byte ≡ true → is_mail_byte byte ≡ true
+mail-byte byte legal = elim (or-parts (is_printable byte) (byte == 9) legal) [
+  | inl printable ↦
+      let parts = and-parts (nat_le 32 byte) (nat_le byte 126) printable in
+      let above = leb-true 32 byte parts.0 in
+      let below = leb-true byte 126 parts.1 in
+      grind (arith, nat_tests, above, below)
+  | inr tab ↦ elim (eqb_tells byte 9) [
+    | inl same ↦ subst (λ b. is_mail_byte b ≡ true) (sym same.1) refl
+    | inr other ↦ absurd (false≢true (sym other.0 ∙ tab))
+  ]
+]
+
+mail-bytes : (text : List ℕ) → list_all is_line_byte text ≡ true → list_all is_mail_byte text ≡ true
+mail-bytes [] legal = refl
+mail-bytes (byte ∷ text) legal =
+    let parts = and-parts (is_line_byte byte) (list_all is_line_byte text) legal in
+    rw (mail-byte byte parts.0, mail-bytes text parts.1) refl
+
+pub fit-mail : {most : ℕ} {text : List ℕ} → IsFit most text → list_all is_mail_byte text ≡ true
+fit-mail {most} {text} p = mail-bytes text p.legal
+
+mail-line : (line : List ℕ) → is_legal_line line ≡ true → is_mail_line line ≡ true
+mail-line line legal =
+    let parts = and-parts (nat_le (length line) 998) (list_all is_line_byte line) legal in
+    rw (parts.0, mail-bytes line parts.1) refl
+
+mail-lines : (lines : List (List ℕ)) → list_all is_legal_line lines ≡ true → list_all is_mail_line lines ≡ true
+mail-lines [] legal = refl
+mail-lines (line ∷ lines) legal =
+    let parts = and-parts (is_legal_line line) (list_all is_legal_line lines) legal in
+    rw (mail-line line parts.0, mail-lines lines parts.1) refl
+
+-- the returned lines, of a header or of a message
+returned-mail : (draft : Draft) → list_all is_mail_line (returned_lines draft) ≡ true
+unfolding returned_lines returns_message stands_whole
+returned-mail draft = here (returns_message draft) refl
+  where
+    here : (whole : Bool) → returns_message draft ≡ whole → list_all is_mail_line (if whole then lines draft.header else map shown_line (header_lines draft.header)) ≡ true
+    here true is = (and-parts (is_message draft.returned) (list_all is_mail_line (lines draft.header)) is).1
+    here false is = mail-lines (map shown_line (header_lines draft.header)) (shown-legal-lines (header_lines draft.header))
+
+-- each of some lines is one of them
+same-self : (line : List ℕ) → pointwise nat_eq line line ≡ true
+same-self [] = refl
+same-self (byte ∷ line) = rw ((Decides-eqb byte byte).1 refl, same-self line) refl
+
+among-more : (first : List ℕ) (all some : List (List ℕ)) → list_all (is_among all) some ≡ true → list_all (is_among (first ∷ all)) some ≡ true
+among-more first all [] among = refl
+among-more first all (line ∷ some) among =
+    let parts = and-parts (is_among all line) (list_all (is_among all) some) among in
+    rw (parts.0, or-true (pointwise nat_eq line first), among-more first all some parts.1) refl
+
+among-own : (lines : List (List ℕ)) → list_all (is_among lines) lines ≡ true
+among-own [] = refl
+among-own (line ∷ lines) = rw (same-self line, among-more line lines lines (among-own lines)) refl
+
+among-plain : (all some : List (List ℕ)) → list_all (is_among all) some ≡ true → list_all (λ line. is_legal_line line || is_among all line) some ≡ true
+among-plain all [] among = refl
+among-plain all (line ∷ some) among =
+    let parts = and-parts (is_among all line) (list_all (is_among all) some) among in
+    rw (parts.0, or-true (is_legal_line line), among-plain all some parts.1) refl
 
 -- ---- the parts of a line
 
@@ -117,15 +191,73 @@ fit-word Delivered = fit-known 9 (codes "delivered") refl refl
 fit-word Relayed = fit-known 9 (codes "relayed") refl refl
 fit-word Expanded = fit-known 9 (codes "expanded") refl refl
 
-fit-subject : (service : Service) → IsFit 40 (subject_of service)
-fit-subject Bounce = fit-known 40 (subject_of Bounce) refl refl
-fit-subject Defer = fit-known 40 (subject_of Defer) refl refl
-fit-subject Trace = fit-known 40 (subject_of Trace) refl refl
+fit-subject : (wording : Wording) (service : Service) (arrived : Bool) → IsFit 40 (words_by wording service arrived).subject
+fit-subject ByService Bounce arrived = fit-known 40 (words_by ByService Bounce arrived).subject refl refl
+fit-subject ByService Defer arrived = fit-known 40 (words_by ByService Defer arrived).subject refl refl
+fit-subject ByService Trace arrived = fit-known 40 (words_by ByService Trace arrived).subject refl refl
+fit-subject ByOutcome Bounce arrived = fit-known 40 (words_by ByOutcome Bounce arrived).subject refl refl
+fit-subject ByOutcome Defer arrived = fit-known 40 (words_by ByOutcome Defer arrived).subject refl refl
+fit-subject ByOutcome Trace true = fit-known 40 (words_by ByOutcome Trace true).subject refl refl
+fit-subject ByOutcome Trace false = fit-known 40 (words_by ByOutcome Trace false).subject refl refl
 
-fit-opening : (service : Service) → IsFit 80 (opening_of service)
-fit-opening Bounce = fit-known 80 (opening_of Bounce) refl refl
-fit-opening Defer = fit-known 80 (opening_of Defer) refl refl
-fit-opening Trace = fit-known 80 (opening_of Trace) refl refl
+fit-opening : (wording : Wording) (service : Service) (arrived : Bool) → IsFit 80 (words_by wording service arrived).opening
+fit-opening ByService Bounce arrived = fit-known 80 (words_by ByService Bounce arrived).opening refl refl
+fit-opening ByService Defer arrived = fit-known 80 (words_by ByService Defer arrived).opening refl refl
+fit-opening ByService Trace arrived = fit-known 80 (words_by ByService Trace arrived).opening refl refl
+fit-opening ByOutcome Bounce arrived = fit-known 80 (words_by ByOutcome Bounce arrived).opening refl refl
+fit-opening ByOutcome Defer arrived = fit-known 80 (words_by ByOutcome Defer arrived).opening refl refl
+fit-opening ByOutcome Trace true = fit-known 80 (words_by ByOutcome Trace true).opening refl refl
+fit-opening ByOutcome Trace false = fit-known 80 (words_by ByOutcome Trace false).opening refl refl
+
+fit-description : (wording : Wording) (service : Service) (arrived whole : Bool) → IsFit 50 (returned_description (words_by wording service arrived) whole)
+fit-description ByService Bounce arrived true = fit-known 50 (returned_description (words_by ByService Bounce arrived) true) refl refl
+fit-description ByService Bounce arrived false = fit-known 50 (returned_description (words_by ByService Bounce arrived) false) refl refl
+fit-description ByService Defer arrived true = fit-known 50 (returned_description (words_by ByService Defer arrived) true) refl refl
+fit-description ByService Defer arrived false = fit-known 50 (returned_description (words_by ByService Defer arrived) false) refl refl
+fit-description ByService Trace arrived true = fit-known 50 (returned_description (words_by ByService Trace arrived) true) refl refl
+fit-description ByService Trace arrived false = fit-known 50 (returned_description (words_by ByService Trace arrived) false) refl refl
+fit-description ByOutcome Bounce arrived true = fit-known 50 (returned_description (words_by ByOutcome Bounce arrived) true) refl refl
+fit-description ByOutcome Bounce arrived false = fit-known 50 (returned_description (words_by ByOutcome Bounce arrived) false) refl refl
+fit-description ByOutcome Defer arrived true = fit-known 50 (returned_description (words_by ByOutcome Defer arrived) true) refl refl
+fit-description ByOutcome Defer arrived false = fit-known 50 (returned_description (words_by ByOutcome Defer arrived) false) refl refl
+fit-description ByOutcome Trace true true = fit-known 50 (returned_description (words_by ByOutcome Trace true) true) refl refl
+fit-description ByOutcome Trace true false = fit-known 50 (returned_description (words_by ByOutcome Trace true) false) refl refl
+fit-description ByOutcome Trace false true = fit-known 50 (returned_description (words_by ByOutcome Trace false) true) refl refl
+fit-description ByOutcome Trace false false = fit-known 50 (returned_description (words_by ByOutcome Trace false) false) refl refl
+
+fit-type : (usual : List ℕ) (kind : Option (List ℕ)) → IsFit 32 usual → is_none_or is_type_name kind ≡ true → IsFit 32 (unwrap_or kind usual)
+fit-type usual None fits e = fits
+fit-type usual (Some kind) fits e = fit-plain (type_name-plain kind e)
+
+fit-typed : (name usual : List ℕ) (kind : Option (List ℕ)) → IsFit 26 name → IsFit 32 usual → is_none_or is_type_name kind ≡ true → IsFit 60 (typed name usual kind)
+fit-typed name usual kind fits usual_fits e = fit-append (fit-append fits (fit-type usual kind usual_fits e)) (fit-known 2 (codes "; ") refl refl)
+
+fit-returned-type : (whole : Bool) → IsFit 50 (returned_type whole)
+fit-returned-type true = fit-known 50 (returned_type true) refl refl
+fit-returned-type false = fit-known 50 (returned_type false) refl refl
+
+fit-told : (recipient : List ℕ) (origin : Option (List ℕ)) → is_address recipient ≡ true → is_none_or is_address origin ≡ true → IsFit 540 (recipient_told recipient origin)
+unfolding recipient_told
+fit-told recipient None r o =
+    let told = fit-append (fit-append (fit-known 1 (codes "<") refl refl) (fit-plain (address-plain recipient r))) (fit-known 1 (codes ">") refl refl) in
+    record { legal = told.legal; short = omega (arith, told.short) }
+fit-told recipient (Some original) r o =
+    let told =
+    fit-append (fit-append (fit-append (fit-append (fit-known 1 (codes "<") refl refl) (fit-plain (address-plain recipient r))) (fit-known 20 (codes "> (expanded from <") refl refl))
+    (fit-plain (address-plain original o))) (fit-known 2 (codes ">)") refl refl) in
+    record { legal = told.legal; short = omega (arith, told.short) }
+
+other-legal : (recipient : List ℕ) (original : Option (List ℕ)) → is_none_or is_address original ≡ true → is_none_or is_address (origin_if_other recipient original) ≡ true
+other-legal recipient None legal = refl
+other-legal recipient (Some original) legal = here (pointwise nat_eq original recipient)
+  where
+    here : (same : Bool) → is_none_or is_address (if same then None else Some original) ≡ true
+    here true = refl
+    here false = legal
+
+origin-legal : (wording : Wording) (outcome : Outcome) → is_none_or is_address outcome.original ≡ true → is_none_or is_address (origin_told wording outcome) ≡ true
+origin-legal ByService outcome legal = refl
+origin-legal ByOutcome outcome legal = other-legal outcome.recipient outcome.original legal
 
 fit-letter : (service : Service) → IsFit 1 (service_letter service ∷ [])
 fit-letter Bounce = fit-known 1 (66 ∷ []) refl refl
@@ -158,52 +290,63 @@ fit-boundary letter k id early few = fit-append (fit-append (fit-name letter id 
 
 -- ---- the lines
 
--- lines that are legal, each of them
-record AreLegal (lines : List (List ℕ)) : Type 0 where
-  all : list_all is_legal_line lines ≡ true
+fit-extension : (line : List ℕ) → is_extension_line line ≡ true → IsFit 321 line
+fit-extension line is = subst (IsFit 321) (sym (extension-laid line is))
+    (fit-append (fit-append (fit-plain (extension-name_plain line is)) (fit-known 2 (codes ": ") refl refl)) (fit-plain (extension-value_plain line is)))
 
-legal-none : AreLegal []
-legal-none = record { all = refl }
+-- lines that pass a test, each of them
+record AreLegal (ok : List ℕ → Bool) (lines : List (List ℕ)) : Type 0 where
+  all : list_all ok lines ≡ true
 
-legal-cons : {most : ℕ} {line : List ℕ} {rest : List (List ℕ)} → IsFit most line → most ≤ 998 → AreLegal rest → AreLegal (line ∷ rest)
-legal-cons {most} {line} {rest} p few later = record { all = rw (line-legal p few, later.all) refl }
+-- each line of a notice passes any test that the returned lines pass, and each line of tabs and printable bytes
+module _ (ok : List ℕ → Bool) (sure : (line : List ℕ) → is_legal_line line ≡ true → ok line ≡ true) (host : List ℕ) (letter : Letter) (formed : IsWellFormed host letter) where
+  legal-none : AreLegal ok []
+  legal-none = record { all = refl }
 
-legal-empty : {rest : List (List ℕ)} → AreLegal rest → AreLegal ([] ∷ rest)
-legal-empty {rest} later = record { all = later.all }
+  legal-cons : {most : ℕ} {line : List ℕ} {rest : List (List ℕ)} → IsFit most line → most ≤ 998 → AreLegal ok rest → AreLegal ok (line ∷ rest)
+  legal-cons {most} {line} {rest} p few later = record { all = rw (sure line (line-legal p few), later.all) refl }
 
-legal-append : {xs ys : List (List ℕ)} → AreLegal xs → AreLegal ys → AreLegal (xs ++ ys)
-legal-append {xs} {ys} p q = record { all = list_all-append is_legal_line xs ys ∙ rw (p.all, q.all) refl }
+  legal-empty : {rest : List (List ℕ)} → AreLegal ok rest → AreLegal ok ([] ∷ rest)
+  legal-empty {rest} later = record { all = rw (sure [] refl, later.all) refl }
 
-legal-flat_map : (f : Outcome → List (List ℕ)) (xs : List Outcome) → All IsLegalOutcome xs → ((outcome : Outcome) → IsLegalOutcome outcome → AreLegal (f outcome)) → AreLegal (flat_map f xs)
-legal-flat_map f [] all each = legal-none
-legal-flat_map f (x ∷ xs) all each =
-    legal-append (each x (all 0 x (omega arith))) (legal-flat_map f xs (λ k d below. all (suc k) d (omega arith)) each)
+  legal-append : {xs ys : List (List ℕ)} → AreLegal ok xs → AreLegal ok ys → AreLegal ok (xs ++ ys)
+  legal-append {xs} {ys} p q = record { all = list_all-append ok xs ys ∙ rw (p.all, q.all) refl }
 
-legal-if-any : (name : List ℕ) (n most : ℕ) (test : List ℕ → Bool) (value : Option (List ℕ)) → IsFit n name → ((text : List ℕ) → test text ≡ true → IsFit most text) → n + most ≤ 998
-    → is_none_or test value ≡ true → AreLegal (line_if_any name value)
-unfolding line_if_any
-legal-if-any name n most test None fits each few e = legal-none
-legal-if-any name n most test (Some text) fits each few e = legal-cons (fit-append fits (each text e)) few legal-none
+  legal-flat_map : (f : Outcome → List (List ℕ)) (xs : List Outcome) → All IsLegalOutcome xs → ((outcome : Outcome) → IsLegalOutcome outcome → AreLegal ok (f outcome)) → AreLegal ok (flat_map f xs)
+  legal-flat_map f [] all each = legal-none
+  legal-flat_map f (x ∷ xs) all each =
+      legal-append (each x (all 0 x (omega arith))) (legal-flat_map f xs (λ k d below. all (suc k) d (omega arith)) each)
 
-legal-date-if-any : (name : List ℕ) (moment : Option ℕ) → IsFit 40 name → is_none_or is_moment moment ≡ true → AreLegal (line_if_any name (option_map date_text moment))
-unfolding line_if_any
-legal-date-if-any name None fits e = legal-none
-legal-date-if-any name (Some moment) fits e =
-    legal-cons (fit-append fits (fit-date moment (leb-true moment last_moment e))) (omega arith) legal-none
+  legal-if-any : (name : List ℕ) (n most : ℕ) (test : List ℕ → Bool) (value : Option (List ℕ)) → IsFit n name → ((text : List ℕ) → test text ≡ true → IsFit most text) → n + most ≤ 998
+      → is_none_or test value ≡ true → AreLegal ok (line_if_any name value)
+  unfolding line_if_any
+  legal-if-any name n most test None fits each few e = legal-none
+  legal-if-any name n most test (Some text) fits each few e = legal-cons (fit-append fits (each text e)) few legal-none
 
-module _ (host : List ℕ) (letter : Letter) (formed : IsWellFormed host letter) where
+  legal-date-if-any : (name : List ℕ) (moment : Option ℕ) → IsFit 40 name → is_none_or is_moment moment ≡ true → AreLegal ok (line_if_any name (option_map date_text moment))
+  unfolding line_if_any
+  legal-date-if-any name None fits e = legal-none
+  legal-date-if-any name (Some moment) fits e =
+      legal-cons (fit-append fits (fit-date moment (leb-true moment last_moment e))) (omega arith) legal-none
+
+  legal-extensions : (lines : List (List ℕ)) → list_all is_extension_line lines ≡ true → AreLegal ok lines
+  legal-extensions [] pass = legal-none
+  legal-extensions (line ∷ lines) pass =
+      let parts = and-parts (is_extension_line line) (list_all is_extension_line lines) pass in
+      legal-cons (fit-extension line parts.0) (omega arith) (legal-extensions lines parts.1)
+
   fit-host : IsFit 255 host
   fit-host = fit-plain (host-plain host formed.host_legal)
 
   fit-own : IsFit 60 (boundary_of letter)
   fit-own = fit-boundary letter (boundary_number letter) formed.id_legal formed.moment_dated (boundary_number-few letter)
 
-  header-legal : AreLegal (notice_header host letter (boundary_of letter))
+  header-legal : AreLegal ok (notice_header host letter (boundary_of letter))
   unfolding notice_header
   header-legal =
       legal-cons (fit-append (fit-append (fit-known 50 (codes "From: Mail Delivery System <MAILER-DAEMON@") refl refl) fit-host) (fit-known 1 (codes ">") refl refl)) (omega arith)
       (legal-cons (fit-append (fit-append (fit-known 5 (codes "To: <") refl refl) (fit-path letter.draft.return_path formed.path_legal)) (fit-known 1 (codes ">") refl refl)) (omega arith)
-      (legal-cons (fit-append (fit-known 9 (codes "Subject: ") refl refl) (fit-subject letter.key.service)) (omega arith)
+      (legal-cons (fit-append (fit-known 9 (codes "Subject: ") refl refl) (fit-subject letter.draft.wording letter.key.service _)) (omega arith)
       (legal-cons (fit-append (fit-known 6 (codes "Date: ") refl refl) (fit-date letter.draft.moment formed.moment_dated)) (omega arith)
       (legal-cons (fit-append (fit-append (fit-append (fit-append (fit-append (fit-append (fit-known 13 (codes "Message-ID: <") refl refl) (fit-name letter formed.id_legal formed.moment_dated)) (fit-known 1 (codes ".") refl refl)) (fit-decimal letter.serial formed.serial_fits)) (fit-known 1 (codes "@") refl refl)) fit-host) (fit-known 1 (codes ">") refl refl)) (omega arith)
       (legal-cons (fit-known 80 (codes "Auto-Submitted: auto-replied") refl refl) (omega arith)
@@ -211,8 +354,8 @@ module _ (host : List ℕ) (letter : Letter) (formed : IsWellFormed host letter)
       (legal-cons (fit-known 80 (codes "Content-Type: multipart/report; report-type=delivery-status;") refl refl) (omega arith)
       (legal-cons (fit-append (fit-append (fit-known 11 (codes " boundary=\"") refl refl) fit-own) (fit-known 1 (codes "\"") refl refl)) (omega arith) legal-none))))))))
 
-  part-legal : (description content_type : List ℕ) (body : List (List ℕ)) → IsFit 50 description → IsFit 50 content_type → AreLegal body
-      → AreLegal (part_of (boundary_of letter) description content_type body)
+  part-legal : (description content_type : List ℕ) (body : List (List ℕ)) → IsFit 50 description → IsFit 50 content_type → AreLegal ok body
+      → AreLegal ok (part_of (boundary_of letter) description content_type body)
   unfolding part_of part_header
   part-legal description content_type body d t legal =
       legal-append
@@ -221,20 +364,20 @@ module _ (host : List ℕ) (letter : Letter) (formed : IsWellFormed host letter)
       (legal-cons (fit-append (fit-known 30 (codes "Content-Type: ") refl refl) t) (omega arith) (legal-empty legal))))
       (legal-empty legal-none)
 
-  outcome-legal : (outcome : Outcome) → IsLegalOutcome outcome → AreLegal (outcome_lines outcome)
+  outcome-legal : (outcome : Outcome) → IsLegalOutcome outcome → AreLegal ok (outcome_lines letter.draft.wording outcome)
   unfolding outcome_lines
   outcome-legal outcome legal =
-      legal-cons (fit-append (fit-append (fit-append (fit-append (fit-append (fit-append (fit-known 1 (codes "<") refl refl) (fit-plain (address-plain outcome.recipient legal.recipient_legal)))
-      (fit-known 3 (codes ">: ") refl refl)) (fit-word outcome.action)) (fit-known 2 (codes " (") refl refl)) (fit-plain (status-plain outcome.status legal.status_legal))) (fit-known 1 (codes ")") refl refl)) (omega arith)
+      let told = fit-told outcome.recipient (origin_told letter.draft.wording outcome) legal.recipient_legal (origin-legal letter.draft.wording outcome legal.original_legal) in
+      legal-cons (fit-append (fit-append (fit-append (fit-append (fit-append told (fit-known 2 (codes ": ") refl refl)) (fit-word outcome.action)) (fit-known 2 (codes " (") refl refl)) (fit-plain (status-plain outcome.status legal.status_legal))) (fit-known 1 (codes ")") refl refl)) (omega arith)
       (legal-if-any (codes "    ") 4 800 is_remark outcome.reason (fit-known 4 (codes "    ") refl refl) (λ text e. fit-plain (remark-plain text e)) (omega arith) legal.reason_clean)
 
-  notification-legal : AreLegal (notification host letter)
+  notification-legal : AreLegal ok (notification host letter)
   unfolding notification
   notification-legal =
       legal-cons (fit-append (fit-append (fit-known 40 (codes "This is the mail system at host ") refl refl) fit-host) (fit-known 1 (codes ".") refl refl)) (omega arith)
-      (legal-empty (legal-cons (fit-opening letter.key.service) (omega arith) (legal-empty (legal-flat_map outcome_lines letter.outcomes formed.outcomes_legal outcome-legal))))
+      (legal-empty (legal-cons (fit-opening letter.draft.wording letter.key.service _) (omega arith) (legal-empty (legal-flat_map (outcome_lines letter.draft.wording) letter.outcomes formed.outcomes_legal outcome-legal))))
 
-  group-legal : (outcome : Outcome) → IsLegalOutcome outcome → AreLegal (recipient_group outcome)
+  group-legal : (outcome : Outcome) → IsLegalOutcome outcome → AreLegal ok (recipient_group outcome)
   unfolding per_recipient_fields
   group-legal outcome legal =
       legal-empty (
@@ -243,16 +386,18 @@ module _ (host : List ℕ) (letter : Letter) (formed : IsWellFormed host letter)
       (legal-append
       (legal-append
       (legal-append
-      (legal-if-any (codes "Original-Recipient: rfc822; ") 40 256 is_address outcome.original (fit-known 40 (codes "Original-Recipient: rfc822; ") refl refl) (λ text e. fit-plain (address-plain text e)) (omega arith) legal.original_legal)
-      (legal-cons (fit-append (fit-known 40 (codes "Final-Recipient: rfc822; ") refl refl) (fit-plain (address-plain outcome.recipient legal.recipient_legal))) (omega arith)
+      (legal-append
+      (legal-if-any (typed (codes "Original-Recipient: ") usual_address_type outcome.original_type) 60 256 is_address outcome.original (fit-typed (codes "Original-Recipient: ") usual_address_type outcome.original_type (fit-known 26 (codes "Original-Recipient: ") refl refl) (fit-known 32 usual_address_type refl refl) legal.original_type_legal) (λ text e. fit-plain (address-plain text e)) (omega arith) legal.original_legal)
+      (legal-cons (fit-append (fit-typed (codes "Final-Recipient: ") usual_address_type outcome.recipient_type (fit-known 26 (codes "Final-Recipient: ") refl refl) (fit-known 32 usual_address_type refl refl) legal.recipient_type_legal) (fit-plain (address-plain outcome.recipient legal.recipient_legal))) (omega arith)
       (legal-cons (fit-append (fit-known 40 (codes "Action: ") refl refl) (fit-word outcome.action)) (omega arith)
       (legal-cons (fit-append (fit-known 40 (codes "Status: ") refl refl) (fit-plain (status-plain outcome.status legal.status_legal))) (omega arith) legal-none))))
       (legal-if-any (codes "Remote-MTA: dns; ") 40 255 is_mta_name outcome.mta (fit-known 40 (codes "Remote-MTA: dns; ") refl refl) (λ text e. fit-plain (mta-plain text e)) (omega arith) legal.mta_legal))
-      (legal-if-any (codes "Diagnostic-Code: smtp; ") 40 800 is_remark outcome.diagnostic (fit-known 40 (codes "Diagnostic-Code: smtp; ") refl refl) (λ text e. fit-plain (remark-plain text e)) (omega arith) legal.diagnostic_clean))
+      (legal-if-any (typed (codes "Diagnostic-Code: ") usual_diagnostic_type outcome.diagnostic_type) 60 800 is_remark outcome.diagnostic (fit-typed (codes "Diagnostic-Code: ") usual_diagnostic_type outcome.diagnostic_type (fit-known 26 (codes "Diagnostic-Code: ") refl refl) (fit-known 32 usual_diagnostic_type refl refl) legal.diagnostic_type_legal) (λ text e. fit-plain (remark-plain text e)) (omega arith) legal.diagnostic_clean))
       (legal-date-if-any (codes "Last-Attempt-Date: ") outcome.last_attempt (fit-known 40 (codes "Last-Attempt-Date: ") refl refl) legal.last_attempt_dated))
       (legal-date-if-any (codes "Will-Retry-Until: ") outcome.retry_until (fit-known 40 (codes "Will-Retry-Until: ") refl refl) legal.retry_until_dated))
+      (legal-extensions (lines_ended_by_lf outcome.extensions) (extension_lines-pass outcome.extensions legal.extensions_legal)))
 
-  status-legal : AreLegal (delivery_status host letter)
+  status-legal : AreLegal ok (delivery_status host letter)
   unfolding delivery_status per_message_fields
   status-legal =
       legal-append
@@ -262,15 +407,15 @@ module _ (host : List ℕ) (letter : Letter) (formed : IsWellFormed host letter)
       (legal-cons (fit-append (fit-known 40 (codes "Arrival-Date: ") refl refl) (fit-date letter.draft.arrival formed.arrival_dated)) (omega arith) legal-none)))
       (legal-flat_map recipient_group letter.outcomes formed.outcomes_legal group-legal)
 
-  returned-part-legal : (lines : List (List ℕ)) → AreLegal lines → AreLegal (returned_part (boundary_of letter) lines)
+  returned-part-legal : (description content_type : List ℕ) (lines : List (List ℕ)) → IsFit 50 description → IsFit 50 content_type → AreLegal ok lines
+      → AreLegal ok (returned_part (boundary_of letter) description content_type lines)
   unfolding returned_part
-  returned-part-legal [] e = legal-none
-  returned-part-legal (line ∷ lines) e =
-      part-legal (codes "Undelivered Message Headers") (codes "text/rfc822-headers") (line ∷ lines) (fit-known 50 (codes "Undelivered Message Headers") refl refl) (fit-known 50 (codes "text/rfc822-headers") refl refl) e
+  returned-part-legal description content_type [] d t e = legal-none
+  returned-part-legal description content_type (line ∷ lines) d t e = part-legal description content_type (line ∷ lines) d t e
 
-  notice-legal : AreLegal (notice_lines host letter)
+  notice-legal : list_all ok (returned_lines letter.draft) ≡ true → AreLegal ok (notice_lines host letter)
   unfolding notice_lines lines_with_boundary
-  notice-legal =
+  notice-legal returned =
       legal-append
       (legal-append
       (legal-append
@@ -278,19 +423,30 @@ module _ (host : List ℕ) (letter : Letter) (formed : IsWellFormed host letter)
       (legal-append header-legal (legal-empty legal-none))
       (part-legal (codes "Notification") (codes "text/plain; charset=us-ascii") (notification host letter) (fit-known 50 (codes "Notification") refl refl) (fit-known 50 (codes "text/plain; charset=us-ascii") refl refl) notification-legal))
       (part-legal (codes "Delivery report") (codes "message/delivery-status") (delivery_status host letter) (fit-known 50 (codes "Delivery report") refl refl) (fit-known 50 (codes "message/delivery-status") refl refl) status-legal))
-      (returned-part-legal (returned_lines letter.draft.header) (record { all = returned_lines-legal letter.draft.header })))
+      (returned-part-legal _ _ (returned_lines letter.draft) (fit-description letter.draft.wording letter.key.service _ (returns_message letter.draft)) (fit-returned-type (returns_message letter.draft)) (record { all = returned })))
       (legal-cons (fit-append (fit-append (fit-known 2 (codes "--") refl refl) fit-own) (fit-known 2 (codes "--") refl refl)) (omega arith) legal-none)
 
-pub notice_lines-legal : (host : List ℕ) (letter : Letter) → IsWellFormed host letter → list_all is_legal_line (notice_lines host letter) ≡ true
-notice_lines-legal host letter formed = (notice-legal host letter formed).all
+pub notice_lines-legal : (host : List ℕ) (letter : Letter) → IsWellFormed host letter → list_all is_mail_line (notice_lines host letter) ≡ true
+notice_lines-legal host letter formed = (notice-legal is_mail_line mail-line host letter formed (returned-mail letter.draft)).all
 
-pub delivery_status-legal : (host : List ℕ) (letter : Letter) → IsWellFormed host letter → list_all is_legal_line (delivery_status host letter) ≡ true
-delivery_status-legal host letter formed = (status-legal host letter formed).all
+pub delivery_status-legal : (host : List ℕ) (letter : Letter) → IsWellFormed host letter → list_all is_mail_line (delivery_status host letter) ≡ true
+delivery_status-legal host letter formed = (status-legal is_mail_line mail-line host letter formed).all
 
-pub lines_law : (host : List ℕ) (letter : Letter) → IsWellFormed host letter → HasLegalLines (notice_of host letter)
+-- each line is of tabs and printable bytes, or returned
+legal-or : (line : List ℕ) (other : Bool) → is_legal_line line ≡ true → (is_legal_line line || other) ≡ true
+legal-or line other legal = rw legal refl
+
+notice_lines-plain : (host : List ℕ) (letter : Letter) → IsWellFormed host letter → list_all (λ line. is_legal_line line || is_among (returned_lines letter.draft) line) (notice_lines host letter) ≡ true
+notice_lines-plain host letter formed =
+    let returned = returned_lines letter.draft in
+    let ok = λ (line : List ℕ). is_legal_line line || is_among returned line in
+    (notice-legal ok (λ line legal. legal-or line (is_among returned line) legal) host letter formed (among-plain returned returned (among-own returned))).all
+
+pub lines_law : (host : List ℕ) (letter : Letter) → IsWellFormed host letter → HasLegalLines (notice_of host letter) (returned_lines letter.draft)
 unfolding notice_of
 lines_law host letter formed = record {
   lines = notice_lines host letter;
   written = refl;
   legal = notice_lines-legal host letter formed;
+  plain = notice_lines-plain host letter formed;
 }

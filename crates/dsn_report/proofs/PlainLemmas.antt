@@ -1,12 +1,13 @@
 -- Legal texts are printable and short.
 use Rattle.std.proofs.Common.{◌≡◌, ℕ, ◌≤◌, Bool, true, false, ◌&&◌, ◌||◌, ◌⊎◌, List, [], ◌∷◌, ◌++◌, length, codes, refl, sym, ap, ◌∙◌, arith, inl, inr}
-use Rattle.std.specs.Prelude.{nat_le, ◌==◌}
-use Rattle.std.specs.List.{list_all}
+use Rattle.std.specs.Prelude.{nat_le, nat_eq, ◌==◌}
+use Rattle.std.specs.List.{list_all, starts_with}
 use Rattle.std.proofs.lemmas.Bool.{false≢true, leb-true}
 use Rattle.std.proofs.lemmas.Bool.Decides.{eqb_tells}
 use Rattle.dsn_text.proofs.StatusLemmas.{IsStatusCode-test, length-IsStatusCode}
+use Rattle.dsn_text.specs.Extension.{is_extension_name, is_extension_value}
 use Rattle.dsn_text.specs.Status.{is_status_code, is_class}
-use Rattle.dsn_text.specs.Text.{is_printable, is_visible, is_address_byte, is_letter_or_digit, is_digit, is_text, is_address, is_mta_name, is_envelope_id, is_remark, is_queue_id}
+use Rattle.dsn_text.specs.Text.{is_printable, is_visible, is_address_byte, is_letter_or_digit, is_digit, is_text, is_address, is_atom_byte, is_type_name, is_mta_name, is_envelope_id, is_remark, is_queue_id}
 use Rattle.dsn_report.proofs.DateText.{printable-between, shown-append}
 use Rattle.dsn_report.specs.Site.{is_host, is_host_byte}
 
@@ -90,6 +91,18 @@ text-plain test stricter least most text e =
 
 pub address-plain : (text : List ℕ) → is_address text ≡ true → IsPlain 256 text
 address-plain text e = text-plain is_address_byte address-printable 1 256 text e
+
+atom-printable : (byte : ℕ) → is_atom_byte byte ≡ true → is_printable byte ≡ true
+atom-printable byte e = visible-printable byte (and-parts (is_visible byte) _ e).0
+
+pub type_name-plain : (text : List ℕ) → is_type_name text ≡ true → IsPlain 32 text
+type_name-plain text e = text-plain is_atom_byte atom-printable 1 32 text e
+
+pub extension_name-plain : (text : List ℕ) → is_extension_name text ≡ true → IsPlain 64 text
+extension_name-plain text e = text-plain is_atom_byte atom-printable 3 64 text (and-parts (starts_with nat_eq text (codes "X-")) _ e).1
+
+pub extension_value-plain : (text : List ℕ) → is_extension_value text ≡ true → IsPlain 255 text
+extension_value-plain text e = text-plain is_printable (λ byte e. e) 1 255 text e
 
 pub mta-plain : (text : List ℕ) → is_mta_name text ≡ true → IsPlain 255 text
 mta-plain text e = text-plain is_visible visible-printable 1 255 text e

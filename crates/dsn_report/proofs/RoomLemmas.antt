@@ -1,11 +1,12 @@
--- How many bytes some lines take with a line feed each: the returned lines of a header take at most one more
--- than the header.
+-- How many bytes some lines take with a line feed each: the returned lines take at most one more than
+-- the text that they are of.
 use Rattle.std.proofs.Common.{◌≡◌, ℕ, zero, suc, ◌+◌, ◌-◌, ◌≤◌, Bool, true, false, List, [], ◌∷◌, length, get_or, take, map, cond, not, arith, if◌then◌else◌}
 use Rattle.std.specs.Prelude.{◌==◌}
 use Rattle.std.specs.List.{onto_first, slice_split, prefix_len}
-use Rattle.std.specs.Str.Lines.{lines_of_parts, strip_carriage_return}
+use Rattle.std.specs.Str.Lines.{lines, lines_of_parts, strip_carriage_return}
 use Rattle.std.proofs.lemmas.List.{length-map, length-take}
-use Rattle.dsn_report.specs.Boundary.{header_lines, returned_lines, shown_byte, shown_line}
+use Rattle.dsn_outcome.specs.Draft.{Draft}
+use Rattle.dsn_report.specs.Boundary.{header_lines, returned_lines, returns_message, shown_byte, shown_line}
 
 unfoldable pub room : List (List ℕ) → ℕ
 room [] = 0
@@ -54,10 +55,23 @@ unfolding room
 room-shown [] = omega arith
 room-shown (line ∷ ls) = omega (arith, room-shown ls, length-take 998 (map shown_byte line), length-map line shown_byte)
 
--- the returned lines of a header
-pub room-returned : (header : List ℕ) → room (returned_lines header) ≤ length header + 1
-unfolding returned_lines header_lines
-room-returned header =
-    let parts = slice_split {X = ℕ} (λ b. b == 10) header in
-    let n = prefix_len (λ line. not (length line == 0)) (lines_of_parts parts) in
-    omega (arith, room-shown (take n (lines_of_parts parts)), room-take n (lines_of_parts parts), room-lines_of_parts parts, room-slice_split (λ b. b == 10) header)
+-- all lines of a text, and those of its header
+room-lines : (text : List ℕ) → room (lines text) ≤ length text + 1
+room-lines text =
+    let parts = slice_split {X = ℕ} (λ b. b == 10) text in
+    omega (arith, room-lines_of_parts parts, room-slice_split (λ b. b == 10) text)
+
+room-header : (text : List ℕ) → room (map shown_line (header_lines text)) ≤ length text + 1
+unfolding header_lines
+room-header text =
+    let n = prefix_len (λ line. not (length line == 0)) (lines text) in
+    omega (arith, room-shown (take n (lines text)), room-take n (lines text), room-lines text)
+
+-- the returned lines
+pub room-returned : (draft : Draft) → room (returned_lines draft) ≤ length draft.header + 1
+unfolding returned_lines
+room-returned draft = here (returns_message draft)
+  where
+    here : (whole : Bool) → room (if whole then lines draft.header else map shown_line (header_lines draft.header)) ≤ length draft.header + 1
+    here true = room-lines draft.header
+    here false = room-header draft.header

@@ -1,22 +1,23 @@
 -- The boundary between the parts of a notice, and the returned lines that it has to differ from
 -- (RFC 2046 section 5.1.1).
-use Rattle.std.specs.Prelude.{ℕ, zero, suc, ◌+◌, ◌-◌, ◌/◌, ◌%◌, ◌<◌, Bool, ◌||◌, ◌==◌, List, [], ◌∷◌, ◌++◌, length, map, take, codes, decimal, if◌then◌else◌, nat_eq, IsTrue, IsFalse}
-use Rattle.std.specs.List.{list_any, starts_with, before_first}
+use Rattle.std.specs.Prelude.{ℕ, zero, suc, ◌+◌, ◌-◌, ◌/◌, ◌%◌, ◌<◌, Bool, true, false, ◌||◌, ◌&&◌, ◌==◌, List, [], ◌∷◌, ◌++◌, length, map, take, codes, decimal, if◌then◌else◌, nat_eq, IsTrue, IsFalse}
+use Rattle.std.specs.List.{list_all, list_any, starts_with, before_first}
 use Rattle.std.specs.Str.Lines.{lines}
+use Rattle.dsn_outcome.specs.Draft.{Draft}
 use Rattle.dsn_outcome.specs.Letter.{Letter}
+use Rattle.dsn_outcome.specs.declared.returned.Returned.{Returned}
+use Rattle.dsn_outcome.specs.declared.returned.Returned.TheVariants.{Header, Message}
 use Rattle.dsn_text.specs.Service.{service_letter}
 use Rattle.dsn_text.specs.Text.{is_printable, longest_queue_id, most_digits}
+use Rattle.dsn_report.specs.LegalLines.{is_mail_line}
+use Rattle.dsn_report.specs.Lines.{longest_line}
 
--- a byte of a returned line: `?` stands for one that is neither printable nor a tab, since a notice
+-- a byte of a returned header: `?` stands for one that is neither printable nor a tab, since a notice
 -- is 7bit text (RFC 2045 section 2.7)
 abbrev pub shown_byte : ℕ → ℕ
 shown_byte byte = if is_printable byte || (byte == 9) then byte else 63
 
--- the longest line of a mail, in bytes without its CRLF (RFC 5322 section 2.1.1)
-abbrev pub longest_line : ℕ
-longest_line = 998
-
--- a returned line, cut to the length that a line may have
+-- a line of a returned header, cut to the length that a line may have
 abbrev pub shown_line : List ℕ → List ℕ
 shown_line line = take longest_line (map shown_byte line)
 
@@ -24,9 +25,25 @@ shown_line line = take longest_line (map shown_byte line)
 unfoldable pub header_lines : List ℕ → List (List ℕ)
 header_lines header = before_first (λ line. length line == 0) (lines header)
 
--- the lines that a notice returns of a header
-unfoldable pub returned_lines : List ℕ → List (List ℕ)
-returned_lines header = map shown_line (header_lines header)
+-- whether a text is wanted back as a message
+abbrev pub is_message : Returned → Bool
+is_message Header = false
+is_message Message = true
+
+-- whether each line of a text stands in a 7bit mail as it is
+unfoldable pub stands_whole : List ℕ → Bool
+stands_whole text = list_all is_mail_line (lines text)
+
+-- whether a notice returns the message, and not its header: the message is there, and each of its
+-- lines stands in a mail as it is (RFC 3461 section 4.3; RFC 2045 section 2.7)
+unfoldable pub returns_message : Draft → Bool
+returns_message draft = is_message draft.returned && stands_whole draft.header
+
+-- the lines that a notice returns: those of the message as they are, or those of its header
+unfoldable pub returned_lines : Draft → List (List ℕ)
+returned_lines draft =
+    if returns_message draft then lines draft.header
+    else map shown_line (header_lines draft.header)
 
 -- how many boundaries a letter has: as many as there are numbers of four digits (this project's
 -- profile)
@@ -64,16 +81,14 @@ is_delimiter boundary line = starts_with nat_eq line (codes "--" ++ boundary)
 abbrev pub is_dashed : List ℕ → Bool
 is_dashed line = starts_with nat_eq line (codes "--")
 
--- some returned line of a header is taken for a delimiter of the boundary that begins so and has
--- this number
-abbrev pub rules_out : List ℕ → List ℕ → ℕ → Bool
-rules_out front header number =
-    list_any (is_delimiter (front ++ four_digits number)) (returned_lines header)
+-- some of these lines is taken for a delimiter of the boundary that begins so and has this number
+abbrev pub rules_out : List ℕ → List (List ℕ) → ℕ → Bool
+rules_out front returned number = list_any (is_delimiter (front ++ four_digits number)) returned
 
 -- some returned line rules this number out
 unfoldable pub is_ruled_out : Letter → ℕ → Bool
 is_ruled_out letter number =
-    list_any (is_delimiter (boundary_text letter number)) (returned_lines letter.draft.header)
+    list_any (is_delimiter (boundary_text letter number)) (returned_lines letter.draft)
 
 -- the least number that no returned line rules out
 pub record IsBoundaryNumber (letter : Letter) (number : ℕ) : Type 0 where

@@ -1,15 +1,16 @@
 -- The grammar of a delivery status part (RFC 3464 section 2.1), apart from its text.
-use Rattle.std.specs.Prelude.{◌≡◌, ◌≢◌, ℕ, Bool, true, false, List, [], ◌∷◌, ◌++◌, map, All, Option, Some, None, IsTrue, IsSome, IsSomeAnd, codes, if◌then◌else◌, nat_eq, option_map}
+use Rattle.std.specs.Prelude.{◌≡◌, ◌≢◌, ℕ, Bool, true, ◌&&◌, List, [], ◌∷◌, ◌++◌, map, All, Option, Some, None, IsTrue, IsSome, IsSomeAnd, IfSome, codes, if◌then◌else◌, nat_eq, option_map}
 use Rattle.std.specs.List.{AllZip, list_all, list_any, flat_map}
 use lib.Pointwise.{pointwise}
 use Rattle.dsn_text.specs.Action.{action_word}
 use Rattle.dsn_outcome.specs.Letter.{Letter}
 use Rattle.dsn_outcome.specs.Outcome.{Outcome}
+use Rattle.dsn_text.specs.Extension.{lines_ended_by_lf, is_extension_name}
 use Rattle.dsn_text.specs.Stamp.{date_text}
 use Rattle.dsn_text.specs.Status.{is_status_code}
-use Rattle.dsn_text.specs.Text.{is_printable}
+use Rattle.dsn_text.specs.Text.{is_printable, is_type_name}
 use Rattle.dsn_report.specs.Boundary.{boundary_of}
-use Rattle.dsn_report.specs.DeliveryStatus.{delivery_status}
+use Rattle.dsn_report.specs.DeliveryStatus.{delivery_status, typed, usual_address_type, usual_diagnostic_type}
 use Rattle.dsn_report.specs.Lines.{pieces_of_text}
 use Rattle.dsn_report.specs.Multipart.{Multipart, message_body, multipart_of}
 use Rattle.dsn_report.specs.Notice.{notice_of}
@@ -39,10 +40,11 @@ per_recipient_names =
     ∷ codes "Remote-MTA" ∷ codes "Diagnostic-Code" ∷ codes "Last-Attempt-Date" ∷ codes "Final-Log-ID"
     ∷ codes "Will-Retry-Until" ∷ []
 
--- the fields have some of the names, in their order, none of them twice
+-- the fields have some of the names, in their order, none of them twice, and what follows are
+-- extension fields (RFC 3464 section 2.4)
 abbrev pub is_choice_of : List (List ℕ) → List Field → Bool
 is_choice_of [] [] = true
-is_choice_of [] (field ∷ fields) = false
+is_choice_of [] (field ∷ fields) = is_extension_name field.name && is_choice_of [] fields
 is_choice_of (name ∷ names) [] = true
 is_choice_of (name ∷ names) (field ∷ fields) =
     if same_text name field.name then is_choice_of names fields
@@ -53,6 +55,12 @@ abbrev pub value_of : List ℕ → List Field → Option (List ℕ)
 value_of name [] = None
 value_of name (field ∷ fields) =
     if same_text name field.name then Some field.value else value_of name fields
+
+-- the extension fields among some fields: their names begin with X- (RFC 3464 section 2.4)
+abbrev pub extensions_in : List Field → List Field
+extensions_in [] = []
+extensions_in (field ∷ fields) =
+    if is_extension_name field.name then field ∷ extensions_in fields else extensions_in fields
 
 -- each value is printable, and so within its line
 abbrev pub has_plain_values : List Field → Bool
@@ -70,11 +78,20 @@ pub record IsMessageGroup (fields : List Field) : Type 0 where
   pub plain : IsTrue (has_plain_values fields)
   pub reporter : IsSome (value_of (codes "Reporting-MTA") fields)
 
+-- a value that begins with its type, an atom, and a semicolon (RFC 3464 sections 2.1.2 and 2.3.6)
+pub record HasType (value : List ℕ) : Type 0 where
+  pub type_name : List ℕ
+  pub text : List ℕ
+  pub is_name : IsTrue (is_type_name type_name)
+  pub is_laid_out : value ≡ type_name ++ codes "; " ++ text
+
 -- the fields of a recipient; only a delayed one's delivery is tried again (RFC 3464 section 2.3.9)
 pub record IsRecipientGroup (fields : List Field) : Type 0 where
   pub in_order : IsTrue (is_choice_of per_recipient_names fields)
   pub plain : IsTrue (has_plain_values fields)
-  pub recipient : IsSome (value_of (codes "Final-Recipient") fields)
+  pub original : IfSome (value_of (codes "Original-Recipient") fields) HasType
+  pub recipient : IsSomeAnd (value_of (codes "Final-Recipient") fields) HasType
+  pub diagnostic : IfSome (value_of (codes "Diagnostic-Code") fields) HasType
   pub action : IsSomeAnd (value_of (codes "Action") fields) (λ word. IsTrue (is_action_word word))
   pub status : IsSomeAnd (value_of (codes "Status") fields) (λ code. IsTrue (is_status_code code))
   pub retry_until : IsSome (value_of (codes "Will-Retry-Until") fields)
@@ -91,28 +108,33 @@ pub record IsDeliveryStatus (lines : List (List ℕ)) (message : List Field)
   pub recipient_groups : All IsRecipientGroup recipients
 
 -- the group says what became of the recipient: each field's value is the outcome's, and missing
--- where that is
+-- where that is, and the extension fields are its own, as they stand
 pub record GivesOutcome (outcome : Outcome) (fields : List Field) : Type 0 where
   pub original : value_of (codes "Original-Recipient") fields
-      ≡ option_map (λ text. codes "rfc822; " ++ text) outcome.original
+      ≡ option_map (λ text. typed [] usual_address_type outcome.original_type ++ text)
+      outcome.original
   pub recipient : value_of (codes "Final-Recipient") fields
-      ≡ Some (codes "rfc822; " ++ outcome.recipient)
+      ≡ Some (typed [] usual_address_type outcome.recipient_type ++ outcome.recipient)
   pub action : value_of (codes "Action") fields ≡ Some (action_word outcome.action)
   pub status : value_of (codes "Status") fields ≡ Some outcome.status
   pub mta : value_of (codes "Remote-MTA") fields
       ≡ option_map (λ text. codes "dns; " ++ text) outcome.mta
   pub diagnostic : value_of (codes "Diagnostic-Code") fields
-      ≡ option_map (λ text. codes "smtp; " ++ text) outcome.diagnostic
+      ≡ option_map (λ text. typed [] usual_diagnostic_type outcome.diagnostic_type ++ text)
+      outcome.diagnostic
   pub last_attempt : value_of (codes "Last-Attempt-Date") fields
       ≡ option_map date_text outcome.last_attempt
   pub retry_until : value_of (codes "Will-Retry-Until") fields
       ≡ option_map date_text outcome.retry_until
+  pub extensions : map field_line (extensions_in fields) ≡ lines_ended_by_lf outcome.extensions
 
--- the group says whose message it is, who reports, and when the message came
+-- the group says whose message it is, who reports, and when the message came, and has no extension
+-- field
 pub record GivesMessage (host : List ℕ) (letter : Letter) (fields : List Field) : Type 0 where
   pub envelope_id : value_of (codes "Original-Envelope-Id") fields ≡ letter.draft.envelope_id
   pub reporter : value_of (codes "Reporting-MTA") fields ≡ Some (codes "dns; " ++ host)
   pub arrival : value_of (codes "Arrival-Date") fields ≡ Some (date_text letter.draft.arrival)
+  pub no_extensions : extensions_in fields ≡ []
 
 -- the second of some texts, if there are two
 abbrev pub second_of : List (List ℕ) → Option (List ℕ)

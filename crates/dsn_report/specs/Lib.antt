@@ -1,12 +1,14 @@
 pub mod Boundary
 pub mod Data
 pub mod DeliveryStatus
+pub mod ExtensionLines
 pub mod Grammar
 pub mod LegalLines
 pub mod LineWriter
 pub mod Lines
 pub mod Multipart
 pub mod Notice
+pub mod NoticeWording
 pub mod Outbox
 pub mod Outgoing
 pub mod Poster

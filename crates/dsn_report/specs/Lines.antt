@@ -2,6 +2,10 @@
 use Rattle.std.specs.Prelude.{ℕ, Bool, false, ◌&&◌, List, [], ◌∷◌, ◌++◌, ◌==◌, drop, if◌then◌else◌}
 use Rattle.std.specs.List.{onto_first}
 
+-- the longest line of a mail, in bytes without its CRLF (RFC 5322 section 2.1.1)
+abbrev pub longest_line : ℕ
+longest_line = 998
+
 -- the text of some lines
 unfoldable pub text_of_lines : List (List ℕ) → List ℕ
 text_of_lines [] = []

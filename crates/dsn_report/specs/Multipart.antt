@@ -3,10 +3,10 @@
 use Rattle.std.specs.Prelude.{◌≡◌, ℕ, Bool, List, [], ◌∷◌, ◌++◌, map, Option, Some, None, option_map, codes, if◌then◌else◌, nat_eq}
 use Rattle.std.specs.List.{starts_with}
 use Rattle.dsn_outcome.specs.Letter.{Letter}
-use Rattle.dsn_report.specs.Boundary.{boundary_of, is_delimiter, returned_lines}
+use Rattle.dsn_report.specs.Boundary.{boundary_of, is_delimiter, returned_lines, returns_message}
 use Rattle.dsn_report.specs.DeliveryStatus.{delivery_status}
 use Rattle.dsn_report.specs.Lines.{pieces_of_text, text_of_lines, text_of_pieces}
-use Rattle.dsn_report.specs.Notice.{notice_of, notification}
+use Rattle.dsn_report.specs.Notice.{notice_of, notification, returned_description, returned_type, words_of}
 
 -- what stands before the first delimiter, the parts, and what stands after the last delimiter, if
 -- there is one, in the pieces between CRLFs
@@ -70,11 +70,10 @@ part_lines description content_type body =
     ∷ body
 
 -- the returned part, where there are returned lines
-unfoldable pub returned_parts : List (List ℕ) → List (List (List ℕ))
-returned_parts [] = []
-returned_parts (line ∷ rest) =
-    part_lines (codes "Undelivered Message Headers") (codes "text/rfc822-headers") (line ∷ rest)
-    ∷ []
+unfoldable pub returned_parts : List ℕ → List ℕ → List (List ℕ) → List (List (List ℕ))
+returned_parts description content_type [] = []
+returned_parts description content_type (line ∷ rest) =
+    part_lines description content_type (line ∷ rest) ∷ []
 
 -- the parts of a notice
 unfoldable pub notice_parts : List ℕ → Letter → List (List (List ℕ))
@@ -83,7 +82,8 @@ notice_parts host letter =
     (notification host letter)
     ∷ part_lines (codes "Delivery report") (codes "message/delivery-status")
     (delivery_status host letter)
-    ∷ returned_parts (returned_lines letter.draft.header)
+    ∷ returned_parts (returned_description (words_of letter) (returns_message letter.draft))
+    (returned_type (returns_message letter.draft)) (returned_lines letter.draft)
 
 -- who divides a notice's bytes at its boundary gets its parts, each with the CRLF of its last line,
 -- and nothing before and nothing after them

@@ -1,28 +1,101 @@
 -- A notice: a multipart/report of what became of a message's recipients (RFC 6522, RFC 3464, RFC
 -- 3834), as a list of lines.
-use Rattle.std.specs.Prelude.{ℕ, List, [], ◌∷◌, ◌++◌, codes, decimal, unwrap_or}
-use Rattle.std.specs.List.{flat_map}
+use Rattle.std.specs.Prelude.{ℕ, Bool, true, false, List, [], ◌∷◌, ◌++◌, Option, Some, None, codes, decimal, nat_eq, unwrap_or, if◌then◌else◌}
+use Rattle.std.specs.List.{list_all, flat_map}
+use lib.Pointwise.{pointwise}
 use Rattle.dsn_text.specs.Action.{action_word}
+use Rattle.dsn_text.specs.declared.action.Action.{Action}
+use Rattle.dsn_text.specs.declared.action.Action.TheVariants.{Failed, Delayed, Delivered, Relayed, Expanded}
 use Rattle.dsn_outcome.specs.Letter.{Letter}
 use Rattle.dsn_outcome.specs.Outcome.{Outcome}
 use Rattle.dsn_text.specs.Stamp.{date_text}
 use Rattle.dsn_text.specs.declared.service.Service.{Service}
 use Rattle.dsn_text.specs.declared.service.Service.TheVariants.{Bounce, Defer, Trace}
-use Rattle.dsn_report.specs.Boundary.{letter_name, boundary_of, returned_lines}
+use Rattle.dsn_outcome.specs.declared.wording.Wording.{Wording}
+use Rattle.dsn_outcome.specs.declared.wording.Wording.TheVariants.{ByService, ByOutcome}
+use Rattle.dsn_report.specs.Boundary.{letter_name, boundary_of, returned_lines, returns_message}
 use Rattle.dsn_report.specs.DeliveryStatus.{line_if_any, delivery_status}
 use Rattle.dsn_report.specs.Lines.{text_of_lines}
 
--- the subject of a notice (this project's profile)
-abbrev pub subject_of : Service → List ℕ
-subject_of Bounce = codes "Undelivered Mail Returned to Sender"
-subject_of Defer = codes "Delayed Mail (still being retried)"
-subject_of Trace = codes "Mail Delivery Status Report"
+-- the words that a notice chooses: its subject, what it says to its reader first, and the
+-- descriptions of what it returns, a header and a whole message
+pub record Words : Type 0 where
+  pub subject : List ℕ
+  pub opening : List ℕ
+  pub header : List ℕ
+  pub message : List ℕ
 
--- what a notice says to its reader first (this project's profile)
-abbrev pub opening_of : Service → List ℕ
-opening_of Bounce = codes "Your message could not be delivered to the recipients below."
-opening_of Defer = codes "Your message has not yet been delivered to the recipients below."
-opening_of Trace = codes "This is the delivery report for your message."
+-- whether the message reached the recipient, or went on to where it is no longer followed (RFC 3464
+-- section 2.3.3)
+abbrev pub has_arrived : Action → Bool
+has_arrived Failed = false
+has_arrived Delayed = false
+has_arrived Delivered = true
+has_arrived Relayed = true
+has_arrived Expanded = true
+
+abbrev pub bounce_words : Words
+bounce_words = record {
+  subject = codes "Undelivered Mail Returned to Sender";
+  opening = codes "Your message could not be delivered to the recipients below.";
+  header = codes "Undelivered Message Headers";
+  message = codes "Undelivered Message";
+}
+
+abbrev pub defer_words : Words
+defer_words = record {
+  subject = codes "Delayed Mail (still being retried)";
+  opening = codes "Your message has not yet been delivered to the recipients below.";
+  header = codes "Delayed Message Headers";
+  message = codes "Delayed Message";
+}
+
+abbrev pub trace_words : Words
+trace_words = record {
+  subject = codes "Mail Delivery Status Report";
+  opening = codes "This is the delivery report for your message.";
+  header = codes "Message Headers";
+  message = codes "Message";
+}
+
+abbrev pub success_words : Words
+success_words = record {
+  subject = codes "Successful Mail Delivery Report";
+  opening = codes "Your message was delivered to the recipients below.";
+  header = codes "Message Headers";
+  message = codes "Message";
+}
+
+-- where they are chosen by the service, what is returned is named in one way
+abbrev pub with_bounce_names : Words → Words
+with_bounce_names words =
+    record words { header = bounce_words.header; message = bounce_words.message }
+
+-- the words by the wording, the service and whether the message arrived everywhere (this project's
+-- profile)
+abbrev pub words_by : Wording → Service → Bool → Words
+words_by ByService Bounce arrived = bounce_words
+words_by ByService Defer arrived = with_bounce_names defer_words
+words_by ByService Trace arrived = with_bounce_names trace_words
+words_by ByOutcome Bounce arrived = bounce_words
+words_by ByOutcome Defer arrived = defer_words
+words_by ByOutcome Trace true = success_words
+words_by ByOutcome Trace false = trace_words
+
+-- the words of a letter's notice
+abbrev pub words_of : Letter → Words
+words_of letter =
+    words_by letter.draft.wording letter.key.service
+    (list_all (λ outcome. has_arrived outcome.action) letter.outcomes)
+
+-- the description and the type of what is returned: the message, or its header (RFC 6522 section 3)
+abbrev pub returned_description : Words → Bool → List ℕ
+returned_description words true = words.message
+returned_description words false = words.header
+
+abbrev pub returned_type : Bool → List ℕ
+returned_type true = codes "message/rfc822"
+returned_type false = codes "text/rfc822-headers"
 
 -- who gets the notice: the message's return path (RFC 3464 section 2)
 abbrev pub return_path_of : Letter → List ℕ
@@ -34,7 +107,7 @@ unfoldable pub notice_header : List ℕ → Letter → List ℕ → List (List �
 notice_header host letter boundary =
     (codes "From: Mail Delivery System <MAILER-DAEMON@" ++ host ++ codes ">")
     ∷ (codes "To: <" ++ return_path_of letter ++ codes ">")
-    ∷ (codes "Subject: " ++ subject_of letter.key.service)
+    ∷ (codes "Subject: " ++ (words_of letter).subject)
     ∷ (codes "Date: " ++ date_text letter.draft.moment)
     ∷ (codes "Message-ID: <" ++ letter_name letter ++ codes "." ++ decimal letter.serial
     ++ codes "@" ++ host ++ codes ">")
@@ -59,11 +132,27 @@ unfoldable pub part_of : List ℕ → List ℕ → List ℕ → List (List ℕ) 
 part_of boundary description content_type body =
     part_header boundary description content_type ++ body ++ [] ∷ []
 
+-- the original recipient of an outcome, where its notice tells it: it isn't the final one
+abbrev pub origin_if_other : List ℕ → Option (List ℕ) → Option (List ℕ)
+origin_if_other recipient None = None
+origin_if_other recipient (Some original) =
+    if pointwise nat_eq original recipient then None else Some original
+
+abbrev pub origin_told : Wording → Outcome → Option (List ℕ)
+origin_told ByService outcome = None
+origin_told ByOutcome outcome = origin_if_other outcome.recipient outcome.original
+
+-- a recipient, and from which address it came, where that is told
+unfoldable pub recipient_told : List ℕ → Option (List ℕ) → List ℕ
+recipient_told recipient None = codes "<" ++ recipient ++ codes ">"
+recipient_told recipient (Some original) =
+    codes "<" ++ recipient ++ codes "> (expanded from <" ++ original ++ codes ">)"
+
 -- what a person reads of one outcome
-unfoldable pub outcome_lines : Outcome → List (List ℕ)
-outcome_lines outcome =
-    (codes "<" ++ outcome.recipient ++ codes ">: " ++ action_word outcome.action ++ codes " ("
-    ++ outcome.status ++ codes ")")
+unfoldable pub outcome_lines : Wording → Outcome → List (List ℕ)
+outcome_lines wording outcome =
+    (recipient_told outcome.recipient (origin_told wording outcome) ++ codes ": "
+    ++ action_word outcome.action ++ codes " (" ++ outcome.status ++ codes ")")
     ∷ line_if_any (codes "    ") outcome.reason
 
 -- what a person reads (RFC 6522 section 3, first part)
@@ -71,16 +160,15 @@ unfoldable pub notification : List ℕ → Letter → List (List ℕ)
 notification host letter =
     (codes "This is the mail system at host " ++ host ++ codes ".")
     ∷ []
-    ∷ opening_of letter.key.service
+    ∷ (words_of letter).opening
     ∷ []
-    ∷ flat_map outcome_lines letter.outcomes
+    ∷ flat_map (outcome_lines letter.draft.wording) letter.outcomes
 
 -- the part with the returned lines, where there are any (RFC 6522 sections 3 and 4)
-unfoldable pub returned_part : List ℕ → List (List ℕ) → List (List ℕ)
-returned_part boundary [] = []
-returned_part boundary (line ∷ rest) =
-    part_of boundary (codes "Undelivered Message Headers") (codes "text/rfc822-headers")
-    (line ∷ rest)
+unfoldable pub returned_part : List ℕ → List ℕ → List ℕ → List (List ℕ) → List (List ℕ)
+returned_part boundary description content_type [] = []
+returned_part boundary description content_type (line ∷ rest) =
+    part_of boundary description content_type (line ∷ rest)
 
 -- the lines of a notice: its header, an empty line, two or three parts, and the last delimiter
 unfoldable pub lines_with_boundary : List ℕ → Letter → List ℕ → List (List ℕ)
@@ -91,7 +179,9 @@ lines_with_boundary host letter boundary =
     (notification host letter)
     ++ part_of boundary (codes "Delivery report") (codes "message/delivery-status")
     (delivery_status host letter)
-    ++ returned_part boundary (returned_lines letter.draft.header)
+    ++ returned_part boundary
+    (returned_description (words_of letter) (returns_message letter.draft))
+    (returned_type (returns_message letter.draft)) (returned_lines letter.draft)
     ++ (codes "--" ++ boundary ++ codes "--") ∷ []
 
 -- the lines of a notice with its own boundary

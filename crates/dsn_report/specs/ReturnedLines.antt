@@ -1,7 +1,24 @@
--- What an iterator over a header's lines has left.
-use Rattle.std.specs.Prelude.{ℕ, List}
-use Rattle.dsn_report.specs.Boundary.{header_lines}
+-- What an iterator over the lines of a text has left, and how they are shown.
+use Rattle.std.specs.Prelude.{ℕ, Bool, List, take, map, if◌then◌else◌}
+use Rattle.std.specs.Str.Lines.{lines}
+use Rattle.dsn_report.specs.Boundary.{header_lines, shown_byte}
+use Rattle.dsn_report.specs.Lines.{longest_line}
 use Rattle.dsn_report.specs.declared.returned_lines.ReturnedLines.{ReturnedLines}
 
+-- all lines of a text, or those before the first empty one
+abbrev pub taken_lines : Bool → List ℕ → List (List ℕ)
+taken_lines whole text = if whole then lines text else header_lines text
+
+-- a byte and a line as they are, or as those of a header are shown
+abbrev pub byte_shown : Bool → ℕ → ℕ
+byte_shown whole byte = if whole then byte else shown_byte byte
+
+abbrev pub line_shown : Bool → List ℕ → List ℕ
+line_shown whole line = take longest_line (map (byte_shown whole) line)
+
+-- what is shown of a text
+abbrev pub lines_shown : Bool → List ℕ → List (List ℕ)
+lines_shown whole text = map (line_shown whole) (taken_lines whole text)
+
 abbrev pub lines_left : ReturnedLines → List (List ℕ)
-lines_left lines = header_lines lines.rest.now
+lines_left lines = taken_lines lines.whole lines.rest.now

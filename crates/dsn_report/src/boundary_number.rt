@@ -1,10 +1,11 @@
 //! The number of a notice's boundary.
 ghost use Rattle.std.specs.Prelude.{◌≡◌, ◌<◌};
 ghost use Rattle.std.specs.List.{list_any};
-ghost use Rattle.dsn_report.specs.Boundary.{IsBoundaryNumber, boundary_number, boundary_numbers, header_lines, is_dashed};
+ghost use Rattle.dsn_report.specs.Boundary.{IsBoundaryNumber, boundary_number, boundary_numbers, is_dashed, returned_lines};
+ghost use Rattle.dsn_report.specs.ReturnedLines.{lines_shown, taken_lines};
 
 use crate::letter_boundary::boundary_front;
-use crate::returned_lines::ReturnedLines;
+use crate::returned_text::ReturnedText;
 use crate::ruled_out_boundaries::{first_free, numbers_ruled_out};
 use dsn_outcome::Letter;
 
@@ -15,32 +16,44 @@ pub fn boundary(letter: &Letter) -> u16
     ensures number { result ≡ boundary_number letter.now }
     ensures four_digits { result < boundary_numbers }
 {
-    least_number(letter, letter.header().bytes())
+    boundary_beside(letter, ReturnedText::of(letter))
 }
 
-/// The least number that no returned line of a letter's header rules out. Few headers have a line
-/// that rules one out, and the others need no table.
+/// The number of the boundary of a letter's notice, which returns this.
+pub(crate) fn boundary_beside(letter: &Letter, returned: ReturnedText<'_>) -> u16
+    requires { lines_shown returned.whole returned.bytes.now ≡ returned_lines letter.now.draft }
+    ensures least { IsBoundaryNumber letter.now result }
+    ensures number { result ≡ boundary_number letter.now }
+    ensures four_digits { result < boundary_numbers }
+{
+    letter.header().bytes();
+    least_number(letter, returned)
+}
+
+/// The least number that no returned line rules out. Few messages have a line that rules one out,
+/// and the others need no table.
 #[tactic(auto, using(crate::proofs::BoundaryLemmas::none_ruled_out))]
-fn least_number(letter: &Letter, header: &[u8]) -> u16
-    requires { header.now ≡ letter.now.draft.header }
+fn least_number(letter: &Letter, returned: ReturnedText<'_>) -> u16
+    requires { lines_shown returned.whole returned.bytes.now ≡ returned_lines letter.now.draft }
     ensures { IsBoundaryNumber letter.now result }
 {
-    if has_dashed_line(header) {
-        least_free(letter)
+    if has_dashed_line(returned) {
+        least_free(letter, returned)
     } else {
         0
     }
 }
 
-/// Whether some line of a header begins with two dashes, as each delimiter does.
-fn has_dashed_line(header: &[u8]) -> bool
-    ensures { result ≡ list_any is_dashed (header_lines header.now) }
+/// Whether some returned line begins with two dashes, as each delimiter does.
+fn has_dashed_line(returned: ReturnedText<'_>) -> bool
+    ensures { result
+        ≡ list_any is_dashed (taken_lines returned.entry.whole returned.entry.bytes.now) }
 {
-    // Without a dash there is no such line, and the header needn't be cut into lines.
-    if !header.contains(&b'-') {
+    // Without a dash there is no such line, and the text needn't be cut into lines.
+    if !returned.bytes.contains(&b'-') {
         return false;
     }
-    for line in (ReturnedLines { rest: header }) {
+    for line in returned.lines() {
         if line.starts_with(b"--") {
             return true;
         }
@@ -48,15 +61,17 @@ fn has_dashed_line(header: &[u8]) -> bool
     false
 }
 
-/// The least number that no returned line rules out, found in one pass over the header.
-fn least_free(letter: &Letter) -> u16
+/// The least number that no returned line rules out, found in one pass over the lines.
+fn least_free(letter: &Letter, returned: ReturnedText<'_>) -> u16
+    requires { lines_shown returned.whole returned.bytes.now ≡ returned_lines letter.now.draft }
     ensures { IsBoundaryNumber letter.now result }
 {
+    letter.header().bytes();
     let front = boundary_front(letter);
-    let ruled_out = numbers_ruled_out(front.bytes(), letter.header().bytes());
+    let ruled_out = numbers_ruled_out(front.bytes(), returned);
     match first_free(&ruled_out) {
         Some(number) => number as u16,
-        // A header has too few bytes to rule out each number of the table.
+        // A text has too few bytes to rule out each number of the table.
         None => unreachable!(),
     }
 }

@@ -1,12 +1,14 @@
 //! What holds of the notice of every letter. These functions change nothing: their contracts are
 //! the laws. They read their arguments, since what a type keeps is known of a value that is read.
-ghost use Rattle.std.specs.Prelude.{All, IsTrue};
+ghost use Rattle.std.specs.Prelude.{◌≡◌, false, All, IsTrue};
+ghost use Rattle.std.specs.List.{list_all};
 ghost use Rattle.dsn_outcome.specs.Outcome.{IsLegalOutcome};
 ghost use Rattle.dsn_text.specs.Optional.{is_none_or};
 ghost use Rattle.dsn_text.specs.Text.{is_envelope_id};
+ghost use Rattle.dsn_report.specs.Boundary.{returned_lines, returns_message};
 ghost use Rattle.dsn_report.specs.Data.{ReceivesNotice, ReceivesNotices};
 ghost use Rattle.dsn_report.specs.Grammar.{EmptyLogLaw, ReportsOutcomes};
-ghost use Rattle.dsn_report.specs.LegalLines.{HasLegalLines};
+ghost use Rattle.dsn_report.specs.LegalLines.{HasLegalLines, is_legal_line};
 ghost use Rattle.dsn_report.specs.Multipart.{DividesIntoParts};
 ghost use Rattle.dsn_report.specs.Notice.{notice_of};
 ghost use Rattle.dsn_report.specs.WellFormed.{IsWellFormed};
@@ -51,9 +53,14 @@ pub fn empty_log_law()
     ensures { EmptyLogLaw }
 {}
 
-/// A notice is lines, each ended by CRLF, of at most 998 bytes, each a tab or printable.
+/// A notice is lines, each ended by CRLF, that stand in a 7bit mail: of at most 998 bytes, none of
+/// them NUL, CR, LF or over 127. All but those of a message that is returned whole are of tabs and
+/// printable bytes.
 pub fn lines_law(site: &Site, letter: &Letter)
-    ensures { HasLegalLines (notice_of site.now letter.now) }
+    ensures lines { HasLegalLines (notice_of site.now letter.now)
+        (returned_lines letter.now.draft) }
+    ensures header { returns_message letter.now.draft ≡ false
+        → IsTrue (list_all is_legal_line (returned_lines letter.now.draft)) }
 {
     well_formed_law(site, letter);
 }

@@ -3,6 +3,7 @@
 #![tactic(auto)]
 
 mod boundary_number;
+mod extension_lines;
 mod laws;
 mod letter_boundary;
 mod line_writer;
@@ -16,6 +17,7 @@ mod pending_bytes;
 mod post_fault;
 mod poster;
 mod returned_lines;
+mod returned_text;
 mod ruled_out_boundaries;
 mod site;
 

@@ -1,32 +1,39 @@
 //! The text of a notice, line by line.
-ghost use Rattle.std.specs.Prelude.{◌≡◌, [], ◌∷◌, ◌++◌, codes, IsTrue};
+ghost use Rattle.std.specs.Prelude.{◌≡◌, ℕ, List, [], ◌∷◌, ◌++◌, None, codes, IsTrue};
 ghost use Rattle.std.specs.List.{flat_map};
 ghost use Rattle.std.specs.Option.{option_copied, option_map};
 ghost use Rattle.dsn_text.specs.Action.{action_word};
+ghost use Rattle.dsn_text.specs.Extension.{lines_ended_by_lf, is_extension_text};
 ghost use Rattle.dsn_text.specs.Stamp.{date_text};
-ghost use Rattle.dsn_report.specs.Boundary.{boundary_front, returned_lines};
-ghost use Rattle.dsn_report.specs.DeliveryStatus.{delivery_status, line_if_any, per_message_fields, per_recipient_fields, recipient_group};
+ghost use Rattle.dsn_report.specs.Boundary.{boundary_front};
+ghost use Rattle.dsn_report.specs.DeliveryStatus.{delivery_status, line_if_any, per_message_fields, per_recipient_fields, recipient_group, typed, usual_address_type, usual_diagnostic_type};
 ghost use Rattle.dsn_report.specs.LineWriter.{Wrote, begins_plainly};
-ghost use Rattle.dsn_report.specs.Notice.{notice_header, notice_lines, notification, outcome_lines, part_header, returned_part};
+ghost use Rattle.dsn_report.specs.Notice.{notice_header, notice_lines, notification, outcome_lines, part_header, recipient_told, returned_description, returned_part, returned_type, words_of};
+ghost use Rattle.dsn_report.specs.NoticeWording.{words_in};
+ghost use Rattle.dsn_report.specs.ReturnedLines.{lines_shown};
 
-use crate::boundary_number::boundary;
+use crate::boundary_number::boundary_beside;
+use crate::extension_lines::ExtensionLines;
 use crate::letter_boundary::{NUMBER_LEN, boundary_text, serial_text};
 use crate::line_writer::LineWriter;
-use crate::notice_wording::{opening, subject};
-use crate::returned_lines::{LINE_ROOM, ReturnedLines, first_line, show_dotted_line};
+use crate::notice_wording::{Words, origin_told, returned_type};
+use crate::returned_lines::{LINE_ROOM, show_dotted_line};
+use crate::returned_text::ReturnedText;
 use crate::site::Site;
 use dsn_device::Drain;
-use dsn_outcome::{EnvelopeId, Letter, Outcome, Stamp};
+use dsn_outcome::{EnvelopeId, Letter, Outcome, Stamp, Wording};
 
 /// Writes a notice's header. The boundary's front is the letter's name and a dot.
 fn write_header<'a, W: Drain>(
     lines: &mut LineWriter<W>,
     site: &'a Site,
     letter: &'a Letter,
+    subject: &'a [u8],
     front: &'a [u8],
     boundary: &'a [u8],
 )
-    requires { front.now ≡ boundary_front letter.now }
+    requires subject { subject.now ≡ (words_of letter.now).subject }
+    requires front { front.now ≡ boundary_front letter.now }
     ensures { Wrote W.Drain lines.old lines.new (notice_header site.now letter.now boundary.now) }
 {
     let host = site.bytes();
@@ -37,7 +44,7 @@ fn write_header<'a, W: Drain>(
         b">\r\nTo: <",
         letter.return_path().bytes(),
         b">\r\nSubject: ",
-        subject(letter),
+        subject,
         b"\r\nDate: ",
         &letter.moment().date(),
         b"\r\nMessage-ID: <",
@@ -60,8 +67,10 @@ fn write_notification<'a, W: Drain>(
     lines: &mut LineWriter<W>,
     site: &'a Site,
     letter: &'a Letter,
+    opening: &'a [u8],
     boundary: &'a [u8],
 )
+    requires { opening.now ≡ (words_of letter.now).opening }
     ensures { Wrote W.Drain lines.old lines.new
         ([] ∷ part_header boundary.now (codes "Notification")
         (codes "text/plain; charset=us-ascii") ++ notification site.now letter.now) }
@@ -76,7 +85,7 @@ fn write_notification<'a, W: Drain>(
           This is the mail system at host ",
         site.bytes(),
         b".\r\n\r\n",
-        opening(letter),
+        opening,
         b"\r\n\r\n",
     ]);
     write_outcomes(lines, letter);
@@ -84,27 +93,47 @@ fn write_notification<'a, W: Drain>(
 
 /// Writes what a person reads of each outcome, oldest first.
 fn write_outcomes<W: Drain>(lines: &mut LineWriter<W>, letter: &Letter)
-    ensures { Wrote W.Drain lines.old lines.new (flat_map outcome_lines letter.now.outcomes) }
+    ensures { Wrote W.Drain lines.old lines.new
+        (flat_map (outcome_lines letter.now.draft.wording) letter.now.outcomes) }
 {
+    let wording = letter.terms().wording();
     for outcome in letter.outcomes() {
-        write_outcome(lines, outcome);
+        write_outcome(lines, wording, outcome);
     }
 }
 
 /// Writes what a person reads of an outcome.
-fn write_outcome<W: Drain>(lines: &mut LineWriter<W>, outcome: &Outcome)
-    ensures { Wrote W.Drain lines.old lines.new (outcome_lines outcome.now) }
+fn write_outcome<W: Drain>(lines: &mut LineWriter<W>, wording: Wording, outcome: &Outcome)
+    ensures { Wrote W.Drain lines.old lines.new (outcome_lines wording outcome.now) }
 {
-    lines.block(&[
-        b"<",
-        outcome.recipient(),
-        b">: ",
-        action_word(outcome),
-        b" (",
-        outcome.status().bytes(),
-        b")\r\n",
-    ]);
+    write_action(lines, outcome, origin_told(wording, outcome));
     write_if_any(lines, b"    ", outcome.reason());
+}
+
+/// Writes what was done for a recipient, and from which address it came, where that is told.
+fn write_action<W: Drain>(lines: &mut LineWriter<W>, outcome: &Outcome, origin: Option<&[u8]>)
+    ensures { Wrote W.Drain lines.old lines.new
+        ((recipient_told outcome.now.recipient (option_copied origin.entry) ++ codes ": "
+        ++ action_word outcome.now.action ++ codes " (" ++ outcome.now.status ++ codes ")")
+        ∷ []) }
+{
+    let recipient = outcome.recipient();
+    let action = action_word(outcome);
+    let status = outcome.status().bytes();
+    match origin {
+        Some(origin) => lines.block(&[
+            b"<",
+            recipient,
+            b"> (expanded from <",
+            origin,
+            b">): ",
+            action,
+            b" (",
+            status,
+            b")\r\n",
+        ]),
+        None => lines.block(&[b"<", recipient, b">: ", action, b" (", status, b")\r\n"]),
+    }
 }
 
 /// The word of an outcome's action.
@@ -179,20 +208,105 @@ fn write_message_fields<W: Drain>(lines: &mut LineWriter<W>, site: &Site, letter
 fn write_recipient_fields<W: Drain>(lines: &mut LineWriter<W>, outcome: &Outcome)
     ensures { Wrote W.Drain lines.old lines.new (per_recipient_fields outcome.now) }
 {
-    write_if_any(lines, b"Original-Recipient: rfc822; ", outcome.original());
+    write_original_recipient(lines, outcome);
+    write_final_recipient(lines, outcome);
     lines.block(&[
-        b"Final-Recipient: rfc822; ",
-        outcome.recipient(),
-        b"\r\nAction: ",
+        b"Action: ",
         action_word(outcome),
         b"\r\nStatus: ",
         outcome.status().bytes(),
         b"\r\n",
     ]);
     write_if_any(lines, b"Remote-MTA: dns; ", outcome.mta());
-    write_if_any(lines, b"Diagnostic-Code: smtp; ", outcome.diagnostic());
+    write_diagnostic(lines, outcome);
     write_date_if_any(lines, b"Last-Attempt-Date: ", outcome.last_attempt());
     write_date_if_any(lines, b"Will-Retry-Until: ", outcome.retry_until());
+    write_extensions(lines, outcome.extensions());
+}
+
+/// Writes extension fields, each as it stands (RFC 3464 section 2.4).
+fn write_extensions<W: Drain>(lines: &mut LineWriter<W>, extensions: &[u8])
+    requires { IsTrue (is_extension_text extensions.now) }
+    ensures { Wrote W.Drain lines.old lines.new (lines_ended_by_lf extensions.now) }
+{
+    if extensions.is_empty() {
+        return;
+    }
+    for line in (ExtensionLines { rest: extensions }) {
+        lines.block(&[line, b"\r\n"]);
+    }
+}
+
+/// Writes the original recipient, if it is known (RFC 3464 section 2.3.1).
+fn write_original_recipient<W: Drain>(lines: &mut LineWriter<W>, outcome: &Outcome)
+    ensures { Wrote W.Drain lines.old lines.new
+        (line_if_any
+        (typed (codes "Original-Recipient: ") usual_address_type outcome.now.original_type)
+        outcome.now.original) }
+{
+    write_typed_if_any(
+        lines,
+        b"Original-Recipient: rfc822; ",
+        b"Original-Recipient: ",
+        outcome.original_type(),
+        outcome.original(),
+    );
+}
+
+/// Writes the final recipient (RFC 3464 section 2.3.2).
+fn write_final_recipient<W: Drain>(lines: &mut LineWriter<W>, outcome: &Outcome)
+    ensures { Wrote W.Drain lines.old lines.new
+        ((typed (codes "Final-Recipient: ") usual_address_type outcome.now.recipient_type
+        ++ outcome.now.recipient) ∷ []) }
+{
+    write_typed_if_any(
+        lines,
+        b"Final-Recipient: rfc822; ",
+        b"Final-Recipient: ",
+        outcome.recipient_type(),
+        Some(outcome.recipient()),
+    );
+}
+
+/// Writes what the remote system said, if it said something (RFC 3464 section 2.3.6).
+fn write_diagnostic<W: Drain>(lines: &mut LineWriter<W>, outcome: &Outcome)
+    ensures { Wrote W.Drain lines.old lines.new
+        (line_if_any
+        (typed (codes "Diagnostic-Code: ") usual_diagnostic_type outcome.now.diagnostic_type)
+        outcome.now.diagnostic) }
+{
+    write_typed_if_any(
+        lines,
+        b"Diagnostic-Code: smtp; ",
+        b"Diagnostic-Code: ",
+        outcome.diagnostic_type(),
+        outcome.diagnostic(),
+    );
+}
+
+/// Writes the line of a value that has a type, if there is one: after `usual`, which ends with the
+/// usual type, or after `name` and the type that is said.
+fn write_typed_if_any<W: Drain>(
+    lines: &mut LineWriter<W>,
+    usual: &[u8],
+    name: &[u8],
+    kind: Option<&[u8]>,
+    value: Option<&[u8]>,
+)
+    requires usual { IsTrue (begins_plainly usual.now) }
+    requires name { IsTrue (begins_plainly name.now) }
+    ensures { (usual_type : List ℕ) → usual.now ≡ typed name.now usual_type None
+        → Wrote W.Drain lines.old lines.new
+        (line_if_any (typed name.now usual_type (option_copied kind.entry))
+        (option_copied value.entry)) }
+{
+    let Some(value) = value else {
+        return;
+    };
+    match kind {
+        Some(kind) => lines.block(&[name, kind, b"; ", value, b"\r\n"]),
+        None => lines.block(&[usual, value, b"\r\n"]),
+    }
 }
 
 /// Writes the line of a date, if there is one.
@@ -207,34 +321,57 @@ fn write_date_if_any<W: Drain>(lines: &mut LineWriter<W>, name: &[u8], moment: O
 }
 
 /// Writes the empty line before a part, and the part with the returned lines, if there are any.
-fn write_returned_part<W: Drain>(lines: &mut LineWriter<W>, letter: &Letter, boundary: &[u8])
+fn write_returned_part<W: Drain>(
+    lines: &mut LineWriter<W>,
+    words: Words,
+    returned: ReturnedText<'_>,
+    boundary: &[u8],
+)
     ensures { Wrote W.Drain lines.old lines.new
-        ([] ∷ returned_part boundary.now (returned_lines letter.now.draft.header)) }
+        ([] ∷ returned_part boundary.now
+        (returned_description (words_in words) returned.entry.whole)
+        (returned_type returned.entry.whole)
+        (lines_shown returned.entry.whole returned.entry.bytes.now)) }
 {
-    let header = letter.header().bytes();
-    if first_line(header).0.is_empty() {
+    if returned.is_empty() {
         lines.block(&[b"\r\n"]);
         return;
     }
-    lines.block(&[
-        b"\r\n--",
-        boundary,
-        b"\r\n\
-          Content-Description: Undelivered Message Headers\r\n\
-          Content-Type: text/rfc822-headers\r\n\
-          \r\n",
-    ]);
-    write_returned_lines(lines, header);
+    let description = words.description(returned.whole);
+    write_part_header(lines, boundary, description, returned_type(returned.whole));
+    write_returned_lines(lines, returned);
     lines.block(&[b"\r\n"]);
 }
 
-/// Writes the returned lines of a header.
-fn write_returned_lines<W: Drain>(lines: &mut LineWriter<W>, header: &[u8])
-    ensures { Wrote W.Drain lines.old lines.new (returned_lines header.now) }
+/// Writes the empty line before a part, and what begins it.
+fn write_part_header<'a, W: Drain>(
+    lines: &mut LineWriter<W>,
+    boundary: &'a [u8],
+    description: &'a [u8],
+    content_type: &'a [u8],
+)
+    ensures { Wrote W.Drain lines.old lines.new
+        ([] ∷ part_header boundary.now description.now content_type.now) }
+{
+    lines.block(&[
+        b"\r\n--",
+        boundary,
+        b"\r\nContent-Description: ",
+        description,
+        b"\r\nContent-Type: ",
+        content_type,
+        b"\r\n\r\n",
+    ]);
+}
+
+/// Writes the returned lines.
+fn write_returned_lines<W: Drain>(lines: &mut LineWriter<W>, returned: ReturnedText<'_>)
+    ensures { Wrote W.Drain lines.old lines.new
+        (lines_shown returned.entry.whole returned.entry.bytes.now) }
 {
     let mut shown = [0; LINE_ROOM];
-    for line in (ReturnedLines { rest: header }) {
-        lines.dotted_line(show_dotted_line(line, &mut shown));
+    for line in returned.lines() {
+        lines.dotted_line(show_dotted_line(line, returned.whole, &mut shown));
     }
 }
 
@@ -242,12 +379,14 @@ fn write_returned_lines<W: Drain>(lines: &mut LineWriter<W>, header: &[u8])
 pub(crate) fn write_notice<W: Drain>(lines: &mut LineWriter<W>, site: &Site, letter: &Letter)
     ensures { Wrote W.Drain lines.old lines.new (notice_lines site.now letter.now) }
 {
-    let name = boundary_text(letter, boundary(letter));
+    let words = Words::of(letter);
+    let returned = ReturnedText::of(letter);
+    let name = boundary_text(letter, boundary_beside(letter, returned));
     let boundary = name.bytes();
     let front = &boundary[..boundary.len() - NUMBER_LEN];
-    write_header(lines, site, letter, front, boundary);
-    write_notification(lines, site, letter, boundary);
+    write_header(lines, site, letter, words.subject, front, boundary);
+    write_notification(lines, site, letter, words.opening, boundary);
     write_delivery_status(lines, site, letter, boundary);
-    write_returned_part(lines, letter, boundary);
+    write_returned_part(lines, words, returned, boundary);
     lines.block(&[b"--", boundary, b"--\r\n"]);
 }

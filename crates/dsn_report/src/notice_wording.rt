@@ -1,27 +1,147 @@
-//! The words that a notice chooses by its service.
+//! The words that a notice chooses.
 ghost use Rattle.std.specs.Prelude.{◌≡◌};
-ghost use Rattle.dsn_report.specs.Notice.{subject_of, opening_of};
+ghost use Rattle.std.specs.List.{list_all};
+ghost use Rattle.std.specs.Option.{option_copied};
+ghost use Rattle.dsn_outcome.specs.declared.wording.Wording.TheVariants.{ByOutcome};
+ghost use Rattle.dsn_text.specs.declared.service.Service.TheVariants.{Trace};
+ghost use Rattle.dsn_report.specs.Notice.{has_arrived, origin_told, returned_description, returned_type, with_bounce_names, words_by, words_of};
+ghost use Rattle.dsn_report.specs.NoticeWording.{words_in};
 
-use dsn_outcome::{Letter, Service};
+use dsn_outcome::{Action, Letter, Outcome, Service, Wording};
 
-/// The subject of a letter's notice.
-pub(crate) fn subject(letter: &Letter) -> &[u8]
-    ensures { result.now ≡ subject_of letter.now.key.service }
-{
-    match letter.key().service {
-        Service::Bounce => b"Undelivered Mail Returned to Sender",
-        Service::Defer => b"Delayed Mail (still being retried)",
-        Service::Trace => b"Mail Delivery Status Report",
+/// The words of a notice.
+#[derive(Clone, Copy)]
+pub(crate) struct Words {
+    /// Its subject.
+    pub(crate) subject: &'static [u8],
+    /// What it says to its reader first.
+    pub(crate) opening: &'static [u8],
+    /// The description of a returned header.
+    pub(crate) header: &'static [u8],
+    /// The description of a returned message.
+    pub(crate) message: &'static [u8],
+}
+
+impl Words {
+    /// The words of a letter's notice.
+    pub(crate) fn of(letter: &Letter) -> Words
+        ensures { words_in result ≡ words_of letter.now }
+    {
+        match (letter.terms().wording(), letter.key().service) {
+            (_, Service::Bounce) => BOUNCE,
+            (Wording::ByService, Service::Defer) => with_bounce_names(DEFER),
+            (Wording::ByService, Service::Trace) => with_bounce_names(TRACE),
+            (Wording::ByOutcome, Service::Defer) => DEFER,
+            (Wording::ByOutcome, Service::Trace) => trace_words(letter),
+        }
+    }
+
+    /// The description of what is returned, a whole message or a header.
+    pub(crate) fn description(self, whole: bool) -> &'static [u8]
+        ensures { result.now ≡ returned_description (words_in self) whole }
+    {
+        if whole { self.message } else { self.header }
     }
 }
 
-/// What a letter's notice says to its reader first.
-pub(crate) fn opening(letter: &Letter) -> &[u8]
-    ensures { result.now ≡ opening_of letter.now.key.service }
+/// The words of a trace, by what became of its recipients.
+fn trace_words(letter: &Letter) -> Words
+    ensures { words_in result
+        ≡ words_by ByOutcome Trace
+        (list_all (λ outcome. has_arrived outcome.action) letter.now.outcomes) }
 {
-    match letter.key().service {
-        Service::Bounce => b"Your message could not be delivered to the recipients below.",
-        Service::Defer => b"Your message has not yet been delivered to the recipients below.",
-        Service::Trace => b"This is the delivery report for your message.",
+    if all_arrived(letter) { SUCCESS } else { TRACE }
+}
+
+/// The words where what is returned is named in one way.
+fn with_bounce_names(words: Words) -> Words
+    ensures { words_in result ≡ with_bounce_names (words_in words) }
+{
+    Words {
+        subject: words.subject,
+        opening: words.opening,
+        header: BOUNCE.header,
+        message: BOUNCE.message,
+    }
+}
+
+/// Of mail that could not be delivered.
+const BOUNCE: Words = Words {
+    subject: b"Undelivered Mail Returned to Sender",
+    opening: b"Your message could not be delivered to the recipients below.",
+    header: b"Undelivered Message Headers",
+    message: b"Undelivered Message",
+};
+
+/// Of mail that is still being tried.
+const DEFER: Words = Words {
+    subject: b"Delayed Mail (still being retried)",
+    opening: b"Your message has not yet been delivered to the recipients below.",
+    header: b"Delayed Message Headers",
+    message: b"Delayed Message",
+};
+
+/// Of a delivery that the sender asked about.
+const TRACE: Words = Words {
+    subject: b"Mail Delivery Status Report",
+    opening: b"This is the delivery report for your message.",
+    header: b"Message Headers",
+    message: b"Message",
+};
+
+/// Of such a delivery, where the message arrived everywhere.
+const SUCCESS: Words = Words {
+    subject: b"Successful Mail Delivery Report",
+    opening: b"Your message was delivered to the recipients below.",
+    header: b"Message Headers",
+    message: b"Message",
+};
+
+/// Whether the message arrived at all recipients.
+fn all_arrived(letter: &Letter) -> bool
+    ensures { result ≡ list_all (λ outcome. has_arrived outcome.action) letter.now.outcomes }
+{
+    for outcome in letter.outcomes() {
+        if !has_arrived(outcome.action()) {
+            return false;
+        }
+    }
+    true
+}
+
+/// Whether the message reached the recipient, or went on to where it is no longer followed.
+fn has_arrived(action: Action) -> bool
+    ensures { result ≡ has_arrived action }
+{
+    match action {
+        Action::Failed | Action::Delayed => false,
+        Action::Delivered | Action::Relayed | Action::Expanded => true,
+    }
+}
+
+/// The original recipient of an outcome, where its notice tells it: it isn't the final one.
+pub(crate) fn origin_told(wording: Wording, outcome: &Outcome) -> Option<&[u8]>
+    ensures { option_copied result ≡ origin_told wording outcome.now }
+{
+    match (wording, outcome.original()) {
+        (Wording::ByOutcome, Some(original)) => {
+            if original == outcome.recipient() {
+                None
+            } else {
+                Some(original)
+            }
+        }
+        _ => None,
+    }
+}
+
+/// The type of what is returned, a whole message or a header.
+pub(crate) fn returned_type(whole: bool) -> &'static [u8]
+    ensures { result.now ≡ returned_type whole }
+{
+    if whole {
+        b"message/rfc822"
+    } else {
+        b"text/rfc822-headers"
     }
 }

@@ -1,9 +1,9 @@
-//! The lines of a message's header that a notice returns.
+//! The lines of a message, or of its header, that a notice returns.
 ghost use Rattle.std.specs.Prelude.{◌≡◌, ◌+◌, ◌≤◌, ◌==◌, [], ◌∷◌, ◌++◌, codes, length, take, if◌then◌else◌};
 ghost use Rattle.std.specs.Iterator.{YieldsFirstRef, item_count};
-ghost use Rattle.std.specs.Str.Lines.{strip_carriage_return};
-ghost use Rattle.dsn_report.specs.Boundary.{header_lines, shown_byte, shown_line};
-ghost use Rattle.dsn_report.specs.ReturnedLines.{lines_left};
+ghost use Rattle.std.specs.Str.Lines.{lines, strip_carriage_return};
+ghost use Rattle.dsn_report.specs.Boundary.{header_lines, shown_byte};
+ghost use Rattle.dsn_report.specs.ReturnedLines.{byte_shown, line_shown, lines_left};
 
 use bstr::ByteSlice;
 
@@ -13,10 +13,14 @@ pub(crate) const LONGEST_LINE: usize = 998;
 /// Room for a line of a notice with its CRLF, and for a dot before it.
 pub(crate) const LINE_ROOM: usize = LONGEST_LINE + 3;
 
-/// The lines of a header up to its first empty one, as they came, without their line feeds.
+/// The lines of a text up to its first empty one, or all of them, as they came, without their line
+/// feeds.
 #[derive(Drop)]
 pub(crate) struct ReturnedLines<'a> {
+    /// The text from the next line on.
     pub(crate) rest: &'a [u8],
+    /// Whether all lines are taken.
+    pub(crate) whole: bool,
 }
 
 impl<'a> Iterator for ReturnedLines<'a> {
@@ -28,7 +32,7 @@ impl<'a> Iterator for ReturnedLines<'a> {
 
     fn next(&mut self) -> Option<&'a [u8]> {
         let (line, rest) = first_line(self.rest);
-        if line.is_empty() {
+        if line.is_empty() && (!self.whole || self.rest.is_empty()) {
             return None;
         }
         self.rest = rest;
@@ -40,8 +44,11 @@ impl<'a> Iterator for ReturnedLines<'a> {
 #[inline(always)]
 #[tactic(auto, using(crate::proofs::Rules::header))]
 pub(crate) fn first_line(text: &[u8]) -> (&[u8], &[u8])
-    ensures { header_lines text.now
+    ensures header { header_lines text.now
         ≡ (if length result.0.now == 0 then [] else result.0.now ∷ header_lines result.1.now) }
+    ensures lines { lines text.now
+        ≡ (if length text.now == 0 then [] else result.0.now ∷ lines result.1.now) }
+    ensures empty { length text.now ≡ 0 → length result.0.now ≡ 0 }
 {
     match text.find_byte(b'\n') {
         Some(feed) => (without_carriage_return(&text[..feed]), &text[feed + 1..]),
@@ -60,31 +67,42 @@ fn without_carriage_return(line: &[u8]) -> &[u8]
 }
 
 /// Puts a dot, and then a line as a notice shows it, at the front of `shown`, and says how long the
-/// line is.
-pub(crate) fn show_line(line: &[u8], shown: &mut [u8; LINE_ROOM]) -> usize
+/// line is. A line of a whole message is shown as it is.
+pub(crate) fn show_line(line: &[u8], whole: bool, shown: &mut [u8; LINE_ROOM]) -> usize
     ensures within { result ≤ LONGEST_LINE }
-    ensures line { take (result + 1) shown.new ≡ codes "." ++ shown_line line.now }
+    ensures line { take (result + 1) shown.new ≡ codes "." ++ line_shown whole line.now }
 {
     shown[0] = b'.';
     let len = line.len().min(LONGEST_LINE);
     for (index, byte) in line[..len].iter().enumerate() {
-        shown[index + 1] = shown_byte(*byte);
+        shown[index + 1] = byte_shown(*byte, whole);
     }
     len
 }
 
 /// Puts a dot, and then a line as a notice shows it, with its CRLF, at the front of `shown`, and
 /// gives them.
-pub(crate) fn show_dotted_line<'a>(line: &[u8], shown: &'a mut [u8; LINE_ROOM]) -> &'a [u8]
-    ensures { result.now ≡ codes "." ++ shown_line line.now ++ codes "\r\n" }
+pub(crate) fn show_dotted_line<'a>(
+    line: &[u8],
+    whole: bool,
+    shown: &'a mut [u8; LINE_ROOM],
+) -> &'a [u8]
+    ensures { result.now ≡ codes "." ++ line_shown whole line.now ++ codes "\r\n" }
 {
-    let len = show_line(line, shown);
+    let len = show_line(line, whole, shown);
     shown[len + 1] = b'\r';
     shown[len + 2] = b'\n';
     &shown[..len + 3]
 }
 
-/// A byte as a notice shows it.
+/// A byte as a notice shows it, of a whole message or of a header.
+fn byte_shown(byte: u8, whole: bool) -> u8
+    ensures { result ≡ byte_shown whole byte }
+{
+    if whole { byte } else { shown_byte(byte) }
+}
+
+/// A byte of a header as a notice shows it.
 fn shown_byte(byte: u8) -> u8
     ensures { result ≡ shown_byte byte }
 {

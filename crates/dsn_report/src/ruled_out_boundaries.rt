@@ -1,24 +1,27 @@
-//! The numbers that a header's lines rule out for a notice's boundary.
+//! The numbers that returned lines rule out for a notice's boundary.
 ghost use Rattle.std.specs.Prelude.{◌≡◌, ◌≢◌, ◌+◌, ◌*◌, ◌<◌, ℕ, ◌++◌, IsTrue, IsFalse, IfNone, IfSome, slice_index_or, nat_eq, false, not, position};
 ghost use Rattle.std.specs.List.{starts_with};
 ghost use Rattle.dsn_report.specs.Boundary.{boundary_numbers, four_digits, is_delimiter, rules_out};
+ghost use Rattle.dsn_report.specs.ReturnedLines.{lines_shown};
 
-use crate::returned_lines::{LINE_ROOM, ReturnedLines, show_line};
+use crate::returned_lines::{LINE_ROOM, show_line};
+use crate::returned_text::ReturnedText;
 
-/// More numbers than a header can rule out. What is proved is 2,979: a line that rules one out has
+/// More numbers than returned lines can rule out. What is proved is 2,979: a line that rules one out has
 /// at least ten bytes and a line feed. (The shortest has twelve, so 2,520 is the most.)
 pub(crate) const NUMBERS: usize = 2_980;
 
-/// Which numbers the returned lines of a header rule out, for boundaries that begin so.
-pub(crate) fn numbers_ruled_out(front: &[u8], header: &[u8]) -> [bool; NUMBERS]
+/// Which numbers the returned lines rule out, for boundaries that begin so.
+pub(crate) fn numbers_ruled_out(front: &[u8], returned: ReturnedText<'_>) -> [bool; NUMBERS]
     ensures { (number : ℕ) → number < NUMBERS
-        → slice_index_or result number false ≡ rules_out front.now header.now number }
+        → slice_index_or result number false
+        ≡ rules_out front.now (lines_shown returned.entry.whole returned.entry.bytes.now) number }
 {
     let mut ruled_out = [false; NUMBERS];
     let mut shown = [0; LINE_ROOM];
-    for line in (ReturnedLines { rest: header }) {
+    for line in returned.lines() {
         if line.starts_with(b"--") {
-            let len = show_line(line, &mut shown);
+            let len = show_line(line, returned.whole, &mut shown);
             if let Some(number) = number_ruled_out(front, &shown[1..len + 1]) {
                 if number < NUMBERS {
                     ruled_out[number] = true;

@@ -2,7 +2,9 @@
 use crate::assert_same::same;
 use crate::outboxes::ONE_NOTICE;
 use dsn_frame::encode_request;
-use dsn_outcome::{Body, Draft, Key, Outcome, Parts, Plain, QueueId, Service, Stamp};
+use dsn_outcome::{
+    Body, Draft, DraftParts, Key, Outcome, Parts, Plain, QueueId, Service, Stamp, Types,
+};
 use noticed_lib::{BatchEnd, Limits, Site, batch};
 use std::alloc::Global;
 use std::test::Fail;
@@ -28,16 +30,27 @@ fn append(alloc: Global) -> Result<Vec<u8>, Fail> {
         reason: b"",
         last_attempt: None,
         retry_until: None,
+        types: Types::usual(),
+        extensions: b"",
     };
     let outcome = Outcome::new(alloc, key.service, parts)?;
     Ok(encode_request(alloc, 0, &Body::Append(key.id, outcome))?)
 }
 
-/// The frame of a second one: a notice of the log goes to ann@example.com.
+/// The frame of a second one: a notice of the log, which is to have one outcome, goes to
+/// ann@example.com.
 fn flush(alloc: Global) -> Result<Vec<u8>, Fail> {
     let moment = Stamp::new(1_700_000_000).ok_or("the moment")?;
     let arrival = Stamp::new(1_699_996_400).ok_or("the arrival")?;
-    let draft = Draft::read(alloc, moment, arrival, b"ann@example.com", b"", b"")?;
+    let parts = DraftParts {
+        return_path: b"ann@example.com",
+        envelope_id: b"",
+        header: b"",
+        expected: Some(1),
+        returned: 0, // the header
+        wording: 0, // by the service
+    };
+    let draft = Draft::read(alloc, moment, arrival, parts)?;
     Ok(encode_request(alloc, 1, &Body::Flush(message()?, draft))?)
 }
 

@@ -71,6 +71,8 @@ pub(super) enum Ask<'a> {
     Append(u8, &'a [u8], AppendFields<'a>),
     /// Seals a log, at 1700000000 for a message that came at 1699996400.
     Flush(u8, &'a [u8], FlushTexts<'a>),
+    /// The same for the sender alone, of a log that is to have so many outcomes.
+    FlushOf(u8, &'a [u8], u32),
     /// Discards a log.
     Discard(u8, &'a [u8]),
     /// Lets a closed log's key go.
@@ -110,6 +112,7 @@ impl Input {
         match ask {
             Ask::Append(service, id, parts) => self.append(alloc, *service, id, parts),
             Ask::Flush(service, id, texts) => self.flush(alloc, *service, id, texts),
+            Ask::FlushOf(service, id, count) => self.flush_of(alloc, *service, id, *count),
             Ask::Discard(service, id) => self.discard(alloc, *service, id),
             Ask::Forget(service, id) => self.forget(alloc, *service, id),
             Ask::Skip(numbers) => {
@@ -144,12 +147,16 @@ impl Input {
         texts: &FlushTexts<'_>,
     ) -> Result<(), Fail> {
         let mut body = self.head(alloc, [1, 2], service, id)?;
-        body.extend_from_slice(&1_700_000_000u64.to_be_bytes())?;
-        body.extend_from_slice(&1_699_996_400u64.to_be_bytes())?;
-        push_texts(
-            &mut body,
-            &[texts.return_path, texts.envelope_id, texts.header],
-        )?;
+        push_draft(&mut body, texts)?;
+        self.push_frame(&body)
+    }
+
+    fn flush_of(&mut self, alloc: Global, service: u8, id: &[u8], count: u32) -> Result<(), Fail> {
+        let mut body = self.head(alloc, [3, 2], service, id)?;
+        push_draft(&mut body, &TO_ANN)?;
+        body.extend_from_slice(&count.to_be_bytes())?;
+        // A header is returned, and the words are by the service.
+        body.extend_from_slice(&[0, 0])?;
         self.push_frame(&body)
     }
 
@@ -197,6 +204,13 @@ fn push_text(body: &mut Vec<u8>, text: &[u8]) -> Result<(), Fail> {
     body.extend_from_slice(&size.to_be_bytes())?;
     body.extend_from_slice(text)?;
     Ok(())
+}
+
+/// The two moments of a flush, and its texts.
+fn push_draft(body: &mut Vec<u8>, texts: &FlushTexts<'_>) -> Result<(), Fail> {
+    body.extend_from_slice(&1_700_000_000u64.to_be_bytes())?;
+    body.extend_from_slice(&1_699_996_400u64.to_be_bytes())?;
+    push_texts(body, &[texts.return_path, texts.envelope_id, texts.header])
 }
 
 fn push_texts(body: &mut Vec<u8>, texts: &[&[u8]]) -> Result<(), Fail> {

@@ -95,6 +95,19 @@ fn forget_frees_a_key(rt: HostRuntime) -> Result<(), Fail> {
     expect_notes_within(&rt, rt.alloc(), (1, 10, 100), &asks, notes)
 }
 
+#[test]
+fn another_number_expected(rt: HostRuntime) -> Result<(), Fail> {
+    let asks = [
+        Ask::Append(BOUNCE, b"K1", FAILED),
+        Ask::FlushOf(BOUNCE, b"K1", 2),
+        Ask::FlushOf(DEFER, b"K1", 1),
+        Ask::Discard(BOUNCE, b"K1"),
+        Ask::FlushOf(BOUNCE, b"K1", 2),
+    ];
+    let notes = b"0 logged 0\n1 differs 1\n2 differs 0\n3 discarded 1\n4 closed\n";
+    expect_run(&rt, rt.alloc(), &asks, no_notice(notes))
+}
+
 /// A failed recipient with this status.
 fn with_status(status: &[u8]) -> Ask<'_> {
     Ask::Append(BOUNCE, b"K1", AppendFields { status, ..FAILED })

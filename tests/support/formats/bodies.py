@@ -1,9 +1,9 @@
 """What a request's body says, or the refusal that it gets (docs/FORMATS.md, sections 3 and 4)."""
 import re
-from dataclasses import dataclass
+from dataclasses import dataclass, replace
 from typing import Optional
 
-KINDS = {1: (1, 2, 3), 2: (1, 2, 3, 4)}  # of each version
+KINDS = {1: (1, 2, 3), 2: (1, 2, 3, 4), 3: (1, 2, 3, 4)}  # of each version
 APPEND, FLUSH, DISCARD, FORGET = 1, 2, 3, 4
 BOUNCE, DEFER, TRACE = 1, 2, 3
 FAILED, DELAYED, DELIVERED, RELAYED, EXPANDED = 1, 2, 3, 4, 5
@@ -14,6 +14,8 @@ ADDRESS = re.compile(rb"[!-;=?-~]{1,256}")
 QUEUE_ID = re.compile(rb"[0-9A-Za-z]{1,32}")
 STATUS = re.compile(rb"[245]\.(0|[1-9][0-9]{0,2})\.(0|[1-9][0-9]{0,2})")
 MTA = re.compile(rb"[!-~]{1,255}")
+TYPE_NAME = re.compile(rb"[!#$%&'*+/0-9=?A-Z^_`a-z{|}~-]{1,32}")  # the bytes of an atom, as RFC 5322 section 3.2.3 lists them
+EXTENSIONS = re.compile(rb"(X-[!#$%&'*+/0-9=?A-Z^_`a-z{|}~-]{1,62}: [ -~]{1,255}\n){0,8}")
 ENVELOPE_ID = re.compile(rb"[ -~]{1,100}")
 NOT_PRINTABLE = re.compile(rb"[^ -~]")
 
@@ -21,6 +23,9 @@ LONGEST_TEXT = 800  # of a diagnostic and a reason
 LONGEST_HEADER = 32_768
 LAST_MOMENT = 253_402_300_799
 NO_MOMENT = 2**64 - 1
+ANY_COUNT = 2**32 - 1
+HEADER, MESSAGE = 0, 1  # what is returned
+BY_SERVICE, BY_OUTCOME = 0, 1  # how a notice is worded
 
 
 class Refused(Exception):
@@ -44,17 +49,24 @@ class Outcome:
     reason: bytes
     last_attempt: Optional[int]
     retry_until: Optional[int]
+    recipient_type: bytes = b""
+    original_type: bytes = b""
+    diagnostic_type: bytes = b""
+    extensions: bytes = b""
 
 
 @dataclass(frozen=True)
 class Draft:
-    """What a flush says beside its key."""
+    """What a flush says beside its key; None expects any number of outcomes. `header` is the message where that is returned."""
 
     moment: int
     arrival: int
     return_path: bytes
     envelope_id: bytes
     header: bytes
+    expected: Optional[int] = None
+    returned: int = HEADER
+    wording: int = BY_SERVICE
 
 
 @dataclass(frozen=True)
@@ -101,6 +113,11 @@ def is_moment(value: int) -> bool:
     return value <= LAST_MOMENT
 
 
+def counted(value: int) -> Optional[int]:
+    """How many outcomes a flush expects; None for any number."""
+    return None if value == ANY_COUNT else value
+
+
 def empty_or(legal: re.Pattern, text: bytes) -> bool:
     """Whether a text is missing or legal."""
     return not text or bool(legal.fullmatch(text))
@@ -121,6 +138,10 @@ def outcome_of(service: int, fields: dict) -> Outcome:
     refuse_unless(len(fields["diagnostic"]) <= LONGEST_TEXT, 7)
     refuse_unless(len(fields["reason"]) <= LONGEST_TEXT, 8)
     refuse_unless(retry_until is None or action == DELAYED, 10)
+    refuse_unless(empty_or(TYPE_NAME, fields["recipient_type"]), 15)
+    refuse_unless(empty_or(TYPE_NAME, fields["original_type"]) and (fields["original"] or not fields["original_type"]), 16)
+    refuse_unless(empty_or(TYPE_NAME, fields["diagnostic_type"]) and (fields["diagnostic"] or not fields["diagnostic_type"]), 17)
+    refuse_unless(EXTENSIONS.fullmatch(fields["extensions"]), 20)
     cleaned = {it: NOT_PRINTABLE.sub(b"?", fields[it]) for it in ("diagnostic", "reason")}
     return Outcome(**{**fields, **cleaned, "last_attempt": last_attempt, "retry_until": retry_until})
 
@@ -131,6 +152,8 @@ def draft_of(draft: Draft) -> Draft:
     refuse_unless(len(draft.header) <= LONGEST_HEADER, 28)
     refuse_unless(empty_or(ADDRESS, draft.return_path), 29)
     refuse_unless(empty_or(ENVELOPE_ID, draft.envelope_id), 30)
+    refuse_unless(draft.returned in (HEADER, MESSAGE), 18)
+    refuse_unless(draft.wording in (BY_SERVICE, BY_OUTCOME), 19)
     return draft
 
 
@@ -144,9 +167,11 @@ def decoded(body: bytes) -> Request:
     if kind == APPEND:
         parts = {"original": fields.text(), "recipient": fields.text(), "action": fields.number(1)}
         parts |= {it: fields.text() for it in ("status", "mta", "diagnostic", "reason")}
-        parts |= {it: fields.number(8) if version == 2 else NO_MOMENT for it in ("last_attempt", "retry_until")}
+        parts |= {it: fields.number(8) if version > 1 else NO_MOMENT for it in ("last_attempt", "retry_until")}
+        parts |= {it: fields.text() if version == 3 else b"" for it in ("recipient_type", "original_type", "diagnostic_type", "extensions")}
     elif kind == FLUSH:
         draft = Draft(fields.number(8), fields.number(8), fields.text(), fields.text(), fields.text())
+        draft = replace(draft, expected=counted(fields.number(4)), returned=fields.number(1), wording=fields.number(1)) if version == 3 else draft
     refuse_unless(fields.at == len(body), 24)
     refuse_unless(service in ACTIONS, 25)
     refuse_unless(QUEUE_ID.fullmatch(queue_id), 26)

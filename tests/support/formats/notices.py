@@ -2,24 +2,29 @@
 import re
 from datetime import datetime, timedelta
 
-from .bodies import BOUNCE, DEFER, TRACE
+from .bodies import BOUNCE, BY_OUTCOME, DEFER, DELIVERED, EXPANDED, MESSAGE, RELAYED, TRACE, Draft
 from .logs import Letter
 
 SERVICE_LETTERS = {BOUNCE: b"B", DEFER: b"D", TRACE: b"T"}
 ACTION_WORDS = {1: b"failed", 2: b"delayed", 3: b"delivered", 4: b"relayed", 5: b"expanded"}
+SUCCESS = 0  # in place of a trace's service, where all outcomes are successes and the wording is by outcome
 SUBJECTS = {
     BOUNCE: b"Undelivered Mail Returned to Sender",
     DEFER: b"Delayed Mail (still being retried)",
     TRACE: b"Mail Delivery Status Report",
+    SUCCESS: b"Successful Mail Delivery Report",
 }
 PARAGRAPHS = {
     BOUNCE: b"Your message could not be delivered to the recipients below.",
     DEFER: b"Your message has not yet been delivered to the recipients below.",
     TRACE: b"This is the delivery report for your message.",
+    SUCCESS: b"Your message was delivered to the recipients below.",
 }
+RETURNED_OF = {BOUNCE: b"Undelivered Message", DEFER: b"Delayed Message", TRACE: b"Message", SUCCESS: b"Message"}
 WEEKDAYS = "Mon Tue Wed Thu Fri Sat Sun".split()
 MONTHS = "Jan Feb Mar Apr May Jun Jul Aug Sep Oct Nov Dec".split()
 NOT_RETURNED = re.compile(rb"[^\t -~]")
+MAIL_LINE = re.compile(rb"[\x01-\x09\x0b\x0c\x0e-\x7f]{0,998}")
 LONGEST_LINE = 998
 
 
@@ -30,11 +35,23 @@ def date(moment: int) -> bytes:
     return f"{day} {it.hour:02}:{it.minute:02}:{it.second:02} +0000".encode()
 
 
-def returned_lines(header: bytes) -> list:
-    """The lines of a header that a notice returns."""
-    lines = header.split(b"\n")
+def lines_of(text: bytes) -> list:
+    """The lines of a text, without their ends."""
+    lines = text.split(b"\n")
     whole, last = lines[:-1], lines[-1]
-    lines = [it[:-1] if it.endswith(b"\r") else it for it in whole] + ([last] if last else [])
+    return [it[:-1] if it.endswith(b"\r") else it for it in whole] + ([last] if last else [])
+
+
+def returns_message(draft: Draft) -> bool:
+    """Whether the message is returned, and not its header."""
+    return draft.returned == MESSAGE and all(MAIL_LINE.fullmatch(it) for it in lines_of(draft.header))
+
+
+def returned_lines(draft: Draft) -> list:
+    """The lines that a notice returns: those of the message as they are, or those of a header."""
+    lines = lines_of(draft.header)
+    if returns_message(draft):
+        return lines
     before = lines[: lines.index(b"")] if b"" in lines else lines
     return [NOT_RETURNED.sub(b"?", it)[:LONGEST_LINE] for it in before]
 
@@ -46,12 +63,20 @@ def boundary(stem: bytes, returned: list) -> bytes:
     return stem + b"." + next(it for it in (b"%04d" % number for number in range(10_000)) if it not in ruled_out)
 
 
+def worded_as(letter: Letter) -> int:
+    """The row of the words: the letter's service, or SUCCESS."""
+    succeeds = all(it.action in (DELIVERED, RELAYED, EXPANDED) for it in letter.outcomes)
+    return SUCCESS if letter.draft.wording == BY_OUTCOME and letter.key[0] == TRACE and succeeds else letter.key[0]
+
+
 def first_part(host: bytes, letter: Letter) -> list:
     """The lines for people."""
     lines = [b"Content-Description: Notification", b"Content-Type: text/plain; charset=us-ascii", b""]
-    lines += [b"This is the mail system at host " + host + b".", b"", PARAGRAPHS[letter.key[0]], b""]
+    lines += [b"This is the mail system at host " + host + b".", b"", PARAGRAPHS[worded_as(letter)], b""]
     for it in letter.outcomes:
-        lines.append(b"<%s>: %s (%s)" % (it.recipient, ACTION_WORDS[it.action], it.status))
+        told = letter.draft.wording == BY_OUTCOME and it.original and it.original != it.recipient
+        origin = b" (expanded from <%s>)" % it.original if told else b""
+        lines.append(b"<%s>%s: %s (%s)" % (it.recipient, origin, ACTION_WORDS[it.action], it.status))
         if it.reason:
             lines.append(b"    " + it.reason)
     return lines + [b""]
@@ -66,34 +91,38 @@ def second_part(host: bytes, letter: Letter) -> list:
     for it in letter.outcomes:
         lines.append(b"")
         if it.original:
-            lines.append(b"Original-Recipient: rfc822; " + it.original)
-        lines += [b"Final-Recipient: rfc822; " + it.recipient, b"Action: " + ACTION_WORDS[it.action], b"Status: " + it.status]
+            lines.append(b"Original-Recipient: %s; %s" % (it.original_type or b"rfc822", it.original))
+        lines += [b"Final-Recipient: %s; %s" % (it.recipient_type or b"rfc822", it.recipient), b"Action: " + ACTION_WORDS[it.action], b"Status: " + it.status]
         if it.mta:
             lines.append(b"Remote-MTA: dns; " + it.mta)
         if it.diagnostic:
-            lines.append(b"Diagnostic-Code: smtp; " + it.diagnostic)
+            lines.append(b"Diagnostic-Code: %s; %s" % (it.diagnostic_type or b"smtp", it.diagnostic))
         if it.last_attempt is not None:
             lines.append(b"Last-Attempt-Date: " + date(it.last_attempt))
         if it.retry_until is not None:
             lines.append(b"Will-Retry-Until: " + date(it.retry_until))
+        lines += it.extensions.split(b"\n")[:-1]
     return lines + [b""]
 
 
-def third_part(returned: list) -> list:
+def third_part(letter: Letter, returned: list) -> list:
     """The returned lines with their header."""
-    return [b"Content-Description: Undelivered Message Headers", b"Content-Type: text/rfc822-headers", b"", *returned, b""]
+    whole = returns_message(letter.draft)
+    description = RETURNED_OF[worded_as(letter) if letter.draft.wording == BY_OUTCOME else BOUNCE] + (b"" if whole else b" Headers")
+    content_type = b"message/rfc822" if whole else b"text/rfc822-headers"
+    return [b"Content-Description: " + description, b"Content-Type: " + content_type, b"", *returned, b""]
 
 
 def notice(host: bytes, letter: Letter) -> list:
     """The lines of a notice."""
     service, queue_id = letter.key
-    returned = returned_lines(letter.draft.header)
+    returned = returned_lines(letter.draft)
     stem = b"%s.%s.%d" % (SERVICE_LETTERS[service], queue_id, letter.draft.moment)
     bound = boundary(stem, returned)
     lines = [
         b"From: Mail Delivery System <MAILER-DAEMON@" + host + b">",
         b"To: <" + letter.draft.return_path + b">",
-        b"Subject: " + SUBJECTS[service],
+        b"Subject: " + SUBJECTS[worded_as(letter)],
         b"Date: " + date(letter.draft.moment),
         b"Message-ID: <%s.%d@%s>" % (stem, letter.serial, host),
         b"Auto-Submitted: auto-replied",
@@ -102,7 +131,7 @@ def notice(host: bytes, letter: Letter) -> list:
         b' boundary="' + bound + b'"',
         b"",
     ]
-    parts = [first_part(host, letter), second_part(host, letter)] + ([third_part(returned)] if returned else [])
+    parts = [first_part(host, letter), second_part(host, letter)] + ([third_part(letter, returned)] if returned else [])
     for part in parts:
         lines += [b"--" + bound, *part]
     return lines + [b"--" + bound + b"--"]

@@ -6,7 +6,7 @@ from running import Ran
 
 from .bodies import Refused, decoded
 from .logs import (
-    CLOSED, DISCARDED, FORGOTTEN, GONE, LOG_FULL, LOGGED, NO_RETURN, NOT_CLOSED, NOTHING, REFUSED, SEALED, TABLE_FULL, Limits, Logs,
+    CLOSED, DIFFERS, DISCARDED, FORGOTTEN, GONE, LOG_FULL, LOGGED, NO_RETURN, NOT_CLOSED, NOTHING, REFUSED, SEALED, TABLE_FULL, Limits, Logs,
 )
 from .notices import SERVICE_LETTERS, outbox
 
@@ -15,7 +15,7 @@ OUT_OF_TURN, TOO_MANY = 46, 47
 WORDS = {
     LOGGED: b"logged %d", CLOSED: b"closed", TABLE_FULL: b"table full", LOG_FULL: b"log full", NOTHING: b"nothing",
     NO_RETURN: b"no return %d", SEALED: b"sealed %d", DISCARDED: b"discarded %d", GONE: b"gone", REFUSED: b"refused %d",
-    FORGOTTEN: b"forgotten", NOT_CLOSED: b"not closed",
+    FORGOTTEN: b"forgotten", NOT_CLOSED: b"not closed", DIFFERS: b"differs %d",
 }  # fmt: skip
 
 

@@ -45,7 +45,7 @@ fn plain_told(
     let mut all = Vec::new(alloc);
     let mut serial = 0u64;
     for ask in asks {
-        if let (Ask::Flush(key, _), (_, Some(log))) = (*ask, plain.apply(*ask)?) {
+        if let (Ask::Flush(key, _, _), (_, Some(log))) = (*ask, plain.apply(*ask)?) {
             if serial >= mark {
                 all.push((serial, key, log.len()))?;
             }

@@ -93,7 +93,7 @@ fn expect_alike(
 fn flushes_of(alloc: Global, book: &Book) -> Result<Vec<Ask>, Fail> {
     let mut asks = Vec::new(alloc);
     for line in book.open_lines(alloc)? {
-        asks.push(Ask::Flush(line.key, true))?;
+        asks.push(Ask::Flush(line.key, true, None))?;
     }
     Ok(asks)
 }

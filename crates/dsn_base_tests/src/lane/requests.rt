@@ -3,7 +3,7 @@ ghost use Rattle.std.specs.Prelude.{◌≡◌, length};
 
 use crate::assert_same::same;
 use dsn_lane::open_lane;
-use dsn_outcome::{Answer, Body, Carried, Outcome, Parts, QueueId, Reply, Request, Service};
+use dsn_outcome::{Answer, Body, Carried, Outcome, Parts, QueueId, Reply, Request, Service, Types};
 use std::alloc::Global;
 use std::sync::Wait;
 use std::test::Fail;
@@ -49,6 +49,8 @@ fn request_to_another_thread(rt: HostRuntime) -> Result<(), Fail> {
         reason: b"",
         last_attempt: None,
         retry_until: None,
+        types: Types::usual(),
+        extensions: b"",
     };
     let node = Outcome::new(rt.alloc(), Service::Bounce, parts)?;
     let id = QueueId::new(b"A1B2C3").expect(&rt, "a queue id");

@@ -1,11 +1,11 @@
 //! Letters from their parts to their end.
-ghost use Rattle.std.specs.Prelude.{All, IfOk, IsSome, [], ◌≡◌, ◌≢◌};
+ghost use Rattle.std.specs.Prelude.{All, None, IfOk, IsSome, [], ◌≡◌, ◌≢◌};
 
 use super::outcomes::PARTS;
 use crate::assert_same::same;
 use dsn_outcome::{
     Address, Chain, Draft, EnvelopeId, Key, Letter, Letters, MOST_OUTCOMES, Node, Outcome, QueueId,
-    RawHeader, Service, Stamp,
+    RawHeader, Service, Stamp, Wishes,
 };
 use std::alloc::Global;
 use std::process::Abort;
@@ -22,14 +22,24 @@ fn bounced(alloc: Global, recipient: &[u8]) -> Result<Box<Node>, Fail>
 
 /// A draft of a notice that is made at this moment.
 fn draft(alloc: Global, seconds: u64) -> Result<Draft, Fail>
-    ensures { IfOk result (λ draft. IsSome draft.return_path) }
+    ensures returns { IfOk result (λ draft. IsSome draft.return_path) }
+    ensures any { IfOk result (λ draft. draft.expected ≡ None) }
 {
     let moment = Stamp::new(seconds).ok_or("the moment")?;
     let arrival = Stamp::new(1_699_996_400).ok_or("the arrival")?;
     let header = RawHeader::new(alloc, b"Subject: hi\n")?;
     let id = EnvelopeId::new(alloc, b"QQ 314159")?;
     let return_path = Some(Address::new(alloc, b"ann@example.com")?);
-    Ok(Draft::new(alloc, moment, arrival, return_path, Some(id), header)?)
+    let wishes = Wishes::usual();
+    Ok(Draft::new(
+        alloc,
+        moment,
+        arrival,
+        return_path,
+        Some(id),
+        header,
+        wishes,
+    )?)
 }
 
 /// The key of a message's bounce log.

@@ -1,7 +1,7 @@
 //! Outcomes from their fields, and refusals in their order.
 use super::texts::text_of;
 use crate::assert_same::same;
-use dsn_outcome::{Action, LAST_MOMENT, Outcome, OutcomeFault, Parts, Service, Stamp};
+use dsn_outcome::{Action, LAST_MOMENT, Outcome, OutcomeFault, Parts, Service, Stamp, Types};
 use std::alloc::Global;
 use std::process::Abort;
 use std::test::Fail;
@@ -17,10 +17,16 @@ pub(super) const PARTS: Parts<'static> = Parts {
     reason: b"user unknown",
     last_attempt: None,
     retry_until: None,
+    types: Types {
+        recipient: b"rfc822",
+        original: b"x400",
+        diagnostic: b"X-Postfix",
+    },
+    extensions: b"X-Postfix-Queue-ID: 4F9D195432C\nX-A: b\n",
 };
 
 /// The faults of fields, in the order in which they are named.
-const FAULTS: [OutcomeFault; 9] = [
+const FAULTS: [OutcomeFault; 13] = [
     OutcomeFault::BadRecipient,
     OutcomeFault::BadOriginal,
     OutcomeFault::BadAction,
@@ -30,6 +36,10 @@ const FAULTS: [OutcomeFault; 9] = [
     OutcomeFault::LongDiagnostic,
     OutcomeFault::LongReason,
     OutcomeFault::RetryUntil,
+    OutcomeFault::RecipientType,
+    OutcomeFault::OriginalType,
+    OutcomeFault::DiagnosticType,
+    OutcomeFault::Extension,
 ];
 
 /// The text, or an empty one where there is none.
@@ -51,6 +61,21 @@ fn expect_texts(rt: &impl Abort, outcome: &Outcome, want: &Parts<'_>) {
     same(rt, mta, want.mta);
     same(rt, diagnostic, want.diagnostic);
     same(rt, reason, want.reason);
+    same(
+        rt,
+        text_or_empty(outcome.recipient_type()),
+        want.types.recipient,
+    );
+    same(
+        rt,
+        text_or_empty(outcome.original_type()),
+        want.types.original,
+    );
+    same(
+        rt,
+        text_or_empty(outcome.diagnostic_type()),
+        want.types.diagnostic,
+    );
 }
 
 #[test]
@@ -69,7 +94,12 @@ fn outcomes_keep_their_fields(rt: HostRuntime) -> Result<(), Fail> {
 }
 
 /// Fields without a fault, with this address twice and this remark twice.
-fn with_texts<'a>(address: &'a [u8], name: &'a [u8], remark: &'a [u8]) -> Parts<'a> {
+fn with_texts<'a>(
+    address: &'a [u8],
+    name: &'a [u8],
+    remark: &'a [u8],
+    kind: &'a [u8],
+) -> Parts<'a> {
     Parts {
         recipient: address,
         original: address,
@@ -80,6 +110,12 @@ fn with_texts<'a>(address: &'a [u8], name: &'a [u8], remark: &'a [u8]) -> Parts<
         reason: remark,
         last_attempt: None,
         retry_until: None,
+        types: Types {
+            recipient: kind,
+            original: kind,
+            diagnostic: kind,
+        },
+        extensions: b"",
     }
 }
 
@@ -88,9 +124,10 @@ fn an_outcome_of_the_longest_texts_is_kept(rt: HostRuntime) -> Result<(), Fail> 
     let address = text_of(rt.alloc(), 256)?;
     let name = text_of(rt.alloc(), 255)?;
     let remark = text_of(rt.alloc(), 800)?;
-    let longest = with_texts(&address, &name, &remark);
+    let kind = text_of(rt.alloc(), 32)?;
+    let longest = with_texts(&address, &name, &remark, &kind);
     let node = Outcome::new(rt.alloc(), Service::Bounce, longest)?;
-    let want = with_texts(&address, &name, &remark);
+    let want = with_texts(&address, &name, &remark, &kind);
     expect_texts(&rt, node.outcome(), &want);
     Ok(())
 }
@@ -211,7 +248,84 @@ fn spoiled(faults: [OutcomeFault; 2], long: &[u8]) -> Parts<'_> {
         } else {
             None
         },
+        types: Types {
+            recipient: text_at(faults, OutcomeFault::RecipientType, b"a;", b""),
+            original: text_at(faults, OutcomeFault::OriginalType, b"@", b"x400"),
+            diagnostic: text_at(faults, OutcomeFault::DiagnosticType, b"a b", b""),
+        },
+        extensions: text_at(faults, OutcomeFault::Extension, b"A: b\n", b"X-A: b\n"),
     }
+}
+
+#[test]
+fn a_type_is_that_of_a_text(rt: HostRuntime) -> Result<(), Fail> {
+    let without = Parts {
+        original: b"",
+        diagnostic: b"",
+        ..PARTS
+    };
+    let fault = Outcome::new(rt.alloc(), Service::Bounce, without).err();
+    same(&rt, fault, Some(OutcomeFault::OriginalType));
+    let without_diagnostic = Parts {
+        diagnostic: b"",
+        ..PARTS
+    };
+    let fault = Outcome::new(rt.alloc(), Service::Bounce, without_diagnostic).err();
+    same(&rt, fault, Some(OutcomeFault::DiagnosticType));
+    Ok(())
+}
+
+#[test]
+fn a_type_is_an_atom_of_32_bytes(rt: HostRuntime) -> Result<(), Fail> {
+    let long = text_of(rt.alloc(), 33)?;
+    for kind in [long.as_slice(), b"a b", b"a;", b"a.b", b"\xe9", b"\""] {
+        let types = Types {
+            recipient: kind,
+            ..PARTS.types
+        };
+        let fault = Outcome::new(rt.alloc(), Service::Bounce, Parts { types, ..PARTS }).err();
+        same(&rt, fault, Some(OutcomeFault::RecipientType));
+    }
+    Ok(())
+}
+
+#[test]
+fn extension_fields_are_lines_of_a_name_and_a_value(rt: HostRuntime) -> Result<(), Fail> {
+    let nine = b"X-A: b\nX-A: b\nX-A: b\nX-A: b\nX-A: b\nX-A: b\nX-A: b\nX-A: b\nX-A: b\n";
+    for extensions in [
+        nine.as_slice(),
+        b"A: b\n",
+        b"x-A: b\n",
+        b"X-: b\n",
+        b"X-A:b\n",
+        b"X-A: \n",
+        b"X-A b\n",
+        b"X-A:B: c\n",
+        b"X-A : b\n",
+        b"X-A: b",
+        b"X-A: b\r\n",
+        b"X-A: \xe9\n",
+        b"X-A: b\n\n",
+        b"\n",
+    ] {
+        let parts = Parts {
+            extensions,
+            ..PARTS
+        };
+        let fault = Outcome::new(rt.alloc(), Service::Bounce, parts).err();
+        same(
+            &rt,
+            (extensions, fault),
+            (extensions, Some(OutcomeFault::Extension)),
+        );
+    }
+    let parts = Parts {
+        extensions: &nine[..56],
+        ..PARTS
+    };
+    let node = Outcome::new(rt.alloc(), Service::Bounce, parts)?;
+    same(&rt, node.outcome().extensions(), &nine[..56]);
+    Ok(())
 }
 
 #[test]

@@ -6,7 +6,7 @@ use std::process::Abort;
 use std::test::Fail;
 
 /// Each reply, and a refusal, with its frame's bytes after the number.
-const ANSWERS: [(Spoken, u8, [u8; 4]); 13] = [
+const ANSWERS: [(Spoken, u8, [u8; 4]); 15] = [
     (Spoken::Reply(Reply::Logged(0)), 1, [0, 0, 0, 0]),
     (Spoken::Reply(Reply::Logged(0x0102_0304)), 1, [1, 2, 3, 4]),
     (Spoken::Reply(Reply::Closed), 2, [0, 0, 0, 0]),
@@ -24,6 +24,8 @@ const ANSWERS: [(Spoken, u8, [u8; 4]); 13] = [
     (Spoken::Refused(46), 10, [0, 0, 0, 46]),
     (Spoken::Reply(Reply::Forgotten), 11, [0, 0, 0, 0]),
     (Spoken::Reply(Reply::NotClosed), 12, [0, 0, 0, 0]),
+    (Spoken::Reply(Reply::Differs(0)), 13, [0, 0, 0, 0]),
+    (Spoken::Reply(Reply::Differs(258)), 13, [0, 0, 1, 2]),
 ];
 
 /// The frame of an answer has these bytes.
@@ -62,7 +64,8 @@ fn bodies_that_are_no_answer(rt: HostRuntime) -> Result<(), Fail> {
         (b"\x02\x0b".as_slice(), 21),
         (b"\x01".as_slice(), 23),
         (b"\x01\0".as_slice(), 22),
-        (b"\x01\x0d".as_slice(), 22),
+        (b"\x01\x0d".as_slice(), 23),
+        (b"\x01\x0e".as_slice(), 22),
         (b"\x01\x0b".as_slice(), 23),
         (b"\x01\x0b\0\0\0\0\0\0\0\x01".as_slice(), 34),
         (b"\x01\x0c\0\0\0\0\x01\0\0\0".as_slice(), 34),

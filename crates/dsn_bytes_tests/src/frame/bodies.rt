@@ -1,5 +1,6 @@
 //! Bodies from outside that are read. (Those that are refused, and those at the bounds of each field, are given
 //! to the built program by tests/refused_bodies.py.)
+mod counts;
 mod moments;
 
 use crate::assert_same::same;

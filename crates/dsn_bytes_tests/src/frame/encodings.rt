@@ -1,9 +1,13 @@
 //! Requests to frames and back, in all their shapes.
+ghost use Rattle.std.specs.Prelude.{◌≡◌, ◌<◌, Some, IsTrue};
+ghost use Rattle.dsn_outcome.specs.Draft.{is_count};
+ghost use Rattle.dsn_text.specs.Optional.{is_none_or};
+
 use crate::assert_same::same;
 use dsn_frame::{decode_request, encode_request};
 use dsn_outcome::{
-    Address, Body, Draft, EnvelopeId, Key, Outcome, Parts, QueueId, RawHeader, Service, Stamp,
-    Terms,
+    Address, Body, Draft, EnvelopeId, Key, Outcome, Parts, QueueId, RawHeader, Returned, Service,
+    Stamp, Terms, Types, Wishes, Wording,
 };
 use std::test::Fail;
 
@@ -18,6 +22,12 @@ const ALL: Parts<'static> = Parts {
     reason: b"host said:?no such user",
     last_attempt: None,
     retry_until: None,
+    types: Types {
+        recipient: b"",
+        original: b"",
+        diagnostic: b"",
+    },
+    extensions: b"",
 };
 
 /// The texts of a flush.
@@ -43,6 +53,8 @@ fn append(rt: &HostRuntime, service: Service, text: &[u8], parts: Parts<'_>) -> 
         reason,
         last_attempt,
         retry_until,
+        types,
+        extensions,
     } = parts;
     let parts = Parts {
         recipient,
@@ -54,6 +66,8 @@ fn append(rt: &HostRuntime, service: Service, text: &[u8], parts: Parts<'_>) -> 
         reason,
         last_attempt,
         retry_until,
+        types,
+        extensions,
     };
     let node = Outcome::new(rt.alloc(), service, parts)?;
     Ok(Body::Append(id(text)?, node))
@@ -75,7 +89,14 @@ fn envelope_id(rt: &HostRuntime, text: &[u8]) -> Result<Option<EnvelopeId>, Fail
     }
 }
 
-fn flush(rt: &HostRuntime, seconds: [u64; 2], texts: Texts<'_>) -> Result<Body, Fail> {
+fn flush(
+    rt: &HostRuntime,
+    seconds: [u64; 2],
+    texts: Texts<'_>,
+    wishes: Wishes,
+) -> Result<Body, Fail>
+    requires { IsTrue (is_none_or is_count wishes.expected) }
+{
     let [moment, arrival] = seconds;
     let key = Key {
         service: Service::Defer,
@@ -93,6 +114,7 @@ fn flush(rt: &HostRuntime, seconds: [u64; 2], texts: Texts<'_>) -> Result<Body, 
         return_path,
         envelope_id,
         header,
+        wishes,
     )?;
     Ok(Body::Flush(key, draft))
 }
@@ -108,6 +130,10 @@ fn same_outcome(a: &Outcome, b: &Outcome) -> bool {
         && a.reason() == b.reason()
         && a.last_attempt() == b.last_attempt()
         && a.retry_until() == b.retry_until()
+        && a.recipient_type() == b.recipient_type()
+        && a.extensions() == b.extensions()
+        && a.original_type() == b.original_type()
+        && a.diagnostic_type() == b.diagnostic_type()
 }
 
 fn same_terms(a: &Terms, b: &Terms) -> bool {
@@ -118,6 +144,9 @@ fn same_terms(a: &Terms, b: &Terms) -> bool {
         && a.envelope_id().map(EnvelopeId::bytes) == b.envelope_id().map(EnvelopeId::bytes)
         && a.envelope_id().is_some() == b.envelope_id().is_some()
         && a.header().bytes() == b.header().bytes()
+        && a.expected() == b.expected()
+        && a.returned() == b.returned()
+        && a.wording() == b.wording()
 }
 
 fn same_body(a: &Body, b: &Body) -> bool {
@@ -184,7 +213,7 @@ fn a_flush_and_a_discard_encoded(rt: HostRuntime) -> Result<(), Fail> {
         envelope_id: b"Q1",
         header: b"h\n\0",
     };
-    let body = flush(&rt, [1_700_000_000, 1_699_996_400], texts)?;
+    let body = flush(&rt, [1_700_000_000, 1_699_996_400], texts, Wishes::usual())?;
     let frame = frame_of(&rt, 8, &body)?;
     let want =
         b"\0\0\0\x28\x01\x02\0\0\0\x08\x02\0\x01Q\0\0\0\0\x65\x53\xf1\0\0\0\0\0\x65\x53\xe2\xf0\0\x03a@b\0\x02Q1\0\x03h\n\0";
@@ -196,6 +225,76 @@ fn a_flush_and_a_discard_encoded(rt: HostRuntime) -> Result<(), Fail> {
     let frame = frame_of(&rt, u32::MAX, &Body::Discard(key))?;
     let want = b"\0\0\0\x0b\x01\x03\xff\xff\xff\xff\x03\0\x02K1";
     same(&rt, frame.as_slice(), want.as_slice());
+    Ok(())
+}
+
+#[test]
+fn a_flush_that_expects_a_number_encoded(rt: HostRuntime) -> Result<(), Fail> {
+    let texts = Texts {
+        return_path: b"a@b",
+        envelope_id: b"",
+        header: b"h\n",
+    };
+    let body = flush(&rt, [1_700_000_000, 1_699_996_400], texts, counting(258))?;
+    let frame = frame_of(&rt, 8, &body)?;
+    let want =
+        b"\0\0\0\x2b\x03\x02\0\0\0\x08\x02\0\x01Q\0\0\0\0\x65\x53\xf1\0\0\0\0\0\x65\x53\xe2\xf0\0\x03a@b\0\0\0\x02h\n\0\0\x01\x02\0\0";
+    same(&rt, frame.as_slice(), want.as_slice());
+    goes_and_comes_back(&rt, 8, &body)?;
+    let body = flush(&rt, [0, 0], texts, counting(0))?;
+    goes_and_comes_back(&rt, 0, &body)?;
+    let body = flush(&rt, [0, 0], texts, counting(4_294_967_294))?;
+    goes_and_comes_back(&rt, 0, &body)?;
+    Ok(())
+}
+
+/// A flush that expects so many outcomes, and asks for nothing unusual else.
+fn counting(count: u32) -> Wishes
+    requires { count < 4294967295 }
+    ensures { result.expected ≡ Some count }
+{
+    Wishes {
+        expected: Some(count),
+        returned: Returned::Header,
+        wording: Wording::ByService,
+    }
+}
+
+#[test]
+fn a_flush_with_a_message_encoded(rt: HostRuntime) -> Result<(), Fail> {
+    let texts = Texts {
+        return_path: b"a@b",
+        envelope_id: b"",
+        header: b"h\n",
+    };
+    for (returned, wording, end) in [
+        (
+            Returned::Message,
+            Wording::ByService,
+            [255, 255, 255, 255, 1, 0],
+        ),
+        (
+            Returned::Header,
+            Wording::ByOutcome,
+            [255, 255, 255, 255, 0, 1],
+        ),
+        (
+            Returned::Message,
+            Wording::ByOutcome,
+            [255, 255, 255, 255, 1, 1],
+        ),
+    ] {
+        let wishes = Wishes {
+            expected: None,
+            returned,
+            wording,
+        };
+        let body = flush(&rt, [0, 0], texts, wishes)?;
+        let frame = frame_of(&rt, 8, &body)?;
+        same(&rt, frame.get(4).copied(), Some(3));
+        assert!(rt; frame.as_slice().ends_with(&end));
+        goes_and_comes_back(&rt, 8, &body)?;
+    }
     Ok(())
 }
 
@@ -251,9 +350,103 @@ fn appends_read_back(rt: HostRuntime) -> Result<(), Fail> {
     Ok(())
 }
 
+/// An append of version 3: a recipient of the type fax, whose original address is of the type x400, with a diagnostic
+/// of the mail system's own.
+const TYPED: &[u8] =
+    b"\x03\x01\0\0\0\x05\x01\0\x02K1\0\x05/C=US\0\x03x@y\x01\0\x055.0.0\0\0\0\x04busy\0\0\xff\xff\xff\xff\xff\xff\xff\xff\xff\xff\xff\xff\xff\xff\xff\xff\0\x03fax\0\x04x400\0\x09X-Postfix\0\0";
+
+#[test]
+fn types_encoded(rt: HostRuntime) -> Result<(), Fail> {
+    let parts = Parts {
+        recipient: b"x@y",
+        original: b"/C=US",
+        status: b"5.0.0",
+        mta: b"",
+        diagnostic: b"busy",
+        reason: b"",
+        types: Types {
+            recipient: b"fax",
+            original: b"x400",
+            diagnostic: b"X-Postfix",
+        },
+        ..ALL
+    };
+    let body = append(&rt, Service::Bounce, b"K1", parts)?;
+    let frame = frame_of(&rt, 5, &body)?;
+    assert!(rt; frame.as_slice().ends_with(TYPED));
+    same(&rt, goes_and_comes_back(&rt, 5, &body)?, TYPED.len());
+    Ok(())
+}
+
+/// An append of version 3 with the usual types and two extension fields.
+const EXTENDED: &[u8] =
+    b"\x03\x01\0\0\0\x05\x01\0\x02K1\0\0\0\x03x@y\x01\0\x055.0.0\0\0\0\0\0\0\xff\xff\xff\xff\xff\xff\xff\xff\xff\xff\xff\xff\xff\xff\xff\xff\0\0\0\0\0\0\0\x0eX-A: b\nX-C: d\n";
+
+#[test]
+fn extensions_encoded(rt: HostRuntime) -> Result<(), Fail> {
+    let parts = Parts {
+        recipient: b"x@y",
+        original: b"",
+        status: b"5.0.0",
+        mta: b"",
+        diagnostic: b"",
+        reason: b"",
+        extensions: b"X-A: b\nX-C: d\n",
+        ..ALL
+    };
+    let body = append(&rt, Service::Bounce, b"K1", parts)?;
+    let frame = frame_of(&rt, 5, &body)?;
+    assert!(rt; frame.as_slice().ends_with(EXTENDED));
+    same(&rt, goes_and_comes_back(&rt, 5, &body)?, EXTENDED.len());
+    Ok(())
+}
+
+#[test]
+fn extensions_are_read(rt: HostRuntime) -> Result<(), Fail> {
+    let (number, body) = decode_request(rt.alloc(), EXTENDED)
+        .ok()
+        .ok_or("an append")?;
+    let Body::Append(_, node) = body else {
+        return Err("no append")?;
+    };
+    same(&rt, number, 5);
+    same(
+        &rt,
+        node.outcome().extensions(),
+        b"X-A: b\nX-C: d\n".as_slice(),
+    );
+    Ok(())
+}
+
+#[test]
+fn types_are_read(rt: HostRuntime) -> Result<(), Fail> {
+    let (number, body) = decode_request(rt.alloc(), TYPED).ok().ok_or("an append")?;
+    let Body::Append(_, node) = body else {
+        return Err("no append")?;
+    };
+    let outcome = node.outcome();
+    same(&rt, number, 5);
+    same(&rt, outcome.recipient_type(), Some(b"fax".as_slice()));
+    same(&rt, outcome.original_type(), Some(b"x400".as_slice()));
+    same(
+        &rt,
+        outcome.diagnostic_type(),
+        Some(b"X-Postfix".as_slice()),
+    );
+    Ok(())
+}
+
 #[test]
 fn a_longest_append_reads_back(rt: HostRuntime) -> Result<(), Fail> {
     let long = vec![in rt.alloc(); b'a'; 800]?;
+    let mut extensions = Vec::new(rt.alloc());
+    for _ in 0..8 {
+        extensions.extend_from_slice(b"X-")?;
+        extensions.extend_from_slice(&long[..62])?;
+        extensions.extend_from_slice(b": ")?;
+        extensions.extend_from_slice(&long[..255])?;
+        extensions.push(b'\n')?;
+    }
     let longest = Parts {
         recipient: &long[..256],
         original: &long[..256],
@@ -264,9 +457,15 @@ fn a_longest_append_reads_back(rt: HostRuntime) -> Result<(), Fail> {
         reason: &long,
         last_attempt: Stamp::new(1_700_000_000),
         retry_until: None,
+        types: Types {
+            recipient: &long[..32],
+            original: &long[..32],
+            diagnostic: &long[..32],
+        },
+        extensions: &extensions,
     };
     let body = append(&rt, Service::Trace, &long[..32], longest)?;
-    same(&rt, goes_and_comes_back(&rt, 999_999, &body)?, 2_446);
+    same(&rt, goes_and_comes_back(&rt, 999_999, &body)?, 5_126);
     Ok(())
 }
 
@@ -293,7 +492,7 @@ fn actions_read_back(rt: HostRuntime) -> Result<(), Fail> {
 
 /// Sends a flush of these texts there and back, and compares the length of its body.
 fn flush_comes_back(rt: &HostRuntime, seconds: [u64; 2], texts: Texts<'_>) -> Result<(), Fail> {
-    let body = flush(rt, seconds, texts)?;
+    let body = flush(rt, seconds, texts, Wishes::usual())?;
     let length = goes_and_comes_back(rt, 1, &body)?;
     let fields = [texts.return_path, texts.envelope_id, texts.header];
     let want = fields

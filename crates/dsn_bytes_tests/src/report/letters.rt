@@ -1,10 +1,10 @@
 //! The letters and the site of all tests, and which hosts are a site.
-ghost use Rattle.std.specs.Prelude.{◌≡◌, ◌≢◌, [], All};
+ghost use Rattle.std.specs.Prelude.{◌≡◌, ◌≢◌, [], All, IfOk};
 
 use crate::assert_same::same;
 use dsn_outcome::{
-    Address, Chain, Draft, EnvelopeId, Key, Letter, Outcome, Parts, QueueId, RawHeader, Service,
-    Stamp,
+    Address, Chain, Draft, EnvelopeId, Key, Letter, Node, Outcome, Parts, QueueId, RawHeader,
+    Returned, Service, Stamp, Types, Wishes, Wording,
 };
 use dsn_report::{Site, SiteFault};
 use std::alloc::Global;
@@ -19,6 +19,10 @@ pub(crate) struct Texts<'a> {
     pub(crate) mta: &'a [u8],
     pub(crate) diagnostic: &'a [u8],
     pub(crate) reason: &'a [u8],
+    pub(crate) recipient_type: &'a [u8],
+    pub(crate) original_type: &'a [u8],
+    pub(crate) diagnostic_type: &'a [u8],
+    pub(crate) extensions: &'a [u8],
 }
 
 /// A failed recipient without optional texts.
@@ -29,11 +33,22 @@ pub(crate) const BOB: Texts<'static> = Texts {
     mta: b"",
     diagnostic: b"",
     reason: b"",
+    recipient_type: b"",
+    original_type: b"",
+    diagnostic_type: b"",
+    extensions: b"",
 };
 
-/// What an agent says of a failed recipient with these texts.
-pub(crate) fn failed(texts: Texts<'_>) -> Parts<'_> {
-    Parts {
+/// A failed recipient of the bounce service with these texts, ready for its log.
+pub(crate) fn failed(alloc: Global, texts: Texts<'_>) -> Result<Box<Node>, Fail>
+    ensures { IfOk result (λ node. node.value.outcome.service ≡ Service.Bounce) }
+{
+    let types = Types {
+        recipient: texts.recipient_type,
+        original: texts.original_type,
+        diagnostic: texts.diagnostic_type,
+    };
+    let parts = Parts {
         recipient: texts.recipient,
         original: texts.original,
         action: 1,
@@ -43,7 +58,10 @@ pub(crate) fn failed(texts: Texts<'_>) -> Parts<'_> {
         reason: texts.reason,
         last_attempt: None,
         retry_until: None,
-    }
+        types,
+        extensions: texts.extensions,
+    };
+    Ok(Outcome::new(alloc, Service::Bounce, parts)?)
 }
 
 /// What a letter is sealed with, its outcome apart.
@@ -53,6 +71,8 @@ pub(crate) struct Flush<'a> {
     pub(crate) moment: u64,
     pub(crate) envelope_id: &'a [u8],
     pub(crate) header: &'a [u8],
+    pub(crate) returned: Returned,
+    pub(crate) wording: Wording,
 }
 
 /// A flush of the message A1B2C3 without optional texts.
@@ -61,12 +81,14 @@ pub(crate) const A1B2C3: Flush<'static> = Flush {
     moment: 1_700_000_000,
     envelope_id: b"",
     header: b"",
+    returned: Returned::Header,
+    wording: Wording::ByService,
 };
 
 /// A letter to the sender about one recipient of the bounce service.
 pub(crate) fn letter(alloc: Global, texts: Texts<'_>, flush: Flush<'_>) -> Result<Letter, Fail> {
     let mut chain = Chain::new();
-    chain.push(Outcome::new(alloc, Service::Bounce, failed(texts))?);
+    chain.push(failed(alloc, texts)?);
     sealed(alloc, chain, flush)
 }
 
@@ -91,6 +113,11 @@ pub(crate) fn sealed(alloc: Global, chain: Chain, flush: Flush<'_>) -> Result<Le
         Some(Address::new(alloc, b"ann@example.com")?),
         envelope_id,
         RawHeader::new(alloc, flush.header)?,
+        Wishes {
+            expected: None,
+            returned: flush.returned,
+            wording: flush.wording,
+        },
     )?;
     let key = Key {
         service: Service::Bounce,

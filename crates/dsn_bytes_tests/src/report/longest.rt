@@ -4,7 +4,8 @@ ghost use Rattle.std.specs.Prelude.{◌≡◌, ◌≤◌, All, IfOk, length};
 use crate::assert_same::same;
 use crate::report::letters::{A1B2C3, BOB, Flush, Texts, failed, letter, sealed, site};
 use dsn_outcome::{
-    Chain, LONGEST_ADDRESS, LONGEST_CLEAN, LONGEST_HEADER, LONGEST_MTA_NAME, Outcome, Service,
+    Chain, LONGEST_ADDRESS, LONGEST_CLEAN, LONGEST_HEADER, LONGEST_MTA_NAME, LONGEST_TYPE_NAME,
+    Service,
 };
 use dsn_report::{LONGEST_HOST, Site, boundary, notice};
 use std::alloc::Global;
@@ -74,6 +75,19 @@ Content-Type: text/rfc822-headers\r\n\
 \r\n\
 \r\n";
 
+/// Eight extension fields, each with the longest name and the longest value.
+fn extensions(alloc: Global, name: &[u8], value: &[u8]) -> Result<Vec<u8>, Fail> {
+    let mut lines = Vec::new(alloc);
+    for _ in 0..8 {
+        lines.extend_from_slice(b"X-")?;
+        lines.extend_from_slice(name)?;
+        lines.extend_from_slice(b": ")?;
+        lines.extend_from_slice(value)?;
+        lines.push(b'\n')?;
+    }
+    Ok(lines)
+}
+
 /// So many outcomes of the bounce service, one like the other.
 fn outcomes(alloc: Global, texts: Texts<'_>, count: u32) -> Result<Chain, Fail>
     requires { count ≤ 1000 }
@@ -82,7 +96,7 @@ fn outcomes(alloc: Global, texts: Texts<'_>, count: u32) -> Result<Chain, Fail>
 {
     let mut chain = Chain::new();
     for _ in 0..count {
-        chain.push(Outcome::new(alloc, Service::Bounce, failed(texts))?);
+        chain.push(failed(alloc, texts)?);
     }
     Ok(chain)
 }
@@ -93,6 +107,8 @@ fn thousand_outcomes_of_the_longest_texts(rt: HostRuntime) -> Result<(), Fail> {
     let address = vec![in alloc; b'a'; LONGEST_ADDRESS]?;
     let name = vec![in alloc; b'm'; LONGEST_MTA_NAME]?;
     let clean = vec![in alloc; b'c'; LONGEST_CLEAN]?;
+    let kind = vec![in alloc; b't'; LONGEST_TYPE_NAME]?;
+    let extensions = extensions(alloc, &clean[..62], &clean[..255])?;
     let texts = Texts {
         recipient: &address,
         original: &address,
@@ -100,13 +116,17 @@ fn thousand_outcomes_of_the_longest_texts(rt: HostRuntime) -> Result<(), Fail> {
         mta: &name,
         diagnostic: &clean,
         reason: &clean,
+        recipient_type: &kind,
+        original_type: &kind,
+        diagnostic_type: &kind,
+        extensions: &extensions,
     };
     let site = site(alloc)?;
     let least = notice(alloc, &site, &letter(alloc, BOB, A1B2C3)?)?;
     let letter = sealed(alloc, outcomes(alloc, texts, 1_000)?, A1B2C3)?;
     let text = notice(alloc, &site, &letter)?;
-    // 110 bytes of the notice about bob are his; an outcome of the longest texts has 2,791
+    // 110 bytes of the notice about bob are his; an outcome of the longest texts has 5,455
     let more = text.len().saturating_sub(least.len());
-    same(&rt, more.saturating_add(110), 2_791_000);
+    same(&rt, more.saturating_add(110), 5_455_000);
     Ok(())
 }

@@ -39,6 +39,57 @@ fn all_optional_fields(rt: HostRuntime) -> Result<(), Fail> {
     Ok(())
 }
 
+/// The group of a recipient whose address, original address and diagnostic aren't of the usual types.
+const TYPED_GROUP: &[u8] = b"\r\n\r\n\
+Original-Recipient: x400; /C=US/O=Acme/\r\n\
+Final-Recipient: fax; +15551234@example.org\r\n\
+Action: failed\r\n\
+Status: 5.1.1\r\n\
+Diagnostic-Code: X-Postfix; mail transport unavailable\r\n\
+\r\n\
+--B.A1B2C3.1700000000.0000--\r\n";
+
+#[test]
+fn types_are_printed(rt: HostRuntime) -> Result<(), Fail> {
+    let texts = Texts {
+        recipient: b"+15551234@example.org",
+        original: b"/C=US/O=Acme/",
+        diagnostic: b"mail transport unavailable",
+        recipient_type: b"fax",
+        original_type: b"x400",
+        diagnostic_type: b"X-Postfix",
+        ..BOB
+    };
+    let letter = letter(rt.alloc(), texts, A1B2C3)?;
+    let text = notice(rt.alloc(), &site(rt.alloc())?, &letter)?;
+    assert!(rt; text.as_slice().ends_with(TYPED_GROUP));
+    Ok(())
+}
+
+/// The group of a recipient of whom the mail system says more.
+const EXTENDED_GROUP: &[u8] = b"\r\n\r\n\
+Final-Recipient: rfc822; bob@example.org\r\n\
+Action: failed\r\n\
+Status: 5.1.1\r\n\
+Remote-MTA: dns; mail.example.org\r\n\
+X-Postfix-Queue-ID: 4F9D195432C\r\n\
+X-A: : b \r\n\
+\r\n\
+--B.A1B2C3.1700000000.0000--\r\n";
+
+#[test]
+fn extensions_are_printed(rt: HostRuntime) -> Result<(), Fail> {
+    let texts = Texts {
+        mta: b"mail.example.org",
+        extensions: b"X-Postfix-Queue-ID: 4F9D195432C\nX-A: : b \n",
+        ..BOB
+    };
+    let letter = letter(rt.alloc(), texts, A1B2C3)?;
+    let text = notice(rt.alloc(), &site(rt.alloc())?, &letter)?;
+    assert!(rt; text.as_slice().ends_with(EXTENDED_GROUP));
+    Ok(())
+}
+
 #[test]
 fn dots_long_lines_eight_bit(rt: HostRuntime) -> Result<(), Fail> {
     let mut header = Vec::new(rt.alloc());

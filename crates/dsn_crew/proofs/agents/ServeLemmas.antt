@@ -69,6 +69,10 @@ outcome_few outcome.BadMta = lit≤ tt
 outcome_few outcome.LongDiagnostic = lit≤ tt
 outcome_few outcome.LongReason = lit≤ tt
 outcome_few outcome.RetryUntil = lit≤ tt
+outcome_few outcome.RecipientType = lit≤ tt
+outcome_few outcome.OriginalType = lit≤ tt
+outcome_few outcome.DiagnosticType = lit≤ tt
+outcome_few outcome.Extension = lit≤ tt
 outcome_few outcome.NoMemory = lit≤ tt
 
 body_few : (fault : BodyFault) → body_fault_code fault ≤ 30
@@ -82,6 +86,8 @@ body_few faults.Moment = lit≤ tt
 body_few faults.Header = lit≤ tt
 body_few faults.ReturnPath = lit≤ tt
 body_few faults.EnvelopeId = lit≤ tt
+body_few faults.Returned = lit≤ tt
+body_few faults.Wording = lit≤ tt
 body_few faults.NoMemory = lit≤ tt
 body_few (faults.Outcome fault) = outcome_few fault
 

@@ -3,7 +3,9 @@ ghost use Rattle.std.specs.Prelude.{◌≢◌, IfSome};
 ghost use Rattle.dsn_outcome.specs.Body.{body_of};
 ghost use Rattle.dsn_outcome.specs.Request;
 
-use dsn_outcome::{Address, Body, Draft, Key, Outcome, Parts, QueueId, RawHeader, Service, Stamp};
+use dsn_outcome::{
+    Address, Body, Draft, Key, Outcome, Parts, QueueId, RawHeader, Service, Stamp, Types, Wishes,
+};
 use std::alloc::Global;
 
 /// An append of a failed recipient to the log of this message.
@@ -20,6 +22,8 @@ pub(super) fn append(alloc: Global, message: &[u8]) -> Option<Body>
         reason: b"",
         last_attempt: None,
         retry_until: None,
+        types: Types::usual(),
+        extensions: b"",
     };
     let node = Outcome::new(alloc, Service::Bounce, parts).ok()?;
     Some(Body::Append(QueueId::new(message)?, node))
@@ -36,6 +40,7 @@ pub(super) fn flush(alloc: Global, message: &[u8]) -> Option<Body>
         Some(Address::new(alloc, b"ann@example.com").ok()?),
         None,
         RawHeader::new(alloc, b"").ok()?,
+        Wishes::usual(),
     );
     let key = Key {
         service: Service::Bounce,

@@ -2,7 +2,7 @@
 use Rattle.std.proofs.Common.{◌≡◌, ℕ, List, [], ◌∷◌, refl}
 use Rattle.std.specs.Prelude.{Option, Some, None}
 use Rattle.std.specs.Option.{option_map}
-use Rattle.dsn_outcome.specs.declared.answer.Reply.TheVariants.{Logged, Closed, Sealed, Forgotten, NotClosed}
+use Rattle.dsn_outcome.specs.declared.answer.Reply.TheVariants.{Logged, Closed, Sealed, Forgotten, NotClosed, Differs}
 use Rattle.dsn_frame.specs.bodies.AnswerFault.{answer_fault_code}
 use Rattle.dsn_frame.specs.bodies.Spoken.{answer_body, answer_bytes, first_answer_fault}
 use Rattle.dsn_frame.specs.declared.bodies.spoken.Spoken.TheVariants.{Reply, Refused}
@@ -33,6 +33,15 @@ forgotten = refl
 not_closed : answer_bytes 0 (Reply NotClosed) ≡ 0 ∷ 0 ∷ 0 ∷ 10 ∷ 1 ∷ 12 ∷ 0 ∷ 0 ∷ 0 ∷ 0 ∷ 0 ∷ 0 ∷ 0 ∷ 0 ∷ []
 unfolding answer_bytes answer_body
 not_closed = refl
+
+-- the answer to a flush that expects another number of outcomes than these two
+differs : answer_bytes 3 (Reply (Differs 2)) ≡ 0 ∷ 0 ∷ 0 ∷ 10 ∷ 1 ∷ 13 ∷ 0 ∷ 0 ∷ 0 ∷ 3 ∷ 0 ∷ 0 ∷ 0 ∷ 2 ∷ []
+unfolding answer_bytes answer_body
+differs = refl
+
+differs_is_accepted : refused (1 ∷ 13 ∷ 0 ∷ 0 ∷ 0 ∷ 3 ∷ 0 ∷ 0 ∷ 0 ∷ 2 ∷ []) ≡ None
+unfolding first_answer_fault
+differs_is_accepted = refl
 
 -- the last frame of a session of a million
 last_frame : answer_body 999999 (Reply Closed) ≡ 1 ∷ 2 ∷ 0x00 ∷ 0x0f ∷ 0x42 ∷ 0x3f ∷ 0 ∷ 0 ∷ 0 ∷ 0 ∷ []
@@ -77,9 +86,9 @@ kind_zero : refused (1 ∷ 0 ∷ []) ≡ Some 22
 unfolding first_answer_fault
 kind_zero = refl
 
-kind_thirteen : refused (1 ∷ 13 ∷ 0 ∷ 0 ∷ 0 ∷ 0 ∷ 0 ∷ 0 ∷ 0 ∷ 0 ∷ []) ≡ Some 22
+kind_fourteen : refused (1 ∷ 14 ∷ 0 ∷ 0 ∷ 0 ∷ 0 ∷ 0 ∷ 0 ∷ 0 ∷ 0 ∷ []) ≡ Some 22
 unfolding first_answer_fault
-kind_thirteen = refl
+kind_fourteen = refl
 
 forgotten_with_value : refused (1 ∷ 11 ∷ 0 ∷ 0 ∷ 0 ∷ 0 ∷ 0 ∷ 0 ∷ 0 ∷ 1 ∷ []) ≡ Some 34
 unfolding first_answer_fault

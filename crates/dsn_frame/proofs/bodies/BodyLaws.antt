@@ -3,7 +3,7 @@ use Rattle.std.proofs.Common.{◌≡◌, ℕ, suc, ◌<◌, ◌^◌, ◌⊎◌, 
 use Rattle.std.specs.Int.{w32, w64}
 use Rattle.std.proofs.lemmas.Bool.{eqb-true}
 use Rattle.std.proofs.lemmas.List.{append-nil}
-use Rattle.dsn_frame.specs.bodies.Wire.{Head, RecipientFields, RetryFields, FlushFields, WireBody, AppendFields, DatedAppendFields, FlushFieldsOf, DiscardFields, ForgetFields, number_bytes, text_bytes, head_bytes, append_bytes, retry_bytes, flush_bytes, body_bytes, FitsText, FitsHead, FitsAppend, FitsRetry, FitsFlush, FitsOwn, Fits, kind_of, own_bytes, head_of, ◌>>=◌, byte_at, number_at, text_at, head_at, append_at, retry_at, append_body_at, flush_at, own_at, body_at}
+use Rattle.dsn_frame.specs.bodies.Wire.{Head, RecipientFields, RetryFields, TypeFields, FlushFields, WishFields, WireBody, AppendFields, DatedAppendFields, TypedAppendFields, FlushFieldsOf, CountedFlushFields, DiscardFields, ForgetFields, number_bytes, text_bytes, head_bytes, append_bytes, retry_bytes, type_bytes, flush_bytes, wish_bytes, counted_flush_bytes, body_bytes, FitsText, FitsHead, FitsAppend, FitsRetry, FitsTypes, FitsFlush, FitsOwn, Fits, kind_of, own_bytes, head_of, ◌>>=◌, byte_at, number_at, text_at, head_at, append_at, retry_at, types_at, append_body_at, flush_at, wishes_at, flush_body_at, own_at, body_at}
 use Rattle.dsn_frame.proofs.bodies.FieldLaws.{IsBytes, bind_some, some_is, Takes, Takes-then, wide32, wide64, number_takes, number_again, text_takes, text_again}
 
 -- ---- what was written is read again
@@ -33,6 +33,15 @@ retry_again dates rest fits =
     let regrouped : retry_bytes dates ++ rest ≡ number_bytes w64 dates.last_attempt ++ r1 = append_assoc (number_bytes w64 dates.last_attempt) (number_bytes w64 dates.retry_until) rest in
     ap retry_at regrouped ∙ rw (number_again w64 (2 ^ 64) wide64 dates.last_attempt r1 fits.last_attempt, number_again w64 (2 ^ 64) wide64 dates.retry_until rest fits.retry_until) refl
 
+pub types_again : (types : TypeFields) (rest : List ℕ) → FitsTypes types → types_at (type_bytes types ++ rest) ≡ Some (types, rest)
+unfolding types_at type_bytes
+types_again types rest fits =
+    let r3 = text_bytes types.extensions ++ rest in
+    let r2 = text_bytes types.diagnostic ++ r3 in
+    let r1 = text_bytes types.original ++ r2 in
+    let regrouped : type_bytes types ++ rest ≡ text_bytes types.recipient ++ r1 = simp append_assoc in
+    ap types_at regrouped ∙ rw (text_again types.recipient r1 fits.recipient, text_again types.original r2 fits.original, text_again types.diagnostic r3 fits.diagnostic, text_again types.extensions rest fits.extensions) refl
+
 pub flush_again : (fields : FlushFields) (rest : List ℕ) → FitsFlush fields → flush_at (flush_bytes fields ++ rest) ≡ Some (fields, rest)
 unfolding flush_at flush_bytes
 flush_again fields rest fits =
@@ -43,13 +52,28 @@ flush_again fields rest fits =
     let regrouped : flush_bytes fields ++ rest ≡ number_bytes w64 fields.moment ++ r1 = simp append_assoc in
     ap flush_at regrouped ∙ rw (number_again w64 (2 ^ 64) wide64 fields.moment r1 fits.moment, number_again w64 (2 ^ 64) wide64 fields.arrival r2 fits.arrival, text_again fields.return_path r3 fits.return_path, text_again fields.envelope_id r4 fits.envelope_id, text_again fields.header rest fits.header) refl
 
+wishes_again : (wishes : WishFields) (rest : List ℕ) → wishes.expected < 2 ^ 32 → wishes_at (wish_bytes wishes ++ rest) ≡ Some (wishes, rest)
+unfolding wishes_at wish_bytes
+wishes_again wishes rest fits =
+    let later = wishes.returned ∷ wishes.wording ∷ rest in
+    let regrouped : wish_bytes wishes ++ rest ≡ number_bytes w32 wishes.expected ++ later = append_assoc (number_bytes w32 wishes.expected) (wishes.returned ∷ wishes.wording ∷ []) rest in
+    ap wishes_at regrouped ∙ rw (number_again w32 (2 ^ 32) wide32 wishes.expected later fits) refl
+
 pub own_again : (wire : WireBody) (rest : List ℕ) → FitsOwn wire → own_at (kind_of wire) (head_of wire) (own_bytes wire ++ rest) ≡ Some (wire, rest)
-unfolding own_at append_body_at own_bytes FitsOwn
+unfolding own_at append_body_at flush_body_at own_bytes counted_flush_bytes FitsOwn
 own_again (AppendFields head fields) rest fits = rw (fits.0, append_again fields rest fits.1) refl
 own_again (DatedAppendFields head fields dates) rest fits =
     let regrouped : (append_bytes fields ++ retry_bytes dates) ++ rest ≡ append_bytes fields ++ (retry_bytes dates ++ rest) = append_assoc (append_bytes fields) (retry_bytes dates) rest in
-    ap (own_at 1 head) regrouped ∙ rw (fits.0, append_again fields (retry_bytes dates ++ rest) fits.1.0, retry_again dates rest fits.1.1) refl
-own_again (FlushFieldsOf head fields) rest fits = rw (flush_again fields rest fits) refl
+    ap (own_at 1 head) regrouped ∙ rw (fits.0, fits.1.0, append_again fields (retry_bytes dates ++ rest) fits.1.1.0, retry_again dates rest fits.1.1.1) refl
+own_again (TypedAppendFields head fields dates types) rest fits =
+    let r2 = type_bytes types ++ rest in
+    let r1 = retry_bytes dates ++ r2 in
+    let regrouped : (append_bytes fields ++ (retry_bytes dates ++ type_bytes types)) ++ rest ≡ append_bytes fields ++ r1 = simp append_assoc in
+    ap (own_at 1 head) regrouped ∙ rw (fits.0, fits.1.0, append_again fields r1 fits.1.1.0, retry_again dates r2 fits.1.1.1.0, types_again types rest fits.1.1.1.1) refl
+own_again (FlushFieldsOf head fields) rest fits = rw (fits.0, flush_again fields rest fits.1) refl
+own_again (CountedFlushFields head fields wishes) rest fits =
+    let regrouped : (flush_bytes fields ++ wish_bytes wishes) ++ rest ≡ flush_bytes fields ++ (wish_bytes wishes ++ rest) = append_assoc (flush_bytes fields) (wish_bytes wishes) rest in
+    ap (own_at 2 head) regrouped ∙ rw (fits.0, flush_again fields (wish_bytes wishes ++ rest) fits.1.0, wishes_again wishes rest fits.1.1) refl
 own_again (DiscardFields head) rest fits = refl
 own_again (ForgetFields head) rest fits = refl
 
@@ -133,6 +157,19 @@ retry_takes bytes x fits e =
     let made : RetryFields × List ℕ = (record { last_attempt = last_attempt; retry_until = retry_until }, rest_retry_until) in
     subst (λ (y : RetryFields × List ℕ). Takes bytes (retry_bytes y.0) y.1 × FitsRetry y.0) (some_is made x e_retry_until) (both, record { last_attempt = fits_last_attempt; retry_until = fits_retry_until })))
 
+pub types_takes : (bytes : List ℕ) (x : TypeFields × List ℕ) → IsBytes bytes → types_at bytes ≡ Some x → Takes bytes (type_bytes x.0) x.1 × FitsTypes x.0
+unfolding types_at type_bytes
+types_takes bytes x fits e =
+    text_then bytes (λ recipient. text_at recipient.1 >>= λ original. text_at original.1 >>= λ diagnostic. text_at diagnostic.1 >>= λ extensions. Some (record { recipient = recipient.0; original = original.0; diagnostic = diagnostic.0; extensions = extensions.0 }, extensions.1)) x fits e (λ recipient rest_recipient taken_recipient fits_recipient e_recipient.
+    text_then rest_recipient (λ original. text_at original.1 >>= λ diagnostic. text_at diagnostic.1 >>= λ extensions. Some (record { recipient = recipient; original = original.0; diagnostic = diagnostic.0; extensions = extensions.0 }, extensions.1)) x taken_recipient.rest_fits e_recipient (λ original rest_original taken_original fits_original e_original.
+    text_then rest_original (λ diagnostic. text_at diagnostic.1 >>= λ extensions. Some (record { recipient = recipient; original = original; diagnostic = diagnostic.0; extensions = extensions.0 }, extensions.1)) x taken_original.rest_fits e_original (λ diagnostic rest_diagnostic taken_diagnostic fits_diagnostic e_diagnostic.
+    text_then rest_diagnostic (λ extensions. Some (record { recipient = recipient; original = original; diagnostic = diagnostic; extensions = extensions.0 }, extensions.1)) x taken_diagnostic.rest_fits e_diagnostic (λ extensions rest_extensions taken_extensions fits_extensions e_extensions.
+    let from_diagnostic : Takes rest_original (text_bytes diagnostic ++ text_bytes extensions) rest_extensions = Takes-then rest_original (text_bytes diagnostic) rest_diagnostic (text_bytes extensions) rest_extensions taken_diagnostic taken_extensions in
+    let from_original : Takes rest_recipient (text_bytes original ++ (text_bytes diagnostic ++ text_bytes extensions)) rest_extensions = Takes-then rest_recipient (text_bytes original) rest_original (text_bytes diagnostic ++ text_bytes extensions) rest_extensions taken_original from_diagnostic in
+    let from_recipient : Takes bytes (text_bytes recipient ++ (text_bytes original ++ (text_bytes diagnostic ++ text_bytes extensions))) rest_extensions = Takes-then bytes (text_bytes recipient) rest_recipient (text_bytes original ++ (text_bytes diagnostic ++ text_bytes extensions)) rest_extensions taken_recipient from_original in
+    let made : TypeFields × List ℕ = (record { recipient = recipient; original = original; diagnostic = diagnostic; extensions = extensions }, rest_extensions) in
+    subst (λ (y : TypeFields × List ℕ). Takes bytes (type_bytes y.0) y.1 × FitsTypes y.0) (some_is made x e_extensions) (from_recipient, record { recipient = fits_recipient; original = fits_original; diagnostic = fits_diagnostic; extensions = fits_extensions })))))
+
 pub flush_takes : (bytes : List ℕ) (x : FlushFields × List ℕ) → IsBytes bytes → flush_at bytes ≡ Some x → Takes bytes (flush_bytes x.0) x.1 × FitsFlush x.0
 unfolding flush_at flush_bytes
 flush_takes bytes x fits e =
@@ -170,10 +207,10 @@ own_undated kind head bytes x is version fits e =
     subst (λ (y : WireBody × List ℕ). TakesOwn kind head bytes y.0 y.1) (some_is made x read.2)
     (record { taken = taken.0; fits = (version, taken.1); kind_is = is; head_is = refl })
 
-own_dated : (kind : ℕ) (head : Head) (bytes : List ℕ) (x : WireBody × List ℕ) → kind ≡ 1 → eqb head.version 1 ≡ false → IsBytes bytes
+own_dated : (kind : ℕ) (head : Head) (bytes : List ℕ) (x : WireBody × List ℕ) → kind ≡ 1 → eqb head.version 1 ≡ false → eqb head.version 3 ≡ false → IsBytes bytes
     → (append_at bytes >>= λ fields. retry_at fields.1 >>= λ dates. Some (DatedAppendFields head fields.0 dates.0, dates.1)) ≡ Some x → TakesOwn kind head bytes x.0 x.1
 unfolding own_bytes FitsOwn
-own_dated kind head bytes x is version fits e =
+own_dated kind head bytes x is later_one no_third fits e =
     let read = bind_some (append_at bytes) (λ fields. retry_at fields.1 >>= λ dates. Some (DatedAppendFields head fields.0 dates.0, dates.1)) x e in
     let taken = append_takes bytes read.0 fits read.1 in
     let later = bind_some (retry_at read.0.1) (λ dates. Some (DatedAppendFields head read.0.0 dates.0, dates.1)) x read.2 in
@@ -181,25 +218,79 @@ own_dated kind head bytes x is version fits e =
     let both : Takes bytes (append_bytes read.0.0 ++ retry_bytes later.0.0) later.0.1 = Takes-then bytes (append_bytes read.0.0) read.0.1 (retry_bytes later.0.0) later.0.1 taken.0 dates.0 in
     let made : WireBody × List ℕ = (DatedAppendFields head read.0.0 later.0.0, later.0.1) in
     subst (λ (y : WireBody × List ℕ). TakesOwn kind head bytes y.0 y.1) (some_is made x later.2)
-    (record { taken = both; fits = (version, (taken.1, dates.1)); kind_is = is; head_is = refl })
+    (record { taken = both; fits = (later_one, (no_third, (taken.1, dates.1))); kind_is = is; head_is = refl })
+
+own_typed : (kind : ℕ) (head : Head) (bytes : List ℕ) (x : WireBody × List ℕ) → kind ≡ 1 → eqb head.version 1 ≡ false → eqb head.version 3 ≡ true → IsBytes bytes
+    → (append_at bytes >>= λ fields. retry_at fields.1 >>= λ dates. types_at dates.1 >>= λ types. Some (TypedAppendFields head fields.0 dates.0 types.0, types.1)) ≡ Some x → TakesOwn kind head bytes x.0 x.1
+unfolding own_bytes FitsOwn
+own_typed kind head bytes x is later_one third fits e =
+    let read = bind_some (append_at bytes) (λ fields. retry_at fields.1 >>= λ dates. types_at dates.1 >>= λ types. Some (TypedAppendFields head fields.0 dates.0 types.0, types.1)) x e in
+    let taken = append_takes bytes read.0 fits read.1 in
+    let later = bind_some (retry_at read.0.1) (λ dates. types_at dates.1 >>= λ types. Some (TypedAppendFields head read.0.0 dates.0 types.0, types.1)) x read.2 in
+    let dates = retry_takes read.0.1 later.0 taken.0.rest_fits later.1 in
+    let last = bind_some (types_at later.0.1) (λ types. Some (TypedAppendFields head read.0.0 later.0.0 types.0, types.1)) x later.2 in
+    let types = types_takes later.0.1 last.0 dates.0.rest_fits last.1 in
+    let from_dates : Takes read.0.1 (retry_bytes later.0.0 ++ type_bytes last.0.0) last.0.1 = Takes-then read.0.1 (retry_bytes later.0.0) later.0.1 (type_bytes last.0.0) last.0.1 dates.0 types.0 in
+    let all : Takes bytes (append_bytes read.0.0 ++ (retry_bytes later.0.0 ++ type_bytes last.0.0)) last.0.1 = Takes-then bytes (append_bytes read.0.0) read.0.1 (retry_bytes later.0.0 ++ type_bytes last.0.0) last.0.1 taken.0 from_dates in
+    let made : WireBody × List ℕ = (TypedAppendFields head read.0.0 later.0.0 last.0.0, last.0.1) in
+    subst (λ (y : WireBody × List ℕ). TakesOwn kind head bytes y.0 y.1) (some_is made x last.2)
+    (record { taken = all; fits = (later_one, (third, (taken.1, (dates.1, types.1)))); kind_is = is; head_is = refl })
 
 own_append : (kind : ℕ) (head : Head) (bytes : List ℕ) (x : WireBody × List ℕ) → kind ≡ 1 → IsBytes bytes → append_body_at head bytes ≡ Some x → TakesOwn kind head bytes x.0 x.1
 unfolding append_body_at
 own_append kind head bytes x is fits e =
     elim (chosen (eqb head.version 1) _ _ (Some x) e) [
       | inl first ↦ own_undated kind head bytes x is first.0 fits first.1
-      | inr second ↦ own_dated kind head bytes x is second.0 fits second.1
+      | inr later ↦ elim (chosen (eqb head.version 3) _ _ (Some x) later.1) [
+        | inl third ↦ own_typed kind head bytes x is later.0 third.0 fits third.1
+        | inr second ↦ own_dated kind head bytes x is later.0 second.0 fits second.1
+      ]
     ]
 
-own_flush : (kind : ℕ) (head : Head) (bytes : List ℕ) (x : WireBody × List ℕ) → kind ≡ 2 → IsBytes bytes
+own_uncounted : (kind : ℕ) (head : Head) (bytes : List ℕ) (x : WireBody × List ℕ) → kind ≡ 2 → eqb head.version 3 ≡ false → IsBytes bytes
     → (flush_at bytes >>= λ fields. Some (FlushFieldsOf head fields.0, fields.1)) ≡ Some x → TakesOwn kind head bytes x.0 x.1
 unfolding own_bytes FitsOwn
-own_flush kind head bytes x is fits e =
+own_uncounted kind head bytes x is version fits e =
     let read = bind_some (flush_at bytes) (λ fields. Some (FlushFieldsOf head fields.0, fields.1)) x e in
     let taken = flush_takes bytes read.0 fits read.1 in
     let made : WireBody × List ℕ = (FlushFieldsOf head read.0.0, read.0.1) in
     subst (λ (y : WireBody × List ℕ). TakesOwn kind head bytes y.0 y.1) (some_is made x read.2)
-    (record { taken = taken.0; fits = taken.1; kind_is = is; head_is = refl })
+    (record { taken = taken.0; fits = (version, taken.1); kind_is = is; head_is = refl })
+
+wishes_takes : (bytes : List ℕ) (x : WishFields × List ℕ) → IsBytes bytes → wishes_at bytes ≡ Some x → Takes bytes (wish_bytes x.0) x.1 × (x.0.expected < 2 ^ 32)
+unfolding wishes_at wish_bytes
+wishes_takes bytes x fits e =
+    let a = bind_some (number_at w32 bytes) (λ expected. byte_at expected.1 >>= λ returned. byte_at returned.1 >>= λ wording. Some (record { expected = expected.0; returned = returned.0; wording = wording.0 }, wording.1)) x e in
+    let b = bind_some (byte_at a.0.1) (λ returned. byte_at returned.1 >>= λ wording. Some (record { expected = a.0.0; returned = returned.0; wording = wording.0 }, wording.1)) x a.2 in
+    let c = bind_some (byte_at b.0.1) (λ wording. Some (record { expected = a.0.0; returned = b.0.0; wording = wording.0 }, wording.1)) x b.2 in
+    let t0 = number_takes w32 (2 ^ 32) wide32 bytes a.0.0 a.0.1 fits a.1 in
+    let t1 = byte_takes a.0.1 b.0 t0.0.rest_fits b.1 in
+    let t2 = byte_takes b.0.1 c.0 t1.rest_fits c.1 in
+    let e12 = Takes-then a.0.1 (b.0.0 ∷ []) b.0.1 (c.0.0 ∷ []) c.0.1 t1 t2 in
+    let e02 = Takes-then bytes (number_bytes w32 a.0.0) a.0.1 (b.0.0 ∷ c.0.0 ∷ []) c.0.1 t0.0 e12 in
+    let made : WishFields × List ℕ = (record { expected = a.0.0; returned = b.0.0; wording = c.0.0 }, c.0.1) in
+    subst (λ (y : WishFields × List ℕ). Takes bytes (wish_bytes y.0) y.1 × (y.0.expected < 2 ^ 32)) (some_is made x c.2) (e02, t0.1)
+
+own_counted : (kind : ℕ) (head : Head) (bytes : List ℕ) (x : WireBody × List ℕ) → kind ≡ 2 → eqb head.version 3 ≡ true → IsBytes bytes
+    → (flush_at bytes >>= λ fields. wishes_at fields.1 >>= λ wishes. Some (CountedFlushFields head fields.0 wishes.0, wishes.1)) ≡ Some x → TakesOwn kind head bytes x.0 x.1
+unfolding own_bytes counted_flush_bytes FitsOwn
+own_counted kind head bytes x is version fits e =
+    let read = bind_some (flush_at bytes) (λ fields. wishes_at fields.1 >>= λ wishes. Some (CountedFlushFields head fields.0 wishes.0, wishes.1)) x e in
+    let taken = flush_takes bytes read.0 fits read.1 in
+    let later = bind_some (wishes_at read.0.1) (λ wishes. Some (CountedFlushFields head read.0.0 wishes.0, wishes.1)) x read.2 in
+    let wishes = wishes_takes read.0.1 later.0 taken.0.rest_fits later.1 in
+    let both : Takes bytes (flush_bytes read.0.0 ++ wish_bytes later.0.0) later.0.1 = Takes-then bytes (flush_bytes read.0.0) read.0.1 (wish_bytes later.0.0) later.0.1 taken.0 wishes.0 in
+    let made : WireBody × List ℕ = (CountedFlushFields head read.0.0 later.0.0, later.0.1) in
+    subst (λ (y : WireBody × List ℕ). TakesOwn kind head bytes y.0 y.1) (some_is made x later.2)
+    (record { taken = both; fits = (version, (taken.1, wishes.1)); kind_is = is; head_is = refl })
+
+own_flush : (kind : ℕ) (head : Head) (bytes : List ℕ) (x : WireBody × List ℕ) → kind ≡ 2 → IsBytes bytes → flush_body_at head bytes ≡ Some x → TakesOwn kind head bytes x.0 x.1
+unfolding flush_body_at
+own_flush kind head bytes x is fits e =
+    elim (chosen (eqb head.version 3) _ _ (Some x) e) [
+      | inl counted ↦ own_counted kind head bytes x is counted.0 fits counted.1
+      | inr uncounted ↦ own_uncounted kind head bytes x is uncounted.0 fits uncounted.1
+    ]
 
 own_discard : (kind : ℕ) (head : Head) (bytes : List ℕ) (x : WireBody × List ℕ) → kind ≡ 3 → IsBytes bytes → Some (DiscardFields head, bytes) ≡ Some x → TakesOwn kind head bytes x.0 x.1
 unfolding own_bytes FitsOwn

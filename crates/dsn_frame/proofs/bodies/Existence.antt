@@ -13,8 +13,8 @@ use Rattle.dsn_text.specs.Text.{clean_text}
 use Rattle.dsn_text.specs.declared.action.Action.{Action}
 use Rattle.dsn_text.specs.declared.service.Service.{Service}
 use Rattle.dsn_frame.specs.bodies.BodyFault.{outcome_refusal}
-use Rattle.dsn_frame.specs.bodies.Request.{layout_checks, head_checks, first_append_fault, undated_fields, dated_fields, IsAppendOf, first_own_fault, first_field_fault, first_body_fault, or_else, IsWhole, draft_of, StandsFor, Encodes}
-use Rattle.dsn_frame.specs.bodies.Wire.{Head, WireBody, AppendFields, DatedAppendFields, FlushFieldsOf, DiscardFields, ForgetFields, head_of, body_at}
+use Rattle.dsn_frame.specs.bodies.Request.{layout_checks, head_checks, first_append_fault, undated_fields, dated_fields, typed_fields, IsAppendOf, first_own_fault, first_field_fault, first_body_fault, or_else, IsWhole, draft_of, usual_wishes, StandsFor, Encodes}
+use Rattle.dsn_frame.specs.bodies.Wire.{Head, WireBody, AppendFields, DatedAppendFields, TypedAppendFields, FlushFieldsOf, CountedFlushFields, DiscardFields, ForgetFields, head_of, body_at}
 use Rattle.dsn_frame.specs.declared.bodies.body_fault.BodyFault.{BodyFault}
 use Rattle.dsn_frame.proofs.bodies.FieldLaws.{IsBytes}
 use Rattle.dsn_frame.proofs.bodies.RequestLaws.{whole_fault, whole_encodes}
@@ -43,14 +43,18 @@ outcome_with : Service → Fields → Action → Outcome
 outcome_with service fields action = record {
   service = service;
   recipient = fields.recipient;
+  recipient_type = unless_empty fields.recipient_type;
   original = unless_empty fields.original;
+  original_type = unless_empty fields.original_type;
   action = action;
   status = fields.status;
   mta = unless_empty fields.mta;
   diagnostic = unless_empty (clean_text fields.diagnostic);
+  diagnostic_type = unless_empty fields.diagnostic_type;
   reason = unless_empty (clean_text fields.reason);
   last_attempt = fields.last_attempt;
   retry_until = fields.retry_until;
+  extensions = fields.extensions;
 }
 
 action_there : (service : Service) (o : Option Action) → option_map_or (takes service) o false ≡ true → (action : Action) × (o ≡ Some action)
@@ -78,7 +82,7 @@ append_of_fields head fields passes e =
       record {
         service_is = service.1;
         id_is = refl;
-        outcome_is = record { service_is = refl; recipient_is = refl; original_is = refl; action_is = action.1; status_is = refl; mta_is = refl; diagnostic_is = refl; reason_is = refl; last_attempt_is = refl; retry_until_is = refl };
+        outcome_is = record { service_is = refl; recipient_is = refl; recipient_type_is = refl; original_is = refl; original_type_is = refl; action_is = action.1; status_is = refl; mta_is = refl; diagnostic_is = refl; diagnostic_type_is = refl; reason_is = refl; last_attempt_is = refl; retry_until_is = refl; extensions_is = refl };
       },
     )
 
@@ -92,9 +96,16 @@ body_of_fields (DatedAppendFields head fields dates) e =
     let parts = neither _ _ e in
     let found = append_of_fields head (dated_fields fields dates) parts.0 (neither _ _ parts.1).1 in
     (Append head.id found.0, found.1)
+body_of_fields (TypedAppendFields head fields dates types) e =
+    let parts = neither _ _ e in
+    let found = append_of_fields head (typed_fields fields dates types) parts.0 (neither _ _ parts.1).1 in
+    (Append head.id found.0, found.1)
 body_of_fields (FlushFieldsOf head fields) e =
     let service = service_there head (neither _ _ e).0 in
-    (Flush (record { service = service.0; id = head.id }) (draft_of fields), (record { service_is = service.1; id_is = refl }, refl))
+    (Flush (record { service = service.0; id = head.id }) (draft_of fields usual_wishes), (record { service_is = service.1; id_is = refl }, refl))
+body_of_fields (CountedFlushFields head fields wishes) e =
+    let service = service_there head (neither _ _ e).0 in
+    (Flush (record { service = service.0; id = head.id }) (draft_of fields wishes), (record { service_is = service.1; id_is = refl }, refl))
 body_of_fields (DiscardFields head) e =
     let service = service_there head (neither _ _ e).0 in
     (Discard (record { service = service.0; id = head.id }), record { service_is = service.1; id_is = refl })

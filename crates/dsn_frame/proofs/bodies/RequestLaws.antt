@@ -10,8 +10,8 @@ use Rattle.dsn_outcome.specs.Request.{Body, Append, Flush, Discard, Forget, Bye}
 use Rattle.dsn_text.specs.declared.action.Action.{Action}
 use Rattle.dsn_text.specs.declared.key.Key.{Key}
 use Rattle.dsn_text.specs.declared.service.Service.{Service}
-use Rattle.dsn_frame.specs.bodies.Request.{has_kind, layout_checks, first_field_fault, first_body_fault, undated_fields, dated_fields, IsWhole, IsKeyOf, IsAppendOf, StandsFor, Encodes}
-use Rattle.dsn_frame.specs.bodies.Wire.{Head, WireBody, AppendFields, DatedAppendFields, FlushFieldsOf, DiscardFields, ForgetFields, is_version, is_kind, is_known, head_of, kind_of, body_bytes, Fits, body_at}
+use Rattle.dsn_frame.specs.bodies.Request.{has_kind, layout_checks, first_field_fault, first_body_fault, undated_fields, dated_fields, typed_fields, IsWhole, IsKeyOf, IsAppendOf, StandsFor, Encodes}
+use Rattle.dsn_frame.specs.bodies.Wire.{Head, WireBody, AppendFields, DatedAppendFields, TypedAppendFields, FlushFieldsOf, CountedFlushFields, DiscardFields, ForgetFields, is_version, is_kind, is_known, head_of, kind_of, body_bytes, Fits, body_at}
 use Rattle.dsn_frame.specs.declared.bodies.body_fault.BodyFault.TheVariants as faults
 use Rattle.dsn_frame.proofs.bodies.BodyLaws.{body_again, body_takes}
 use Rattle.dsn_frame.proofs.bodies.FieldLaws.{IsBytes, some_is}
@@ -47,28 +47,32 @@ encoded_is_accepted bytes number body encoded =
 
 -- ---- they encode one request
 
-make_outcome : Service → List ℕ → Option (List ℕ) → Action → List ℕ → Option (List ℕ) → Option (List ℕ) → Option (List ℕ) → Option ℕ → Option ℕ → Outcome
-make_outcome service recipient original action status mta diagnostic reason last_attempt retry_until = record {
+make_outcome : Service → List ℕ → Option (List ℕ) → Option (List ℕ) → Option (List ℕ) → Action → List ℕ → Option (List ℕ) → Option (List ℕ) → Option (List ℕ) → Option (List ℕ) → Option ℕ → Option ℕ → List ℕ → Outcome
+make_outcome service recipient recipient_type original original_type action status mta diagnostic diagnostic_type reason last_attempt retry_until extensions = record {
   service = service;
   recipient = recipient;
+  recipient_type = recipient_type;
   original = original;
+  original_type = original_type;
   action = action;
   status = status;
   mta = mta;
   diagnostic = diagnostic;
+  diagnostic_type = diagnostic_type;
   reason = reason;
   last_attempt = last_attempt;
   retry_until = retry_until;
+  extensions = extensions;
 }
 
-made_of : (o : Outcome) → make_outcome o.service o.recipient o.original o.action o.status o.mta o.diagnostic o.reason o.last_attempt o.retry_until ≡ o
+made_of : (o : Outcome) → make_outcome o.service o.recipient o.recipient_type o.original o.original_type o.action o.status o.mta o.diagnostic o.diagnostic_type o.reason o.last_attempt o.retry_until o.extensions ≡ o
 unfolding make_outcome
 made_of o = refl
 
-same_outcome : (a b : Outcome) → a.service ≡ b.service → a.recipient ≡ b.recipient → a.original ≡ b.original → a.action ≡ b.action
-    → a.status ≡ b.status → a.mta ≡ b.mta → a.diagnostic ≡ b.diagnostic → a.reason ≡ b.reason → a.last_attempt ≡ b.last_attempt
-    → a.retry_until ≡ b.retry_until → a ≡ b
-same_outcome a b service recipient original action status mta diagnostic reason last_attempt retry_until = let x = made_of a in let y = made_of b in cc
+same_outcome : (a b : Outcome) → a.service ≡ b.service → a.recipient ≡ b.recipient → a.recipient_type ≡ b.recipient_type → a.original ≡ b.original → a.original_type ≡ b.original_type → a.action ≡ b.action
+    → a.status ≡ b.status → a.mta ≡ b.mta → a.diagnostic ≡ b.diagnostic → a.diagnostic_type ≡ b.diagnostic_type → a.reason ≡ b.reason → a.last_attempt ≡ b.last_attempt
+    → a.retry_until ≡ b.retry_until → a.extensions ≡ b.extensions → a ≡ b
+same_outcome a b service recipient recipient_type original original_type action status mta diagnostic diagnostic_type reason last_attempt retry_until extensions = let x = made_of a in let y = made_of b in cc
 
 same_key : (a b : Key) → a.service ≡ b.service → a.id ≡ b.id → a ≡ b
 same_key a b service id =
@@ -83,14 +87,18 @@ same_outcome_of head fields i j a b p q =
     same_outcome a b
     (some_is a.service b.service (sym p.service_is ∙ q.service_is))
     (p.outcome_is.recipient_is ∙ sym q.outcome_is.recipient_is)
+    (p.outcome_is.recipient_type_is ∙ sym q.outcome_is.recipient_type_is)
     (p.outcome_is.original_is ∙ sym q.outcome_is.original_is)
+    (p.outcome_is.original_type_is ∙ sym q.outcome_is.original_type_is)
     (some_is a.action b.action (sym p.outcome_is.action_is ∙ q.outcome_is.action_is))
     (p.outcome_is.status_is ∙ sym q.outcome_is.status_is)
     (p.outcome_is.mta_is ∙ sym q.outcome_is.mta_is)
     (p.outcome_is.diagnostic_is ∙ sym q.outcome_is.diagnostic_is)
+    (p.outcome_is.diagnostic_type_is ∙ sym q.outcome_is.diagnostic_type_is)
     (p.outcome_is.reason_is ∙ sym q.outcome_is.reason_is)
     (p.outcome_is.last_attempt_is ∙ sym q.outcome_is.last_attempt_is)
     (p.outcome_is.retry_until_is ∙ sym q.outcome_is.retry_until_is)
+    (p.outcome_is.extensions_is ∙ sym q.outcome_is.extensions_is)
 
 same_append : (head : Head) (fields : Fields) (i j : List ℕ) (a b : Outcome) → IsAppendOf head fields i a → IsAppendOf head fields j b → Append i a ≡ Append j b
 same_append head fields i j a b p q =
@@ -117,6 +125,15 @@ same_body (DatedAppendFields head fields dates) (Flush k e) b p q = absurd p
 same_body (DatedAppendFields head fields dates) (Discard k) b p q = absurd p
 same_body (DatedAppendFields head fields dates) (Forget k) b p q = absurd p
 same_body (DatedAppendFields head fields dates) Bye b p q = absurd p
+same_body (TypedAppendFields head fields dates types) (Append i a) (Append j b) p q = same_append head (typed_fields fields dates types) i j a b p q
+same_body (TypedAppendFields head fields dates types) (Append i a) (Flush k e) p q = absurd q
+same_body (TypedAppendFields head fields dates types) (Append i a) (Discard k) p q = absurd q
+same_body (TypedAppendFields head fields dates types) (Append i a) (Forget k) p q = absurd q
+same_body (TypedAppendFields head fields dates types) (Append i a) Bye p q = absurd q
+same_body (TypedAppendFields head fields dates types) (Flush k e) b p q = absurd p
+same_body (TypedAppendFields head fields dates types) (Discard k) b p q = absurd p
+same_body (TypedAppendFields head fields dates types) (Forget k) b p q = absurd p
+same_body (TypedAppendFields head fields dates types) Bye b p q = absurd p
 same_body (FlushFieldsOf head fields) (Flush k d) (Flush l e) p q =
     ap (λ (key : Key). Flush key d) (same_key_of head k l p.0 q.0) ∙ ap (λ (draft : Draft). Flush l draft) (p.1 ∙ sym q.1)
 same_body (FlushFieldsOf head fields) (Flush k d) (Append i a) p q = absurd q
@@ -127,6 +144,16 @@ same_body (FlushFieldsOf head fields) (Append i a) b p q = absurd p
 same_body (FlushFieldsOf head fields) (Discard k) b p q = absurd p
 same_body (FlushFieldsOf head fields) (Forget k) b p q = absurd p
 same_body (FlushFieldsOf head fields) Bye b p q = absurd p
+same_body (CountedFlushFields head fields wishes) (Flush k d) (Flush l e) p q =
+    ap (λ (key : Key). Flush key d) (same_key_of head k l p.0 q.0) ∙ ap (λ (draft : Draft). Flush l draft) (p.1 ∙ sym q.1)
+same_body (CountedFlushFields head fields wishes) (Flush k d) (Append i a) p q = absurd q
+same_body (CountedFlushFields head fields wishes) (Flush k d) (Discard l) p q = absurd q
+same_body (CountedFlushFields head fields wishes) (Flush k d) (Forget l) p q = absurd q
+same_body (CountedFlushFields head fields wishes) (Flush k d) Bye p q = absurd q
+same_body (CountedFlushFields head fields wishes) (Append i a) b p q = absurd p
+same_body (CountedFlushFields head fields wishes) (Discard k) b p q = absurd p
+same_body (CountedFlushFields head fields wishes) (Forget k) b p q = absurd p
+same_body (CountedFlushFields head fields wishes) Bye b p q = absurd p
 same_body (DiscardFields head) (Discard k) (Discard l) p q = ap Discard (same_key_of head k l p q)
 same_body (DiscardFields head) (Discard k) (Append i a) p q = absurd q
 same_body (DiscardFields head) (Discard k) (Flush l e) p q = absurd q
@@ -194,7 +221,9 @@ no_goodbye_for : (wire : WireBody) → StandsFor wire Bye → ⊥
 unfolding StandsFor
 no_goodbye_for (AppendFields head fields) stands = stands
 no_goodbye_for (DatedAppendFields head fields dates) stands = stands
+no_goodbye_for (TypedAppendFields head fields dates types) stands = stands
 no_goodbye_for (FlushFieldsOf head fields) stands = stands
+no_goodbye_for (CountedFlushFields head fields wishes) stands = stands
 no_goodbye_for (DiscardFields head) stands = stands
 no_goodbye_for (ForgetFields head) stands = stands
 

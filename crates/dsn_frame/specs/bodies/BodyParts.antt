@@ -1,11 +1,13 @@
 -- The fields of a body as the program's references hold them.
-use Rattle.dsn_frame.specs.bodies.Wire.{Head, RecipientFields, RetryFields, FlushFields, WireBody, AppendFields, DatedAppendFields, FlushFieldsOf, DiscardFields, ForgetFields}
+use Rattle.dsn_frame.specs.bodies.Wire.{Head, RecipientFields, RetryFields, TypeFields, FlushFields, WishFields, WireBody, AppendFields, DatedAppendFields, TypedAppendFields, FlushFieldsOf, CountedFlushFields, DiscardFields, ForgetFields}
 use Rattle.dsn_frame.specs.declared.bodies.body_parts.BodyParts.{BodyParts}
 use Rattle.dsn_frame.specs.declared.bodies.body_parts.BodyParts.TheVariants as parts
 use Rattle.dsn_frame.specs.declared.bodies.body_parts.FlushParts.{FlushParts}
 use Rattle.dsn_frame.specs.declared.bodies.body_parts.HeadParts.{HeadParts}
 use Rattle.dsn_frame.specs.declared.bodies.body_parts.RecipientParts.{RecipientParts}
 use Rattle.dsn_frame.specs.declared.bodies.body_parts.RetryParts.{RetryParts}
+use Rattle.dsn_frame.specs.declared.bodies.body_parts.TypeParts.{TypeParts}
+use Rattle.dsn_frame.specs.declared.bodies.body_parts.WishParts.{WishParts}
 
 -- the texts that the references point to
 abbrev pub head_in : HeadParts → Head
@@ -32,6 +34,14 @@ abbrev pub retry_fields_in : RetryParts → RetryFields
 retry_fields_in parts =
     record { last_attempt = parts.last_attempt; retry_until = parts.retry_until }
 
+abbrev pub type_fields_in : TypeParts → TypeFields
+type_fields_in parts = record {
+  recipient = parts.types.recipient.now;
+  original = parts.types.original.now;
+  diagnostic = parts.types.diagnostic.now;
+  extensions = parts.extensions.now;
+}
+
 abbrev pub flush_fields_in : FlushParts → FlushFields
 flush_fields_in parts = record {
   moment = parts.moment;
@@ -41,10 +51,22 @@ flush_fields_in parts = record {
   header = parts.header.now;
 }
 
+abbrev pub wish_fields_in : WishParts → WishFields
+wish_fields_in parts = record {
+  expected = parts.expected;
+  returned = parts.returned;
+  wording = parts.wording;
+}
+
 abbrev pub wire_body_in : BodyParts → WireBody
 wire_body_in (parts.Append head fields) = AppendFields (head_in head) (recipient_fields_in fields)
 wire_body_in (parts.DatedAppend head fields dates) =
     DatedAppendFields (head_in head) (recipient_fields_in fields) (retry_fields_in dates)
+wire_body_in (parts.TypedAppend head fields dates types) =
+    TypedAppendFields (head_in head) (recipient_fields_in fields) (retry_fields_in dates)
+    (type_fields_in types)
 wire_body_in (parts.Flush head fields) = FlushFieldsOf (head_in head) (flush_fields_in fields)
+wire_body_in (parts.CountedFlush head fields wishes) =
+    CountedFlushFields (head_in head) (flush_fields_in fields) (wish_fields_in wishes)
 wire_body_in (parts.Discard head) = DiscardFields (head_in head)
 wire_body_in (parts.Forget head) = ForgetFields (head_in head)

@@ -1,9 +1,13 @@
 -- Requests in bytes: which body some bytes stand for, and why they are refused where they stand for
--- none (this project's profile, versions 1 and 2).
-use Rattle.std.specs.Prelude.{◌≡◌, ℕ, ◌+◌, Bool, true, false, ◌&&◌, ◌==◌, nat_le, List, [], ◌∷◌, length, ◌≤◌, Option, Some, None, is_none, is_some, if◌then◌else◌, slice_get, option_and_then}
+-- none (this project's profile, versions 1 to 3).
+use Rattle.std.specs.Prelude.{◌≡◌, ℕ, ◌+◌, Bool, true, false, ◌&&◌, ◌==◌, nat_le, List, [], ◌∷◌, length, ◌≤◌, Option, Some, None, is_none, is_some, if◌then◌else◌, slice_get, option_and_then, unwrap_or}
 use Rattle.std.specs.Option.{option_map, option_map_or}
 use Rattle.dsn_text.specs.Action.{action_byte}
 use Rattle.dsn_outcome.specs.Draft.{Draft}
+use Rattle.dsn_outcome.specs.Returned.{returned_byte, returned_of_byte}
+use Rattle.dsn_outcome.specs.Wording.{wording_byte, wording_of_byte}
+use Rattle.dsn_outcome.specs.declared.returned.Returned.TheVariants.{Header}
+use Rattle.dsn_outcome.specs.declared.wording.Wording.TheVariants.{ByService}
 use Rattle.dsn_outcome.specs.Outcome.{Outcome, Fields, IsOutcomeOf, first_outcome_fault, first_failed}
 use Rattle.dsn_text.specs.Optional.{is_none_or, unless_empty}
 use Rattle.dsn_outcome.specs.Request.{Body, Append, Flush, Discard, Forget, Bye}
@@ -14,7 +18,7 @@ use Rattle.dsn_text.specs.declared.key.Key.{Key}
 use Rattle.dsn_text.specs.declared.service.Service.{Service}
 use Rattle.dsn_frame.specs.bodies.BodyFault.{outcome_refusal}
 use Rattle.dsn_frame.specs.bodies.FrameBody.{frame}
-use Rattle.dsn_frame.specs.bodies.Wire.{Head, RecipientFields, RetryFields, FlushFields, WireBody, AppendFields, DatedAppendFields, FlushFieldsOf, DiscardFields, ForgetFields, is_version, is_kind, is_known, head_of, own_bytes, body_bytes, Fits, body_at}
+use Rattle.dsn_frame.specs.bodies.Wire.{Head, RecipientFields, RetryFields, TypeFields, FlushFields, WishFields, WireBody, AppendFields, DatedAppendFields, TypedAppendFields, FlushFieldsOf, CountedFlushFields, DiscardFields, ForgetFields, is_version, is_kind, is_known, head_of, own_bytes, body_bytes, Fits, body_at}
 use Rattle.dsn_frame.specs.declared.bodies.body_fault.BodyFault.{BodyFault}
 use Rattle.dsn_frame.specs.declared.bodies.body_fault.BodyFault.TheVariants as faults
 
@@ -42,12 +46,14 @@ head_checks head =
     ∷ (is_queue_id head.id, faults.QueueId)
     ∷ []
 
-abbrev pub flush_checks : FlushFields → List (Bool × BodyFault)
-flush_checks fields =
+abbrev pub flush_checks : FlushFields → WishFields → List (Bool × BodyFault)
+flush_checks fields wishes =
     (nat_le fields.moment last_moment && nat_le fields.arrival last_moment, faults.Moment)
     ∷ (nat_le (length fields.header) longest_header, faults.Header)
     ∷ (is_none_or is_address (unless_empty fields.return_path), faults.ReturnPath)
     ∷ (is_none_or is_envelope_id (unless_empty fields.envelope_id), faults.EnvelopeId)
+    ∷ (is_some (returned_of_byte wishes.returned), faults.Returned)
+    ∷ (is_some (wording_of_byte wishes.wording), faults.Wording)
     ∷ []
 
 -- the first of two faults
@@ -59,9 +65,22 @@ or_else None later = later
 abbrev pub no_moment : ℕ
 no_moment = 18_446_744_073_709_551_615
 
--- the moment that a number of a version 2 append stands for
+-- the moment that a number of an append stands for
 abbrev pub moment_if_any : ℕ → Option ℕ
 moment_if_any seconds = if seconds == no_moment then None else Some seconds
+
+-- the number that stands for any number of outcomes: all ones
+abbrev pub any_count : ℕ
+any_count = 4_294_967_295
+
+-- how many outcomes a number of a version 3 flush stands for
+abbrev pub count_if_any : ℕ → Option ℕ
+count_if_any count = if count == any_count then None else Some count
+
+-- what a flush asks for besides where it is of version 1 or 2: any number of outcomes, a header, and
+-- words by the service
+abbrev pub usual_wishes : WishFields
+usual_wishes = record { expected = any_count; returned = 0; wording = 0 }
 
 abbrev pub retry_checks : RetryFields → List (Bool × BodyFault)
 retry_checks dates = (
@@ -71,27 +90,38 @@ retry_checks dates = (
 )
     ∷ []
 
--- the outcome's fields of an append with these moments
-abbrev pub outcome_fields : RecipientFields → Option ℕ → Option ℕ → Fields
-outcome_fields fields last_attempt retry_until = record {
+-- the usual types of an append's texts, which say none, and no extension field
+abbrev pub usual_types : TypeFields
+usual_types = record { recipient = []; original = []; diagnostic = []; extensions = [] }
+
+-- the outcome's fields of an append with these types and extension fields, and these moments
+abbrev pub outcome_fields : RecipientFields → TypeFields → Option ℕ → Option ℕ → Fields
+outcome_fields fields types last_attempt retry_until = record {
   recipient = fields.recipient;
+  recipient_type = types.recipient;
   original = fields.original;
+  original_type = types.original;
   action = fields.action;
   status = fields.status;
   mta = fields.mta;
   diagnostic = fields.diagnostic;
+  diagnostic_type = types.diagnostic;
   reason = fields.reason;
   last_attempt = last_attempt;
   retry_until = retry_until;
+  extensions = types.extensions;
 }
 
--- the outcome's fields of an append of version 1, and of a later one
+-- the outcome's fields of an append of each version
 abbrev pub undated_fields : RecipientFields → Fields
-undated_fields fields = outcome_fields fields None None
+undated_fields fields = outcome_fields fields usual_types None None
+
+abbrev pub typed_fields : RecipientFields → RetryFields → TypeFields → Fields
+typed_fields fields dates types =
+    outcome_fields fields types (moment_if_any dates.last_attempt) (moment_if_any dates.retry_until)
 
 abbrev pub dated_fields : RecipientFields → RetryFields → Fields
-dated_fields fields dates =
-    outcome_fields fields (moment_if_any dates.last_attempt) (moment_if_any dates.retry_until)
+dated_fields fields dates = typed_fields fields dates usual_types
 
 -- the first fault of an append's outcome, which is one of its service
 abbrev pub first_append_fault : Head → Fields → Option BodyFault
@@ -105,7 +135,12 @@ first_own_fault (AppendFields head fields) = first_append_fault head (undated_fi
 first_own_fault (DatedAppendFields head fields dates) =
     or_else (first_failed (retry_checks dates))
     (first_append_fault head (dated_fields fields dates))
-first_own_fault (FlushFieldsOf head fields) = first_failed (flush_checks fields)
+first_own_fault (TypedAppendFields head fields dates types) =
+    or_else (first_failed (retry_checks dates))
+    (first_append_fault head (typed_fields fields dates types))
+first_own_fault (FlushFieldsOf head fields) = first_failed (flush_checks fields usual_wishes)
+first_own_fault (CountedFlushFields head fields wishes) =
+    first_failed (flush_checks fields wishes)
 first_own_fault (DiscardFields head) = None
 first_own_fault (ForgetFields head) = None
 
@@ -127,13 +162,16 @@ pub record IsWhole (bytes : List ℕ) (wire : WireBody) : Type 0 where
 -- ---- what a body stands for
 
 -- the draft that a flush's fields stand for
-abbrev pub draft_of : FlushFields → Draft
-draft_of fields = record {
+abbrev pub draft_of : FlushFields → WishFields → Draft
+draft_of fields wishes = record {
   moment = fields.moment;
   arrival = fields.arrival;
   return_path = unless_empty fields.return_path;
   envelope_id = unless_empty fields.envelope_id;
   header = fields.header;
+  expected = count_if_any wishes.expected;
+  returned = unwrap_or (returned_of_byte wishes.returned) Header;
+  wording = unwrap_or (wording_of_byte wishes.wording) ByService;
 }
 
 pub record IsKeyOf (head : Head) (key : Key) : Type 0 where
@@ -153,8 +191,12 @@ StandsFor (AppendFields head fields) (Append id outcome) =
     IsAppendOf head (undated_fields fields) id outcome
 StandsFor (DatedAppendFields head fields dates) (Append id outcome) =
     IsAppendOf head (dated_fields fields dates) id outcome
+StandsFor (TypedAppendFields head fields dates types) (Append id outcome) =
+    IsAppendOf head (typed_fields fields dates types) id outcome
 StandsFor (FlushFieldsOf head fields) (Flush key draft) =
-    IsKeyOf head key × (draft ≡ draft_of fields)
+    IsKeyOf head key × (draft ≡ draft_of fields usual_wishes)
+StandsFor (CountedFlushFields head fields wishes) (Flush key draft) =
+    IsKeyOf head key × (draft ≡ draft_of fields wishes)
 StandsFor (DiscardFields head) (Discard key) = IsKeyOf head key
 StandsFor (ForgetFields head) (Forget key) = IsKeyOf head key
 StandsFor wire body = ⊥
@@ -204,13 +246,33 @@ retry_fields_for outcome = record {
   retry_until = moment_or_none outcome.retry_until;
 }
 
--- an append is written in version 1 where its outcome has neither of the two moments
+abbrev pub type_fields_for : Outcome → TypeFields
+type_fields_for outcome = record {
+  recipient = text_or_empty outcome.recipient_type;
+  original = text_or_empty outcome.original_type;
+  diagnostic = text_or_empty outcome.diagnostic_type;
+  extensions = outcome.extensions;
+}
+
+-- no type of an outcome's texts is said, and it has no extension field: an append of version 2 can
+-- say it
+abbrev pub has_usual_types : Outcome → Bool
+has_usual_types outcome =
+    is_none outcome.recipient_type
+    && (is_none outcome.original_type
+    && (is_none outcome.diagnostic_type && (length outcome.extensions == 0)))
+
+-- an append is written in version 1 where its outcome has neither of the two moments nor a type
+-- nor an extension field, and in version 2 where it has no type and no extension field
 unfoldable pub append_written_as : ℕ → List ℕ → Outcome → WireBody
 append_written_as number id outcome =
-    if is_none outcome.last_attempt && is_none outcome.retry_until
+    if has_usual_types outcome
+    then (if is_none outcome.last_attempt && is_none outcome.retry_until
     then AppendFields (head_for 1 number outcome.service id) (fields_for outcome)
     else DatedAppendFields (head_for 2 number outcome.service id) (fields_for outcome)
-    (retry_fields_for outcome)
+    (retry_fields_for outcome))
+    else TypedAppendFields (head_for 3 number outcome.service id) (fields_for outcome)
+    (retry_fields_for outcome) (type_fields_for outcome)
 
 abbrev pub flush_fields_for : Draft → FlushFields
 flush_fields_for draft = record {
@@ -221,20 +283,44 @@ flush_fields_for draft = record {
   header = draft.header;
 }
 
+-- a number of outcomes that is expected, or all ones
+abbrev pub count_or_any : Option ℕ → ℕ
+count_or_any None = any_count
+count_or_any (Some expected) = expected
+
+abbrev pub wish_fields_for : Draft → WishFields
+wish_fields_for draft = record {
+  expected = count_or_any draft.expected;
+  returned = returned_byte draft.returned;
+  wording = wording_byte draft.wording;
+}
+
+-- nothing unusual is asked for
+abbrev pub are_usual : WishFields → Bool
+are_usual wishes =
+    (wishes.expected == any_count) && ((wishes.returned == 0) && (wishes.wording == 0))
+
+-- a flush is written in version 1 where it asks for nothing unusual
+unfoldable pub flush_written_as : ℕ → Key → Draft → WireBody
+flush_written_as number key draft =
+    if are_usual (wish_fields_for draft)
+    then FlushFieldsOf (head_for 1 number key.service key.id) (flush_fields_for draft)
+    else CountedFlushFields (head_for 3 number key.service key.id) (flush_fields_for draft)
+    (wish_fields_for draft)
+
 -- the fields that are written of a body with this number, in the lowest version that can say it; a
 -- goodbye has none
 unfoldable pub fields_written : ℕ → Body → Option WireBody
 fields_written number (Append id outcome) = Some (append_written_as number id outcome)
-fields_written number (Flush key draft) =
-    Some (FlushFieldsOf (head_for 1 number key.service key.id) (flush_fields_for draft))
+fields_written number (Flush key draft) = Some (flush_written_as number key draft)
 fields_written number (Discard key) = Some (DiscardFields (head_for 1 number key.service key.id))
 fields_written number (Forget key) = Some (ForgetFields (head_for 2 number key.service key.id))
 fields_written number Bye = None
 
--- the most bytes that follow the queue id of a written body: a flush's, whose two moments and three
--- lengths take 22, and each of whose texts is as long as it may be
+-- the most bytes that follow the queue id of a written body: a flush's of version 3, whose two
+-- moments, three lengths, count and two bytes take 28, and each of whose texts is as long as it may be
 abbrev pub longest_own : ℕ
-longest_own = 22 + (longest_address + (longest_envelope_id + longest_header))
+longest_own = 28 + (longest_address + (longest_envelope_id + longest_header))
 
 -- fields that are written of a body: no check fails, they stand for the body, and a frame holds
 -- them

@@ -5,7 +5,7 @@ use Rattle.std.specs.Int.{w32, to_be_bytes, from_be_bytes}
 use Rattle.std.specs.Option.{option_map_or}
 use Rattle.dsn_outcome.specs.Outcome.{first_failed}
 use Rattle.dsn_outcome.specs.declared.answer.Reply.{Reply}
-use Rattle.dsn_outcome.specs.declared.answer.Reply.TheVariants.{Logged, Closed, TableFull, LogFull, Nothing, NoReturn, Sealed, Discarded, Gone, Forgotten, NotClosed}
+use Rattle.dsn_outcome.specs.declared.answer.Reply.TheVariants.{Logged, Closed, TableFull, LogFull, Nothing, NoReturn, Sealed, Discarded, Gone, Forgotten, NotClosed, Differs}
 use Rattle.dsn_frame.specs.bodies.FrameBody.{frame}
 use Rattle.dsn_frame.specs.declared.bodies.answer_fault.AnswerFault.{AnswerFault}
 use Rattle.dsn_frame.specs.declared.bodies.answer_fault.AnswerFault.TheVariants as faults
@@ -27,6 +27,7 @@ reply_kind (Discarded count) = 8
 reply_kind Gone = 9
 reply_kind Forgotten = 11
 reply_kind NotClosed = 12
+reply_kind (Differs count) = 13
 
 -- the number in a reply: a place in a log, or a count of outcomes; 0 in a reply without one
 abbrev pub reply_value : Reply → ℕ
@@ -41,6 +42,7 @@ reply_value (Discarded count) = count
 reply_value Gone = 0
 reply_value Forgotten = 0
 reply_value NotClosed = 0
+reply_value (Differs count) = count
 
 -- a refusal has a byte of its own, and its number as value
 abbrev pub spoken_kind : Spoken → ℕ
@@ -83,7 +85,7 @@ reply_of (spoken.Refused code) = []
 
 -- the bytes of replies and of a refusal
 abbrev pub is_spoken_kind : ℕ → Bool
-is_spoken_kind kind = nat_le 1 kind && nat_le kind 12
+is_spoken_kind kind = nat_le 1 kind && nat_le kind 13
 
 -- the bytes of replies that have no value: closed, table full, log full, nothing, gone, forgotten,
 -- and not closed

@@ -1,5 +1,5 @@
 -- The fields of a request's body as they stand in it, from left to right, before any is judged
--- (this project's profile, versions 1 and 2).
+-- (this project's profile, versions 1 to 3).
 use Rattle.std.specs.Prelude.{◌≡◌, ℕ, ◌<◌, ◌^◌, List, [], ◌∷◌, ◌++◌, length, take, drop, Option, Some, None, Bool, true, false, ◌&&◌, nat_lt, nat_le, ◌==◌, if◌then◌else◌}
 use Rattle.std.specs.Int.{Width, w16, w32, w64, byte_len, to_be_bytes, from_be_bytes}
 
@@ -21,11 +21,19 @@ pub record RecipientFields : Type 0 where
   pub diagnostic : List ℕ
   pub reason : List ℕ
 
--- what an append of version 2 goes on with: when delivery was last tried, and until when it is
+-- what an append of version 2 or 3 goes on with: when delivery was last tried, and until when it is
 -- tried again, in seconds since 1970; all ones mean that it isn't said
 pub record RetryFields : Type 0 where
   pub last_attempt : ℕ
   pub retry_until : ℕ
+
+-- what an append of version 3 goes on with: of which types its recipients and its diagnostic are, an
+-- empty text meaning the usual type, and its extension fields
+pub record TypeFields : Type 0 where
+  pub recipient : List ℕ
+  pub original : List ℕ
+  pub diagnostic : List ℕ
+  pub extensions : List ℕ
 
 -- what a flush goes on with: moment and arrival in seconds since 1970, the return path, the
 -- envelope id and the returned header; an empty text means that there is none
@@ -36,19 +44,31 @@ pub record FlushFields : Type 0 where
   pub envelope_id : List ℕ
   pub header : List ℕ
 
--- a body's fields: of an append those of its recipient, after version 1 with its two moments, of a
--- flush its own, of a discard and of a Forget no more
+-- what a flush of version 3 goes on with: how many outcomes it expects (all ones mean any number),
+-- the byte of what its header field holds, and the byte of its notice's wording
+pub record WishFields : Type 0 where
+  pub expected : ℕ
+  pub returned : ℕ
+  pub wording : ℕ
+
+-- a body's fields: of an append those of its recipient, after version 1 with its two moments, in
+-- version 3 with the types of its texts and its extension fields, of a flush its own, in version 3
+-- with what it asks for besides, of a discard and of a Forget no more
 pub data WireBody : Type 0 where
   AppendFields : Head → RecipientFields → WireBody
   DatedAppendFields : Head → RecipientFields → RetryFields → WireBody
+  TypedAppendFields : Head → RecipientFields → RetryFields → TypeFields → WireBody
   FlushFieldsOf : Head → FlushFields → WireBody
+  CountedFlushFields : Head → FlushFields → WishFields → WireBody
   DiscardFields : Head → WireBody
   ForgetFields : Head → WireBody
 
 abbrev pub head_of : WireBody → Head
 head_of (AppendFields head fields) = head
 head_of (DatedAppendFields head fields dates) = head
+head_of (TypedAppendFields head fields dates types) = head
 head_of (FlushFieldsOf head fields) = head
+head_of (CountedFlushFields head fields wishes) = head
 head_of (DiscardFields head) = head
 head_of (ForgetFields head) = head
 
@@ -74,26 +94,40 @@ append_bytes fields =
 unfoldable pub retry_bytes : RetryFields → List ℕ
 retry_bytes dates = number_bytes w64 dates.last_attempt ++ number_bytes w64 dates.retry_until
 
+unfoldable pub type_bytes : TypeFields → List ℕ
+type_bytes types =
+    text_bytes types.recipient ++ (text_bytes types.original
+    ++ (text_bytes types.diagnostic ++ text_bytes types.extensions))
+
 unfoldable pub flush_bytes : FlushFields → List ℕ
 flush_bytes fields =
     number_bytes w64 fields.moment ++ (number_bytes w64 fields.arrival
     ++ (text_bytes fields.return_path
     ++ (text_bytes fields.envelope_id ++ text_bytes fields.header)))
 
+unfoldable pub wish_bytes : WishFields → List ℕ
+wish_bytes wishes = number_bytes w32 wishes.expected ++ (wishes.returned ∷ wishes.wording ∷ [])
+
+-- a flush's fields, and what it asks for besides
+unfoldable pub counted_flush_bytes : FlushFields → WishFields → List ℕ
+counted_flush_bytes fields wishes = flush_bytes fields ++ wish_bytes wishes
+
 -- the byte of a body's kind
 abbrev pub kind_of : WireBody → ℕ
 kind_of (AppendFields head fields) = 1
 kind_of (DatedAppendFields head fields dates) = 1
+kind_of (TypedAppendFields head fields dates types) = 1
 kind_of (FlushFieldsOf head fields) = 2
+kind_of (CountedFlushFields head fields wishes) = 2
 kind_of (DiscardFields head) = 3
 kind_of (ForgetFields head) = 4
 
 -- the versions of a body
 abbrev pub is_version : ℕ → Bool
-is_version version = nat_le 1 version && nat_le version 2
+is_version version = nat_le 1 version && nat_le version 3
 
--- the kinds of a version: a Forget is of version 2 alone, whose flushes and discards are those of
--- version 1
+-- the kinds of a version: a Forget is of versions 2 and 3 alone, whose discards are those of
+-- version 1, as the flushes of version 2 are
 abbrev pub is_kind : ℕ → ℕ → Bool
 is_kind version kind =
     if version == 1 then nat_le 1 kind && nat_le kind 3 else nat_le 1 kind && nat_le kind 4
@@ -106,7 +140,10 @@ is_known wire = is_version (head_of wire).version && is_kind (head_of wire).vers
 unfoldable pub own_bytes : WireBody → List ℕ
 own_bytes (AppendFields head fields) = append_bytes fields
 own_bytes (DatedAppendFields head fields dates) = append_bytes fields ++ retry_bytes dates
+own_bytes (TypedAppendFields head fields dates types) =
+    append_bytes fields ++ (retry_bytes dates ++ type_bytes types)
 own_bytes (FlushFieldsOf head fields) = flush_bytes fields
+own_bytes (CountedFlushFields head fields wishes) = counted_flush_bytes fields wishes
 own_bytes (DiscardFields head) = []
 own_bytes (ForgetFields head) = []
 
@@ -137,6 +174,12 @@ pub record FitsRetry (dates : RetryFields) : Type 0 where
   pub last_attempt : dates.last_attempt < 2 ^ 64
   pub retry_until : dates.retry_until < 2 ^ 64
 
+pub record FitsTypes (types : TypeFields) : Type 0 where
+  pub recipient : FitsText types.recipient
+  pub original : FitsText types.original
+  pub diagnostic : FitsText types.diagnostic
+  pub extensions : FitsText types.extensions
+
 pub record FitsFlush (fields : FlushFields) : Type 0 where
   pub moment : fields.moment < 2 ^ 64
   pub arrival : fields.arrival < 2 ^ 64
@@ -147,8 +190,15 @@ pub record FitsFlush (fields : FlushFields) : Type 0 where
 unfoldable pub FitsOwn : WireBody → Type 0
 FitsOwn (AppendFields head fields) = ((head.version == 1) ≡ true) × FitsAppend fields
 FitsOwn (DatedAppendFields head fields dates) =
-    ((head.version == 1) ≡ false) × (FitsAppend fields × FitsRetry dates)
-FitsOwn (FlushFieldsOf head fields) = FitsFlush fields
+    ((head.version == 1) ≡ false)
+    × (((head.version == 3) ≡ false) × (FitsAppend fields × FitsRetry dates))
+FitsOwn (TypedAppendFields head fields dates types) =
+    ((head.version == 1) ≡ false)
+    × (((head.version == 3) ≡ true)
+    × (FitsAppend fields × (FitsRetry dates × FitsTypes types)))
+FitsOwn (FlushFieldsOf head fields) = ((head.version == 3) ≡ false) × FitsFlush fields
+FitsOwn (CountedFlushFields head fields wishes) =
+    ((head.version == 3) ≡ true) × (FitsFlush fields × (wishes.expected < 2 ^ 32))
 FitsOwn (DiscardFields head) = Unit {0}
 FitsOwn (ForgetFields head) = Unit {0}
 
@@ -213,13 +263,33 @@ retry_at bytes = do
   retry_until ← number_at w64 last_attempt.1
   Some (record { last_attempt = last_attempt.0; retry_until = retry_until.0 }, retry_until.1)
 
--- an append that begins with this head: after version 1 its two moments follow
+unfoldable pub types_at : List ℕ → Option (TypeFields × List ℕ)
+types_at bytes = do
+  recipient ← text_at bytes
+  original ← text_at recipient.1
+  diagnostic ← text_at original.1
+  extensions ← text_at diagnostic.1
+  Some (
+    record {
+      recipient = recipient.0;
+      original = original.0;
+      diagnostic = diagnostic.0;
+      extensions = extensions.0;
+    },
+    extensions.1,
+  )
+
+-- an append that begins with this head: after version 1 its two moments follow, and in version 3 the
+-- types of its texts and its extension fields
 unfoldable pub append_body_at : Head → List ℕ → Option (WireBody × List ℕ)
 append_body_at head bytes =
     if head.version == 1
     then (append_at bytes >>= λ fields. Some (AppendFields head fields.0, fields.1))
+    else (if head.version == 3
+    then (append_at bytes >>= λ fields. retry_at fields.1 >>= λ dates. types_at dates.1
+    >>= λ types. Some (TypedAppendFields head fields.0 dates.0 types.0, types.1))
     else (append_at bytes >>= λ fields. retry_at fields.1 >>= λ dates. Some
-    (DatedAppendFields head fields.0 dates.0, dates.1))
+    (DatedAppendFields head fields.0 dates.0, dates.1)))
 
 unfoldable pub flush_at : List ℕ → Option (FlushFields × List ℕ)
 flush_at bytes = do
@@ -239,12 +309,26 @@ flush_at bytes = do
     header.1,
   )
 
+unfoldable pub wishes_at : List ℕ → Option (WishFields × List ℕ)
+wishes_at bytes = do
+  expected ← number_at w32 bytes
+  returned ← byte_at expected.1
+  wording ← byte_at returned.1
+  Some (record { expected = expected.0; returned = returned.0; wording = wording.0 }, wording.1)
+
+-- a flush that begins with this head: in version 3 what it asks for besides follows
+unfoldable pub flush_body_at : Head → List ℕ → Option (WireBody × List ℕ)
+flush_body_at head bytes =
+    if head.version == 3
+    then (flush_at bytes >>= λ fields. wishes_at fields.1 >>= λ wishes. Some
+    (CountedFlushFields head fields.0 wishes.0, wishes.1))
+    else (flush_at bytes >>= λ fields. Some (FlushFieldsOf head fields.0, fields.1))
+
 -- the body of this kind that begins with this head
 unfoldable pub own_at : ℕ → Head → List ℕ → Option (WireBody × List ℕ)
 own_at kind head bytes =
     if kind == 1 then append_body_at head bytes
-    else (if kind == 2
-    then (flush_at bytes >>= λ fields. Some (FlushFieldsOf head fields.0, fields.1))
+    else (if kind == 2 then flush_body_at head bytes
     else (if kind == 3 then Some (DiscardFields head, bytes)
     else (if kind == 4 then Some (ForgetFields head, bytes) else None)))
 

@@ -15,7 +15,7 @@ const BODY: usize = 10;
 const REFUSED: u8 = 10;
 
 /// The last byte of a reply.
-const LAST: u8 = 12;
+const LAST: u8 = 13;
 
 /// The frame of an answer to the frame at this place: a length of 10, and the ten bytes of its
 /// body.
@@ -88,6 +88,7 @@ fn reply_fields(reply: Reply) -> (u8, u32)
         Reply::Gone => (9, 0),
         Reply::Forgotten => (11, 0),
         Reply::NotClosed => (12, 0),
+        Reply::Differs(count) => (13, count),
     }
 }
 
@@ -106,6 +107,7 @@ fn answer_from(kind: u8, value: u32) -> Option<Spoken>
         6 => Reply::NoReturn(value),
         7 => Reply::Sealed(value),
         8 => Reply::Discarded(value),
+        13 => Reply::Differs(value),
         REFUSED => return Some(Spoken::Refused(value)),
         _ if value != 0 => return None,
         2 => Reply::Closed,

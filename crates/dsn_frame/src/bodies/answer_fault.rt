@@ -11,7 +11,7 @@ pub enum AnswerFault {
     /// The first byte isn't version 1.
     #[error("the version is unknown")]
     Version,
-    /// The second byte is none of 1 to 12.
+    /// The second byte is none of 1 to 13.
     #[error("the reply is unknown")]
     Kind,
     /// The body has fewer than 10 bytes.

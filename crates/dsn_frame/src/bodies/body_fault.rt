@@ -42,13 +42,19 @@ pub enum BodyFault {
     /// The envelope id of a flush is neither empty nor 1 to 100 printable bytes.
     #[error("the envelope id is neither empty nor 1 to 100 printable bytes")]
     EnvelopeId,
+    /// It is unknown whether the header field of a flush holds the header or the message.
+    #[error("it is unknown whether the header field holds the header or the message")]
+    Returned,
+    /// The wording of a flush's notice is unknown.
+    #[error("the wording of the notice is unknown")]
+    Wording,
     /// Memory for the request was refused.
     #[error("out of memory")]
     NoMemory,
 }
 
 impl BodyFault {
-    /// The number of the refusal, 1 to 10 or 21 to 30, as an answer carries it.
+    /// The number of the refusal, 1 to 10 or 15 to 30, as an answer carries it.
     pub fn code(&self) -> u32
         ensures { result ≡ body_fault_code self.now }
     {
@@ -64,6 +70,8 @@ impl BodyFault {
             BodyFault::Header => fault_code::LONG_HEADER,
             BodyFault::ReturnPath => fault_code::RETURN_PATH,
             BodyFault::EnvelopeId => fault_code::ENVELOPE_ID,
+            BodyFault::Returned => fault_code::RETURNED,
+            BodyFault::Wording => fault_code::WORDING,
             BodyFault::NoMemory => fault_code::NO_MEMORY,
         }
     }
@@ -92,6 +100,8 @@ impl From<DraftFault> for BodyFault {
             DraftFault::Header => BodyFault::Header,
             DraftFault::ReturnPath => BodyFault::ReturnPath,
             DraftFault::EnvelopeId => BodyFault::EnvelopeId,
+            DraftFault::Returned => BodyFault::Returned,
+            DraftFault::Wording => BodyFault::Wording,
             DraftFault::NoMemory => BodyFault::NoMemory,
         }
     }

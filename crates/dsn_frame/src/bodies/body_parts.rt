@@ -1,4 +1,5 @@
 //! The fields of a body as they stand in it, before any is judged.
+use dsn_outcome::Types;
 
 /// What every body begins with; its kind stands after its version.
 #[derive(Clone, Copy)]
@@ -32,8 +33,8 @@ pub(crate) struct RecipientParts<'a> {
     pub(crate) reason: &'a [u8],
 }
 
-/// What an append of the second version goes on with, in seconds since 1970; [`NO_MOMENT`] means
-/// that it isn't said.
+/// What an append of a later version than the first goes on with, in seconds since 1970;
+/// [`NO_MOMENT`] means that it isn't said.
 #[derive(Clone, Copy)]
 pub(crate) struct RetryParts {
     /// When delivery was last tried.
@@ -42,8 +43,36 @@ pub(crate) struct RetryParts {
     pub(crate) retry_until: u64,
 }
 
+/// What an append of the third version goes on with.
+#[derive(Clone, Copy)]
+pub(crate) struct TypeParts<'a> {
+    /// The types of its texts.
+    pub(crate) types: Types<'a>,
+    /// The extension fields. Empty for none.
+    pub(crate) extensions: &'a [u8],
+}
+
+impl TypeParts<'_> {
+    ghost use Rattle.std.specs.Prelude.{◌≡◌};
+    ghost use Rattle.dsn_frame.specs.bodies.BodyParts.{type_fields_in};
+    ghost use Rattle.dsn_frame.specs.bodies.Request.{usual_types};
+
+    /// Those of an append of an earlier version: the usual types, and no extension field.
+    pub(crate) fn usual() -> TypeParts<'static>
+        ensures { type_fields_in result ≡ usual_types }
+    {
+        TypeParts {
+            types: Types::usual(),
+            extensions: b"",
+        }
+    }
+}
+
 /// The number that stands for no moment.
 pub(crate) const NO_MOMENT: u64 = u64::MAX;
+
+/// The number that stands for any number of outcomes.
+pub(crate) const ANY_COUNT: u32 = u32::MAX;
 
 /// What a flush goes on with. An empty text means that there is none.
 #[derive(Clone, Copy)]
@@ -60,6 +89,41 @@ pub(crate) struct FlushParts<'a> {
     pub(crate) header: &'a [u8],
 }
 
+/// What a flush of the third version goes on with.
+#[derive(Clone, Copy)]
+pub(crate) struct WishParts {
+    /// How many outcomes it expects; [`ANY_COUNT`] stands for any number.
+    pub(crate) expected: u32,
+    /// The byte of what its header field holds.
+    pub(crate) returned: u8,
+    /// The byte of how its notice's words are chosen.
+    pub(crate) wording: u8,
+}
+
+impl WishParts {
+    ghost use Rattle.std.specs.Prelude.{◌≡◌};
+    ghost use Rattle.dsn_frame.specs.bodies.BodyParts.{wish_fields_in};
+    ghost use Rattle.dsn_frame.specs.bodies.Request.{are_usual, usual_wishes};
+
+    /// What a flush of an earlier version asks for.
+    pub(crate) fn usual() -> WishParts
+        ensures { wish_fields_in result ≡ usual_wishes }
+    {
+        WishParts {
+            expected: ANY_COUNT,
+            returned: 0,
+            wording: 0,
+        }
+    }
+
+    /// Whether an earlier version can say it.
+    pub(crate) fn are_usual(self) -> bool
+        ensures { result ≡ are_usual (wish_fields_in self) }
+    {
+        self.expected == ANY_COUNT && self.returned == 0 && self.wording == 0
+    }
+}
+
 /// A body's fields.
 #[derive(Clone, Copy)]
 pub(crate) enum BodyParts<'a> {
@@ -67,8 +131,13 @@ pub(crate) enum BodyParts<'a> {
     Append(HeadParts<'a>, RecipientParts<'a>),
     /// An outcome to be logged, with its two moments.
     DatedAppend(HeadParts<'a>, RecipientParts<'a>, RetryParts),
+    /// An outcome to be logged, with its two moments, the types of its texts and its extension
+    /// fields.
+    TypedAppend(HeadParts<'a>, RecipientParts<'a>, RetryParts, TypeParts<'a>),
     /// A notice to be made.
     Flush(HeadParts<'a>, FlushParts<'a>),
+    /// A notice to be made, with what is asked for besides.
+    CountedFlush(HeadParts<'a>, FlushParts<'a>, WishParts),
     /// A log to be dropped.
     Discard(HeadParts<'a>),
     /// A key to be let go.
@@ -87,7 +156,9 @@ impl<'a> BodyParts<'a> {
         match self {
             BodyParts::Append(head, _)
             | BodyParts::DatedAppend(head, ..)
+            | BodyParts::TypedAppend(head, ..)
             | BodyParts::Flush(head, _)
+            | BodyParts::CountedFlush(head, ..)
             | BodyParts::Discard(head)
             | BodyParts::Forget(head) => head,
         }
@@ -98,8 +169,8 @@ impl<'a> BodyParts<'a> {
         ensures { result ≡ kind_of (wire_body_in self.entry) }
     {
         match self {
-            BodyParts::Append(..) | BodyParts::DatedAppend(..) => 1,
-            BodyParts::Flush(..) => 2,
+            BodyParts::Append(..) | BodyParts::DatedAppend(..) | BodyParts::TypedAppend(..) => 1,
+            BodyParts::Flush(..) | BodyParts::CountedFlush(..) => 2,
             BodyParts::Discard(_) => 3,
             BodyParts::Forget(_) => 4,
         }

@@ -1,22 +1,24 @@
 //! Bodies to requests.
-ghost use Rattle.std.specs.Prelude.{◌≡◌, ◌≢◌, ◌&&◌, nat_le, [], true, false, IfOk, IfErr, OnOk, Some, None, unwrap_or};
+ghost use Rattle.std.specs.Prelude.{◌≡◌, ◌≢◌, ◌&&◌, nat_le, [], true, false, IsTrue, IfOk, IfErr, OnOk, Some, None, unwrap_or};
 ghost use Rattle.std.specs.Option.{option_map};
 ghost use Rattle.dsn_outcome.specs.Body.{body_of};
+ghost use Rattle.dsn_outcome.specs.Draft.{is_count};
 ghost use Rattle.dsn_outcome.specs.Outcome.{IsOutcomeOf, first_failed, first_outcome_fault};
 ghost use Rattle.dsn_text.specs.Optional.{is_none_or};
 ghost use Rattle.dsn_outcome.specs.Request.{Bye};
 ghost use Rattle.dsn_text.specs.Stamp.{is_moment, last_moment};
 ghost use Rattle.dsn_frame.specs.bodies.BodyFault.{outcome_refusal};
-ghost use Rattle.dsn_frame.specs.bodies.BodyParts.{head_in, recipient_fields_in, retry_fields_in, flush_fields_in, wire_body_in};
+ghost use Rattle.dsn_frame.specs.bodies.BodyParts.{head_in, recipient_fields_in, retry_fields_in, type_fields_in, flush_fields_in, wish_fields_in, wire_body_in};
 ghost use Rattle.dsn_frame.specs.bodies.Wire.{body_at, head_of};
-ghost use Rattle.dsn_frame.specs.bodies.Request.{Encodes, IsKeyOf, IsWhole, StandsFor, draft_of, first_body_fault, first_own_fault, flush_checks, moment_if_any, outcome_fields, retry_checks, has_kind, head_checks, layout_checks};
+ghost use Rattle.dsn_frame.specs.bodies.Request.{Encodes, IsKeyOf, IsWhole, StandsFor, count_if_any, draft_of, first_body_fault, first_own_fault, flush_checks, moment_if_any, outcome_fields, retry_checks, has_kind, head_checks, layout_checks};
 
 use crate::bodies::body_fault::BodyFault;
 use crate::bodies::body_parts::{
-    BodyParts, FlushParts, HeadParts, NO_MOMENT, RecipientParts, RetryParts,
+    ANY_COUNT, BodyParts, FlushParts, HeadParts, NO_MOMENT, RecipientParts, RetryParts, TypeParts,
+    WishParts,
 };
-use crate::bodies::{SECOND_VERSION, VERSION, read_fields};
-use dsn_outcome::{Body, Draft, Key, Node, Outcome, Parts, QueueId, Service, Stamp};
+use crate::bodies::{THIRD_VERSION, VERSION, read_fields};
+use dsn_outcome::{Body, Draft, DraftParts, Key, Node, Outcome, Parts, QueueId, Service, Stamp};
 use std::alloc::Global;
 
 /// The request that a body stands for, with its number on the connection. It is never a goodbye.
@@ -45,7 +47,7 @@ fn whole_body(bytes: &[u8]) -> Result<BodyParts<'_>, BodyFault>
 {
     if bytes
         .first()
-        .is_some_and(|version| *version < VERSION || SECOND_VERSION < *version)
+        .is_some_and(|version| *version < VERSION || THIRD_VERSION < *version)
     {
         return Err(BodyFault::Version);
     }
@@ -95,43 +97,60 @@ fn body_about(alloc: Global, key: Key, parts: BodyParts<'_>) -> Result<Body, Bod
 {
     match parts {
         BodyParts::Append(_, fields) => {
-            let node = outcome_from(alloc, key.service, fields, None, None)?;
+            let node = outcome_from(alloc, key.service, fields, TypeParts::usual(), (None, None))?;
             Ok(Body::Append(key.id, node))
         }
         BodyParts::DatedAppend(_, fields, dates) => {
-            let (last_attempt, retry_until) = checked_dates(dates)?;
-            let node = outcome_from(alloc, key.service, fields, last_attempt, retry_until)?;
+            let dates = checked_dates(dates)?;
+            let node = outcome_from(alloc, key.service, fields, TypeParts::usual(), dates)?;
             Ok(Body::Append(key.id, node))
         }
-        BodyParts::Flush(_, fields) => Ok(Body::Flush(key, draft_from(alloc, fields)?)),
+        BodyParts::TypedAppend(_, fields, dates, said) => {
+            let dates = checked_dates(dates)?;
+            let node = outcome_from(alloc, key.service, fields, said, dates)?;
+            Ok(Body::Append(key.id, node))
+        }
+        BodyParts::Flush(_, fields) => {
+            let draft = draft_from(alloc, fields, WishParts::usual())?;
+            Ok(Body::Flush(key, draft))
+        }
+        BodyParts::CountedFlush(_, fields, wishes) => {
+            let draft = draft_from(alloc, fields, wishes)?;
+            Ok(Body::Flush(key, draft))
+        }
         BodyParts::Discard(_) => Ok(Body::Discard(key)),
         BodyParts::Forget(_) => Ok(Body::Forget(key)),
     }
 }
 
-/// The outcome of a service that an append's fields and these moments stand for.
+/// The outcome of a service that an append's fields, these types and extension fields, and these
+/// moments stand for.
 fn outcome_from(
     alloc: Global,
     service: Service,
     fields: RecipientParts<'_>,
-    last_attempt: Option<Stamp>,
-    retry_until: Option<Stamp>,
+    said: TypeParts<'_>,
+    dates: (Option<Stamp>, Option<Stamp>),
 ) -> Result<Box<Node>, BodyFault>
     ensures kept { IfOk result
         (λ node. IsOutcomeOf service
-        (outcome_fields (recipient_fields_in fields.entry) last_attempt retry_until)
+        (outcome_fields (recipient_fields_in fields.entry) (type_fields_in said.entry)
+        dates.0 dates.1)
         node.value.outcome) }
     ensures accepted { OnOk result
         (first_outcome_fault service
-        (outcome_fields (recipient_fields_in fields.entry) last_attempt retry_until) ≡ None) }
+        (outcome_fields (recipient_fields_in fields.entry) (type_fields_in said.entry)
+        dates.0 dates.1) ≡ None) }
     ensures refused { IfErr result
         (λ fault. fault
         ≡ unwrap_or
         (option_map outcome_refusal
         (first_outcome_fault service
-        (outcome_fields (recipient_fields_in fields.entry) last_attempt retry_until)))
+        (outcome_fields (recipient_fields_in fields.entry) (type_fields_in said.entry)
+        dates.0 dates.1)))
         BodyFault.NoMemory) }
 {
+    let (last_attempt, retry_until) = dates;
     let parts = Parts {
         recipient: fields.recipient,
         original: fields.original,
@@ -142,6 +161,8 @@ fn outcome_from(
         reason: fields.reason,
         last_attempt,
         retry_until,
+        types: said.types,
+        extensions: said.extensions,
     };
     Ok(Outcome::new(alloc, service, parts)?)
 }
@@ -175,25 +196,41 @@ fn checked_date(seconds: u64) -> Result<Option<Stamp>, BodyFault>
     }
 }
 
+/// How many outcomes a number of a flush stands for; none where it stands for any number.
+fn count_if_any(count: u32) -> Option<u32>
+    ensures same { result ≡ count_if_any count }
+    ensures counted { IsTrue (is_none_or is_count result) }
+{
+    if count == ANY_COUNT {
+        return None;
+    }
+    Some(count)
+}
+
 /// The draft that a flush's fields stand for.
-fn draft_from(alloc: Global, fields: FlushParts<'_>) -> Result<Draft, BodyFault>
-    ensures draft { IfOk result (λ draft. draft ≡ draft_of (flush_fields_in fields.entry)) }
+#[tactic(auto, using(crate::proofs::bodies::EncodingLaws::draft_refused))]
+fn draft_from(alloc: Global, fields: FlushParts<'_>, wishes: WishParts) -> Result<Draft, BodyFault>
+    ensures draft { IfOk result
+        (λ draft. draft ≡ draft_of (flush_fields_in fields.entry) (wish_fields_in wishes)) }
     ensures accepted { OnOk result
-        (first_failed (flush_checks (flush_fields_in fields.entry)) ≡ None) }
+        (first_failed (flush_checks (flush_fields_in fields.entry) (wish_fields_in wishes))
+        ≡ None) }
     ensures refused { IfErr result
         (λ fault. fault
         ≡ unwrap_or
-        (first_failed (flush_checks (flush_fields_in fields.entry))) BodyFault.NoMemory) }
+        (first_failed (flush_checks (flush_fields_in fields.entry) (wish_fields_in wishes)))
+        BodyFault.NoMemory) }
 {
     let (moment, arrival) = checked_moments(fields.moment, fields.arrival)?;
-    Ok(Draft::read(
-        alloc,
-        moment,
-        arrival,
-        fields.return_path,
-        fields.envelope_id,
-        fields.header,
-    )?)
+    let parts = DraftParts {
+        return_path: fields.return_path,
+        envelope_id: fields.envelope_id,
+        header: fields.header,
+        expected: count_if_any(wishes.expected),
+        returned: wishes.returned,
+        wording: wishes.wording,
+    };
+    Ok(Draft::read(alloc, moment, arrival, parts)?)
 }
 
 /// The moment and the arrival of a flush, if each is a moment.

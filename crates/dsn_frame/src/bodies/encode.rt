@@ -7,17 +7,19 @@ ghost use Rattle.dsn_outcome.specs.Outcome.{IsLegalOutcome};
 ghost use Rattle.dsn_text.specs.Optional.{is_none_or};
 ghost use Rattle.dsn_outcome.specs.Request.{Bye};
 ghost use Rattle.dsn_text.specs.Text.{IsQueueId, is_address, is_envelope_id};
-ghost use Rattle.dsn_frame.specs.bodies.BodyParts.{head_in, recipient_fields_in, retry_fields_in, flush_fields_in, wire_body_in};
+ghost use Rattle.dsn_frame.specs.bodies.BodyParts.{head_in, recipient_fields_in, retry_fields_in, type_fields_in, flush_fields_in, wish_fields_in, wire_body_in};
 ghost use Rattle.dsn_frame.specs.bodies.FrameBody.{IsFrameBody};
-ghost use Rattle.dsn_frame.specs.bodies.Request.{Encodes, IsWritten, append_written_as, fields_for, moment_or_none, retry_fields_for, fields_written, flush_fields_for, head_for, request_body, request_bytes, text_or_empty};
+ghost use Rattle.dsn_frame.specs.bodies.Request.{Encodes, IsWritten, append_written_as, count_or_any, fields_for, moment_or_none, retry_fields_for, fields_written, flush_fields_for, has_usual_types, type_fields_for, flush_written_as, wish_fields_for, head_for, request_body, request_bytes, text_or_empty};
 
 use crate::bodies::body_parts::{
-    BodyParts, FlushParts, HeadParts, NO_MOMENT, RecipientParts, RetryParts,
+    ANY_COUNT, BodyParts, FlushParts, HeadParts, NO_MOMENT, RecipientParts, RetryParts, TypeParts,
+    WishParts,
 };
 use crate::bodies::write_fields::{body_len, push_frame};
-use crate::bodies::{SECOND_VERSION, VERSION};
+use crate::bodies::{SECOND_VERSION, THIRD_VERSION, VERSION};
 use dsn_outcome::{
-    Address, Body, BodyRef, EnvelopeId, NoMemory, Outcome, QueueId, Service, Stamp, Terms,
+    Address, Body, BodyRef, EnvelopeId, Key, NoMemory, Outcome, QueueId, Service, Stamp, Terms,
+    Types,
 };
 use std::alloc::Global;
 
@@ -62,10 +64,7 @@ fn parts_of(number: u32, body: BodyRef<'_>) -> BodyParts<'_>
 {
     match body {
         BodyRef::Append(id, outcome) => append_parts(number, id, outcome),
-        BodyRef::Flush(key, terms) => {
-            let head = head_parts(VERSION, number, key.service, &key.id);
-            BodyParts::Flush(head, flush_parts(terms))
-        }
+        BodyRef::Flush(key, terms) => flush_body(number, key, terms),
         BodyRef::Discard(key) => {
             BodyParts::Discard(head_parts(VERSION, number, key.service, &key.id))
         }
@@ -98,6 +97,10 @@ fn append_parts<'a>(number: u32, id: &'a QueueId, outcome: &'a Outcome) -> BodyP
     let service = outcome.service();
     let fields = recipient_parts(outcome);
     let dates = retry_parts(outcome);
+    if !has_usual_types(outcome) {
+        let head = head_parts(THIRD_VERSION, number, service, id);
+        return BodyParts::TypedAppend(head, fields, dates, types_of(outcome));
+    }
     if outcome.last_attempt().is_none() && outcome.retry_until().is_none() {
         return BodyParts::Append(head_parts(VERSION, number, service, id), fields);
     }
@@ -106,6 +109,31 @@ fn append_parts<'a>(number: u32, id: &'a QueueId, outcome: &'a Outcome) -> BodyP
         fields,
         dates,
     )
+}
+
+/// Whether no type of an outcome's texts is said, and it has no extension field: an append of the
+/// second version can say it.
+fn has_usual_types(outcome: &Outcome) -> bool
+    ensures { result ≡ has_usual_types outcome.now }
+{
+    outcome.recipient_type().is_none()
+        && outcome.original_type().is_none()
+        && outcome.diagnostic_type().is_none()
+        && outcome.extensions().is_empty()
+}
+
+/// The types of an outcome's texts, and its extension fields.
+fn types_of(outcome: &Outcome) -> TypeParts<'_>
+    ensures { type_fields_in result ≡ type_fields_for outcome.now }
+{
+    TypeParts {
+        types: Types {
+            recipient: text_or_empty(outcome.recipient_type()),
+            original: text_or_empty(outcome.original_type()),
+            diagnostic: text_or_empty(outcome.diagnostic_type()),
+        },
+        extensions: outcome.extensions(),
+    }
 }
 
 /// The two moments of an outcome.
@@ -143,18 +171,53 @@ fn recipient_parts(outcome: &Outcome) -> RecipientParts<'_>
     }
 }
 
-/// The fields of a flush.
-fn flush_parts(terms: &Terms) -> FlushParts<'_>
-    ensures same { flush_fields_in result ≡ flush_fields_for terms.now }
+/// All fields of a flush: what it asks for besides is of the third version.
+#[tactic(auto, unfolding(crate::specs::bodies::Request::flush_written_as))]
+fn flush_body<'a>(number: u32, key: &'a Key, terms: &'a Terms) -> BodyParts<'a>
+    ensures same { wire_body_in result ≡ flush_written_as number key.now terms.now }
+    ensures id_legal { IsQueueId key.now.id }
     ensures legal { IsLegalDraft terms.now }
 {
-    FlushParts {
+    let (fields, wishes) = flush_parts(terms);
+    if wishes.are_usual() {
+        return BodyParts::Flush(head_parts(VERSION, number, key.service, &key.id), fields);
+    }
+    BodyParts::CountedFlush(
+        head_parts(THIRD_VERSION, number, key.service, &key.id),
+        fields,
+        wishes,
+    )
+}
+
+/// The number of outcomes, or the number that stands for any.
+fn count_or_any(expected: Option<u32>) -> u32
+    ensures { result ≡ count_or_any expected }
+{
+    match expected {
+        Some(expected) => expected,
+        None => ANY_COUNT,
+    }
+}
+
+/// The fields of a flush of each version, and what it asks for besides.
+fn flush_parts(terms: &Terms) -> (FlushParts<'_>, WishParts)
+    ensures same { flush_fields_in result.0 ≡ flush_fields_for terms.now }
+    ensures wishes { wish_fields_in result.1 ≡ wish_fields_for terms.now }
+    ensures legal { IsLegalDraft terms.now }
+{
+    let parts = FlushParts {
         moment: terms.moment().seconds(),
         arrival: terms.arrival().seconds(),
         return_path: address_text(terms.return_path()),
         envelope_id: envelope_id_text(terms.envelope_id()),
         header: terms.header().bytes(),
-    }
+    };
+    let wishes = WishParts {
+        expected: count_or_any(terms.expected()),
+        returned: terms.returned().byte(),
+        wording: terms.wording().byte(),
+    };
+    (parts, wishes)
 }
 
 /// The address, or the empty text.

@@ -3,11 +3,14 @@
 ghost use Rattle.std.specs.Prelude.{◌≡◌};
 ghost use Rattle.std.specs.Int.{w16, w32, w64};
 ghost use Rattle.std.specs.Option.{option_map};
-ghost use Rattle.dsn_frame.specs.bodies.BodyParts.{head_in, recipient_fields_in, retry_fields_in, flush_fields_in, wire_body_in};
-ghost use Rattle.dsn_frame.specs.bodies.Wire.{byte_at, number_at, text_at, head_at, append_at, retry_at, append_body_at, flush_at, own_at, body_at};
+ghost use Rattle.dsn_frame.specs.bodies.BodyParts.{head_in, recipient_fields_in, retry_fields_in, type_fields_in, flush_fields_in, wish_fields_in, wire_body_in};
+ghost use Rattle.dsn_frame.specs.bodies.Wire.{byte_at, number_at, text_at, head_at, append_at, retry_at, types_at, append_body_at, flush_at, flush_body_at, wishes_at, own_at, body_at};
 
-use crate::bodies::VERSION;
-use crate::bodies::body_parts::{BodyParts, FlushParts, HeadParts, RecipientParts, RetryParts};
+use crate::bodies::body_parts::{
+    BodyParts, FlushParts, HeadParts, RecipientParts, RetryParts, TypeParts, WishParts,
+};
+use crate::bodies::{THIRD_VERSION, VERSION};
+use dsn_outcome::Types;
 
 fn byte_of(bytes: &[u8]) -> Option<(u8, &[u8])>
     ensures { option_map (λ read. (read.0, read.1.now)) result ≡ byte_at bytes.now }
@@ -121,6 +124,23 @@ fn retry_of(bytes: &[u8]) -> Option<(RetryParts, &[u8])>
     Some((parts, rest))
 }
 
+#[tactic(auto, unfolding(crate::specs::bodies::Wire::types_at))]
+fn types_of(bytes: &[u8]) -> Option<(TypeParts<'_>, &[u8])>
+    ensures { option_map (λ read. (type_fields_in read.0, read.1.now)) result
+        ≡ types_at bytes.now }
+{
+    let (recipient, rest) = text_of(bytes)?;
+    let (original, rest) = text_of(rest)?;
+    let (diagnostic, rest) = text_of(rest)?;
+    let (extensions, rest) = text_of(rest)?;
+    let types = Types {
+        recipient,
+        original,
+        diagnostic,
+    };
+    Some((TypeParts { types, extensions }, rest))
+}
+
 #[tactic(auto, unfolding(crate::specs::bodies::Wire::append_body_at))]
 fn append_body_of<'a>(head: HeadParts<'a>, bytes: &'a [u8]) -> Option<(BodyParts<'a>, &'a [u8])>
     ensures { option_map (λ read. (wire_body_in read.0, read.1.now)) result
@@ -131,6 +151,10 @@ fn append_body_of<'a>(head: HeadParts<'a>, bytes: &'a [u8]) -> Option<(BodyParts
         return Some((BodyParts::Append(head, parts), rest));
     }
     let (dates, rest) = retry_of(rest)?;
+    if head.version == THIRD_VERSION {
+        let (types, rest) = types_of(rest)?;
+        return Some((BodyParts::TypedAppend(head, parts, dates, types), rest));
+    }
     Some((BodyParts::DatedAppend(head, parts, dates), rest))
 }
 
@@ -154,6 +178,35 @@ fn flush_of(bytes: &[u8]) -> Option<(FlushParts<'_>, &[u8])>
     Some((parts, rest))
 }
 
+#[tactic(auto, unfolding(crate::specs::bodies::Wire::wishes_at))]
+fn wishes_of(bytes: &[u8]) -> Option<(WishParts, &[u8])>
+    ensures { option_map (λ read. (wish_fields_in read.0, read.1.now)) result
+        ≡ wishes_at bytes.now }
+{
+    let (expected, rest) = u32_of(bytes)?;
+    let (returned, rest) = byte_of(rest)?;
+    let (wording, rest) = byte_of(rest)?;
+    let parts = WishParts {
+        expected,
+        returned,
+        wording,
+    };
+    Some((parts, rest))
+}
+
+#[tactic(auto, unfolding(crate::specs::bodies::Wire::flush_body_at))]
+fn flush_body_of<'a>(head: HeadParts<'a>, bytes: &'a [u8]) -> Option<(BodyParts<'a>, &'a [u8])>
+    ensures { option_map (λ read. (wire_body_in read.0, read.1.now)) result
+        ≡ flush_body_at (head_in head.entry) bytes.now }
+{
+    let (parts, rest) = flush_of(bytes)?;
+    if head.version != THIRD_VERSION {
+        return Some((BodyParts::Flush(head, parts), rest));
+    }
+    let (wishes, rest) = wishes_of(rest)?;
+    Some((BodyParts::CountedFlush(head, parts, wishes), rest))
+}
+
 #[tactic(auto, unfolding(crate::specs::bodies::Wire::own_at))]
 fn own_of<'a>(kind: u8, head: HeadParts<'a>, bytes: &'a [u8]) -> Option<(BodyParts<'a>, &'a [u8])>
     ensures { option_map (λ read. (wire_body_in read.0, read.1.now)) result
@@ -161,10 +214,7 @@ fn own_of<'a>(kind: u8, head: HeadParts<'a>, bytes: &'a [u8]) -> Option<(BodyPar
 {
     match kind {
         1 => append_body_of(head, bytes),
-        2 => {
-            let (parts, rest) = flush_of(bytes)?;
-            Some((BodyParts::Flush(head, parts), rest))
-        }
+        2 => flush_body_of(head, bytes),
         3 => Some((BodyParts::Discard(head), bytes)),
         4 => Some((BodyParts::Forget(head), bytes)),
         _ => None,

@@ -1,12 +1,14 @@
 //! Fields, written one after another at the end of a text that has room for them.
 ghost use Rattle.std.specs.Prelude.{◌≡◌, ◌+◌, ◌<◌, ◌≤◌, ◌^◌, ◌++◌, length, vec_capacity};
-ghost use Rattle.std.specs.Int.{w64};
-ghost use Rattle.dsn_frame.specs.bodies.BodyParts.{head_in, recipient_fields_in, retry_fields_in, flush_fields_in, wire_body_in};
+ghost use Rattle.std.specs.Int.{w32, w64};
+ghost use Rattle.dsn_frame.specs.bodies.BodyParts.{head_in, recipient_fields_in, retry_fields_in, type_fields_in, flush_fields_in, wish_fields_in, wire_body_in};
 ghost use Rattle.dsn_frame.specs.bodies.FrameBody.{frame, longest_body};
 ghost use Rattle.dsn_frame.specs.bodies.Wire;
-ghost use Rattle.dsn_frame.specs.bodies.Wire.{FitsAppend, FitsFlush, FitsHead, FitsOwn, FitsText, number_bytes, text_bytes, head_bytes, append_bytes, retry_bytes, flush_bytes, own_bytes, body_bytes};
+ghost use Rattle.dsn_frame.specs.bodies.Wire.{FitsAppend, FitsTypes, FitsFlush, FitsHead, FitsOwn, FitsText, number_bytes, text_bytes, head_bytes, append_bytes, retry_bytes, type_bytes, flush_bytes, wish_bytes, counted_flush_bytes, own_bytes, body_bytes};
 
-use crate::bodies::body_parts::{BodyParts, FlushParts, HeadParts, RecipientParts, RetryParts};
+use crate::bodies::body_parts::{
+    BodyParts, FlushParts, HeadParts, RecipientParts, RetryParts, TypeParts, WishParts,
+};
 
 /// Bytes of what every body begins with, beside its queue id: the version, the kind, the number, the
 /// service and the id's length.
@@ -15,11 +17,18 @@ const HEAD_LEN: usize = 9;
 /// Bytes of what an append goes on with, beside its texts: the action, and six texts' lengths.
 const APPEND_LEN: usize = 13;
 
-/// Bytes of the two moments of an append of the second version.
+/// Bytes of the two moments of an append of a later version than the first.
 const RETRY_LEN: usize = 16;
+
+/// Bytes of the types and the extension fields of an append of the third version, beside their texts:
+/// four texts' lengths.
+const TYPES_LEN: usize = 8;
 
 /// Bytes of what a flush goes on with, beside its texts: two moments, and three texts' lengths.
 const FLUSH_LEN: usize = 22;
+
+/// Bytes of what a flush of the third version asks for besides: a number, and two bytes.
+const WISHES_LEN: usize = 6;
 
 /// Adds bytes, and takes no memory.
 fn push_bytes(out: &mut Vec<u8>, bytes: &[u8])
@@ -89,7 +98,7 @@ fn push_moment(out: &mut Vec<u8>, moment: u64)
     push_bytes(out, &moment.to_be_bytes());
 }
 
-/// Adds what an append of the second version goes on with.
+/// Adds what an append of a later version than the first goes on with.
 #[tactic(auto, using(crate::proofs::bodies::EncodingLaws::retry_length), unfolding(crate::specs::bodies::Wire::retry_bytes))]
 fn push_retry(out: &mut Vec<u8>, parts: RetryParts)
     requires room { length out.old.items + RETRY_LEN ≤ vec_capacity out.old }
@@ -100,7 +109,7 @@ fn push_retry(out: &mut Vec<u8>, parts: RetryParts)
     push_moment(out, parts.retry_until);
 }
 
-/// Adds all that an append of the second version goes on with.
+/// Adds all that an append of a later version than the first goes on with.
 #[tactic(auto, using(crate::proofs::bodies::EncodingLaws::dated_length, crate::proofs::bodies::Rules::lengths))]
 fn push_dated_append(out: &mut Vec<u8>, fields: RecipientParts<'_>, dates: RetryParts)
     requires fits { FitsAppend (recipient_fields_in fields) }
@@ -115,6 +124,45 @@ fn push_dated_append(out: &mut Vec<u8>, fields: RecipientParts<'_>, dates: Retry
 {
     push_append(out, fields);
     push_retry(out, dates);
+}
+
+/// Adds the types and the extension fields of an append of the third version.
+#[tactic(auto, using(crate::proofs::bodies::EncodingLaws::types_length, crate::proofs::bodies::EncodingLaws::text_length), unfolding(crate::specs::bodies::Wire::type_bytes))]
+fn push_types(out: &mut Vec<u8>, types: TypeParts<'_>)
+    requires fits { FitsTypes (type_fields_in types) }
+    requires room { length out.old.items + length
+        (type_bytes (type_fields_in types)) ≤ vec_capacity out.old }
+    ensures added { out.new.items ≡ out.old.items ++ type_bytes (type_fields_in types.entry) }
+    ensures capacity { vec_capacity out.old ≤ vec_capacity out.new }
+{
+    push_text(out, types.types.recipient);
+    push_text(out, types.types.original);
+    push_text(out, types.types.diagnostic);
+    push_text(out, types.extensions);
+}
+
+/// Adds all that an append of the third version goes on with.
+#[tactic(auto, using(crate::proofs::bodies::EncodingLaws::typed_length, crate::proofs::bodies::EncodingLaws::dated_length, crate::proofs::bodies::Rules::lengths))]
+fn push_typed_append(
+    out: &mut Vec<u8>,
+    fields: RecipientParts<'_>,
+    dates: RetryParts,
+    types: TypeParts<'_>,
+)
+    requires fits { FitsAppend (recipient_fields_in fields) }
+    requires types_fit { FitsTypes (type_fields_in types) }
+    requires room { length out.old.items + length
+        (append_bytes (recipient_fields_in fields)
+        ++ (retry_bytes (retry_fields_in dates) ++ type_bytes (type_fields_in types))) ≤
+        vec_capacity out.old }
+    ensures added { out.new.items
+        ≡ out.old.items
+        ++ (append_bytes (recipient_fields_in fields.entry)
+        ++ (retry_bytes (retry_fields_in dates) ++ type_bytes (type_fields_in types.entry))) }
+    ensures capacity { vec_capacity out.old ≤ vec_capacity out.new }
+{
+    push_dated_append(out, fields, dates);
+    push_types(out, types);
 }
 
 /// Adds what a flush goes on with.
@@ -133,6 +181,33 @@ fn push_flush(out: &mut Vec<u8>, parts: FlushParts<'_>)
     push_text(out, parts.header);
 }
 
+/// Adds what a flush of the third version asks for besides.
+#[tactic(auto, using(crate::proofs::bodies::Rules::lengths), unfolding(crate::specs::bodies::Wire::wish_bytes, crate::specs::bodies::Wire::number_bytes))]
+fn push_wishes(out: &mut Vec<u8>, wishes: WishParts)
+    requires room { length out.old.items + WISHES_LEN ≤ vec_capacity out.old }
+    ensures added { out.new.items ≡ out.old.items ++ wish_bytes (wish_fields_in wishes) }
+    ensures capacity { vec_capacity out.old ≤ vec_capacity out.new }
+{
+    push_bytes(out, &wishes.expected.to_be_bytes());
+    push_bytes(out, &[wishes.returned, wishes.wording]);
+}
+
+/// Adds all that a flush of the third version goes on with.
+#[tactic(auto, using(crate::proofs::bodies::EncodingLaws::counted_length, crate::proofs::bodies::Rules::lengths), unfolding(crate::specs::bodies::Wire::counted_flush_bytes))]
+fn push_counted_flush(out: &mut Vec<u8>, fields: FlushParts<'_>, wishes: WishParts)
+    requires fits { FitsFlush (flush_fields_in fields) }
+    requires room { length out.old.items + length
+        (counted_flush_bytes (flush_fields_in fields) (wish_fields_in wishes)) ≤
+        vec_capacity out.old }
+    ensures added { out.new.items
+        ≡ out.old.items
+        ++ counted_flush_bytes (flush_fields_in fields.entry) (wish_fields_in wishes) }
+    ensures capacity { vec_capacity out.old ≤ vec_capacity out.new }
+{
+    push_flush(out, fields);
+    push_wishes(out, wishes);
+}
+
 /// Adds what a kind of body goes on with.
 #[tactic(auto, unfolding(crate::specs::bodies::Wire::own_bytes, crate::specs::bodies::Wire::FitsOwn))]
 fn push_own(out: &mut Vec<u8>, parts: BodyParts<'_>)
@@ -145,7 +220,11 @@ fn push_own(out: &mut Vec<u8>, parts: BodyParts<'_>)
     match parts {
         BodyParts::Append(_, fields) => push_append(out, fields),
         BodyParts::DatedAppend(_, fields, dates) => push_dated_append(out, fields, dates),
+        BodyParts::TypedAppend(_, fields, dates, types) => {
+            push_typed_append(out, fields, dates, types)
+        }
         BodyParts::Flush(_, fields) => push_flush(out, fields),
+        BodyParts::CountedFlush(_, fields, wishes) => push_counted_flush(out, fields, wishes),
         BodyParts::Discard(_) | BodyParts::Forget(_) => {}
     }
 }
@@ -202,8 +281,32 @@ fn append_len(fields: RecipientParts<'_>) -> usize
         + fields.reason.len()
 }
 
+/// How many bytes the types and the extension fields of an append take.
+#[tactic(auto, using(crate::proofs::bodies::EncodingLaws::types_length))]
+fn types_len(types: TypeParts<'_>) -> usize
+    requires fits { FitsTypes (type_fields_in types) }
+    ensures same { result ≡ length (type_bytes (type_fields_in types.entry)) }
+    ensures small { result < 2 ^ 18 + 2 ^ 16 }
+{
+    TYPES_LEN
+        + types.types.recipient.len()
+        + types.types.original.len()
+        + types.types.diagnostic.len()
+        + types.extensions.len()
+}
+
+/// How many bytes a flush goes on with before the third version.
+#[tactic(auto, using(crate::proofs::bodies::EncodingLaws::flush_length))]
+fn flush_len(fields: FlushParts<'_>) -> usize
+    requires fits { FitsFlush (flush_fields_in fields) }
+    ensures same { result ≡ length (flush_bytes (flush_fields_in fields.entry)) }
+    ensures small { result < 2 ^ 19 }
+{
+    FLUSH_LEN + fields.return_path.len() + fields.envelope_id.len() + fields.header.len()
+}
+
 /// How many bytes a body goes on with.
-#[tactic(auto, using(crate::proofs::bodies::EncodingLaws::flush_length, crate::proofs::bodies::EncodingLaws::dated_length), unfolding(crate::specs::bodies::Wire::own_bytes, crate::specs::bodies::Wire::FitsOwn))]
+#[tactic(auto, using(crate::proofs::bodies::EncodingLaws::counted_length, crate::proofs::bodies::EncodingLaws::dated_length, crate::proofs::bodies::EncodingLaws::typed_length), unfolding(crate::specs::bodies::Wire::own_bytes, crate::specs::bodies::Wire::FitsOwn))]
 fn own_len(parts: BodyParts<'_>) -> usize
     requires fits { FitsOwn (wire_body_in parts) }
     ensures same { result ≡ length (own_bytes (wire_body_in parts.entry)) }
@@ -212,10 +315,11 @@ fn own_len(parts: BodyParts<'_>) -> usize
     match parts {
         BodyParts::Append(_, fields) => append_len(fields),
         BodyParts::DatedAppend(_, fields, _) => append_len(fields) + RETRY_LEN,
-        BodyParts::Flush(_, fields) => FLUSH_LEN
-            + fields.return_path.len()
-            + fields.envelope_id.len()
-            + fields.header.len(),
+        BodyParts::TypedAppend(_, fields, _, types) => {
+            append_len(fields) + RETRY_LEN + types_len(types)
+        }
+        BodyParts::Flush(_, fields) => flush_len(fields),
+        BodyParts::CountedFlush(_, fields, _) => flush_len(fields) + WISHES_LEN,
         BodyParts::Discard(_) | BodyParts::Forget(_) => 0,
     }
 }

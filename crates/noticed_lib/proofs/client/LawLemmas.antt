@@ -7,7 +7,7 @@ use Rattle.std.specs.List.{flat_map}
 use Rattle.std.proofs.lemmas.List.{append-nil, append_cancel_left, length-append}
 use Rattle.std.proofs.lemmas.Nat.{from_be_bytes-to_be_bytes_4}
 use Rattle.dsn_outcome.specs.Request.{Body}
-use Rattle.dsn_outcome.specs.declared.answer.Reply.TheVariants.{Logged, Closed, TableFull, LogFull, Nothing, NoReturn, Sealed, Discarded, Gone, Forgotten, NotClosed}
+use Rattle.dsn_outcome.specs.declared.answer.Reply.TheVariants.{Logged, Closed, TableFull, LogFull, Nothing, NoReturn, Sealed, Discarded, Gone, Forgotten, NotClosed, Differs}
 use Rattle.dsn_frame.specs.bodies.FrameBody.{frame, IsFrameBody}
 use Rattle.dsn_frame.specs.bodies.Spoken.{FitsAnswer, answer_body, answer_bytes, answer_frames_from, first_answer_fault, spoken_kind, spoken_value}
 use Rattle.dsn_frame.specs.declared.bodies.spoken.Spoken.{Spoken}
@@ -39,7 +39,8 @@ said_of kind value =
     else (if kind == 8 then spoken.Reply (Discarded value)
     else (if kind == 9 then spoken.Reply Gone
     else (if kind == 11 then spoken.Reply Forgotten
-    else (if kind == 12 then spoken.Reply NotClosed else spoken.Refused value))))))))))
+    else (if kind == 12 then spoken.Reply NotClosed
+    else (if kind == 13 then spoken.Reply (Differs value) else spoken.Refused value)))))))))))
 
 said-back : (said : Spoken) → said_of (spoken_kind said) (spoken_value said) ≡ said
 unfolding said_of
@@ -54,6 +55,7 @@ said-back (spoken.Reply (Discarded count)) = refl
 said-back (spoken.Reply Gone) = refl
 said-back (spoken.Reply Forgotten) = refl
 said-back (spoken.Reply NotClosed) = refl
+said-back (spoken.Reply (Differs count)) = refl
 said-back (spoken.Refused code) = refl
 
 second : List ℕ → ℕ
@@ -90,6 +92,7 @@ no-fault n (spoken.Reply (Discarded count)) = refl
 no-fault n (spoken.Reply Gone) = refl
 no-fault n (spoken.Reply Forgotten) = refl
 no-fault n (spoken.Reply NotClosed) = refl
+no-fault n (spoken.Reply (Differs count)) = refl
 no-fault n (spoken.Refused code) = refl
 
 -- ---- answers in a row

@@ -5,7 +5,7 @@ use Rattle.dsn_text.specs.FaultCode.{no_memory_code, outbox_write_code}
 use Rattle.dsn_outcome.specs.Letter.{Letter}
 use Rattle.dsn_text.specs.Service.{service_letter}
 use Rattle.dsn_outcome.specs.declared.answer.Reply.{Reply}
-use Rattle.dsn_outcome.specs.declared.answer.Reply.TheVariants.{Logged, Closed, TableFull, LogFull, Nothing, NoReturn, Sealed, Discarded, Gone, Forgotten, NotClosed}
+use Rattle.dsn_outcome.specs.declared.answer.Reply.TheVariants.{Logged, Closed, TableFull, LogFull, Nothing, NoReturn, Sealed, Discarded, Gone, Forgotten, NotClosed, Differs}
 use Rattle.dsn_text.specs.declared.key.Key.{Key}
 use Rattle.dsn_book.specs.declared.open_line.OpenLine.{OpenLine}
 use Rattle.dsn_frame.specs.declared.bodies.spoken.Spoken.{Spoken}
@@ -44,6 +44,7 @@ reply_words (Discarded count) = codes "discarded " ++ decimal count
 reply_words Gone = codes "gone"
 reply_words Forgotten = codes "forgotten"
 reply_words NotClosed = codes "not closed"
+reply_words (Differs count) = codes "differs " ++ decimal count
 
 unfoldable pub spoken_words : Spoken → List ℕ
 spoken_words (spoken.Reply reply) = reply_words reply

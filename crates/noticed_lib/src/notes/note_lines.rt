@@ -94,6 +94,7 @@ fn push_reply(line: &mut ShortText, reply: Reply)
         Reply::Gone => line.push(b"gone"),
         Reply::Forgotten => line.push(b"forgotten"),
         Reply::NotClosed => line.push(b"not closed"),
+        Reply::Differs(count) => push_counted(line, b"differs ", count),
     }
 }
 

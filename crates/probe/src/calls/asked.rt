@@ -1,12 +1,13 @@
 //! What is asked: fields, texts and bodies.
 use dsn_outcome::{
-    Address, Body, Draft, EnvelopeId, Key, Outcome, Parts, QueueId, RawHeader, Service, Stamp,
+    Address, Body, Draft, EnvelopeId, Key, Node, Outcome, OutcomeFault, Parts, QueueId, RawHeader,
+    Service, Stamp, Types, Wishes,
 };
 use std::alloc::Global;
 
-/// The fields of a failed recipient, with all the texts that there may be.
-pub(crate) fn parts() -> Parts<'static> {
-    Parts {
+/// What became of a failed recipient, with all the texts that there may be.
+pub(crate) fn outcome(alloc: Global) -> Result<Box<Node>, OutcomeFault> {
+    let parts = Parts {
         recipient: b"bob@example.org",
         original: b"bob.alias@example.org",
         action: 1,
@@ -16,7 +17,10 @@ pub(crate) fn parts() -> Parts<'static> {
         reason: b"host said:\nno such user",
         last_attempt: None,
         retry_until: None,
-    }
+        types: Types::usual(),
+        extensions: b"",
+    };
+    Outcome::new(alloc, Service::Bounce, parts)
 }
 
 /// A return path.
@@ -39,7 +43,17 @@ pub(crate) fn draft(alloc: Global) -> Option<Draft> {
     let moment = Stamp::new(1_700_000_000)?;
     let return_path = return_path(alloc)?;
     let header = header(alloc)?;
-    Draft::new(alloc, moment, moment, Some(return_path), None, header).ok()
+    let wishes = Wishes::usual();
+    Draft::new(
+        alloc,
+        moment,
+        moment,
+        Some(return_path),
+        None,
+        header,
+        wishes,
+    )
+    .ok()
 }
 
 /// The key of a message's bounce log.
@@ -54,7 +68,7 @@ pub(crate) fn key(message: &[u8]) -> Option<Key> {
 /// An append to a message's log.
 pub(crate) fn append(alloc: Global, message: &[u8]) -> Option<Body> {
     let id = QueueId::new(message)?;
-    let node = Outcome::new(alloc, Service::Bounce, parts()).ok()?;
+    let node = outcome(alloc).ok()?;
     Some(Body::Append(id, node))
 }
 

@@ -1,14 +1,14 @@
 //! Outcomes, drafts, and a book of logs.
-use crate::calls::asked::{append, envelope_id, header, key, parts, return_path};
-use crate::calls::begin;
+use crate::calls::asked::{append, envelope_id, header, key, return_path};
+use crate::calls::{asked, begin};
 use dsn_book::{Book, Limits};
-use dsn_outcome::{Body, Draft, Letter, Outcome, OutcomeFault, Request, Service, Stamp};
+use dsn_outcome::{Body, Draft, Letter, OutcomeFault, Request, Returned, Stamp, Wishes, Wording};
 use std::alloc::Global;
 
 /// An outcome with all its texts.
 pub(crate) fn outcome(rt: &impl Print, alloc: Global) -> Option<u32> {
     begin(rt)?;
-    match Outcome::new(alloc, Service::Bounce, parts()) {
+    match asked::outcome(alloc) {
         Ok(_) => Some(0),
         Err(OutcomeFault::NoMemory) => Some(9),
         Err(_) => None,
@@ -22,6 +22,11 @@ pub(crate) fn draft(rt: &impl Print, alloc: Global) -> Option<u32> {
     let envelope_id = envelope_id(alloc)?;
     let header = header(alloc)?;
     begin(rt)?;
+    let wishes = Wishes {
+        expected: Some(1),
+        returned: Returned::Header,
+        wording: Wording::ByService,
+    };
     let draft = Draft::new(
         alloc,
         moment,
@@ -29,6 +34,7 @@ pub(crate) fn draft(rt: &impl Print, alloc: Global) -> Option<u32> {
         Some(return_path),
         Some(envelope_id),
         header,
+        wishes,
     );
     Some(if draft.is_ok() { 0 } else { 9 })
 }

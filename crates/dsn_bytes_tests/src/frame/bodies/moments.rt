@@ -2,7 +2,7 @@
 use super::*;
 use crate::assert_same::same;
 use dsn_frame::encode_request;
-use dsn_outcome::{LAST_MOMENT, Outcome, Parts, QueueId, Stamp};
+use dsn_outcome::{LAST_MOMENT, Outcome, Parts, QueueId, Stamp, Types};
 
 /// What stands for no moment.
 const NONE: u64 = u64::MAX;
@@ -61,6 +61,8 @@ fn the_moments_of_a_body_are_written_again(rt: HostRuntime) -> Result<(), Fail> 
             reason: b"",
             last_attempt: Stamp::new(moments[0]),
             retry_until: Stamp::new(moments[1]),
+            types: Types::usual(),
+            extensions: b"",
         };
         let node = Outcome::new(rt.alloc(), Service::Defer, parts)?;
         let id = QueueId::new(b"X1").ok_or("a queue id")?;

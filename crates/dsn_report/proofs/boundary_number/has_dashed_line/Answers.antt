@@ -6,5 +6,5 @@ use Rattle.dsn_report.proofs.boundary_number.has_dashed_line.Goals as goal
 
 pub returns-then-not-contains : goal.returns-then-not-contains
 returns-then-not-contains c =
-    let none : list_any (λ byte. byte == 45) c.args.header.now ≡ false = search rules in
-    sym (no-dashed_line c.args.header.now none)
+    let none : list_any (λ byte. byte == 45) c.args.returned.bytes.now ≡ false = search rules in
+    sym (no-dashed_line c.args.returned.whole c.args.returned.bytes.now none)

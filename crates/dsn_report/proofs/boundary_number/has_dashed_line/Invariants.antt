@@ -1,9 +1,10 @@
 -- The lines so far begin with something else.
 use Rattle.std.proofs.Common.{◌≡◌}
 use Rattle.std.specs.List.{list_any}
-use Rattle.dsn_report.specs.Boundary.{header_lines, is_dashed}
-use Rattle.dsn_report.specs.ReturnedLines.{lines_left}
+use Rattle.dsn_report.specs.Boundary.{is_dashed}
+use Rattle.dsn_report.specs.ReturnedLines.{lines_left, taken_lines}
 use Rattle.dsn_report.proofs.boundary_number.has_dashed_line.Given as goal
 
 abbrev pub invariant-loop-line : goal.invariant-loop-line
-invariant-loop-line l = list_any is_dashed (header_lines l.header) ≡ list_any is_dashed (lines_left l.line-iterator)
+invariant-loop-line l =
+    list_any is_dashed (taken_lines l.returned.whole l.returned.bytes.now) ≡ list_any is_dashed (lines_left l.line-iterator)

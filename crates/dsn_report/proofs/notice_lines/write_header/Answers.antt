@@ -4,7 +4,7 @@ use Rattle.dsn_text.specs.Stamp.{date_text}
 use Rattle.dsn_report.proofs.BlockLemmas.{block-line, block-none}
 use Rattle.dsn_report.proofs.LineWriterLemmas.{Wrote-as}
 use Rattle.dsn_report.specs.Boundary.{boundary_front}
-use Rattle.dsn_report.specs.Notice.{notice_header, return_path_of, subject_of}
+use Rattle.dsn_report.specs.Notice.{notice_header, return_path_of, words_of}
 use Rattle.dsn_report.proofs.notice_lines.write_header.Goals as goal
 
 pub returns : goal.returns
@@ -13,15 +13,15 @@ returns g c =
     let host : c.bytes-host.result.now ≡ c.args.site.now = c.bytes-host.ensures.same in
     let path : c.bytes.result.now ≡ return_path_of c.args.letter.now =
     c.bytes.ensures.same ∙ sym (ap (λ path. unwrap_or path []) c.return_path.ensures) in
-    let subject : c.subject.result.now ≡ subject_of c.args.letter.now.key.service = search rules in
+    let subject : c.args.subject.now ≡ (words_of c.args.letter.now).subject = c.requires.subject in
     let date : c.date.result ≡ date_text c.args.letter.now.draft.moment = search rules in
-    let front : c.args.front.now ≡ boundary_front c.args.letter.now = c.requires in
+    let front : c.args.front.now ≡ boundary_front c.args.letter.now = c.requires.front in
     let serial : c.bytes-2.result.now ≡ decimal c.args.letter.now.serial = search rules in
     Wrote-as (rw (host, path, subject, date, front, serial) refl)
     (c.block.ensures _
     (block-line (codes "From: Mail Delivery System <MAILER-DAEMON@") (c.bytes-host.result.now ∷ codes ">" ∷ []) refl
     (block-line (codes "To: <") (c.bytes.result.now ∷ codes ">" ∷ []) refl
-    (block-line (codes "Subject: ") (c.subject.result.now ∷ []) refl
+    (block-line (codes "Subject: ") (c.args.subject.now ∷ []) refl
     (block-line (codes "Date: ") (c.date.result ∷ []) refl
     (block-line (codes "Message-ID: <") (c.args.front.now ∷ c.bytes-2.result.now ∷ codes "@" ∷ c.bytes-host.result.now ∷ codes ">" ∷ []) refl
     (block-line (codes "Auto-Submitted: auto-replied") [] refl

@@ -8,20 +8,22 @@ use Rattle.dsn_report.proofs.notice_lines.write_notice.Goals as goal
 pub slice_bounds-front-count : goal.slice_bounds-front-count
 unfolding boundary_text
 slice_bounds-front-count g c =
-    let boundary : c.bytes-boundary.result.now ≡ boundary_text c.args.letter.now c.boundary.result = search rules in
-    omega (arith, ap length boundary, length-append (boundary_front c.args.letter.now) (four_digits c.boundary.result))
+    let boundary : c.bytes-boundary.result.now ≡ boundary_text c.args.letter.now c.boundary_beside.result = search rules in
+    omega (arith, ap length boundary, length-append (boundary_front c.args.letter.now) (four_digits c.boundary_beside.result))
 
 pub write_header-requires : goal.write_header-requires
 unfolding boundary_text
 write_header-requires g c =
-    let boundary : c.bytes-boundary.result.now ≡ boundary_text c.args.letter.now c.boundary.result = search rules in
-    rw boundary (boundary-front (boundary_front c.args.letter.now) (four_digits c.boundary.result) refl)
+    let boundary : c.bytes-boundary.result.now ≡ boundary_text c.args.letter.now c.boundary_beside.result = search rules in record {
+      subject = search rules;
+      front = rw boundary (boundary-front (boundary_front c.args.letter.now) (four_digits c.boundary_beside.result) refl);
+    }
 
 pub returns : goal.returns
 unfolding notice_lines lines_with_boundary part_of
 returns g c =
     let boundary : c.bytes-boundary.result.now ≡ boundary_of c.args.letter.now = search rules in
     let ended = c.block.ensures _ (block-line (codes "--") (c.bytes-boundary.result.now ∷ codes "--" ∷ []) refl block-none) in
-    Wrote-as (rw boundary (parts-after _ _ _ _ _))
+    Wrote-as (rw (boundary, c.of-words.ensures, c.of-returned.ensures.lines, c.of-returned.ensures.whole) (parts-after _ _ _ _ _))
     (Wrote-then c.write_header.ensures (Wrote-then c.write_notification.ensures
     (Wrote-then c.write_delivery_status.ensures (Wrote-then c.write_returned_part.ensures ended))))

@@ -1,7 +1,6 @@
 -- Whoever writes what is left has written all.
 use Rattle.std.proofs.Common.{◌≡◌, map, length}
-use Rattle.dsn_report.specs.Boundary.{shown_line, returned_lines}
-use Rattle.dsn_report.specs.ReturnedLines.{lines_left}
+use Rattle.dsn_report.specs.ReturnedLines.{line_shown, lines_left, lines_shown}
 use Rattle.dsn_report.specs.LineWriter.{Wrote}
 use Rattle.dsn_report.proofs.notice_lines.write_returned_lines.Given as goal
 
@@ -9,6 +8,6 @@ abbrev pub invariant-loop-line : goal.invariant-loop-line
 invariant-loop-line g l = record {
   room : length l.shown ≡ 1001;
   rest : (end : _)
-      → Wrote g.W.Drain l.lines end (map shown_line (lines_left l.line-iterator))
-      → Wrote g.W.Drain l.initial.lines end (returned_lines l.header);
+      → Wrote g.W.Drain l.lines end (map (line_shown l.returned.whole) (lines_left l.line-iterator))
+      → Wrote g.W.Drain l.initial.lines end (lines_shown l.returned.whole l.returned.bytes.now);
 }

@@ -8,8 +8,8 @@ returns-in-Append-clause-written c =
 
 pub returns-in-Flush-clause-written : goal.returns-in-Flush-clause-written
 returns-in-Flush-clause-written c =
-    rw (c.in-Flush.is, c.head_parts-head.ensures.same, c.flush_parts.ensures.same)
-    (flush_written c.args.number c.in-Flush.key.now c.in-Flush.terms.now c.ranges.number.fits c.head_parts-head.ensures.legal c.flush_parts.ensures.legal)
+    rw (c.in-Flush.is, c.flush_body.ensures.same)
+    (flush_written c.args.number c.in-Flush.key.now c.in-Flush.terms.now c.ranges.number.fits c.flush_body.ensures.id_legal c.flush_body.ensures.legal)
 
 pub returns-in-Discard-clause-written : goal.returns-in-Discard-clause-written
 returns-in-Discard-clause-written c =

@@ -1,6 +1,6 @@
 use Rattle.std.proofs.Common.{◌≤◌, length, subst, arith}
 use Rattle.dsn_report.proofs.BoundaryLaw.{boundary_number-few, boundary_number-only}
-use Rattle.dsn_report.proofs.boundary_number.boundary.Goals as goal
+use Rattle.dsn_report.proofs.boundary_number.boundary_beside.Goals as goal
 
 pub returns-clause-number : goal.returns-clause-number
 returns-clause-number c =

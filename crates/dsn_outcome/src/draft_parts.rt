@@ -1,0 +1,72 @@
+//! The fields of a draft as they are handed in.
+ghost use Rattle.std.specs.Prelude.{◌≡◌, None};
+ghost use Rattle.dsn_outcome.specs.declared.returned.Returned.TheVariants.{Header};
+ghost use Rattle.dsn_outcome.specs.declared.wording.Wording.TheVariants.{ByService};
+
+use crate::returned::Returned;
+use crate::wording::Wording;
+
+/// What a flush may ask for besides.
+#[derive(Clone, Copy, Debug, PartialEq, Eq)]
+pub struct Wishes {
+    /// How many outcomes the log is to have; `None` for any.
+    pub expected: Option<u32>,
+    /// What the header field holds, and so what is returned.
+    pub returned: Returned,
+    /// How the notice's words are chosen.
+    pub wording: Wording,
+}
+
+impl Wishes {
+    /// Any number of outcomes, a header, and words by the service.
+    pub fn usual() -> Wishes
+        ensures expected { result.expected ≡ None }
+        ensures returned { result.returned ≡ Header }
+        ensures wording { result.wording ≡ ByService }
+    {
+        Wishes {
+            expected: None,
+            returned: Returned::Header,
+            wording: Wording::ByService,
+        }
+    }
+}
+
+/// What a flush says of its notice, but for its moments. An empty return path is the null path (RFC
+/// 5321 section 4.5.5), and an empty envelope id none.
+#[derive(Clone, Copy)]
+pub struct DraftParts<'a> {
+    /// Whom the notice goes to.
+    pub return_path: &'a [u8],
+    /// The sender's envelope id (RFC 3461 section 4.4).
+    pub envelope_id: &'a [u8],
+    /// The message's header, or the message.
+    pub header: &'a [u8],
+    /// How many outcomes the log is to have; `None` for any.
+    pub expected: Option<u32>,
+    /// The byte of what the header field holds, 0 or 1.
+    pub returned: u8,
+    /// The byte of how the notice's words are chosen, 0 or 1.
+    pub wording: u8,
+}
+
+impl<'a> DraftParts<'a> {
+    /// These texts, with what is usual besides.
+    pub fn usual(return_path: &'a [u8], envelope_id: &'a [u8], header: &'a [u8]) -> DraftParts<'a>
+        ensures return_path { result.return_path.now ≡ return_path.now }
+        ensures envelope_id { result.envelope_id.now ≡ envelope_id.now }
+        ensures header { result.header.now ≡ header.now }
+        ensures expected { result.expected ≡ None }
+        ensures returned { result.returned ≡ 0 }
+        ensures wording { result.wording ≡ 0 }
+    {
+        DraftParts {
+            return_path,
+            envelope_id,
+            header,
+            expected: None,
+            returned: 0,
+            wording: 0,
+        }
+    }
+}

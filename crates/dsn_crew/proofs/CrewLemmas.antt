@@ -23,12 +23,12 @@ use Rattle.dsn_outcome.specs.Letter.{Letter}
 use Rattle.dsn_outcome.specs.Request.{Request, Bye}
 use Rattle.dsn_outcome.specs.declared.answer.Answer.{Answer}
 use Rattle.dsn_outcome.specs.declared.answer.Reply.TheVariants.{Gone}
-use Rattle.dsn_post.specs.LetterSink.{LetterSink, TakesLetter}
+use Rattle.dsn_crew.specs.post.LetterSink.{LetterSink, TakesLetter}
 use Rattle.dsn_device.proofs.ThroughoutLemmas.{stands_still}
-use Rattle.dsn_post.specs.Posting.{IsPosted, IsUntouched}
-use Rattle.dsn_post.specs.declared.posted.Posted.{Posted}
-use Rattle.dsn_post.proofs.LetterSinkLemmas.{handed_letters}
-use Rattle.dsn_post.proofs.ParcelLemmas.{option_few}
+use Rattle.dsn_crew.specs.post.Posting.{IsPosted, IsUntouched}
+use Rattle.dsn_crew.specs.declared.post.posted.Posted.{Posted}
+use Rattle.dsn_crew.proofs.post.LetterSinkLemmas.{handed_letters}
+use Rattle.dsn_crew.proofs.post.ParcelLemmas.{option_few}
 use Rattle.dsn_report.specs.Outgoing as outgoing
 use Rattle.dsn_report.specs.Outgoing.{Delivered, IsOutbox, Outgoing}
 use Rattle.dsn_crew.specs.agents.Agent.{Agent, LaneHalves, after_reply}

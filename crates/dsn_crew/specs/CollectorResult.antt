@@ -3,7 +3,7 @@ use Rattle.std.specs.Prelude.{◌≡◌, List, true, Ok, Err}
 use Rattle.dsn_book.specs.declared.keeper.Keeper.{Ghosts as Keeper}
 use Rattle.dsn_book.specs.Step.{letters_in}
 use Rattle.dsn_outcome.specs.History.{Exchange}
-use Rattle.dsn_post.specs.LetterSink.{LetterSink, TakesLetter}
+use Rattle.dsn_crew.specs.post.LetterSink.{LetterSink, TakesLetter}
 use Rattle.dsn_crew.specs.desk.Desk.{Desk, IsDesk, IsRun, IsStopped, all_gone, letter_kept}
 use Rattle.dsn_crew.specs.declared.collector_result.CollectorResult.{CollectorResult}
 use Rattle.dsn_crew.specs.declared.collector_result.CollectorResult.TheVariants.{Whole, Failed}

@@ -6,7 +6,7 @@ use Rattle.dsn_book.specs.declared.keeper.Keeper.{Ghosts as Keeper}
 use Rattle.dsn_book.specs.Step.{letters_in}
 use Rattle.dsn_outcome.specs.History.{Exchange}
 use Rattle.dsn_outcome.specs.Letter.{Letter}
-use Rattle.dsn_post.specs.declared.posted.Posted.{Posted}
+use Rattle.dsn_crew.specs.declared.post.posted.Posted.{Posted}
 use Rattle.dsn_crew.specs.agents.Agent.{LaneHalves, IsFinished}
 use Rattle.dsn_crew.specs.desk.Close.{AreCrew, AreOf, IsHeard}
 use Rattle.dsn_crew.specs.Breach.{stop_cause}

@@ -14,8 +14,8 @@ use Rattle.dsn_outcome.specs.History.{Limits, Exchange, answers_to, history_afte
 use Rattle.dsn_outcome.specs.Letter.{Letter}
 use Rattle.dsn_outcome.specs.Request.{Request, Bye}
 use Rattle.dsn_outcome.specs.declared.answer.Reply.TheVariants.{Gone}
-use Rattle.dsn_post.specs.LetterSink.{letters_waiting}
-use Rattle.dsn_post.specs.Posting.{IsUntouched}
+use Rattle.dsn_crew.specs.post.LetterSink.{letters_waiting}
+use Rattle.dsn_crew.specs.post.Posting.{IsUntouched}
 use Rattle.dsn_report.specs.Outgoing.{Delivered, IsOutbox, Outgoing}
 use Rattle.dsn_crew.specs.agents.Agent.{LaneHalves}
 use Rattle.dsn_crew.specs.agents.Port.{AreOverPort, AreSessions, Conn, Given, HasGiven, Session, answers_of, bodies_of, faults_of, most_connections}

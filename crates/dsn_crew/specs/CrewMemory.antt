@@ -1,7 +1,7 @@
 -- Rooms: what a run of a crew has before its first thread is started.
 use Rattle.std.specs.Prelude.{◌≡◌, ℕ, ◌≤◌, false, [], vec_capacity}
 use Rattle.dsn_book.specs.declared.keeper.Keeper.{Ghosts as Keeper}
-use Rattle.dsn_post.specs.LetterSink.{letters_waiting}
+use Rattle.dsn_crew.specs.post.LetterSink.{letters_waiting}
 use Rattle.dsn_crew.specs.desk.Open.{IsOpened}
 use Rattle.dsn_crew.specs.declared.crew_memory.CrewMemory.{CrewMemory}
 use Rattle.dsn_crew.specs.declared.agent_memory.AgentMemory.{AgentMemory}

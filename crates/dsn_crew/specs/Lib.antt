@@ -8,3 +8,4 @@ pub mod StartServing
 pub mod TakenBy
 pub mod agents
 pub mod desk
+pub mod post

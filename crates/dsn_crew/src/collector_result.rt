@@ -5,9 +5,9 @@ ghost use Rattle.dsn_crew.specs.CollectorResult.{IsCollectorResult};
 ghost use Rattle.dsn_crew.specs.desk.Desk.{BeginsWith};
 
 use crate::desk::{Desk, StopCause};
+use crate::post::LetterSink;
 use dsn_book::Keeper;
 use dsn_outcome::Letter;
-use dsn_post::LetterSink;
 use std::snapshot::Snapshot;
 use std::sync::Wait;
 

@@ -8,8 +8,8 @@ use crate::collector_result::CollectorResult;
 use crate::crew_account::Account;
 use crate::crew_fault::CrewFault;
 use crate::desk::close_crew;
+use crate::post::Posted;
 use dsn_book::Keeper;
-use dsn_post::Posted;
 use std::snapshot::Snapshot;
 use std::sync::Wait;
 

@@ -8,8 +8,8 @@ ghost use Rattle.dsn_crew.specs.desk.Desk.{BeginsWith};
 use crate::agent_memory::AgentMemory;
 use crate::agents::{Agent, Port};
 use crate::desk::{Desk, open_room};
+use crate::post::{LetterSink, LetterSource, open_post};
 use dsn_book::Keeper;
-use dsn_post::{LetterSink, LetterSource, open_post};
 use std::alloc::Global;
 use std::sync::Wait;
 

@@ -16,7 +16,7 @@ use Rattle.dsn_outcome.specs.Request.{Request}
 use Rattle.dsn_outcome.proofs.HistoryLaws.{letters_more}
 use Rattle.dsn_crew.specs.declared.desk.desk_fault.DeskFault.{DeskFault}
 use Rattle.dsn_crew.specs.declared.desk.desk_fault.DeskFault.TheVariants.{Requests, Answers, Letters}
-use Rattle.dsn_post.specs.Sink.{Handed}
+use Rattle.dsn_crew.specs.post.Sink.{Handed}
 use Rattle.dsn_crew.specs.agents.Place.{place_at}
 use Rattle.dsn_crew.specs.desk.Desk.{AreAnswered, AreLeft, Desk, EndsBy, HasStopped, IsFirstBehind, IsLastRequest, IsRun, IsRequestTaken, IsUnmoved, StandsAfter, all_gone, history, history_with, places_of, letter_kept, next_exchange, taken_requests, with_failed}
 use Rattle.dsn_crew.specs.desk.Intake.{goodbyes, taken_request}

@@ -13,7 +13,7 @@ use Rattle.dsn_outcome.specs.History.{Limits, Exchange, answer_of, answers_to, e
 use Rattle.dsn_outcome.specs.Letter.{Letter}
 use Rattle.dsn_outcome.specs.Request.{Request}
 use Rattle.dsn_outcome.specs.declared.answer.Answer.{Answer}
-use Rattle.dsn_post.specs.Sink.{Handed}
+use Rattle.dsn_crew.specs.post.Sink.{Handed}
 use Rattle.dsn_crew.specs.agents.Place.{Place, place_at}
 use Rattle.dsn_crew.specs.desk.Intake.{Intake, goodbyes, most_taken, most_together, taken_request}
 use Rattle.dsn_crew.specs.declared.desk.desk_fault.DeskFault.{DeskFault}

@@ -1,8 +1,8 @@
 //! A sink that hands a letter back.
 ghost use Rattle.std.specs.Prelude.{◌≡◌, OnOk, IfErr};
 
+use crate::post::Sink;
 use dsn_outcome::Letter;
-use dsn_post::Sink;
 use std::sync::Wait;
 
 /// A sink handed a letter back. Only [`offer`] makes it, so whoever shows one has asked a sink.

@@ -4,9 +4,8 @@ ghost use Rattle.dsn_crew.specs.agents.Agent.{LaneHalves};
 ghost use Rattle.dsn_crew.specs.desk.Close.{AreCrew};
 ghost use Rattle.dsn_crew.specs.desk.Desk.{all_gone};
 
-use dsn_crew::Desk;
+use dsn_crew::{Desk, Sink};
 use dsn_outcome::Letter;
-use dsn_post::Sink;
 use std::sync::Wait;
 
 /// A sink that counts letters, and drops them.

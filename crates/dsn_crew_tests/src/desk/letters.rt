@@ -2,10 +2,9 @@
 use super::bodies::{append, flush};
 use crate::assert_same::same;
 use dsn_book::Limits;
-use dsn_crew::{Agent, Desk, DeskFault, open_crew};
+use dsn_crew::{Agent, Desk, DeskFault, Sink, open_crew};
 use dsn_lane::LaneOut;
 use dsn_outcome::{Answer, Body, Letter, Request};
-use dsn_post::Sink;
 use std::alloc::Global;
 use std::sync::Wait;
 use std::test::Fail;

@@ -1,10 +1,9 @@
 //! Lanes, the letter lane, and a crew before it begins.
 use crate::calls::begin;
 use dsn_book::Limits;
-use dsn_crew::open_crew;
+use dsn_crew::{open_crew, open_post};
 use dsn_lane::open_lane;
 use dsn_outcome::Request;
-use dsn_post::open_post;
 use std::alloc::Global;
 use std::sync::Wait;
 

@@ -1,0 +1,53 @@
+-- The poster's closure may go to a thread of its own, and what it gives back may come from there.
+use Rattle.std.proofs.Common.{List, [], ◌∷◌}
+use mir.Syntax.{Sym}
+use denote.Param.{param}
+use denote.Param.Send.{IsSend, IsSync, sendable}
+use denote.Param.SendFields.{as_row_send, declared_send}
+use denote.RattleType.{RattleType}
+use denote.Ref.{NamedLft, ShrRef}
+use denote.Hole.{as_row}
+use denote.Struct.Field.{row_field, u32-field}
+use denote.Struct.Tuple.{TupleAt}
+use Rattle.std.proofs.option.Option.TheSendSync as option
+use Rattle.dsn_lane.proofs.SendLemmas.{closure_send}
+use Rattle.dsn_lane.proofs.lane_out.LaneOut.TheSendSync as lane_out
+use Rattle.dsn_lane.specs.contracts.lane_out.LaneOut as LaneOut
+use Rattle.dsn_outcome.proofs.SendLemmas.{letter_send}
+use Rattle.dsn_report.proofs.SendLemmas.{outgoing_send}
+use Rattle.dsn_report.specs.contracts.outgoing.Outgoing as Outgoing
+use Rattle.dsn_crew.specs.contracts.post.letter_source.LetterSource as LetterSource
+use Rattle.dsn_crew.specs.contracts.post.letters_end.LettersEnd as LettersEnd
+use Rattle.dsn_crew.specs.contracts.post.parcel.Parcel as Parcel
+use Rattle.dsn_crew.specs.contracts.post.parcel.ParcelCarried.TheImpl as ParcelCarried
+use Rattle.dsn_crew.specs.contracts.post.posting.Posting as Posting
+
+parcel_send : IsSend Parcel.the_row
+parcel_send = search (letter_send, option.the_field_send, sendable) depth 20
+
+parcels_out_send : IsSend (LaneOut.the_row Parcel.the_row ParcelCarried.ghosts)
+parcels_out_send = lane_out.the_send Parcel.the_row ParcelCarried.ghosts parcel_send
+
+count_send : IsSend (as_row u32-field)
+count_send = search sendable depth 20
+
+source_send : IsSend LetterSource.the_row
+source_send = search (parcels_out_send, sendable) depth 20
+
+end_send : IsSend (as_row LettersEnd.the_field)
+end_send = search sendable depth 20
+
+-- what the closure holds: the runtime, the poster, and the half by which the letters come
+abbrev pub captured : NamedLft → RattleType → RattleType → List RattleType
+captured r R W = ShrRef r.mir r.lft (param 1 R) ∷ Outgoing.the_row (param 2 W) ∷ LetterSource.the_row ∷ []
+
+runtime_send : (r : NamedLft) (R : RattleType) → IsSync (param 1 R) → IsSend (ShrRef r.mir r.lft (param 1 R))
+runtime_send r R sync = search (sync, sendable) depth 20
+
+pub posts_send : (ν : Sym) (r : NamedLft) (R W : RattleType) → IsSync (param 1 R) → IsSend (param 2 W) → IsSend (TupleAt ν (captured r R W))
+posts_send ν r R W sync send = closure_send ν (captured r R W) (runtime_send r R sync, (outgoing_send (param 2 W) send, (source_send, tt)))
+
+pub posting_send : (W : RattleType) → IsSend (param 2 W) → IsSend (Posting.the_row (param 2 W))
+posting_send W send =
+    declared_send (Posting.the_type (param 2 W))
+    (as_row_send (row_field (Outgoing.the_row (param 2 W))) (outgoing_send (param 2 W) send), (count_send, (as_row_send (row_field LetterSource.the_row) source_send, (end_send, tt))))

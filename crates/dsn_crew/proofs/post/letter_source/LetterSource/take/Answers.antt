@@ -1,0 +1,17 @@
+-- A letter's number says how many came before it.
+use Rattle.std.proofs.Common.{ap, sym, ◌∙◌, ◌∷◌, [], Bool, length, refl, subst, length-append, arith}
+use Rattle.std.specs.Prelude.{IsSome}
+use Rattle.dsn_crew.specs.post.LetterSource.{taken_parcels}
+use Rattle.dsn_crew.specs.post.Parcel.{Parcel, letters_of}
+use Rattle.dsn_crew.proofs.post.LetterSourceLemmas.{number_is, some_letters, source}
+use Rattle.dsn_crew.proofs.post.letter_source.LetterSource.take.Goals as goal
+
+pub returns-in-Some-clause-few : goal.returns-in-Some-clause-few
+returns-in-Some-clause-few g c =
+    let kept = c.self.invariant ∙ ap (λ (marked : Bool). taken_parcels (source c.self.inside.parcels.lane (letters_of c.self.inside.parcels.taken) marked)) c.if-self.false in
+    let letter = ap (λ (parcel : Parcel). parcel.letter) (sym c.parcel.view_is) ∙ c.in-Some.is in
+    let letters = some_letters _ _ _ _ kept c.in-Ok.ensures.same.0 c.in-Ok.ensures.same.1 c.in-Ok.ensures.same.2 c.in-Ok.ensures.item c.in-Ok.ensures.number c.in-Some.letter letter in
+    let one_more = ap length letters ∙ length-append (letters_of c.self.inside.parcels.taken) (c.in-Some.letter ∷ []) in
+    let number = number_is _ _ _ _ kept c.in-Ok.ensures.same.0 c.in-Ok.ensures.same.1 c.in-Ok.ensures.same.2 c.in-Ok.ensures.item c.in-Ok.ensures.number in
+    let same = ap (λ (parcel : Parcel). parcel.number) c.parcel.view_is in
+    let few = c.parcel.invariant (subst IsSome (sym c.in-Some.is) refl) in omega arith

@@ -1,0 +1,24 @@
+-- Letter sinks: what contracts see of the sending half of the lane of letters.
+use Rattle.std.specs.Prelude.{◌≡◌, ℕ, Bool, List, [], ◌∷◌, ◌++◌}
+use Rattle.dsn_lane.specs.Halves.{Identity}
+use Rattle.dsn_outcome.specs.Letter.{Letter}
+use Rattle.dsn_crew.specs.post.Parcel.{Parcel}
+
+-- how many letters wait at most
+abbrev pub letters_waiting : ℕ
+letters_waiting = 16
+
+-- its lane, and the letters that it has sent, in order
+pub record LetterSink : Type 0 where
+  pub lane : Identity Parcel
+  pub letters : List Letter
+
+-- it takes a letter
+abbrev pub TakesLetter : LetterSink → Letter → LetterSink → Type 0
+TakesLetter old letter new = new ≡ record { lane = old.lane; letters = old.letters ++ letter ∷ [] }
+
+-- the sending half at its end, after the end mark where that was sent
+pub record FinishedSink : Type 0 where
+  pub lane : Identity Parcel
+  pub letters : List Letter
+  pub marked : Bool

@@ -1,0 +1,56 @@
+-- Posting: what the poster's thread comes to, and the outbox at its end.
+use Rattle.std.specs.Prelude.{◌≡◌, ◌↔◌, ℕ, ◌+◌, ◌≤◌, Bool, true, List, [], ◌++◌, length, None}
+use Rattle.std.specs.Io.KnownBytes.{Appends}
+use mathlib.Core.List.{IsPrefix}
+use Rattle.dsn_device.specs.UntilFailure.{TakesNoTime}
+use Rattle.dsn_device.specs.declared.drain.Drain.{Ghosts as Drain}
+use Rattle.dsn_lane.specs.Halves.{Identity}
+use Rattle.dsn_outcome.specs.Letter.{Letter}
+use Rattle.dsn_report.specs.Outgoing.{Delivered, IsOutbox, Outgoing}
+use Rattle.dsn_crew.specs.post.LetterSource.{is_marked}
+use Rattle.dsn_crew.specs.post.Parcel.{Parcel}
+use Rattle.dsn_crew.specs.declared.post.posted.Posted.{Posted}
+use Rattle.dsn_crew.specs.declared.post.posting.Posting.{Posting}
+
+-- what the promise of a poster's thread remembers: the poster as it was, and the lane of letters
+pub record Posts (W : Type 0) : Type 0 where
+  pub begun : Outgoing W
+  pub lane : Identity Parcel
+
+-- what a poster's thread comes to: after what was handed on before, the letters that came over its
+-- lane were handed on, one after another, until the end mark came or the lane was lost
+pub record IsPosting {W : Type 0} (drain : Drain W) (begun : Outgoing W) (lane : Identity Parcel)
+    (end : Posting W) : Type 0 where
+  pub lane_is : end.source.lane ≡ lane
+  pub count : end.handed ≡ length end.source.letters
+  pub delivered : (host : List ℕ) (start : W) (first : List Letter)
+      → Delivered drain host start begun first
+      → Delivered drain host start end.outgoing (first ++ end.source.letters)
+  pub few : length end.outgoing.unsent ≤ length begun.unsent + length end.source.letters
+  pub idle : end.source.letters ≡ [] → end.outgoing ≡ begun
+  pub ended : end.source.marked ≡ is_marked end.end
+
+-- an outbox to which nothing was written, of whose marks a crash leaves what it left before
+pub record IsUntouched {W : Type 0} (drain : Drain W) (start end : W) : Type 0 where
+  pub nothing : Appends (drain.contents start) (drain.contents end) []
+  pub failures : drain.failures end ≡ drain.failures start
+  pub flushes : drain.flushes end ≡ drain.flushes start
+  pub marked : drain.marked end ≡ drain.marked start
+  pub no_moment : TakesNoTime drain start end
+
+-- an outbox at its end, of letters that were sent in this order over a lane in which at most so
+-- many wait: the first of them came to the poster, all but as many as wait; those are posted, or
+-- unsent, and the outbox is theirs, after the letters that were posted before. The lane was not lost
+-- exactly where the end mark came and all letters before it, and so it is said
+pub record IsPosted {W : Type 0} (drain : Drain W) (begun : Outgoing W) (waiting : ℕ)
+    (sent : List Letter) (end : Posted W) : Type 0 where
+  pub letters : List Letter
+  pub came : IsPrefix letters sent
+  pub few : length sent ≤ length letters + waiting
+  pub marked : Bool
+  pub whole : (end.all ≡ true) ↔ ((marked ≡ true) × (letters ≡ sent))
+  pub unlost : (end.all ≡ true) ↔ (end.lost ≡ None)
+  pub count : end.posted + length end.unsent ≡ length letters
+  pub outbox : (host : List ℕ) (start : W) (first : List Letter)
+      → Delivered drain host start begun first
+      → IsOutbox drain host start end.outbox end.whole end.unsent (first ++ letters)

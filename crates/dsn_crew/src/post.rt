@@ -1,0 +1,26 @@
+//! The way of a letter to the outbox: a lane of letters, and a poster on a thread of its own.
+#[cfg(test)]
+mod assert_same;
+mod finished_sink;
+mod letter_lane;
+mod letter_sink;
+mod letter_source;
+mod letters_end;
+mod parcel;
+mod posted;
+mod posting;
+mod posting_end;
+mod posting_start;
+mod sink;
+#[cfg(test)]
+mod tests;
+
+pub use letter_lane::open_post;
+pub use letter_sink::LetterSink;
+pub use letter_source::LetterSource;
+pub use letters_end::LettersEnd;
+pub use posted::Posted;
+pub use posting::Posting;
+pub use posting_end::end_posting;
+pub use posting_start::{Posts, start_posting};
+pub use sink::Sink;

@@ -1,0 +1,78 @@
+//! The poster's side of the lane of letters.
+ghost use Rattle.std.specs.Prelude.{◌≡◌, ◌≤◌, OnOk, false, [], length};
+ghost use Rattle.dsn_lane.specs.Lane.{most_sent};
+ghost use Rattle.dsn_crew.specs.post.LetterSource.{HasTaken};
+
+use crate::post::letters_end::LettersEnd;
+use crate::post::parcel::Parcel;
+use dsn_lane::LaneOut;
+use dsn_outcome::Letter;
+use std::marker::Model;
+use std::sync::Wait;
+
+/// The half of a lane by which a poster takes the letters of a lane. Contracts see its lane, the
+/// letters that it has taken, in order, and whether the end mark came after them.
+#[derive(Drop)]
+pub struct LetterSource {
+    pub(super) parcels: LaneOut<Parcel>,
+    marked: bool,
+}
+
+impl Model for LetterSource {
+    ghost use Rattle.std.specs.Prelude.{◌≡◌};
+    ghost use Rattle.dsn_crew.specs.post.LetterSource.{LetterSource, taken_parcels};
+    ghost use Rattle.dsn_crew.specs.post.Parcel.{letters_of};
+
+    ghost Value = { LetterSource };
+
+    ghost view = { λ s. record {
+      lane = s.parcels.lane;
+      letters = letters_of s.parcels.taken;
+      marked = s.marked;
+    } };
+
+    ghost invariant = { λ s. s.parcels
+        ≡ taken_parcels
+        (record {
+          lane = s.parcels.lane;
+          letters = letters_of s.parcels.taken;
+          marked = s.marked;
+        }) };
+}
+
+impl LetterSource {
+    /// The receiving half of a lane from which nothing was taken.
+    pub(super) fn new(parcels: LaneOut<Parcel>) -> LetterSource
+        requires unused { (parcels.first ≡ 0) × (parcels.past ≡ 1) × (parcels.taken ≡ []) }
+        ensures { result ≡ record { lane = parcels.lane; letters = []; marked = false } }
+    {
+        LetterSource {
+            parcels,
+            marked: false,
+        }
+    }
+
+    /// Takes the next letter, and waits while there is none. `Marked` comes at the end mark and
+    /// after it, `Gone` where the sending half is gone before its mark.
+    #[tactic(auto, using(crate::proofs::post::LetterSourceLemmas::parcels))]
+    pub(super) fn take(&mut self, rt: &impl Wait) -> Result<Letter, LettersEnd>
+        ensures taken { HasTaken self.old self.new result }
+        ensures few { OnOk result (length self.new.letters ≤ most_sent) }
+    {
+        if self.marked {
+            return Err(LettersEnd::Marked);
+        }
+        let parcel = match self.parcels.take(rt) {
+            Ok(parcel) => parcel,
+            Err(end) => return Err(LettersEnd::Gone(end.gone)),
+        };
+        let Parcel { letter, .. } = parcel;
+        match letter {
+            Some(letter) => Ok(letter),
+            None => {
+                self.marked = true;
+                Err(LettersEnd::Marked)
+            }
+        }
+    }
+}

@@ -1,6 +1,0 @@
--- The lane stays.
-use Rattle.std.proofs.Common.{◌≡◌}
-use Rattle.dsn_post.proofs.tests.hand_all.Given as goal
-
-abbrev pub invariant-loop-id : goal.invariant-loop-id
-invariant-loop-id g l = l.sink.lane ≡ l.fn.sink.lane

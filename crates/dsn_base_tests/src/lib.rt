@@ -1,5 +1,5 @@
-//! Tests of outcomes, of books and their limits, of lanes, and of the journal, over what their
-//! crates make public: so they are proved without the proofs of these, and beside their wrong edits.
+//! Tests of outcomes, of books and their limits, and of the journal, over what their crates make
+//! public: so they are proved without the proofs of these, and beside their wrong edits.
 #![tactic(auto)]
 
 #[cfg(test)]
@@ -8,7 +8,5 @@ mod assert_same;
 mod book;
 #[cfg(test)]
 mod journal;
-#[cfg(test)]
-mod lane;
 #[cfg(test)]
 mod outcome;

@@ -16,7 +16,7 @@ use Rattle.dsn_book.specs.declared.not_kept.NotKept.{NotKept}
 use Rattle.dsn_book.specs.Step.{letters_in}
 use Rattle.dsn_device.specs.declared.drain.Drain.{Ghosts as Drain}
 use Rattle.dsn_frame.specs.bodies.Spoken.{reply_of}
-use Rattle.dsn_lane.specs.Halves.{Half, Identity}
+use Rattle.dsn_crew.specs.lane.Halves.{Half, Identity}
 use Rattle.dsn_outcome.specs.Agents.{from_agent}
 use Rattle.dsn_outcome.specs.History.{Limits, Exchange, answers_to, history_after, history_of, letters_after, sealed_letters}
 use Rattle.dsn_outcome.specs.Letter.{Letter}
@@ -61,7 +61,7 @@ use Rattle.dsn_crew.specs.declared.start_serving.Serves.{Serves}
 use Rattle.dsn_crew.proofs.agents.ServeLemmas.{numbered-length}
 use Rattle.dsn_crew.proofs.desk.CloseLemmas.{going_on}
 use Rattle.dsn_crew.proofs.desk.CrashLemmas.{LeavesKept, none_done}
-use Rattle.dsn_lane.proofs.AgentLemmas.{numbered_none}
+use Rattle.dsn_crew.proofs.lane.AgentLemmas.{numbered_none}
 use Rattle.dsn_crew.proofs.desk.TakeLemmas.{has_here, none_behind}
 use Rattle.dsn_crew.proofs.StartServingLemmas.{are-served, starts-length}
 

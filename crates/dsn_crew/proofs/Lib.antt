@@ -1,6 +1,8 @@
 pub mod AgentsResultLemmas
 pub mod CrewExamples
 pub mod CrewLemmas
+pub mod LaneHalfLemmas
+pub mod LaneSendLemmas
 pub mod OpenLemmas
 pub mod SendLemmas
 pub mod ServingSendLemmas

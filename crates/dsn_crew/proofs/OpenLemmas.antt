@@ -6,9 +6,9 @@ use Rattle.std.proofs.lemmas.List.Elements.{All-nil}
 use native.Mathlib.Decide.{ℕ_discrete}
 use Rattle.dsn_book.specs.Keeper.{MayCrash}
 use Rattle.dsn_book.specs.declared.keeper.Keeper.{Ghosts as Keeper}
-use Rattle.dsn_lane.specs.Halves.{Half, Identity, fresh_halves}
-use Rattle.dsn_lane.specs.Lane.{IsNumbered}
-use Rattle.dsn_lane.proofs.AgentLemmas.{numbered_none}
+use Rattle.dsn_crew.specs.lane.Halves.{Half, Identity, fresh_halves}
+use Rattle.dsn_crew.specs.lane.Lane.{IsNumbered}
+use Rattle.dsn_crew.proofs.lane.AgentLemmas.{numbered_none}
 use Rattle.dsn_outcome.specs.Agents.{from_agent}
 use Rattle.dsn_outcome.specs.History.{Exchange, answers_to, history_after}
 use Rattle.dsn_outcome.specs.Request.{Request}

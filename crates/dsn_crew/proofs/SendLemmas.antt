@@ -6,7 +6,7 @@ use Rattle.std.specs.contracts.alloc.Global as Global
 use Rattle.dsn_crew.specs.contracts.agents.agent.Agent as Agent
 use Rattle.dsn_crew.specs.contracts.agents.finished_agent.Finished as Finished
 use Rattle.dsn_crew.specs.contracts.agents.port_end.PortEnd as PortEnd
-use Rattle.dsn_lane.proofs.SendLemmas.{requests_in_send, answers_out_send}
+use Rattle.dsn_crew.proofs.LaneSendLemmas.{requests_in_send, answers_out_send}
 
 pub global_send : IsSend Global.the_row
 global_send = search sendable depth 20

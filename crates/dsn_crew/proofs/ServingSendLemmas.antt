@@ -7,7 +7,7 @@ use denote.RattleType.{RattleType}
 use denote.Ref.{NamedLft, ShrRef}
 use denote.Struct.Tuple.{TupleAt}
 use Rattle.std.specs.contracts.alloc.Global as Global
-use Rattle.dsn_lane.proofs.SendLemmas.{closure_send}
+use Rattle.dsn_crew.proofs.LaneSendLemmas.{closure_send}
 use Rattle.dsn_crew.specs.contracts.agents.agent.Agent as Agent
 use Rattle.dsn_crew.proofs.SendLemmas.{agent_send, global_send}
 

@@ -8,7 +8,7 @@ use Rattle.dsn_book.specs.declared.keeper.Keeper.{Ghosts as Keeper}
 use Rattle.dsn_device.specs.declared.drain.Drain.{Ghosts as Drain}
 use Rattle.dsn_text.specs.FaultCode.{agent_count_code, crew_refused_code, lane_lost_code}
 use Rattle.dsn_frame.specs.bodies.Spoken.{reply_of}
-use Rattle.dsn_lane.specs.Lane.{IsNumbered, most_agents}
+use Rattle.dsn_crew.specs.lane.Lane.{IsNumbered, most_agents}
 use Rattle.dsn_outcome.specs.Agents.{from_agent}
 use Rattle.dsn_outcome.specs.History.{Limits, Exchange, answers_to, history_after, history_of, sealed_letters}
 use Rattle.dsn_outcome.specs.Letter.{Letter}

@@ -8,4 +8,5 @@ pub mod StartServing
 pub mod TakenBy
 pub mod agents
 pub mod desk
+pub mod lane
 pub mod post

@@ -5,7 +5,7 @@ ghost use Rattle.dsn_crew.specs.Breach.{cause_of};
 use crate::agents::Unheard;
 use crate::crew_cause::CrewCause;
 use crate::desk::StopCause;
-use dsn_lane::LaneGone;
+use crate::lane::LaneGone;
 
 /// What shows that a lane of the crew was lost, or that a request was not kept.
 #[derive(Clone, Copy)]

@@ -1,6 +1,6 @@
 //! What a run of a crew needs memory for.
 ghost use Rattle.std.specs.Prelude.{◌≡◌, ◌^◌, ◌<◌, ◌≤◌, List, [], IfErr, IfOk};
-ghost use Rattle.dsn_lane.specs.Lane.{most_agents};
+ghost use Rattle.dsn_crew.specs.lane.Lane.{most_agents};
 ghost use Rattle.dsn_outcome.specs.History.{Exchange};
 ghost use Rattle.dsn_crew.specs.CrewMemory.{IsRoom};
 ghost use Rattle.dsn_crew.specs.desk.Desk.{BeginsWith};

@@ -14,6 +14,7 @@ mod crew_fault;
 mod crew_memory;
 mod crew_run;
 mod desk;
+mod lane;
 mod post;
 mod start_serving;
 
@@ -26,6 +27,9 @@ pub use crew_cause::CrewCause;
 pub use crew_fault::CrewFault;
 pub use crew_run::{run_crew, run_crew_over};
 pub use desk::{CrewOpenFault, CrewShut, Desk, DeskFault, close_crew, open_crew, open_crew_over};
+pub use lane::{
+    LaneEnd, LaneGone, LaneIn, LaneLeft, LaneLists, LaneOut, LaneShut, Lost, close_lane, open_lane,
+};
 pub use post::{
     LetterSink, LetterSource, LettersEnd, Posted, Posting, Posts, Sink, end_posting, open_post,
     start_posting,

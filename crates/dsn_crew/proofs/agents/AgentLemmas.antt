@@ -3,7 +3,7 @@ use Rattle.std.proofs.Common.{◌≡◌, ◌<◌, ◌≤◌, ◌+◌, ◌++◌, 
 use Rattle.std.proofs.lemmas.Grind.{elements}
 use Rattle.std.proofs.lemmas.List.Elements.{All-append, All-cons, All-nil, filter-append}
 use Rattle.std.specs.Prelude.{◌≢◌, Option, Some, None, Err}
-use Rattle.dsn_lane.specs.Halves.{Half, Out}
+use Rattle.dsn_crew.specs.lane.Halves.{Half, Out}
 use Rattle.dsn_outcome.specs.Agents.{from_agent}
 use Rattle.dsn_outcome.specs.Request.{Request, Body, Bye}
 use Rattle.dsn_outcome.specs.declared.answer.Answer.{Answer}

@@ -3,7 +3,7 @@
 use Rattle.std.proofs.Common.{◌≡◌, ℕ, List, [], ◌∷◌, inl, true, false, refl, ap, lit<, lit≤, arith}
 use Rattle.std.specs.Prelude.{◌≢◌, Some, None, unwrap_or as option_or}
 use Rattle.std.proofs.lemmas.List.Elements.{All-cons, All-nil}
-use Rattle.dsn_lane.specs.Halves.{Identity}
+use Rattle.dsn_crew.specs.lane.Halves.{Identity}
 use Rattle.dsn_outcome.specs.Request.{Request, Body, Bye}
 use Rattle.dsn_outcome.specs.declared.answer.Answer.{Answer}
 use Rattle.dsn_outcome.specs.declared.answer.Reply.TheVariants.{Closed, Discarded, Gone}

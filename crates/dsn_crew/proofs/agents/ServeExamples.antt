@@ -4,7 +4,7 @@ use Rattle.std.specs.Prelude.{Some, None, Ok, Err, codes}
 use Rattle.std.proofs.lemmas.List.Elements.{All-nil}
 use Rattle.dsn_device.specs.declared.drain.Drain.{Ghosts as Drain}
 use Rattle.dsn_device.specs.declared.source.Source.{Ghosts as Source}
-use Rattle.dsn_lane.specs.Halves.{Identity}
+use Rattle.dsn_crew.specs.lane.Halves.{Identity}
 use Rattle.dsn_outcome.specs.Request.{Request, Body, Discard}
 use Rattle.dsn_outcome.specs.declared.answer.Answer.{Answer}
 use Rattle.dsn_outcome.specs.declared.answer.Reply.{Reply as ReplyOf}

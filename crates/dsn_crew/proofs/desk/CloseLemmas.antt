@@ -7,8 +7,8 @@ use Rattle.std.proofs.lemmas.Simd.{map-map}
 use Rattle.std.specs.List.{slice_index_or}
 use mathlib.Core.List.{IsPrefix}
 use Rattle.dsn_book.specs.declared.keeper.Keeper.{Ghosts as Keeper}
-use Rattle.dsn_lane.specs.Halves.{Half, Identity}
-use Rattle.dsn_lane.specs.Lane.{most_agents}
+use Rattle.dsn_crew.specs.lane.Halves.{Half, Identity}
+use Rattle.dsn_crew.specs.lane.Lane.{most_agents}
 use Rattle.dsn_outcome.specs.Agents.{from_agent}
 use Rattle.dsn_outcome.specs.History.{Exchange, answers_to}
 use Rattle.dsn_outcome.specs.Request.{Request}

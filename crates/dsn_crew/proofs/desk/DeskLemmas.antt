@@ -11,7 +11,7 @@ use native.Mathlib.Decide.{ℕ_discrete}
 use Rattle.dsn_book.specs.Keeper.{MayCrash}
 use Rattle.dsn_book.specs.declared.keeper.Keeper.{Ghosts as Keeper}
 use Rattle.dsn_device.proofs.ThroughoutLemmas.{stood_still}
-use Rattle.dsn_lane.specs.Halves.{Half, Out, Identity}
+use Rattle.dsn_crew.specs.lane.Halves.{Half, Out, Identity}
 use Rattle.dsn_outcome.specs.Agents.{from_agent}
 use Rattle.dsn_outcome.specs.History.{Exchange, answer_of, answers_to, exchange_of, history_after}
 use Rattle.dsn_outcome.specs.Request.{Request}

@@ -1,6 +1,6 @@
 -- Histories that a run goes on with, and what they answer to its agents.
 use Rattle.std.proofs.Common.{◌≡◌, ℕ, ◌+◌, ◌<◌, ◌==◌, Bool, true, false, List, [], ◌∷◌, ◌++◌, length, refl, ap, ◌∙◌, length-append, arith}
-use Rattle.dsn_lane.specs.Lane.{most_agents}
+use Rattle.dsn_crew.specs.lane.Lane.{most_agents}
 use Rattle.dsn_outcome.specs.Agents.{from_agent}
 use Rattle.dsn_outcome.specs.History.{Limits, Exchange, answer_of, answers_to, exchange_of, history_after}
 use Rattle.dsn_outcome.specs.Request.{Request}

@@ -9,8 +9,8 @@ use Rattle.std.proofs.lemmas.List.{get_or_append_left, take-append-le}
 use Rattle.std.proofs.lemmas.List.Elements.{All-append, All-cons, All-nil, All-tail, filter-append}
 use Rattle.std.proofs.lemmas.List.Sums.{length-filter, count_by-le-length}
 use Rattle.std.proofs.lemmas.Option.{get_or_from_slice_get, slice_get-get_or, slice_get_within}
-use Rattle.dsn_lane.specs.Lane.{IsNumbered}
-use Rattle.dsn_lane.proofs.AgentLemmas.{get_seam, seam_mine}
+use Rattle.dsn_crew.specs.lane.Lane.{IsNumbered}
+use Rattle.dsn_crew.proofs.lane.AgentLemmas.{get_seam, seam_mine}
 use Rattle.dsn_outcome.specs.Agents.{from_agent}
 use Rattle.dsn_outcome.specs.Request.{Request, Body, Append, Flush, Discard, Forget, Bye}
 use Rattle.dsn_crew.specs.desk.Desk.{AreNextOf}

@@ -8,7 +8,7 @@ use mathlib.Core.List.{IsPrefix}
 use Rattle.std.proofs.Math.Seq.{take-append-add}
 use Rattle.dsn_book.specs.Step.{letters_in}
 use Rattle.dsn_book.specs.declared.keeper.Keeper.{Ghosts as Keeper}
-use Rattle.dsn_lane.specs.Halves.{Half, Out}
+use Rattle.dsn_crew.specs.lane.Halves.{Half, Out}
 use Rattle.dsn_outcome.specs.History.{Exchange, exchange_of, history_after, letter_of, sealed_letters}
 use Rattle.dsn_outcome.specs.Letter.{Letter}
 use Rattle.dsn_outcome.specs.declared.answer.Answer.{Answer}

@@ -6,7 +6,7 @@ use Rattle.std.proofs.lemmas.List.{append-nil}
 use Rattle.dsn_book.specs.Keeper.{MayCrash}
 use Rattle.dsn_book.specs.declared.keeper.Keeper.{Ghosts as Keeper}
 use Rattle.dsn_book.specs.declared.not_kept.NotKept.{NotKept}
-use Rattle.dsn_lane.specs.Halves.{Out}
+use Rattle.dsn_crew.specs.lane.Halves.{Out}
 use Rattle.dsn_outcome.specs.History.{Exchange, answer_of, exchange_of, history_after, letter_of}
 use Rattle.dsn_outcome.specs.Letter.{Letter}
 use Rattle.dsn_outcome.specs.Request.{Request}

@@ -1,7 +1,7 @@
 -- Letter sources: what they took are the parcels of their letters, one more at each.
 use Rattle.std.proofs.Common.{◌≡◌, ℕ, Bool, true, false, List, [], ◌∷◌, ◌++◌, length, ap, sym, ◌∙◌}
 use Rattle.std.specs.Prelude.{Some, None}
-use Rattle.dsn_lane.specs.Halves.{Identity, Out}
+use Rattle.dsn_crew.specs.lane.Halves.{Identity, Out}
 use Rattle.dsn_outcome.specs.Agents.{from_agent}
 use Rattle.dsn_outcome.specs.Letter.{Letter}
 use Rattle.dsn_crew.specs.post.LetterSource.{LetterSource, taken_parcels}

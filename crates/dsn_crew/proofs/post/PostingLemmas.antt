@@ -4,7 +4,7 @@ use Rattle.std.specs.Prelude.{Option, Some, None, is_some, not}
 use Rattle.std.proofs.lemmas.Option.{none-some}
 use mathlib.Core.List.{IsPrefix}
 use Rattle.dsn_outcome.specs.Letter.{Letter}
-use Rattle.dsn_lane.specs.declared.lane_gone.LaneGone.{LaneGone}
+use Rattle.dsn_crew.specs.declared.lane.lane_gone.LaneGone.{LaneGone}
 use Rattle.dsn_crew.specs.post.LetterSource.{is_marked, lane_lost}
 use Rattle.dsn_crew.specs.declared.post.letters_end.LettersEnd.{LettersEnd}
 use Rattle.dsn_crew.specs.declared.post.letters_end.LettersEnd.TheVariants.{Marked, Gone}

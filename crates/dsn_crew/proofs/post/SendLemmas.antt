@@ -10,9 +10,9 @@ use denote.Hole.{as_row}
 use denote.Struct.Field.{row_field, u32-field}
 use denote.Struct.Tuple.{TupleAt}
 use Rattle.std.proofs.option.Option.TheSendSync as option
-use Rattle.dsn_lane.proofs.SendLemmas.{closure_send}
-use Rattle.dsn_lane.proofs.lane_out.LaneOut.TheSendSync as lane_out
-use Rattle.dsn_lane.specs.contracts.lane_out.LaneOut as LaneOut
+use Rattle.dsn_crew.proofs.LaneSendLemmas.{closure_send}
+use Rattle.dsn_crew.proofs.lane.lane_out.LaneOut.TheSendSync as lane_out
+use Rattle.dsn_crew.specs.contracts.lane.lane_out.LaneOut as LaneOut
 use Rattle.dsn_outcome.proofs.SendLemmas.{letter_send}
 use Rattle.dsn_report.proofs.SendLemmas.{outgoing_send}
 use Rattle.dsn_report.specs.contracts.outgoing.Outgoing as Outgoing

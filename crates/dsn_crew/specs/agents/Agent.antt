@@ -1,7 +1,7 @@
 -- Agents: what contracts see of an agent and its halves, and what a request of it comes to.
 use Rattle.std.specs.Prelude.{◌≡◌, ◌≢◌, ℕ, ◌+◌, ◌<◌, ◌≤◌, Bool, true, false, List, [], ◌∷◌, ◌++◌, All, length, Option, Some, None, Result, Ok, Err}
 use Rattle.dsn_text.specs.FaultCode.{lane_lost_code, used_up_code}
-use Rattle.dsn_lane.specs.Halves.{Half, Out}
+use Rattle.dsn_crew.specs.lane.Halves.{Half, Out}
 use Rattle.dsn_outcome.specs.Agents.{from_agent}
 use Rattle.dsn_outcome.specs.Body.{body_of}
 use Rattle.dsn_outcome.specs.Request.{Request, Body, Bye}

@@ -1,6 +1,6 @@
 -- Places: where an agent stands in a crew.
 use Rattle.std.specs.Prelude.{ℕ}
-use Rattle.dsn_lane.specs.Halves.{Half, Identity}
+use Rattle.dsn_crew.specs.lane.Halves.{Half, Identity}
 use Rattle.dsn_outcome.specs.Request.{Request}
 use Rattle.dsn_outcome.specs.declared.answer.Answer.{Answer}
 use Rattle.dsn_crew.specs.agents.Agent.{LaneHalves}

@@ -6,8 +6,8 @@ use Rattle.dsn_book.specs.Keeper.{MayCrash}
 use Rattle.dsn_book.specs.declared.keeper.Keeper.{Ghosts as Keeper}
 use Rattle.dsn_book.specs.declared.not_kept.NotKept.{NotKept}
 use Rattle.dsn_book.specs.Step.{letters_in}
-use Rattle.dsn_lane.specs.Halves.{Half, Out}
-use Rattle.dsn_lane.specs.Lane.{IsNumbered, most_agents}
+use Rattle.dsn_crew.specs.lane.Halves.{Half, Out}
+use Rattle.dsn_crew.specs.lane.Lane.{IsNumbered, most_agents}
 use Rattle.dsn_outcome.specs.Agents.{from_agent}
 use Rattle.dsn_outcome.specs.History.{Limits, Exchange, answer_of, answers_to, exchange_of, history_after, letter_of, sealed_letters}
 use Rattle.dsn_outcome.specs.Letter.{Letter}

@@ -1,6 +1,6 @@
 -- Intakes: what the collector took from the request lane.
 use Rattle.std.specs.Prelude.{ℕ, Bool, true, false, List, ◌++◌, ◌∷◌, [], length, filter, take, drop}
-use Rattle.dsn_lane.specs.Halves.{Out}
+use Rattle.dsn_crew.specs.lane.Halves.{Out}
 use Rattle.dsn_outcome.specs.Request.{Request, Body, Append, Flush, Discard, Forget, Bye}
 
 -- the half by which requests are taken, with those that were handed on, and those behind, which were

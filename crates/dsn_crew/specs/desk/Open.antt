@@ -5,7 +5,7 @@ use Rattle.dsn_book.specs.Book.{Book, Represents}
 use Rattle.dsn_book.specs.Keeper.{book_keeper}
 use Rattle.dsn_book.specs.declared.keeper.Keeper.{Ghosts as Keeper}
 use Rattle.dsn_text.specs.FaultCode.{agent_count_code, crew_refused_code}
-use Rattle.dsn_lane.specs.Halves.{Half, Identity}
+use Rattle.dsn_crew.specs.lane.Halves.{Half, Identity}
 use Rattle.dsn_outcome.specs.History.{Limits}
 use Rattle.dsn_outcome.specs.Request.{Request}
 use Rattle.dsn_outcome.specs.declared.answer.Answer.{Answer}

@@ -1,6 +1,6 @@
 -- Letter sinks: what contracts see of the sending half of the lane of letters.
 use Rattle.std.specs.Prelude.{◌≡◌, ℕ, Bool, List, [], ◌∷◌, ◌++◌}
-use Rattle.dsn_lane.specs.Halves.{Identity}
+use Rattle.dsn_crew.specs.lane.Halves.{Identity}
 use Rattle.dsn_outcome.specs.Letter.{Letter}
 use Rattle.dsn_crew.specs.post.Parcel.{Parcel}
 

@@ -1,7 +1,7 @@
 -- Letter sources: what contracts see of the receiving half of the lane of letters.
 use Rattle.std.specs.Prelude.{◌≡◌, Bool, true, false, List, [], ◌∷◌, ◌++◌, Option, Some, None, Result, Ok, Err}
-use Rattle.dsn_lane.specs.Halves.{Identity, Out}
-use Rattle.dsn_lane.specs.declared.lane_gone.LaneGone.{LaneGone}
+use Rattle.dsn_crew.specs.lane.Halves.{Identity, Out}
+use Rattle.dsn_crew.specs.declared.lane.lane_gone.LaneGone.{LaneGone}
 use Rattle.dsn_outcome.specs.Letter.{Letter}
 use Rattle.dsn_crew.specs.post.Parcel.{Parcel, parcels_of}
 use Rattle.dsn_crew.specs.declared.post.letters_end.LettersEnd.{LettersEnd}

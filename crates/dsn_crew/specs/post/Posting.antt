@@ -4,7 +4,7 @@ use Rattle.std.specs.Io.KnownBytes.{Appends}
 use mathlib.Core.List.{IsPrefix}
 use Rattle.dsn_device.specs.UntilFailure.{TakesNoTime}
 use Rattle.dsn_device.specs.declared.drain.Drain.{Ghosts as Drain}
-use Rattle.dsn_lane.specs.Halves.{Identity}
+use Rattle.dsn_crew.specs.lane.Halves.{Identity}
 use Rattle.dsn_outcome.specs.Letter.{Letter}
 use Rattle.dsn_report.specs.Outgoing.{Delivered, IsOutbox, Outgoing}
 use Rattle.dsn_crew.specs.post.LetterSource.{is_marked}

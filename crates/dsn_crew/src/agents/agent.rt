@@ -9,7 +9,7 @@ use crate::agents::finished_agent::Finished;
 use crate::agents::lane_halves::LaneHalves;
 use crate::agents::unanswered::Unanswered;
 use crate::agents::unheard::{Unheard, say_bye};
-use dsn_lane::{LaneGone, LaneIn, LaneOut};
+use crate::lane::{LaneGone, LaneIn, LaneOut};
 use dsn_outcome::{Answer, Body, Request};
 use std::marker::Model;
 use std::sync::Wait;

@@ -3,7 +3,7 @@ ghost use Rattle.std.specs.Prelude.{◌≡◌, ◌+◌, length};
 ghost use Rattle.dsn_crew.specs.agents.Agent.{AreHalves, IsFinished};
 
 use crate::agents::lane_halves::LaneHalves;
-use dsn_lane::{LaneIn, LaneOut};
+use crate::lane::{LaneIn, LaneOut};
 use dsn_outcome::{Answer, Request};
 use std::marker::Model;
 

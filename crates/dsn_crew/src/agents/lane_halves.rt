@@ -1,11 +1,11 @@
 //! The two halves by which an agent asks and is answered.
 ghost use Rattle.std.specs.Prelude.{◌≡◌, ◌<◌, ◌+◌, [], length};
-ghost use Rattle.dsn_lane.specs.Lane.{most_sent};
+ghost use Rattle.dsn_crew.specs.lane.Lane.{most_sent};
 ghost use Rattle.dsn_outcome.specs.Body.{body_of};
 ghost use Rattle.dsn_crew.specs.agents.Agent.{AreHalves, IsExchange};
 
 use crate::agents::unanswered::Unanswered;
-use dsn_lane::{LaneIn, LaneOut};
+use crate::lane::{LaneIn, LaneOut};
 use dsn_outcome::{Answer, Body, Request};
 use std::marker::Model;
 use std::sync::Wait;

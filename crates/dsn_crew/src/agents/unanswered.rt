@@ -1,5 +1,5 @@
 //! A body that has no answer.
-use dsn_lane::LaneGone;
+use crate::lane::LaneGone;
 use dsn_outcome::Body;
 
 /// A body that has no answer, since the collector's side of a lane is gone.

@@ -1,6 +1,6 @@
 //! A goodbye, and why it was not heard.
 ghost use Rattle.std.specs.Prelude.{◌≡◌, ◌<◌, length, IfErr, IfOk};
-ghost use Rattle.dsn_lane.specs.Lane.{most_sent};
+ghost use Rattle.dsn_crew.specs.lane.Lane.{most_sent};
 ghost use Rattle.dsn_outcome.specs.declared.answer.Reply.TheVariants.{Gone};
 ghost use Rattle.dsn_outcome.specs.Request.{Bye};
 ghost use Rattle.dsn_crew.specs.agents.Agent.{IsFaultOf, IsFinished, Stays, after_reply, was_unsent};
@@ -9,7 +9,7 @@ use crate::agents::ask_fault::AskFault;
 use crate::agents::finished_agent::Finished;
 use crate::agents::lane_halves::LaneHalves;
 use crate::agents::unanswered::Unanswered;
-use dsn_lane::LaneGone;
+use crate::lane::LaneGone;
 use dsn_outcome::{Body, Reply};
 use std::sync::Wait;
 

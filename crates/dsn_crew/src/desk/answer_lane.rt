@@ -1,9 +1,9 @@
 //! The collector's side of one agent's answer lane.
 ghost use Rattle.std.specs.Prelude.{◌≡◌, ◌<◌, [], ◌∷◌, is_ok, length, OnOk, OnErr, vec_capacity, ◌≤◌};
-ghost use Rattle.dsn_lane.specs.Lane.{most_sent};
+ghost use Rattle.dsn_crew.specs.lane.Lane.{most_sent};
 ghost use Rattle.dsn_crew.specs.desk.Desk.{answered_more};
 
-use dsn_lane::{LaneGone, LaneIn};
+use crate::lane::{LaneGone, LaneIn};
 use dsn_outcome::Answer;
 use std::marker::Model;
 use std::sync::Wait;
@@ -17,7 +17,7 @@ pub(crate) struct AnswerLane {
 
 impl Model for AnswerLane {
     ghost use Rattle.std.specs.Prelude.{◌≡◌, ◌≤◌, [], vec_capacity};
-    ghost use Rattle.dsn_lane.specs.Halves.{Half};
+    ghost use Rattle.dsn_crew.specs.lane.Halves.{Half};
     ghost use Rattle.dsn_outcome.specs.declared.answer.Answer.{Answer};
 
     ghost Value = { Half Answer };

@@ -1,8 +1,8 @@
 //! The collector of a crew.
 ghost use Rattle.std.specs.Prelude.{◌≡◌, ◌≢◌, ◌+◌, ◌^◌, ◌<◌, ◌≤◌, ℕ, List, false, true, [], is_err, is_ok, length, IfErr, OnOk, vec_capacity};
 ghost use Rattle.std.specs.List.{slice_index_or};
-ghost use Rattle.dsn_lane.specs.Halves.{Half};
-ghost use Rattle.dsn_lane.specs.Lane.{most_agents, most_sent};
+ghost use Rattle.dsn_crew.specs.lane.Halves.{Half};
+ghost use Rattle.dsn_crew.specs.lane.Lane.{most_agents, most_sent};
 ghost use Rattle.dsn_outcome.specs.History.{Exchange};
 ghost use Rattle.dsn_outcome.specs.declared.answer.Answer.{Answer};
 ghost use Rattle.dsn_crew.specs.desk.Open.{AreLines};
@@ -14,9 +14,9 @@ use crate::desk::desk_fault::DeskFault;
 use crate::desk::intake::Intake;
 use crate::desk::returned_letter::{ReturnedLetter, offer};
 use crate::desk::stop_cause::StopCause;
+use crate::lane::{LaneGone, LaneIn};
 use crate::post::Sink;
 use dsn_book::{Book, Keeper, Step};
-use dsn_lane::{LaneGone, LaneIn};
 use dsn_outcome::{Answer, Letter, Request};
 use std::marker::Model;
 use std::snapshot::Snapshot;

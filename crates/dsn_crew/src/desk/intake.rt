@@ -3,14 +3,14 @@
 ghost use Rattle.std.specs.Prelude.{◌≡◌, ◌≢◌, ◌+◌, ◌^◌, ◌<◌, ◌≤◌, ℕ, List, [], ◌∷◌, ◌++◌, ◌==◌, take, length, All, IfErr, OnOk, OnErr};
 ghost use Rattle.std.specs.VecDeque.{deque_capacity};
 ghost use Rattle.dsn_book.specs.Keeper.{MayCrash};
-ghost use Rattle.dsn_lane.specs.Lane.{IsNumbered};
+ghost use Rattle.dsn_crew.specs.lane.Lane.{IsNumbered};
 ghost use Rattle.dsn_outcome.specs.Agents.{from_agent};
 ghost use Rattle.dsn_outcome.specs.History.{Exchange};
 ghost use Rattle.dsn_outcome.specs.Request.{Request};
 ghost use Rattle.dsn_crew.specs.desk.Intake.{goodbyes, most_taken, most_together, taken_request};
 
+use crate::lane::{LaneGone, LaneOut};
 use dsn_book::{Keeper, NotKept};
-use dsn_lane::{LaneGone, LaneOut};
 use dsn_outcome::Request;
 use std::collections::VecDeque;
 use std::marker::Model;

@@ -1,6 +1,6 @@
 //! A crew, from its first step on.
 ghost use Rattle.std.specs.Prelude.{◌≡◌, ◌^◌, ◌<◌, ◌≤◌, ◌↔◌, ◌⊎◌, List, [], IfOk, IfErr};
-ghost use Rattle.dsn_lane.specs.Lane.{most_agents};
+ghost use Rattle.dsn_crew.specs.lane.Lane.{most_agents};
 ghost use Rattle.dsn_outcome.specs.History.{Exchange};
 ghost use Rattle.dsn_crew.specs.desk.Desk.{BeginsWith};
 ghost use Rattle.dsn_crew.specs.desk.Open.{IsLine, IsOpened, IsOpenedEmpty, opened_agent};
@@ -10,8 +10,8 @@ use crate::desk::answer_lane::AnswerLane;
 use crate::desk::crew_open_fault::CrewOpenFault;
 use crate::desk::desk::Desk;
 use crate::desk::intake::{Intake, MOST_TOGETHER};
+use crate::lane::{LaneIn, open_lane};
 use dsn_book::{Book, Keeper, Limits};
-use dsn_lane::{LaneIn, open_lane};
 use dsn_outcome::{NoMemory, Request};
 use std::alloc::Global;
 use std::collections::VecDeque;

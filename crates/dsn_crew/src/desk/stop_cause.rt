@@ -4,8 +4,8 @@ ghost use Rattle.dsn_crew.specs.Breach.{stop_cause};
 
 use crate::crew_cause::CrewCause;
 use crate::desk::returned_letter::Refused;
+use crate::lane::LaneGone;
 use dsn_book::NotKept;
-use dsn_lane::LaneGone;
 
 /// Why a collector has failed.
 #[derive(Clone, Copy, Debug, PartialEq, Eq)]

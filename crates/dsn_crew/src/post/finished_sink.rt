@@ -3,9 +3,9 @@ ghost use Rattle.std.specs.Prelude.{◌≡◌, ◌≤◌, ◌+◌, ◌↔◌, tr
 ghost use mathlib.Core.List.{IsPrefix};
 ghost use Rattle.dsn_crew.specs.post.Parcel.{letters_of, parcels_of};
 
+use crate::lane::{LaneIn, close_lane};
 use crate::post::letter_source::LetterSource;
 use crate::post::parcel::Parcel;
-use dsn_lane::{LaneIn, close_lane};
 use std::marker::Model;
 use std::sync::Wait;
 

@@ -2,9 +2,9 @@
 ghost use Rattle.std.specs.Prelude.{◌≡◌, false, [], IfOk};
 ghost use Rattle.dsn_crew.specs.post.LetterSink.{letters_waiting};
 
+use crate::lane::open_lane;
 use crate::post::letter_sink::LetterSink;
 use crate::post::letter_source::LetterSource;
-use dsn_lane::open_lane;
 use dsn_outcome::NoMemory;
 use std::alloc::Global;
 use std::sync::Wait;

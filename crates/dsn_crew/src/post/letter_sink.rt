@@ -1,10 +1,10 @@
 //! The collector's side of the lane of letters.
 ghost use Rattle.std.specs.Prelude.{◌≡◌, ◌≤◌, [], vec_capacity};
 
+use crate::lane::LaneIn;
 use crate::post::finished_sink::FinishedSink;
 use crate::post::parcel::Parcel;
 use crate::post::sink::Sink;
-use dsn_lane::LaneIn;
 use dsn_outcome::Letter;
 use std::marker::Model;
 use std::sync::Wait;
@@ -22,7 +22,7 @@ pub struct LetterSink {
 
 impl Model for LetterSink {
     ghost use Rattle.std.specs.Prelude.{◌≡◌, ◌<◌, ◌≤◌, false, [], length, vec_capacity};
-    ghost use Rattle.dsn_lane.specs.Lane.{most_sent};
+    ghost use Rattle.dsn_crew.specs.lane.Lane.{most_sent};
     ghost use Rattle.dsn_crew.specs.post.LetterSink.{LetterSink};
     ghost use Rattle.dsn_crew.specs.post.Parcel.{letters_of, parcels_of};
 

@@ -1,11 +1,11 @@
 //! The poster's side of the lane of letters.
 ghost use Rattle.std.specs.Prelude.{◌≡◌, ◌≤◌, OnOk, false, [], length};
-ghost use Rattle.dsn_lane.specs.Lane.{most_sent};
+ghost use Rattle.dsn_crew.specs.lane.Lane.{most_sent};
 ghost use Rattle.dsn_crew.specs.post.LetterSource.{HasTaken};
 
+use crate::lane::LaneOut;
 use crate::post::letters_end::LettersEnd;
 use crate::post::parcel::Parcel;
-use dsn_lane::LaneOut;
 use dsn_outcome::Letter;
 use std::marker::Model;
 use std::sync::Wait;

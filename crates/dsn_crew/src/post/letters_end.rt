@@ -2,7 +2,7 @@
 ghost use Rattle.std.specs.Prelude.{◌≡◌};
 ghost use Rattle.dsn_crew.specs.post.LetterSource.{lane_lost};
 
-use dsn_lane::LaneGone;
+use crate::lane::LaneGone;
 
 /// Why no more letters come to a poster.
 #[derive(Clone, Copy, Debug, Drop, PartialEq, Eq)]

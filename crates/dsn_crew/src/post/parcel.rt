@@ -14,7 +14,7 @@ pub(super) struct Parcel {
 
 impl Model for Parcel {
     ghost use Rattle.std.specs.Prelude.{◌<◌, IsSome};
-    ghost use Rattle.dsn_lane.specs.Lane.{most_sent};
+    ghost use Rattle.dsn_crew.specs.lane.Lane.{most_sent};
     ghost use Rattle.dsn_crew.specs.post.Parcel.{Parcel};
 
     ghost Value = { Parcel };

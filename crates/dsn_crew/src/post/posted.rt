@@ -1,5 +1,5 @@
 //! What became of the letters of a lane, and of the outbox.
-use dsn_lane::LaneGone;
+use crate::lane::LaneGone;
 use dsn_outcome::Letters;
 
 /// An outbox at its end, once all its letters were sent and its poster has ended.

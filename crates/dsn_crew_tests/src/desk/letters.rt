@@ -2,8 +2,7 @@
 use super::bodies::{append, flush};
 use crate::assert_same::same;
 use dsn_book::Limits;
-use dsn_crew::{Agent, Desk, DeskFault, Sink, open_crew};
-use dsn_lane::LaneOut;
+use dsn_crew::{Agent, Desk, DeskFault, LaneOut, Sink, open_crew};
 use dsn_outcome::{Answer, Body, Letter, Request};
 use std::alloc::Global;
 use std::sync::Wait;

@@ -2,9 +2,8 @@
 use crate::calls::asked::{append, flush};
 use crate::calls::begin;
 use dsn_book::Limits;
-use dsn_crew::{Agent, Desk, Sink, open_crew};
+use dsn_crew::{Agent, Desk, LaneOut, Sink, open_crew};
 use dsn_device::Plain;
-use dsn_lane::LaneOut;
 use dsn_outcome::{Answer, Body, Letter, Letters, Request};
 use dsn_report::{Poster, Site};
 use std::alloc::Global;

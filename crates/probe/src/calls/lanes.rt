@@ -1,8 +1,7 @@
 //! Lanes, the letter lane, and a crew before it begins.
 use crate::calls::begin;
 use dsn_book::Limits;
-use dsn_crew::{open_crew, open_post};
-use dsn_lane::open_lane;
+use dsn_crew::{open_crew, open_lane, open_post};
 use dsn_outcome::Request;
 use std::alloc::Global;
 use std::sync::Wait;

@@ -1,6 +1,6 @@
 -- What the threads, the collector and the poster came to is put together.
 use Rattle.std.proofs.Common.{rules, ℕ, ap, sym, ◌∙◌, subst, arith}
-use Rattle.dsn_lane.specs.Halves.{Identity}
+use Rattle.dsn_crew.specs.lane.Halves.{Identity}
 use Rattle.dsn_crew.specs.post.LetterSink.{LetterSink}
 use Rattle.dsn_crew.specs.post.Parcel.{Parcel}
 use Rattle.dsn_crew.specs.post.Posting.{IsPosted, Posts}

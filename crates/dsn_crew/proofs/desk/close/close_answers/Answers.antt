@@ -1,7 +1,7 @@
 -- An answer lane has one sending half, so its agent got the first of what that half sent.
 use Rattle.std.proofs.Common.{ap, subst, ◌∙◌, ◌∷◌, ◌++◌, [], List}
 use mathlib.Core.List.{IsPrefix}
-use Rattle.dsn_lane.specs.Halves.{Half}
+use Rattle.dsn_crew.specs.lane.Halves.{Half}
 use Rattle.dsn_outcome.specs.declared.answer.Answer.{Answer}
 use Rattle.dsn_crew.proofs.desk.CloseLemmas.{one_prefix}
 use Rattle.dsn_crew.proofs.desk.close.close_answers.Goals as goal

@@ -4,7 +4,7 @@ use Rattle.std.proofs.lemmas.List.{length-map}
 use Rattle.std.proofs.lemmas.List.Elements.{All-head, All-tail}
 use mathlib.Core.List.{IsPrefix}
 use Rattle.std.specs.Vec.Iter.{into_iter_items}
-use Rattle.dsn_lane.specs.Halves.{Half, Out}
+use Rattle.dsn_crew.specs.lane.Halves.{Half, Out}
 use Rattle.dsn_outcome.specs.Agents.{from_agent}
 use Rattle.dsn_outcome.specs.History.{answers_to}
 use Rattle.dsn_outcome.specs.declared.answer.Answer.{Answer}

@@ -1,7 +1,7 @@
 -- Some agents' lanes are closed; those that are left stand beside the halves that answer them.
 use Rattle.std.proofs.Common.{◌≡◌, List, ◌+◌, ◌≤◌, All, ◌++◌, length, map, vec_capacity}
 use Rattle.std.specs.Vec.Iter.{into_iter_items, into_iter_len}
-use Rattle.dsn_lane.specs.Halves.{Half}
+use Rattle.dsn_crew.specs.lane.Halves.{Half}
 use Rattle.dsn_outcome.specs.History.{Exchange, answers_to}
 use Rattle.dsn_outcome.specs.declared.answer.Answer.{Answer}
 use Rattle.dsn_crew.specs.agents.Agent.{LaneHalves, IsFinished}

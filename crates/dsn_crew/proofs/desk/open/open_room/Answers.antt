@@ -1,6 +1,6 @@
 -- Each agent gets the next half of the request lane, and an answer lane of its own.
 use Rattle.std.proofs.Common.{rules, ℕ, ap, sym, subst, ◌∙◌, arith}
-use Rattle.dsn_lane.specs.Halves.{Half, Identity}
+use Rattle.dsn_crew.specs.lane.Halves.{Half, Identity}
 use Rattle.dsn_outcome.specs.Request.{Request}
 use Rattle.dsn_crew.specs.desk.Open.{IsLine, opened_agent}
 use Rattle.dsn_crew.proofs.OpenLemmas.{crew_push, lines_push, next_half}

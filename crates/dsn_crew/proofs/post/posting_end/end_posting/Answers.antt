@@ -1,7 +1,7 @@
 -- The letters that came were handed on, and those that are unsent are the last of them.
 use Rattle.std.proofs.Common.{rules, ap, length, ◌<◌, ◌∙◌, subst, arith}
 use mathlib.Core.List.{IsPrefix}
-use Rattle.dsn_lane.specs.Halves.{Identity}
+use Rattle.dsn_crew.specs.lane.Halves.{Identity}
 use Rattle.dsn_crew.specs.post.Parcel.{Parcel}
 use Rattle.dsn_crew.proofs.post.PostingLemmas.{left_within, none_lost, whole_exactly}
 use Rattle.dsn_crew.proofs.post.posting_end.end_posting.Goals as goal

@@ -8,7 +8,7 @@ use denote.Param.Send.{IsSend, param_send, param_sync, arg_send, shr_send, senda
 use Rattle.std.proofs.Crossing.{crosses}
 use Rattle.std.proofs.option.Option.TheSendSync as option
 use Rattle.std.specs.contracts.alloc.Global as Global
-use Rattle.dsn_lane.proofs.SendLemmas.{closure_send}
+use Rattle.dsn_crew.proofs.LaneSendLemmas.{closure_send}
 use Rattle.dsn_crew.proofs.SendLemmas.{agent_send, finished_send}
 use Rattle.dsn_crew.specs.contracts.agents.agent.Agent as Agent
 use Rattle.dsn_crew_tests.specs.contracts.desk.limit.Seen as Seen

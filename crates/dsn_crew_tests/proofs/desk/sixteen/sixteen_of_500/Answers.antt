@@ -7,7 +7,7 @@ use denote.Param.{param}
 use denote.Param.Send.{IsSend, param_send, param_sync, arg_send, shr_send, sendable}
 use Rattle.std.proofs.Crossing.{crosses}
 use Rattle.std.specs.contracts.alloc.Global as Global
-use Rattle.dsn_lane.proofs.SendLemmas.{closure_send}
+use Rattle.dsn_crew.proofs.LaneSendLemmas.{closure_send}
 use Rattle.dsn_crew.proofs.SendLemmas.{agent_send}
 use Rattle.dsn_crew_tests.specs.contracts.desk.sixteen.Jobs as Jobs
 use Rattle.dsn_crew_tests.proofs.desk.sixteen.sixteen_of_500.Goals as goal

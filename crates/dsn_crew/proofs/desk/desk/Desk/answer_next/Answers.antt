@@ -1,7 +1,7 @@
 -- An answer that is sent is the one that the history defines, and the collector stands for one request more.
 use Rattle.std.proofs.Common.{rules, ◌≡◌, Bool, false, true, inl, length, refl, ap, sym, ◌∙◌, subst, true≢false, arith}
 use Rattle.std.specs.Prelude.{None, is_ok, is_some}
-use Rattle.dsn_lane.specs.Halves.{Half, Out}
+use Rattle.dsn_crew.specs.lane.Halves.{Half, Out}
 use Rattle.dsn_outcome.specs.declared.answer.Answer.{Answer}
 use Rattle.dsn_outcome.specs.History.{letter_of}
 use Rattle.dsn_crew.proofs.desk.DeskLemmas.{IsAsked, first_half, keeps, line_agent, line_number, none_stopped, seen_going, sent_none, sent_places, sent_room, small, within}

@@ -1,7 +1,7 @@
 -- What was taken together is behind, kept or refused.
 use Rattle.std.proofs.Common.{rules, ◌≡◌, ℕ, ◌+◌, ◌<◌, [], ◌++◌, false, true, length, take, refl, ap, sym, ◌∙◌, subst, true≢false}
 use Rattle.std.specs.Prelude.{None, Some, is_some}
-use Rattle.dsn_lane.specs.Halves.{Out}
+use Rattle.dsn_crew.specs.lane.Halves.{Out}
 use Rattle.dsn_crew.proofs.desk.DeskLemmas.{none_stopped, seen_going}
 use Rattle.dsn_crew.proofs.desk.TakeLemmas.{has_idle, kept_tied, left_of, refused_tied, taken_desk, unmoved_tied}
 use Rattle.dsn_crew.specs.desk.Desk.{AreLeft, Desk, IsDesk, desk_seen}

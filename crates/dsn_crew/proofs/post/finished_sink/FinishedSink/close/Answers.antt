@@ -1,6 +1,6 @@
 -- The lane has one sending half, so what was taken is the first of what that half sent.
 use Rattle.std.proofs.Common.{arith, ap, ◌∙◌, ◌∷◌, ◌++◌, [], List}
-use Rattle.dsn_lane.specs.Halves.{Half, Identity, Out}
+use Rattle.dsn_crew.specs.lane.Halves.{Half, Identity, Out}
 use Rattle.dsn_crew.specs.post.LetterSink.{FinishedSink}
 use Rattle.dsn_crew.specs.post.LetterSource.{taken_parcels}
 use Rattle.dsn_crew.specs.post.Parcel.{Parcel, parcels_of}

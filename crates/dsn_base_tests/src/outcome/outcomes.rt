@@ -98,7 +98,7 @@ fn with_texts<'a>(
     address: &'a [u8],
     name: &'a [u8],
     remark: &'a [u8],
-    kind: &'a [u8],
+    types: Types<'a>,
 ) -> Parts<'a> {
     Parts {
         recipient: address,
@@ -110,11 +110,7 @@ fn with_texts<'a>(
         reason: remark,
         last_attempt: None,
         retry_until: None,
-        types: Types {
-            recipient: kind,
-            original: kind,
-            diagnostic: kind,
-        },
+        types,
         extensions: b"",
     }
 }
@@ -125,9 +121,14 @@ fn an_outcome_of_the_longest_texts_is_kept(rt: HostRuntime) -> Result<(), Fail> 
     let name = text_of(rt.alloc(), 255)?;
     let remark = text_of(rt.alloc(), 800)?;
     let kind = text_of(rt.alloc(), 32)?;
-    let longest = with_texts(&address, &name, &remark, &kind);
+    let types = Types {
+        recipient: &kind,
+        original: &kind,
+        diagnostic: &kind,
+    };
+    let longest = with_texts(&address, &name, &remark, types);
     let node = Outcome::new(rt.alloc(), Service::Bounce, longest)?;
-    let want = with_texts(&address, &name, &remark, &kind);
+    let want = with_texts(&address, &name, &remark, types);
     expect_texts(&rt, node.outcome(), &want);
     Ok(())
 }
@@ -219,8 +220,17 @@ fn status_at(faults: [OutcomeFault; 2]) -> &'static [u8] {
     text_at(faults, OutcomeFault::BadStatus, b"5.01.1", class)
 }
 
-/// Fields with these two faults.
-fn spoiled(faults: [OutcomeFault; 2], long: &[u8]) -> Parts<'_> {
+/// Types with these two faults.
+fn spoiled_types(faults: [OutcomeFault; 2]) -> Types<'static> {
+    Types {
+        recipient: text_at(faults, OutcomeFault::RecipientType, b"a;", b""),
+        original: text_at(faults, OutcomeFault::OriginalType, b"@", b"x400"),
+        diagnostic: text_at(faults, OutcomeFault::DiagnosticType, b"a b", b""),
+    }
+}
+
+/// Fields with these two faults, and these types.
+fn spoiled<'a>(faults: [OutcomeFault; 2], long: &'a [u8], types: Types<'a>) -> Parts<'a> {
     let [first, later] = faults;
     let is_bad = first == OutcomeFault::BadAction || later == OutcomeFault::BadAction;
     let is_retried = first == OutcomeFault::RetryUntil || later == OutcomeFault::RetryUntil;
@@ -248,11 +258,7 @@ fn spoiled(faults: [OutcomeFault; 2], long: &[u8]) -> Parts<'_> {
         } else {
             None
         },
-        types: Types {
-            recipient: text_at(faults, OutcomeFault::RecipientType, b"a;", b""),
-            original: text_at(faults, OutcomeFault::OriginalType, b"@", b"x400"),
-            diagnostic: text_at(faults, OutcomeFault::DiagnosticType, b"a b", b""),
-        },
+        types,
         extensions: text_at(faults, OutcomeFault::Extension, b"A: b\n", b"X-A: b\n"),
     }
 }
@@ -337,7 +343,8 @@ fn each_fault_comes_before_later_ones(rt: HostRuntime) -> Result<(), Fail> {
             if later.code() < first.code() {
                 continue;
             }
-            let parts = spoiled([first, later], long.as_slice());
+            let types = spoiled_types([first, later]);
+            let parts = spoiled([first, later], long.as_slice(), types);
             let fault = Outcome::new(alloc, Service::Bounce, parts).err();
             same(&rt, (later, fault), (later, Some(first)));
         }

@@ -1,6 +1,4 @@
 //! The way of a letter to the outbox: a lane of letters, and a poster on a thread of its own.
-#[cfg(test)]
-mod assert_same;
 mod finished_sink;
 mod letter_lane;
 mod letter_sink;
@@ -12,8 +10,6 @@ mod posting;
 mod posting_end;
 mod posting_start;
 mod sink;
-#[cfg(test)]
-mod tests;
 
 pub use letter_lane::open_post;
 pub use letter_sink::LetterSink;

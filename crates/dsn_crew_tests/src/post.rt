@@ -1,9 +1,10 @@
 //! Letters on their way from a collector's sink to the outbox.
 ghost use Rattle.std.specs.Prelude.{◌≡◌, None, IfOk, IsSome};
 
-use crate::post::assert_same::same;
-use crate::post::posting::post_all;
-use crate::post::{LetterSink, LettersEnd, Posted, Sink, end_posting, open_post, start_posting};
+use crate::assert_same::same;
+use dsn_crew::{
+    LetterSink, LettersEnd, Posted, Posting, Sink, end_posting, open_post, start_posting,
+};
 use dsn_device::Plain;
 use dsn_outcome::{
     Address, Chain, Draft, Key, Letter, Letters, Outcome, Parts, QueueId, RawHeader, Service,
@@ -220,13 +221,34 @@ fn outbox_fails_in_second_letter(rt: HostRuntime) -> Result<(), Fail> {
     Ok(())
 }
 
+/// What the poster's thread gives back where its lane is lost once these letters were handed on.
+fn lost_after<R: Threads + Wait + Sync>(
+    rt: &R,
+    alloc: Global,
+    ids: &[&[u8]],
+) -> Result<Posting<Plain<Full>>, Fail> {
+    let site = site(alloc)?;
+    let outbox = outbox(alloc, 10_000);
+    thread::scope(
+        thread::scope_env(),
+        rt,
+        move |scope| -> Result<Posting<Plain<Full>>, Fail> {
+            let (sink, source) = open_post(rt, alloc)?;
+            let outgoing = Outgoing::new(site, outbox);
+            let started = start_posting(scope, rt, outgoing, sink, source);
+            let Ok((mut sink, handle)) = started else {
+                return Err("no thread".into());
+            };
+            hand_all(rt, alloc, &mut sink, ids)?;
+            drop(sink);
+            Ok(handle.join(rt))
+        },
+    )
+}
+
 #[test]
 fn lane_lost_after_one_letter(rt: HostRuntime) -> Result<(), Fail> {
-    let (mut sink, source) = open_post(&rt, rt.alloc())?;
-    hand_all(&rt, rt.alloc(), &mut sink, &[b"K1".as_slice()])?;
-    drop(sink);
-    let outgoing = Outgoing::new(site(rt.alloc())?, outbox(rt.alloc(), 10_000));
-    let posting = post_all(&rt, outgoing, source);
+    let posting = lost_after(&rt, rt.alloc(), &[b"K1".as_slice()])?;
     same(&rt, posting.handed, 1);
     assert!(rt; posting.end != LettersEnd::Marked);
     Ok(())
@@ -234,10 +256,7 @@ fn lane_lost_after_one_letter(rt: HostRuntime) -> Result<(), Fail> {
 
 #[test]
 fn lane_lost_before_anything_came(rt: HostRuntime) -> Result<(), Fail> {
-    let (sink, source) = open_post(&rt, rt.alloc())?;
-    drop(sink);
-    let outgoing = Outgoing::new(site(rt.alloc())?, outbox(rt.alloc(), 1000));
-    let posting = post_all(&rt, outgoing, source);
+    let posting = lost_after(&rt, rt.alloc(), &[])?;
     same(&rt, posting.handed, 0);
     assert!(rt; posting.outgoing.into_outbox().into_inner().held.is_empty());
     Ok(())
@@ -250,13 +269,5 @@ fn sink_without_its_source_gets_its_letter_back(rt: HostRuntime) -> Result<(), F
     let back = sink.hand(&rt, letter(rt.alloc(), b"K1")?).err();
     let back = back.ok_or("the letter was sent")?;
     same(&rt, back.key().id.bytes(), b"K1".as_slice());
-    Ok(())
-}
-
-#[test]
-fn letters_that_wait_at_the_close_are_told(rt: HostRuntime) -> Result<(), Fail> {
-    let (mut sink, source) = open_post(&rt, rt.alloc())?;
-    hand_all(&rt, rt.alloc(), &mut sink, &[b"K1".as_slice()])?;
-    assert!(rt; !sink.mark(&rt).close(&rt, source));
     Ok(())
 }

@@ -1,7 +1,10 @@
 #!/usr/bin/env python3
 """What Postfix keeps of 85 messages, and the notices that its bounce(8) made of that (tests/postfix/files/): the program probe plans
-the notices of the same requests from the same logs and queue files. They go to the same addresses, tell of the same recipients with
-the same fields, and give back the same text or header; where Postfix made none, none is planned. What differs is named here."""
+the notices of the same requests from the same logs and queue files, and writes them. They go to the same addresses, tell of the same
+recipients with the same fields, and give back the same text or header; where Postfix made none, none is planned. What differs is
+named here."""
+import email
+import email.policy
 import email.utils
 import os
 import re
@@ -20,6 +23,12 @@ MANY = 100_000  # recipients of one alias
 LIFETIME = 5 * 24 * 3600  # seconds for which Postfix tries, as it stands in a warning
 # What can't be said here, so that Postfix's own service makes the notice: SMTPUTF8, and what `sendmail -bv` asks.
 UNSAID = {"utf8", "utf8-sender", "later-utf8", "asked-before"}
+# Why a notice that is planned is not written, so that Postfix's own service makes it.
+NO_ADDRESS = "the recipient is no address"
+NO_TEXT = {
+    "long-address": NO_ADDRESS, "newer-form-quoted": NO_ADDRESS, "quoted": NO_ADDRESS, "verp-quoted": "the address of the notice needs quotes",
+    "orcpt-utf8": "the original recipient is neither empty nor an address",
+}  # fmt: skip
 # A field of more than one record of the queue file: bounce(8) ends the header after the first of these records.
 CUT_BY_POSTFIX = {"long-words", "long-field"}
 
@@ -55,9 +64,8 @@ def date(seconds: int) -> bytes:
     return email.utils.formatdate(seconds).replace("-0000", "+0000 (UTC)").replace(", 0", ", ").encode()
 
 
-def told(record: bytes, kind: bytes, arrival: int) -> list[bytes]:
+def told(it: dict, kind: bytes, arrival: int) -> list[bytes]:
     """The lines in which bounce(8) tells of a record's recipient (bounce_notify_util.c)."""
-    it = fields_of(record)
     lines = [b"Final-Recipient: rfc822; " + it["recipient"]]
     if "dsn_orig_rcpt" in it:
         lines.append(b"Original-Recipient: " + it["dsn_orig_rcpt"])
@@ -100,12 +108,52 @@ def unquoted(address: bytes) -> bytes:
     return re.sub(rb"\\(.)", rb"\1", found[1]) + (found[2] or b"") if found else address
 
 
+def typed(line: bytes) -> bytes:
+    """A field's line with one space before each text that has a type before it, and a date without its comment."""
+    name, _, value = line.partition(b": ")
+    kind, semicolon, text = value.partition(b";")
+    value = kind.lower() + b"; " + text.strip() if semicolon and b" " not in kind else value.replace(b" (UTC)", b"")
+    return name + b": " + re.sub(rb", (\d) ", rb", 0\1 ", value)
+
+
+def as_written(record: bytes) -> dict:
+    """The fields of a record as a notice of ours has them: of a remark 800 bytes at most, each of which is printable, and a status
+    without zeros in front of its numbers."""
+    it = fields_of(record)
+    for name in ("diag_text", "reason"):
+        it[name] = bytes(byte if 32 <= byte < 127 else 63 for byte in it.get(name, b"")[:800])
+    return it | {"status": re.sub(rb"\b0+(?=\d)", b"", it["status"])}
+
+
+def written(text: bytes) -> tuple[list[bytes], list[list[bytes]], bytes]:
+    """The fields of the message and of each recipient in a notice of ours, and what it gives back."""
+    boundary = re.search(rb'boundary="([^"]*)"', text)[1]
+    _, _, status, *returned = text.split(b"\r\n--" + boundary)
+    groups = [it.split(b"\r\n") for it in status.partition(b"\r\n\r\n")[2].strip(b"\r\n").split(b"\r\n\r\n")]
+    return groups[0], groups[1:], returned[0].partition(b"\r\n\r\n")[2] if len(returned) > 1 else b""
+
+
+def compare_text(checks: Checks, what: str, message: dict, notice: dict, made: Made):
+    """Compares a notice that was written with the one that Postfix made, whose recipients are those of the records."""
+    if "text" not in notice:
+        checks.equal(f"{what}: why it has no text", notice["no-text"].decode(), NO_TEXT.get(what.split(",")[0]))
+        return
+    fields, recipients, back = written(notice["text"])
+    own = [it for it in made.message if it.startswith((b"X-Postfix", b"Arrival-Date", b"Original-Envelope-Id"))]
+    checks.equal(f"{what}: the fields of the message", sorted(it for it in fields if not it.startswith(b"Reporting-MTA")), sorted(map(typed, own)))
+    records = [b"\n" + it for it in re.findall(rb"(?:[^\n]+\n)+\n", notice["records"])]
+    told_there = [[typed(it) for it in told(as_written(record), notice["kind"], int(message["arrival"]))] for record in records]
+    told_here = [[typed(it) for it in group] for group in recipients]
+    checks.equal(f"{what}: the fields of the recipients", [sorted(map(words, it)) for it in told_here], [sorted(map(words, it)) for it in told_there])
+    checks.true(f"{what}: something is given back", bool(back) == bool(made.back))
+
+
 def compare(checks: Checks, what: str, case: str, message: dict, notice: dict, made: Made):
     """Compares a planned notice with the one that Postfix made."""
     arrival = int(message["arrival"])
     checks.equal(f"{what}: its address", notice["to"], made.to)
     records = [b"\n" + it for it in re.findall(rb"(?:[^\n]+\n)+\n", notice["records"])]
-    checks.equal(f"{what}: its recipients", [told(it, notice["kind"], arrival) for it in records], made.recipients)
+    checks.equal(f"{what}: its recipients", [told(fields_of(it), notice["kind"], arrival) for it in records], made.recipients)
     checks.equal(f"{what}: when the message came", date(arrival), made.said(b"Arrival-Date"))
     checks.equal(f"{what}: the envelope id", message["id"], made.said(b"Original-Envelope-Id"))
     back = notice.get("whole", notice.get("header"))
@@ -143,6 +191,7 @@ def main():
             checks.equal(f"{what}: how many notices", len(notices), len(made))
             for notice, other in zip(sorted(notices, key=lambda it: it["to"]), sorted(made, key=lambda it: it.to)):
                 compare(checks, what, case.name, message, notice, other)
+                compare_text(checks, what, message, notice, other)
                 count += 1
     checks.true(f"many notices were compared: {count}", count >= 80)
     of_one_alias(checks)

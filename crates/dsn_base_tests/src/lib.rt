@@ -1,5 +1,5 @@
-//! Tests of outcomes, of books and their limits, and of the journal, over what their crates make
-//! public: so they are proved without the proofs of these, and beside their wrong edits.
+//! Tests of books and their limits, of the journal, of lanes and of the post, over what their crates
+//! make public: so they are proved without the proofs of these, and beside their wrong edits.
 #![tactic(auto)]
 
 #[cfg(test)]
@@ -9,4 +9,6 @@ mod book;
 #[cfg(test)]
 mod journal;
 #[cfg(test)]
-mod outcome;
+mod lane;
+#[cfg(test)]
+mod post;

@@ -76,7 +76,7 @@ pub trait Keeper {
             × (result.answer.number ≡ request.number) }
         ensures answer { (t : List Exchange) (rest : List Request)
             → has self.old t (request ∷ rest)
-            → result.answer ≡ answer_of (exchange_of (limits self.old) t request) }
+            → result.answer ≡ answer_of t (exchange_of (limits self.old) t request) }
         ensures letter { (t : List Exchange) (rest : List Request)
             → has self.old t (request ∷ rest)
             → letters_in result.letter ≡ letter_of t (exchange_of (limits self.old) t request) }

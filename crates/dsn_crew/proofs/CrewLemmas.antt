@@ -18,7 +18,7 @@ use Rattle.dsn_device.specs.declared.drain.Drain.{Ghosts as Drain}
 use Rattle.dsn_frame.specs.bodies.Spoken.{reply_of}
 use Rattle.dsn_crew.specs.lane.Halves.{Half, Identity}
 use Rattle.dsn_outcome.specs.Agents.{from_agent}
-use Rattle.dsn_outcome.specs.History.{Limits, Exchange, answers_to, history_after, history_of, letters_after, sealed_letters}
+use Rattle.dsn_outcome.specs.History.{Limits, Exchange, answers_to, history_after, history_of, letters_after, plain, sealed_letters}
 use Rattle.dsn_outcome.specs.Letter.{Letter}
 use Rattle.dsn_outcome.specs.Request.{Request, Bye}
 use Rattle.dsn_outcome.specs.declared.answer.Answer.{Answer}
@@ -69,14 +69,14 @@ use Rattle.dsn_crew.proofs.StartServingLemmas.{are-served, starts-length}
 
 -- an agent at the end of its service, and after its goodbye
 abbrev pub last_halves : Agent → List Session → Bool → LaneHalves
-last_halves agent sessions lost = after_reply (after_requests agent (bodies_of sessions) (flat_map reply_of (answers_of sessions)) lost).halves Bye Gone
+last_halves agent sessions lost = after_reply (after_requests agent (bodies_of sessions) (flat_map reply_of (answers_of sessions)) lost).halves Bye (plain Gone)
 
 module _ (limits : Limits) (lane : Identity Request) (half : Half Answer) (conns : Option (List Conn)) (may_give : List Given → Type 0) (line : AgentLine) (halves : LaneHalves) (is : IsPortServed conns may_give (opened_agent limits.requests lane half) (record { line = line; finished = Some halves })) where
   abbrev sessions : List Session
   sessions = is.served.sessions
 
   halves_are : halves ≡ last_halves (opened_agent limits.requests lane half) sessions is.served.lost
-  halves_are = is.goodbye.1 ∙ ap (λ (agent : Agent). after_reply agent.halves Bye Gone) is.served.asked.agent_is
+  halves_are = is.goodbye.1 ∙ ap (λ (agent : Agent). after_reply agent.halves Bye (plain Gone)) is.served.asked.agent_is
 
   -- it has the place at which it was opened
   pub same_place : place_of halves ≡ place_at lane half
@@ -102,7 +102,7 @@ module _ (limits : Limits) (lane : Identity Request) (half : Half Answer) (conns
         gave = subst (HasGiven may_give line) is.goodbye.0 is.served.gave;
         heard = is.served.heard is.goodbye.0;
         sent = ap (λ (e : LaneHalves). e.requests.sent) halves_are ∙ (λ i. requests_from (number i) 0 (bodies_of sessions) ++ numbered_request (number i) (last_number i) Bye ∷ []);
-        got = ap (λ (e : LaneHalves). e.answers.taken) halves_are ∙ (λ i. answers_from (number i) 0 (flat_map reply_of (answers_of sessions)) ++ numbered_answer (number i) (last_number i) Gone ∷ []);
+        got = ap (λ (e : LaneHalves). e.answers.taken) halves_are ∙ (λ i. answers_from (number i) 0 (flat_map reply_of (answers_of sessions)) ++ numbered_answer (number i) (last_number i) (plain Gone) ∷ []);
         requests = asked;
         connections = is.served.connections;
         faults = is.served.faults;

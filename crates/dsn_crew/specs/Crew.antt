@@ -10,7 +10,7 @@ use Rattle.dsn_text.specs.FaultCode.{agent_count_code, crew_refused_code, lane_l
 use Rattle.dsn_frame.specs.bodies.Spoken.{reply_of}
 use Rattle.dsn_crew.specs.lane.Lane.{IsNumbered, most_agents}
 use Rattle.dsn_outcome.specs.Agents.{from_agent}
-use Rattle.dsn_outcome.specs.History.{Limits, Exchange, answers_to, history_after, history_of, sealed_letters}
+use Rattle.dsn_outcome.specs.History.{Limits, Exchange, answers_to, history_after, history_of, plain, sealed_letters}
 use Rattle.dsn_outcome.specs.Letter.{Letter}
 use Rattle.dsn_outcome.specs.Request.{Request, Bye}
 use Rattle.dsn_outcome.specs.declared.answer.Reply.TheVariants.{Gone}
@@ -77,7 +77,7 @@ pub record IsAgentAccount (conns : Option (List Conn)) (may_give : List Given �
   pub got :
       halves.answers.taken
       ≡ answers_from agent 0 (flat_map reply_of (answers_of sessions))
-      ++ numbered_answer agent line.requests Gone ∷ []
+      ++ numbered_answer agent line.requests (plain Gone) ∷ []
   pub requests : line.requests ≡ length (bodies_of sessions)
   pub connections : line.connections ≡ length sessions
   pub faults : line.faults ≡ faults_of sessions

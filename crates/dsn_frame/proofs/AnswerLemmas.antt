@@ -1,7 +1,7 @@
--- Answers: the frames of answers, one answer more.
-use Rattle.std.proofs.Common.{◌≡◌, ℕ, suc, ◌+◌, List, [], ◌∷◌, ◌++◌, length, append_assoc, arith}
+-- Answers: the frames of answers, one answer more, and what frames are told.
+use Rattle.std.proofs.Common.{◌≡◌, ℕ, suc, ◌+◌, List, [], ◌∷◌, ◌++◌, length, refl, ap, append_assoc, arith}
 use Rattle.std.proofs.lemmas.List.{append-nil}
-use Rattle.dsn_frame.specs.bodies.Spoken.{answer_bytes, answer_frames_from}
+use Rattle.dsn_frame.specs.bodies.Spoken.{answer_bytes, answer_frames_from, told_each, told_to}
 use Rattle.dsn_frame.specs.declared.bodies.spoken.Spoken.{Spoken}
 
 -- one more answer is one more frame, at the end
@@ -14,3 +14,28 @@ answer_frames_from-more place (first ∷ rest) answer =
     let at : place + suc (length rest) ≡ suc place + length rest = omega arith in
     let more = answer_frames_from-more (suc place) rest answer in
     rw (more, at) (simp append_assoc)
+
+-- ---- what frames are told
+
+-- one more frame that is answered is told its own answer
+pub told-more : (frames : List (List ℕ)) (answers : List Spoken) (bytes : List ℕ) (answer : Spoken) → length frames ≡ length answers → told_each (frames ++ bytes ∷ []) (answers ++ answer ∷ []) ≡ told_each frames answers ++ told_to bytes answer ∷ []
+told-more [] [] bytes answer as_many = refl
+told-more [] (first ∷ answers) bytes answer as_many = absurd (omega (arith, as_many))
+told-more (frame ∷ frames) [] bytes answer as_many = absurd (omega (arith, as_many))
+told-more (frame ∷ frames) (first ∷ answers) bytes answer as_many =
+    ap (λ (said : List Spoken). told_to frame first ∷ said) (told-more frames answers bytes answer (omega (arith, as_many)))
+
+-- one more that isn't answered is told nothing
+pub told-unanswered : (frames : List (List ℕ)) (answers : List Spoken) (bytes : List ℕ) → length frames ≡ length answers → told_each (frames ++ bytes ∷ []) answers ≡ told_each frames answers
+told-unanswered [] [] bytes as_many = refl
+told-unanswered [] (first ∷ answers) bytes as_many = absurd (omega (arith, as_many))
+told-unanswered (frame ∷ frames) [] bytes as_many = absurd (omega (arith, as_many))
+told-unanswered (frame ∷ frames) (first ∷ answers) bytes as_many =
+    ap (λ (said : List Spoken). told_to frame first ∷ said) (told-unanswered frames answers bytes (omega (arith, as_many)))
+
+-- frames that are all answered are told as much
+pub told-length : (frames : List (List ℕ)) (answers : List Spoken) → length frames ≡ length answers → length (told_each frames answers) ≡ length answers
+told-length [] [] as_many = refl
+told-length [] (first ∷ answers) as_many = absurd (omega (arith, as_many))
+told-length (frame ∷ frames) [] as_many = refl
+told-length (frame ∷ frames) (first ∷ answers) as_many = ap suc (told-length frames answers (omega (arith, as_many)))

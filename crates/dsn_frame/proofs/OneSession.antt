@@ -7,7 +7,7 @@ use Rattle.std.specs.Option.{option_map, option_map_or}
 use Rattle.std.proofs.lemmas.List.{append-nil, append_cancel_left, length-append, same_from_push}
 use Rattle.std.proofs.lemmas.List.Prefix.{front_rest}
 use Rattle.dsn_outcome.specs.Request.{Body}
-use Rattle.dsn_outcome.specs.declared.answer.Reply.{Reply}
+use Rattle.dsn_outcome.specs.declared.answer.Replied.{Replied}
 use Rattle.dsn_frame.specs.bodies.BodyFault.{body_fault_code}
 use Rattle.dsn_frame.specs.bodies.FrameBody.{frame, IsFrameBody}
 use Rattle.dsn_frame.specs.bodies.Request.{Encodes, first_body_fault}
@@ -35,7 +35,7 @@ data Comes (limit accepted place : ℕ) (bytes : List ℕ) : List Body → List 
   is_faulty : (fault : BodyFault) → first_body_fault bytes ≡ Some fault → Comes limit accepted place bytes [] (spoken.Refused (body_fault_code fault) ∷ []) None
   is_out_of_turn : (number : ℕ) (body : Body) → Encodes bytes number body → number ≢ place → Comes limit accepted place bytes [] (spoken.Refused 46 ∷ []) (Some 46)
   is_used_up : (body : Body) → Encodes bytes place body → accepted ≡ limit → Comes limit accepted place bytes [] (spoken.Refused 44 ∷ []) None
-  is_asked : (body : Body) (reply : Reply) → Encodes bytes place body → accepted < limit → Comes limit accepted place bytes (body ∷ []) (spoken.Reply reply ∷ []) None
+  is_asked : (body : Body) (reply : Replied) → Encodes bytes place body → accepted < limit → Comes limit accepted place bytes (body ∷ []) (spoken.Reply reply ∷ []) None
 
 comes : (medium : Medium) (limit accepted place : ℕ) (bytes : List ℕ) (more : List Body) (said : List Spoken) (end : Option ℕ) → Takes medium limit accepted place bytes more said end
     → AllByRecursion IsDecided said → is_outside_end end ≡ false → Comes limit accepted place bytes more said end

@@ -1,8 +1,9 @@
 -- Worked examples of sessions, made by the definitions.
 use Rattle.std.proofs.Common.{◌≡◌, ℕ, true, false, List, [], ◌∷◌, ◌++◌, map, refl, lit<, lit≤}
 use Rattle.std.specs.Prelude.{◌≢◌, Some, None}
+use Rattle.dsn_outcome.specs.History.{plain}
 use Rattle.dsn_outcome.specs.declared.answer.Reply.TheVariants.{Closed, Logged, Sealed}
-use Rattle.dsn_outcome.specs.declared.answer.Reply.{Reply as ReplyOf}
+use Rattle.dsn_outcome.specs.declared.answer.Replied.{Replied}
 use Rattle.dsn_frame.specs.bodies.FrameBody.{frame}
 use Rattle.dsn_frame.specs.bodies.Request.{first_body_fault}
 use Rattle.dsn_frame.specs.declared.bodies.body_fault.BodyFault.TheVariants.{Version}
@@ -17,6 +18,13 @@ use Rattle.dsn_frame.proofs.SessionFrames.{takes_its_frames}
 use Rattle.dsn_frame.proofs.WholeInputLemmas.{taken_whole}
 use Rattle.dsn_frame.specs.WholeInput.{IsWholeInput, TakesAll}
 
+-- the answers to one append and one flush: an outcome was logged, and the first notice of all is made
+abbrev logged_first : Replied
+logged_first = plain (Logged 0)
+
+abbrev sealed_first : Replied
+sealed_first = record { reply = Sealed 1; serial = Some 0 }
+
 -- a frame of one byte, which is refused
 garbage : List ℕ
 garbage = 0 ∷ []
@@ -24,12 +32,12 @@ garbage = 0 ∷ []
 -- one append and one flush are asked, on a connection to a daemon of which nothing was asked before
 one_append_one_flush :
     IsSession Connection 2 0 (Some (frame append_body ++ frame flush_body)) (Some []) (append_body ∷ flush_body ∷ [])
-    (append_asked ∷ flush_asked ∷ []) (Reply (Logged 0) ∷ Reply (Sealed 1) ∷ []) None
+    (append_asked ∷ flush_asked ∷ []) (Reply logged_first ∷ Reply sealed_first ∷ []) None
 one_append_one_flush =
-    let first = taken [] [] (append_asked ∷ []) [] (Reply (Logged 0) ∷ []) append_body None None begun (lit< tt) (lit≤ tt, lit≤ tt)
-    (asked append_asked (Logged 0) append_is_encoded (lit< tt)) (written _ None) in
-    let second = taken (append_body ∷ []) (append_asked ∷ []) (flush_asked ∷ []) (Reply (Logged 0) ∷ []) (Reply (Sealed 1) ∷ []) flush_body None None first (lit< tt) (lit≤ tt, lit≤ tt)
-    (asked flush_asked (Sealed 1) flush_is_encoded (lit< tt)) (written _ None) in
+    let first = taken [] [] (append_asked ∷ []) [] (Reply logged_first ∷ []) append_body None None begun (lit< tt) (lit≤ tt, lit≤ tt)
+    (asked append_asked logged_first append_is_encoded (lit< tt)) (written _ None) in
+    let second = taken (append_body ∷ []) (append_asked ∷ []) (flush_asked ∷ []) (Reply logged_first ∷ []) (Reply sealed_first ∷ []) flush_body None None first (lit< tt) (lit≤ tt, lit≤ tt)
+    (asked flush_asked sealed_first flush_is_encoded (lit< tt)) (written _ None) in
     record { made = None; takes = second; left = Some []; read = refl; ends = well refl refl refl }
 
 -- the same frames after the one request that there may be: the append is refused, and the flush is read and neither decoded
@@ -56,10 +64,10 @@ number_out_of_turn =
 
 -- an answer that couldn't be written stands among the answers, and ends the session
 answer_unwritten :
-    IsSession Connection 9 3 (Some (frame append_body ++ frame flush_body)) (Some (frame flush_body)) (append_body ∷ []) (append_asked ∷ []) (Reply (Logged 0) ∷ []) (Some 35)
+    IsSession Connection 9 3 (Some (frame append_body ++ frame flush_body)) (Some (frame flush_body)) (append_body ∷ []) (append_asked ∷ []) (Reply logged_first ∷ []) (Some 35)
 answer_unwritten =
-    let first = taken [] [] (append_asked ∷ []) [] (Reply (Logged 0) ∷ []) append_body None (Some 35) begun (lit< tt) (lit≤ tt, lit≤ tt)
-    (asked append_asked (Logged 0) append_is_encoded (lit< tt)) (unwritten _ None) in
+    let first = taken [] [] (append_asked ∷ []) [] (Reply logged_first ∷ []) append_body None (Some 35) begun (lit< tt) (lit≤ tt, lit≤ tt)
+    (asked append_asked logged_first append_is_encoded (lit< tt)) (unwritten _ None) in
     record { made = Some 35; takes = first; left = Some (frame flush_body); read = refl; ends = stopped 35 refl refl }
 
 -- the daemon gave up after the append was asked: it has no answer
@@ -73,7 +81,7 @@ given_up_at_append =
 -- ---- sessions over the same bytes
 
 -- the two frames asked, and answered so
-both_asked : (first second : ReplyOf) → IsSession Connection 2 0 (Some agent_input) (Some []) (append_body ∷ flush_body ∷ []) (append_asked ∷ flush_asked ∷ []) (Reply first ∷ Reply second ∷ []) None
+both_asked : (first second : Replied) → IsSession Connection 2 0 (Some agent_input) (Some []) (append_body ∷ flush_body ∷ []) (append_asked ∷ flush_asked ∷ []) (Reply first ∷ Reply second ∷ []) None
 unfolding agent_input
 both_asked first second =
     let one = taken [] [] (append_asked ∷ []) [] (Reply first ∷ []) append_body None None begun (lit< tt) (lit≤ tt, lit≤ tt)
@@ -83,40 +91,40 @@ both_asked first second =
     record { made = None; takes = two; left = Some []; read = refl; ends = well refl refl refl }
 
 -- it met nothing from outside the bytes
-of_bytes_alone : (first second : ReplyOf) → IsOfBytesAlone (Reply first ∷ Reply second ∷ []) None
+of_bytes_alone : (first second : Replied) → IsOfBytesAlone (Reply first ∷ Reply second ∷ []) None
 of_bytes_alone first second = record { answered = (tt, (tt, tt)); ended = refl }
 
 -- a refusal keeps its place among the replies
-by_places : (replies : ℕ → ReplyOf) → RepliesAre replies 0 (Reply (replies 0) ∷ Refused 21 ∷ Reply (replies 2) ∷ [])
+by_places : (replies : ℕ → Replied) → RepliesAre replies 0 (Reply (replies 0) ∷ Refused 21 ∷ Reply (replies 2) ∷ [])
 by_places replies = (refl, (refl, tt))
 
 -- so it is one session, whatever its replies are
 one_but_for_replies :
     AreSame (append_body ∷ flush_body ∷ []) (append_body ∷ flush_body ∷ []) (append_asked ∷ flush_asked ∷ []) (append_asked ∷ flush_asked ∷ [])
-    (Reply (Logged 0) ∷ Reply (Sealed 1) ∷ []) (Reply Closed ∷ Reply Closed ∷ []) None None
+    (Reply logged_first ∷ Reply sealed_first ∷ []) (Reply (plain Closed) ∷ Reply (plain Closed) ∷ []) None None
 one_but_for_replies =
-    one_session Connection 2 0 agent_input (Some []) (Some []) _ _ _ _ _ _ None None (both_asked (Logged 0) (Sealed 1)) (of_bytes_alone (Logged 0) (Sealed 1)) (both_asked Closed Closed) (of_bytes_alone Closed Closed)
+    one_session Connection 2 0 agent_input (Some []) (Some []) _ _ _ _ _ _ None None (both_asked logged_first sealed_first) (of_bytes_alone logged_first sealed_first) (both_asked (plain Closed) (plain Closed)) (of_bytes_alone (plain Closed) (plain Closed))
 
 -- and its frames are those of the bytes
 takes_both : AreFirstFrames (append_body ∷ flush_body ∷ []) (append_body ∷ flush_body ∷ []) None None
-takes_both = takes_its_frames agent_input Connection 2 0 (Some []) _ _ _ _ None None (both_asked (Logged 0) (Sealed 1)) two_frames
+takes_both = takes_its_frames agent_input Connection 2 0 (Some []) _ _ _ _ None None (both_asked logged_first sealed_first) two_frames
 
 -- these bytes are requests in turn, and the session took them whole
 whole_input : IsWholeInput 2 0 (Some agent_input) (append_body ∷ flush_body ∷ []) (append_asked ∷ flush_asked ∷ [])
 unfolding agent_input
 whole_input = record { bytes = refl; legal = ((lit≤ tt, lit≤ tt), ((lit≤ tt, lit≤ tt), tt)); few = lit≤ tt; in_turn = (append_is_encoded, (flush_is_encoded, tt)) }
 
-takes_whole : TakesAll Connection (append_body ∷ flush_body ∷ []) (append_asked ∷ flush_asked ∷ []) (append_body ∷ flush_body ∷ []) (append_asked ∷ flush_asked ∷ []) (Reply (Logged 0) ∷ Reply (Sealed 1) ∷ []) None
-takes_whole = taken_whole agent_input Connection 2 0 (Some []) _ _ _ _ _ None whole_input (both_asked (Logged 0) (Sealed 1))
+takes_whole : TakesAll Connection (append_body ∷ flush_body ∷ []) (append_asked ∷ flush_asked ∷ []) (append_body ∷ flush_body ∷ []) (append_asked ∷ flush_asked ∷ []) (Reply logged_first ∷ Reply sealed_first ∷ []) None
+takes_whole = taken_whole agent_input Connection 2 0 (Some []) _ _ _ _ _ None whole_input (both_asked logged_first sealed_first)
 
 -- another session over these bytes met want of memory at the append: its answers aren't those of the bytes alone
-no_memory_at_append : IsSession Connection 2 0 (Some agent_input) (Some []) (append_body ∷ flush_body ∷ []) (flush_asked ∷ []) (Refused 9 ∷ Reply (Sealed 1) ∷ []) None
+no_memory_at_append : IsSession Connection 2 0 (Some agent_input) (Some []) (append_body ∷ flush_body ∷ []) (flush_asked ∷ []) (Refused 9 ∷ Reply sealed_first ∷ []) None
 unfolding agent_input
 no_memory_at_append =
     let one = taken [] [] [] [] (Refused 9 ∷ []) append_body None None begun (lit< tt) (lit≤ tt, lit≤ tt)
     (out_of_memory (encoded_is_accepted append_body 0 append_asked append_is_encoded)) (written _ None) in
-    let two = taken (append_body ∷ []) [] (flush_asked ∷ []) (Refused 9 ∷ []) (Reply (Sealed 1) ∷ []) flush_body None None one (lit< tt) (lit≤ tt, lit≤ tt)
-    (asked flush_asked (Sealed 1) flush_is_encoded (lit< tt)) (written _ None) in
+    let two = taken (append_body ∷ []) [] (flush_asked ∷ []) (Refused 9 ∷ []) (Reply sealed_first ∷ []) flush_body None None one (lit< tt) (lit≤ tt, lit≤ tt)
+    (asked flush_asked sealed_first flush_is_encoded (lit< tt)) (written _ None) in
     record { made = None; takes = two; left = Some []; read = refl; ends = well refl refl refl }
 
 -- what comes from outside the bytes: want of memory, a failed read or write, a daemon that gave up

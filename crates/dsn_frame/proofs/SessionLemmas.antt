@@ -7,7 +7,7 @@ use Rattle.std.proofs.KnownBytes.{Consumes-nil, Consumes-trans}
 use Rattle.std.proofs.lemmas.Grind.{flat_map-append}
 use Rattle.std.proofs.lemmas.List.{append-nil}
 use Rattle.dsn_outcome.specs.Request.{Body}
-use Rattle.dsn_outcome.specs.declared.answer.Reply.{Reply}
+use Rattle.dsn_outcome.specs.declared.answer.Replied.{Replied}
 use Rattle.dsn_frame.specs.bodies.BodyFault.{body_fault_code}
 use Rattle.dsn_frame.specs.bodies.FrameBody.{frame}
 use Rattle.dsn_frame.specs.bodies.Request.{Encodes, first_body_fault}
@@ -65,7 +65,7 @@ module _ (medium : Medium) (limit before : ℕ) (start : Option (List ℕ)) wher
     }
 
     -- the frame was asked, and got a reply
-    pub session_asked : (body : Body) (reply : Reply) → Encodes bytes (length frames) body → before + length bodies < limit
+    pub session_asked : (body : Body) (reply : Replied) → Encodes bytes (length frames) body → before + length bodies < limit
         → IsOpenSession medium limit before start next (frames ++ bytes ∷ []) (bodies ++ body ∷ []) (answers ++ spoken.Reply reply ∷ [])
     session_asked body reply encoded room = session_more (body ∷ []) (spoken.Reply reply ∷ []) (asked body reply encoded room)
 

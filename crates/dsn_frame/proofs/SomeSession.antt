@@ -10,7 +10,7 @@ use Rattle.std.proofs.lemmas.List.{append-nil, length-append, length-take, take-
 use Rattle.dsn_outcome.specs.Outcome.{Fields, outcome_checks, first_outcome_fault, first_failed}
 use Rattle.dsn_outcome.specs.Request.{Body}
 use Rattle.dsn_text.specs.Service.{service_of_byte}
-use Rattle.dsn_outcome.specs.declared.answer.Reply.{Reply}
+use Rattle.dsn_outcome.specs.declared.answer.Replied.{Replied}
 use Rattle.dsn_outcome.specs.declared.outcome_fault.OutcomeFault.{OutcomeFault}
 use Rattle.dsn_text.specs.declared.service.Service.{Service}
 use Rattle.dsn_frame.specs.bodies.BodyFault.{body_fault_code, outcome_refusal}
@@ -75,8 +75,8 @@ own_from_bytes (DatedAppendFields head fields dates) =
 own_from_bytes (TypedAppendFields head fields dates types) =
     either (first_failed (retry_checks dates)) (first_append_fault head (typed_fields fields dates types)) (checks_from_bytes (retry_checks dates) (refl, tt))
     (append_from_bytes (typed_fields fields dates types) (service_of_byte head.service))
-own_from_bytes (FlushFieldsOf head fields) = checks_from_bytes (flush_checks fields usual_wishes) (refl, (refl, (refl, (refl, (refl, (refl, tt))))))
-own_from_bytes (CountedFlushFields head fields wishes) = checks_from_bytes (flush_checks fields wishes) (refl, (refl, (refl, (refl, (refl, (refl, tt))))))
+own_from_bytes (FlushFieldsOf head fields) = checks_from_bytes (flush_checks fields usual_wishes) (refl, (refl, (refl, (refl, (refl, (refl, (refl, tt)))))))
+own_from_bytes (CountedFlushFields head fields wishes) = checks_from_bytes (flush_checks fields wishes) (refl, (refl, (refl, (refl, (refl, (refl, (refl, tt)))))))
 own_from_bytes (DiscardFields head) = refl
 own_from_bytes (ForgetFields head) = refl
 
@@ -94,7 +94,7 @@ fault_from_bytes bytes =
 
 -- ---- one answer more
 
-replied_more : (replies : ℕ → Reply) (place : ℕ) (answers : List Spoken) → RepliesAre replies place answers → RepliesAre replies place (answers ++ spoken.Reply (replies (place + length answers)) ∷ [])
+replied_more : (replies : ℕ → Replied) (place : ℕ) (answers : List Spoken) → RepliesAre replies place answers → RepliesAre replies place (answers ++ spoken.Reply (replies (place + length answers)) ∷ [])
 replied_more replies place [] before = (ap replies (omega arith), tt)
 replied_more replies place (spoken.Reply first ∷ rest) before =
     let same : place + 1 + length rest ≡ place + length (spoken.Reply first ∷ rest) = omega arith in
@@ -103,7 +103,7 @@ replied_more replies place (spoken.Refused code ∷ rest) before =
     let same : place + 1 + length rest ≡ place + length (spoken.Refused code ∷ rest) = omega arith in
     subst (λ (n : ℕ). RepliesAre replies (place + 1) (rest ++ spoken.Reply (replies n) ∷ [])) same (replied_more replies (place + 1) rest before)
 
-refused_more : (replies : ℕ → Reply) (place : ℕ) (answers : List Spoken) (code : ℕ) → RepliesAre replies place answers → RepliesAre replies place (answers ++ spoken.Refused code ∷ [])
+refused_more : (replies : ℕ → Replied) (place : ℕ) (answers : List Spoken) (code : ℕ) → RepliesAre replies place answers → RepliesAre replies place (answers ++ spoken.Refused code ∷ [])
 refused_more replies place [] code before = tt
 refused_more replies place (spoken.Reply first ∷ rest) code before = (before.0, refused_more replies (place + 1) rest code before.1)
 refused_more replies place (spoken.Refused first ∷ rest) code before = refused_more replies (place + 1) rest code before
@@ -111,7 +111,7 @@ refused_more replies place (spoken.Refused first ∷ rest) code before = refused
 -- ---- one frame more
 
 -- a session that took the frames before these
-record SoFar (medium : Medium) (limit before : ℕ) (bytes rest : List ℕ) (replies : ℕ → Reply) (todo : List (List ℕ)) : Type 0 where
+record SoFar (medium : Medium) (limit before : ℕ) (bytes rest : List ℕ) (replies : ℕ → Replied) (todo : List (List ℕ)) : Type 0 where
   frames : List (List ℕ)
   bodies : List Body
   answers : List Spoken
@@ -121,7 +121,7 @@ record SoFar (medium : Medium) (limit before : ℕ) (bytes rest : List ℕ) (rep
   within : before + length bodies ≤ limit
   few : length frames ≤ limit
 
-module _ (medium : Medium) (limit before : ℕ) (bytes rest : List ℕ) (replies : ℕ → Reply) where
+module _ (medium : Medium) (limit before : ℕ) (bytes rest : List ℕ) (replies : ℕ → Replied) where
   abbrev Before : List (List ℕ) → Type 0
   Before todo = SoFar medium limit before bytes rest replies todo
 

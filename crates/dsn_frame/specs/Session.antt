@@ -5,7 +5,7 @@ use Rattle.std.specs.Io.KnownBytes.{Consumes, IsAtEnd}
 use Rattle.std.specs.List.{flat_map}
 use Rattle.dsn_text.specs.FaultCode.{connection_write_code, lane_lost_code, no_memory_code, notes_write_code, out_of_turn_code, used_up_code}
 use Rattle.dsn_outcome.specs.Request.{Body}
-use Rattle.dsn_outcome.specs.declared.answer.Reply.{Reply}
+use Rattle.dsn_outcome.specs.declared.answer.Replied.{Replied}
 use Rattle.dsn_frame.specs.bodies.BodyFault.{body_fault_code}
 use Rattle.dsn_frame.specs.bodies.FrameBody.{frame, IsFrameBody}
 use Rattle.dsn_frame.specs.bodies.Request.{Encodes, first_body_fault}
@@ -48,7 +48,7 @@ pub data Takes (medium : Medium) (limit accepted place : ℕ) (bytes : List ℕ)
   used_up : (body : Body) → Encodes bytes place body → accepted ≡ limit
       → Takes medium limit accepted place bytes [] (TheVariants.Refused used_up_code ∷ []) None
   -- any other body is asked, and gets a reply
-  asked : (body : Body) (reply : Reply) → Encodes bytes place body → accepted < limit
+  asked : (body : Body) (reply : Replied) → Encodes bytes place body → accepted < limit
       → Takes medium limit accepted place bytes (body ∷ []) (TheVariants.Reply reply ∷ []) None
   -- on a connection the daemon may have given up before the body is asked
   given_up : (body : Body) → Encodes bytes place body → medium ≡ Connection

@@ -5,7 +5,7 @@ use Rattle.std.specs.List.{AllByRecursion}
 use Rattle.std.specs.Option.{option_map, option_map_or}
 use Rattle.dsn_text.specs.FaultCode.{connection_write_code, cut_short_code, frame_empty_code, frame_too_long_code, lane_lost_code, no_memory_code, notes_write_code, read_failed_code}
 use Rattle.dsn_outcome.specs.Request.{Body}
-use Rattle.dsn_outcome.specs.declared.answer.Reply.{Reply}
+use Rattle.dsn_outcome.specs.declared.answer.Replied.{Replied}
 use Rattle.dsn_frame.specs.declared.bodies.spoken.Spoken.{Spoken}
 use Rattle.dsn_frame.specs.declared.bodies.spoken.Spoken.TheVariants
 use Rattle.dsn_frame.specs.Frame.{AreFramesOf}
@@ -79,7 +79,7 @@ LeavesOneRest medium limit before bytes =
     → left ≡ other_left
 
 -- the replies among the answers from a place on are those that are given for their places
-abbrev pub RepliesAre : (ℕ → Reply) → ℕ → List Spoken → Type 0
+abbrev pub RepliesAre : (ℕ → Replied) → ℕ → List Spoken → Type 0
 RepliesAre replies place [] = Unit {0}
 RepliesAre replies place (TheVariants.Reply reply ∷ rest) =
     (reply ≡ replies place) × RepliesAre replies (place + 1) rest
@@ -87,7 +87,7 @@ RepliesAre replies place (TheVariants.Refused code ∷ rest) = RepliesAre replie
 
 -- a session over these bytes that met nothing from outside, with these replies
 pub record SessionWith (medium : Medium) (limit before : ℕ) (bytes : List ℕ)
-    (replies : ℕ → Reply) : Type 0 where
+    (replies : ℕ → Replied) : Type 0 where
   pub left : Option (List ℕ)
   pub frames : List (List ℕ)
   pub bodies : List Body
@@ -100,7 +100,7 @@ pub record SessionWith (medium : Medium) (limit before : ℕ) (bytes : List ℕ)
 -- there is one, whatever the replies are, where no more requests came before it than there may be
 abbrev pub HasSomeSession : Medium → ℕ → ℕ → List ℕ → Type 0
 HasSomeSession medium limit before bytes =
-    before ≤ limit → (replies : ℕ → Reply) → SessionWith medium limit before bytes replies
+    before ≤ limit → (replies : ℕ → Replied) → SessionWith medium limit before bytes replies
 
 -- the ends that the frames of an input make: none at all, a length that is none, and a frame that
 -- is cut short

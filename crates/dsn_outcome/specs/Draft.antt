@@ -1,6 +1,7 @@
 -- Drafts: what a flush says of the notice that it asks for, before the outcomes are added.
 use Rattle.std.specs.Prelude.{ℕ, ◌-◌, ◌^◌, ◌≤◌, nat_le, nat_lt, Bool, false, not, ◌==◌, List, [], ◌∷◌, length, Option, Some, None, is_some, IsTrue}
 use Rattle.dsn_outcome.specs.Outcome.{first_failed}
+use Rattle.dsn_text.specs.Extension.{is_extension_text}
 use Rattle.dsn_text.specs.Optional.{is_none_or, unless_empty}
 use Rattle.dsn_text.specs.Stamp.{last_moment}
 use Rattle.dsn_text.specs.Text.{is_address, is_envelope_id, longest_header}
@@ -13,14 +14,15 @@ use Rattle.dsn_outcome.specs.declared.wording.Wording.{Wording}
 
 -- moment and arrival in whole seconds since 1970; no return path means the null path (RFC 5321
 -- section 4.5.5); the header is the message's header as it came, or the message, which returned says;
--- expected is how many outcomes the log is to have, none for any; the wording is how the notice's words
--- are chosen
+-- extensions are the message's extension fields (RFC 3464 section 2.4), the empty text for none; expected
+-- is how many outcomes the log is to have, none for any; the wording is how the notice's words are chosen
 pub record Draft : Type 0 where
   pub moment : ℕ
   pub arrival : ℕ
   pub return_path : Option (List ℕ)
   pub envelope_id : Option (List ℕ)
   pub header : List ℕ
+  pub extensions : List ℕ
   pub expected : Option ℕ
   pub returned : Returned
   pub wording : Wording
@@ -41,6 +43,7 @@ pub record IsLegalDraft (draft : Draft) : Type 0 where
   pub return_path_legal : IsTrue (is_none_or is_address draft.return_path)
   pub envelope_id_legal : IsTrue (is_none_or is_envelope_id draft.envelope_id)
   pub header_short : length draft.header ≤ longest_header
+  pub extensions_legal : IsTrue (is_extension_text draft.extensions)
   pub expected_counted : IsTrue (is_none_or is_count draft.expected)
 
 -- the fields of a draft that are judged, as they are handed in
@@ -50,6 +53,7 @@ pub record DraftFields : Type 0 where
   pub header : List ℕ
   pub returned : ℕ
   pub wording : ℕ
+  pub extensions : List ℕ
 
 -- what is asked of a draft's fields, in the order in which a refusal names it
 abbrev pub draft_checks : DraftFields → List (Bool × DraftFault)
@@ -59,6 +63,7 @@ draft_checks fields =
     ∷ (is_none_or is_envelope_id (unless_empty fields.envelope_id), faults.EnvelopeId)
     ∷ (is_some (returned_of_byte fields.returned), faults.Returned)
     ∷ (is_some (wording_of_byte fields.wording), faults.Wording)
+    ∷ (is_extension_text fields.extensions, faults.Extensions)
     ∷ []
 
 -- the first fault of a draft's fields, if they have one

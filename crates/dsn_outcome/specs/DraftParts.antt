@@ -10,4 +10,5 @@ draft_fields_of parts = record {
   header = parts.header.now;
   returned = parts.returned;
   wording = parts.wording;
+  extensions = parts.extensions.now;
 }

@@ -1,4 +1,7 @@
 //! What the daemon answers a delivery agent.
+ghost use Rattle.std.specs.Prelude.{◌≡◌};
+ghost use Rattle.dsn_outcome.specs.History.{replied_in};
+
 use crate::lane_item::Carried;
 
 /// What became of a request. A number is how many outcomes the log held before it.
@@ -30,6 +33,15 @@ pub enum Reply {
     Differs(u32),
 }
 
+/// A reply, and which notice it tells of.
+#[derive(Clone, Copy, Debug, PartialEq, Eq)]
+pub struct Replied {
+    /// What became of the request.
+    pub reply: Reply,
+    /// The serial of the letter that the request sealed, if it did: [`Letter::serial`](crate::Letter::serial).
+    pub serial: Option<u64>,
+}
+
 /// A reply with the agent and the number of the request that it answers.
 #[derive(Clone, Copy, Debug, PartialEq, Eq)]
 pub struct Answer {
@@ -39,6 +51,21 @@ pub struct Answer {
     pub number: u32,
     /// What became of the request.
     pub reply: Reply,
+    /// The serial of the letter that the request sealed, if it did; it stands in the notice's
+    /// Message-ID.
+    pub serial: Option<u64>,
+}
+
+impl Answer {
+    /// The reply, with the serial of the letter.
+    pub fn replied(&self) -> Replied
+        ensures { result ≡ replied_in self.now }
+    {
+        Replied {
+            reply: self.reply,
+            serial: self.serial,
+        }
+    }
 }
 
 impl Carried for Answer {

@@ -1,21 +1,25 @@
 //! What a flush says of the notice that it asks for.
-ghost use Rattle.std.specs.Prelude.{◌≡◌, ◌≤◌, ◌↔◌, length, IsTrue, IsSome, IfOk, IfErr, OnOk, Some, None, unwrap_or};
+ghost use Rattle.std.specs.Prelude.{◌≡◌, ◌≤◌, ◌↔◌, [], length, IsTrue, IsSome, IfOk, IfErr, OnOk, Some, None, unwrap_or, if◌then◌else◌};
 ghost use Rattle.dsn_outcome.specs.Draft.{first_draft_fault, is_count};
 ghost use Rattle.dsn_outcome.specs.DraftParts.{draft_fields_of};
 ghost use Rattle.dsn_outcome.specs.Returned.{returned_of_byte};
 ghost use Rattle.dsn_outcome.specs.Wording.{wording_of_byte};
+ghost use Rattle.dsn_text.specs.Extension.{is_extension_text};
 ghost use Rattle.dsn_text.specs.Optional.{is_none_or, unless_empty};
 ghost use Rattle.dsn_text.specs.Text.{is_address, is_envelope_id};
 
 use crate::draft_fault::DraftFault;
 use crate::draft_parts::{DraftParts, Wishes};
+use crate::extension_fields::ExtensionFields;
 use crate::letter_cell::{LetterCell, Terms};
 use crate::optional_texts::{
     is_optional_address, is_optional_envelope_id, optional_address, optional_envelope_id,
 };
 use crate::returned::Returned;
 use crate::wording::Wording;
-use dsn_text::{Address, EnvelopeId, LONGEST_HEADER, NoMemory, RawHeader, Stamp};
+use dsn_text::{
+    Address, EnvelopeId, LONGEST_HEADER, NoMemory, RawHeader, Stamp, is_extension_text,
+};
 use std::alloc::Global;
 use std::marker::Model;
 
@@ -37,8 +41,8 @@ impl Model for Draft {
 }
 
 impl Draft {
-    /// A draft. `None` as return path is the null path of RFC 5321 section 4.5.5, to which no
-    /// notice is sent. `NoMemory` comes only where the memory for it was refused.
+    /// A draft without extension fields. `None` as return path is the null path of RFC 5321 section
+    /// 4.5.5, to which no notice is sent. `NoMemory` comes only where the memory for it was refused.
     pub fn new(
         alloc: Global,
         moment: Stamp,
@@ -54,6 +58,7 @@ impl Draft {
         ensures return_path { IfOk result (λ draft. draft.return_path ≡ return_path) }
         ensures envelope_id { IfOk result (λ draft. draft.envelope_id ≡ envelope_id) }
         ensures header { IfOk result (λ draft. draft.header ≡ header) }
+        ensures extensions { IfOk result (λ draft. draft.extensions ≡ []) }
         ensures expected { IfOk result (λ draft. draft.expected ≡ wishes.expected) }
         ensures returned { IfOk result (λ draft. draft.returned ≡ wishes.returned) }
         ensures wording { IfOk result (λ draft. draft.wording ≡ wishes.wording) }
@@ -64,10 +69,18 @@ impl Draft {
             return_path,
             envelope_id,
             header,
+            extensions: ExtensionFields::none(alloc),
             expected: wishes.expected,
             returned: wishes.returned,
             wording: wishes.wording,
         };
+        Draft::of(alloc, terms)
+    }
+
+    /// The draft of these terms, in a cell of its own, which nothing is linked to.
+    fn of(alloc: Global, terms: Terms) -> Result<Draft, NoMemory>
+        ensures { IfOk result (λ draft. draft ≡ terms) }
+    {
         let cell = LetterCell {
             terms,
             sealed: None,
@@ -77,6 +90,24 @@ impl Draft {
             Ok(cell) => Ok(Draft { cell }),
             Err(_) => Err(NoMemory),
         }
+    }
+
+    /// The same draft with these extension fields of the message (RFC 3464 section 2.4), or with
+    /// none for an empty text. The text is tested before memory is taken.
+    pub fn with_extensions(self, alloc: Global, text: &[u8]) -> Result<Draft, DraftFault>
+        ensures set { IfOk result (λ draft. draft ≡ record self { extensions = text.now }) }
+        ensures accepted { OnOk result (IsTrue (is_extension_text text.now)) }
+        ensures refused { IfErr result
+            (λ fault. fault
+            ≡ (if is_extension_text text.now then DraftFault.NoMemory else DraftFault.Extensions)) }
+    {
+        if !is_extension_text(text) {
+            return Err(DraftFault::Extensions);
+        }
+        let extensions = ExtensionFields::kept(alloc, text)?;
+        let Draft { mut cell } = self;
+        cell.terms.extensions = extensions;
+        Ok(Draft { cell })
     }
 
     /// The draft of these fields, which are tested in the order of `DraftFault`'s variants before
@@ -95,6 +126,8 @@ impl Draft {
         ensures envelope_id { IfOk result
             (λ draft. draft.envelope_id ≡ unless_empty parts.entry.envelope_id.now) }
         ensures header { IfOk result (λ draft. draft.header ≡ parts.entry.header.now) }
+        ensures extensions { IfOk result
+            (λ draft. draft.extensions ≡ parts.entry.extensions.now) }
         ensures expected { IfOk result (λ draft. draft.expected ≡ parts.entry.expected) }
         ensures returned { IfOk result
             (λ draft. returned_of_byte parts.entry.returned ≡ Some draft.returned) }
@@ -109,20 +142,19 @@ impl Draft {
         let return_path = optional_address(alloc, parts.return_path)?;
         let envelope_id = optional_envelope_id(alloc, parts.envelope_id)?;
         let header = RawHeader::kept(alloc, parts.header)?;
-        let wishes = Wishes {
-            expected: parts.expected,
-            returned,
-            wording,
-        };
-        Ok(Draft::new(
-            alloc,
+        let extensions = ExtensionFields::kept(alloc, parts.extensions)?;
+        let terms = Terms {
             moment,
             arrival,
             return_path,
             envelope_id,
             header,
-            wishes,
-        )?)
+            extensions,
+            expected: parts.expected,
+            returned,
+            wording,
+        };
+        Ok(Draft::of(alloc, terms)?)
     }
 
     /// Whether the notice has somebody to go to.
@@ -148,6 +180,7 @@ fn check(parts: DraftParts<'_>) -> Result<(Returned, Wording), DraftFault>
         (IsTrue (is_none_or is_address (unless_empty parts.entry.return_path.now))) }
     ensures envelope_id { OnOk result
         (IsTrue (is_none_or is_envelope_id (unless_empty parts.entry.envelope_id.now))) }
+    ensures extensions { OnOk result (IsTrue (is_extension_text parts.entry.extensions.now)) }
     ensures returned { IfOk result (λ read. returned_of_byte parts.entry.returned ≡ Some read.0) }
     ensures wording { IfOk result (λ read. wording_of_byte parts.entry.wording ≡ Some read.1) }
     ensures refused { IfErr result
@@ -164,5 +197,8 @@ fn check(parts: DraftParts<'_>) -> Result<(Returned, Wording), DraftFault>
     }
     let returned = Returned::from_byte(parts.returned).ok_or(DraftFault::Returned)?;
     let wording = Wording::from_byte(parts.wording).ok_or(DraftFault::Wording)?;
+    if !is_extension_text(parts.extensions) {
+        return Err(DraftFault::Extensions);
+    }
     Ok((returned, wording))
 }

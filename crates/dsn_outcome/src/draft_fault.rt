@@ -22,6 +22,10 @@ pub enum DraftFault {
     /// The wording is none.
     #[error("the wording of the notice is unknown")]
     Wording,
+    /// The extension fields are neither empty nor 1 to 8 lines of a name that begins with `X-` and a
+    /// value, each ended by LF alone.
+    #[error("the extension fields of the message are none")]
+    Extensions,
     /// Memory for the draft was refused.
     #[error("out of memory")]
     NoMemory,

@@ -1,5 +1,5 @@
 //! The fields of a draft as they are handed in.
-ghost use Rattle.std.specs.Prelude.{◌≡◌, None};
+ghost use Rattle.std.specs.Prelude.{◌≡◌, [], None};
 ghost use Rattle.dsn_outcome.specs.declared.returned.Returned.TheVariants.{Header};
 ghost use Rattle.dsn_outcome.specs.declared.wording.Wording.TheVariants.{ByService};
 
@@ -48,6 +48,9 @@ pub struct DraftParts<'a> {
     pub returned: u8,
     /// The byte of how the notice's words are chosen, 0 or 1.
     pub wording: u8,
+    /// The extension fields of the message (RFC 3464 section 2.4): at most 8 lines, each ended by LF
+    /// alone, of a name that begins with `X-`, a colon, a space and a value. Empty for none.
+    pub extensions: &'a [u8],
 }
 
 impl<'a> DraftParts<'a> {
@@ -59,6 +62,7 @@ impl<'a> DraftParts<'a> {
         ensures expected { result.expected ≡ None }
         ensures returned { result.returned ≡ 0 }
         ensures wording { result.wording ≡ 0 }
+        ensures extensions { result.extensions.now ≡ [] }
     {
         DraftParts {
             return_path,
@@ -67,6 +71,7 @@ impl<'a> DraftParts<'a> {
             expected: None,
             returned: 0,
             wording: 0,
+            extensions: b"",
         }
     }
 }

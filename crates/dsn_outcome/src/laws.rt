@@ -1,10 +1,10 @@
 //! Laws of the history of requests, as the contracts of functions that do nothing.
-ghost use Rattle.std.specs.Prelude.{◌≡◌, ℕ, true, false, List, length, map};
+ghost use Rattle.std.specs.Prelude.{◌≡◌, ℕ, true, false, List, [], length, map};
 ghost use Rattle.dsn_outcome.specs.Agents.{from_agent};
 ghost use Rattle.dsn_outcome.specs.CloseRule.{StaysClosed, AnswersClosed, TakesNoOutcome, TakesNoOutcomeUntilForgotten, LeavesEveryLog, LeavesHeldKeys, LeavesSealedLetters};
 ghost use Rattle.dsn_outcome.specs.Expecting.{AnswersDiffers, AreAsExpected, DiffersChangesNothing};
 ghost use Rattle.dsn_outcome.specs.Forgetting.{AreNumbered, ForgetsIt, KeepsIt};
-ghost use Rattle.dsn_outcome.specs.History.{Limits, Exchange, IsClosed, is_closed, is_held, answers_to, history_of, sealed_letters};
+ghost use Rattle.dsn_outcome.specs.History.{Limits, Exchange, IsClosed, is_closed, is_held, answers_after, answers_to, history_of, sealed_letters, serials_told};
 ghost use Rattle.dsn_outcome.specs.Request.{Request};
 ghost use Rattle.dsn_text.specs.declared.key.Key.{Key};
 
@@ -66,4 +66,11 @@ pub fn histories_answer_each_request()
     ensures answers { (limits : Limits) (agent : ℕ) (requests : List Request)
         → length (answers_to agent (history_of limits requests))
         ≡ length (from_agent (λ request. request.agent) agent requests) }
+{}
+
+/// The answers of a history tell the serials of its letters, each of them once and in order.
+#[tactic(auto, using(crate::proofs::HistoryLaws::serials_answered))]
+pub fn answers_tell_serials()
+    ensures { (history : List Exchange) → serials_told (answers_after [] history)
+        ≡ map (λ letter. letter.serial) (sealed_letters history) }
 {}

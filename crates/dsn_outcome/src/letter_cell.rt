@@ -3,8 +3,10 @@
 ghost use Rattle.std.specs.Prelude.{◌≡◌, IsTrue};
 ghost use Rattle.std.specs.Option.{option_copied};
 ghost use Rattle.dsn_outcome.specs.Draft.{is_count};
+ghost use Rattle.dsn_text.specs.Extension.{is_extension_text};
 ghost use Rattle.dsn_text.specs.Optional.{is_none_or};
 
+use crate::extension_fields::ExtensionFields;
 use crate::outcome_links::OutcomeLinks;
 use crate::returned::Returned;
 use crate::wording::Wording;
@@ -20,6 +22,7 @@ pub struct Terms {
     pub(crate) return_path: Option<Address>,
     pub(crate) envelope_id: Option<EnvelopeId>,
     pub(crate) header: RawHeader,
+    pub(crate) extensions: ExtensionFields,
     pub(crate) expected: Option<u32>,
     pub(crate) returned: Returned,
     pub(crate) wording: Wording,
@@ -38,6 +41,7 @@ impl Model for Terms {
       return_path = t.return_path;
       envelope_id = t.envelope_id;
       header = t.header;
+      extensions = t.extensions;
       expected = t.expected;
       returned = t.returned;
       wording = t.wording;
@@ -80,6 +84,15 @@ impl Terms {
         ensures { result.now ≡ self.now.header }
     {
         &self.header
+    }
+
+    /// The extension fields of the message (RFC 3464 section 2.4), each a line that LF ends; none
+    /// where it is empty.
+    pub fn extensions(&self) -> &[u8]
+        ensures same { result.now ≡ self.now.extensions }
+        ensures legal { IsTrue (is_extension_text result.now) }
+    {
+        self.extensions.bytes()
     }
 
     /// How many outcomes the log is to have; `None` for any.

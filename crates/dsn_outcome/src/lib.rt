@@ -8,6 +8,7 @@ mod chain;
 mod draft;
 mod draft_fault;
 mod draft_parts;
+mod extension_fields;
 mod lane_item;
 mod laws;
 mod letter;
@@ -25,7 +26,7 @@ mod request;
 mod returned;
 mod wording;
 
-pub use answer::{Answer, Reply};
+pub use answer::{Answer, Replied, Reply};
 pub use body::{Body, BodyRef};
 pub use chain::{Chain, MOST_OUTCOMES};
 pub use draft::Draft;
@@ -40,8 +41,8 @@ pub use dsn_text::{
 };
 pub use lane_item::Carried;
 pub use laws::{
-    closed_keys_alone_are_forgotten, closed_logs_stay_closed, flushes_seal_what_they_expect,
-    histories_answer_each_request, letters_are_numbered,
+    answers_tell_serials, closed_keys_alone_are_forgotten, closed_logs_stay_closed,
+    flushes_seal_what_they_expect, histories_answer_each_request, letters_are_numbered,
 };
 pub use letter::Letter;
 pub use letter_cell::Terms;

@@ -51,6 +51,7 @@ pub use postfix_request::{
 };
 pub use postfix_version::PostfixVersion;
 pub use queue_name::{LONGEST_QUEUE_NAME, QueueName};
+pub use quoted_address::needs_no_quotes;
 pub use receive::receive_postfix_request;
 pub use receive_fault::ReceiveFault;
 pub use request_fault::RequestFault;

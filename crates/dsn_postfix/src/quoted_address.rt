@@ -93,7 +93,7 @@ fn no_dots_meet(text: &[u8]) -> bool
 
 /// Whether the local part of an address needs no quotes (RFC 5321 section 4.1.2).
 #[tactic(auto, unfolding(crate::specs::QuotedAddress::needs_no_quotes))]
-pub(crate) fn needs_no_quotes(address: &[u8]) -> bool
+pub fn needs_no_quotes(address: &[u8]) -> bool
     ensures { result ≡ needs_no_quotes address.now }
 {
     let text = local_part(address);

@@ -10,7 +10,7 @@ use Rattle.std.proofs.lemmas.Slice.Eq.{starts_is}
 use Rattle.dsn_text.specs.Action.{action_word}
 use Rattle.dsn_outcome.specs.Letter.{Letter}
 use Rattle.dsn_outcome.specs.Outcome.{Outcome, IsLegalOutcome}
-use Rattle.dsn_text.specs.Extension.{lines_ended_by_lf}
+use Rattle.dsn_text.specs.Extension.{lines_ended_by_lf, is_extension_text}
 use Rattle.dsn_text.specs.Stamp.{date_text}
 use Rattle.dsn_outcome.specs.declared.wording.Wording.{Wording}
 use Rattle.dsn_outcome.specs.declared.wording.Wording.TheVariants.{ByService, ByOutcome}
@@ -81,11 +81,12 @@ none-notification boundary host letter =
     (none-opening boundary letter.draft.wording letter.key.service _)
     (none-flat_map boundary (outcome_lines letter.draft.wording) letter.outcomes (none-outcome boundary letter.draft.wording))
 
-none-message : (boundary host : List ℕ) (letter : Letter) → NoneDelimits boundary (per_message_fields host letter)
+none-message : (boundary host : List ℕ) (letter : Letter) → is_extension_text letter.draft.extensions ≡ true → NoneDelimits boundary (per_message_fields host letter)
 unfolding per_message_fields
-none-message boundary host letter =
+none-message boundary host letter legal =
     none-append boundary (line_if_any (codes "Original-Envelope-Id: ") letter.draft.envelope_id) _
-    (none-if-any boundary 79 (codes "riginal-Envelope-Id: ") letter.draft.envelope_id refl) refl
+    (none-if-any boundary 79 (codes "riginal-Envelope-Id: ") letter.draft.envelope_id refl)
+    (none-delimits boundary (lines_ended_by_lf letter.draft.extensions) (extension_lines-pass letter.draft.extensions legal))
 
 none-recipient : (boundary : List ℕ) (outcome : Outcome) → IsLegalOutcome outcome → NoneDelimits boundary (recipient_group outcome)
 unfolding per_recipient_fields
@@ -115,11 +116,11 @@ none-groups boundary (outcome ∷ outcomes) legal =
     none-append boundary (recipient_group outcome) (flat_map recipient_group outcomes) (none-recipient boundary outcome (legal 0 outcome (omega arith)))
     (none-groups boundary outcomes (λ k d below. legal (suc k) d (omega arith)))
 
-none-status : (boundary host : List ℕ) (letter : Letter) → All IsLegalOutcome letter.outcomes → NoneDelimits boundary (delivery_status host letter)
+none-status : (boundary host : List ℕ) (letter : Letter) → is_extension_text letter.draft.extensions ≡ true → All IsLegalOutcome letter.outcomes → NoneDelimits boundary (delivery_status host letter)
 unfolding delivery_status
-none-status boundary host letter legal =
+none-status boundary host letter fields legal =
     none-append boundary (per_message_fields host letter) (flat_map recipient_group letter.outcomes)
-    (none-message boundary host letter)
+    (none-message boundary host letter fields)
     (none-groups boundary letter.outcomes legal)
 
 none-part : (boundary description content_type : List ℕ) (body : List (List ℕ)) → NoneDelimits boundary body → NoneDelimits boundary (part_lines description content_type body ++ [] ∷ [])
@@ -206,21 +207,21 @@ body-is host letter boundary tail =
     ∙ append_assoc (person ++ program) returned (end ++ tail)
     ∙ append_assoc person program (returned ++ (end ++ tail))
 
-notice-divides : (host : List ℕ) (letter : Letter) → length letter.draft.header ≤ 32768 → All IsLegalOutcome letter.outcomes → (tail : List (List ℕ))
+notice-divides : (host : List ℕ) (letter : Letter) → length letter.draft.header ≤ 32768 → is_extension_text letter.draft.extensions ≡ true → All IsLegalOutcome letter.outcomes → (tail : List (List ℕ))
     → divide (boundary_of letter) (message_body (notice_lines host letter ++ tail))
     ≡ record { before = []; parts = map (λ part. part ++ [] ∷ []) (notice_parts host letter); after = Some tail }
 unfolding notice_lines notice_parts is_ruled_out
-notice-divides host letter short legal tail =
+notice-divides host letter short fields legal tail =
     let boundary = boundary_of letter in
     let free = (boundary_number-is letter short).free in
     ap (divide boundary) (body-is host letter boundary tail)
     ∙ divide-part boundary (codes "Notification") (codes "text/plain; charset=us-ascii") (notification host letter) _ _ tail (none-notification boundary host letter)
-    (divide-part boundary (codes "Delivery report") (codes "message/delivery-status") (delivery_status host letter) _ _ tail (none-status boundary host letter legal)
+    (divide-part boundary (codes "Delivery report") (codes "message/delivery-status") (delivery_status host letter) _ _ tail (none-status boundary host letter fields legal)
     (divide-returned boundary _ _ (returned_lines letter.draft) tail free))
 
 pub division_law : (host : List ℕ) (letter : Letter) → IsWellFormed host letter → DividesIntoParts host letter
 unfolding multipart_of notice_of text_of_pieces
 division_law host letter formed =
     ap (λ pieces. multipart_of_pieces (divide (boundary_of letter) (message_body pieces))) (pieces-lines (notice_lines host letter) (has_line_bytes-legal (notice_lines host letter) (notice_lines-legal host letter formed)))
-    ∙ ap multipart_of_pieces (notice-divides host letter formed.header_short formed.outcomes_legal ([] ∷ []))
+    ∙ ap multipart_of_pieces (notice-divides host letter formed.header_short formed.extensions_legal formed.outcomes_legal ([] ∷ []))
     ∙ ap (λ parts. record { preamble = None; parts = parts; epilogue = Some [] }) (map-text_of_pieces (notice_parts host letter))

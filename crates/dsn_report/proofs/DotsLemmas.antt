@@ -10,11 +10,11 @@ use Rattle.dsn_report.proofs.LineWriterLemmas.{text_of_lines-append}
 use Rattle.dsn_report.proofs.LinesLemmas.{fit-append, fit-known, fit-mail, fit-path, fit-plain, notice_lines-legal}
 use Rattle.dsn_report.proofs.PieceLemmas.{has_line_bytes, has_line_bytes-legal, pieces-lines}
 use Rattle.dsn_report.proofs.PlainLemmas.{and-parts, host-plain}
-use Rattle.dsn_report.specs.Data.{ReceivesNotice, ReceivesNotices, data_after, ends_data, message_lines, message_of, messages_in, messages_of, without_dot}
+use Rattle.dsn_report.specs.Data.{ReceivesData, ReceivesNotice, ReceivesNotices, data_after, ends_data, message_lines, message_of, messages_in, messages_of, without_dot}
 use Rattle.dsn_report.specs.LegalLines.{is_mail_byte}
 use Rattle.dsn_report.specs.Lines.{begins_with_dot, dot_stuffed, pieces_of_text, text_of_lines}
 use Rattle.dsn_report.specs.Notice.{notice_lines, notice_of}
-use Rattle.dsn_report.specs.Outbox.{greeting, goodbye, mail_transaction, outbox_of, transaction_lines}
+use Rattle.dsn_report.specs.Outbox.{data_lines, greeting, goodbye, mail_data, mail_transaction, outbox_of, transaction_lines}
 use Rattle.dsn_report.specs.Site.{IsHost}
 use Rattle.dsn_report.specs.WellFormed.{IsWellFormed}
 
@@ -41,19 +41,35 @@ line-bytes-dot_stuffed (line ∷ lines) legal =
     here true = (and-parts (list_all is_mail_byte line) (has_line_bytes lines) legal).0
     here false = (and-parts (list_all is_mail_byte line) (has_line_bytes lines) legal).0
 
+data-bytes : (host : List ℕ) (letter : Letter) → IsWellFormed host letter → has_line_bytes (data_lines host letter) ≡ true
+data-bytes host letter formed =
+    let notice = line-bytes-dot_stuffed (notice_lines host letter) (has_line_bytes-legal (notice_lines host letter) (notice_lines-legal host letter formed)) in
+    rw (list_all-append (list_all is_mail_byte) (map dot_stuffed (notice_lines host letter)) (codes "." ∷ []), notice) refl
+
 transaction-bytes : (host : List ℕ) (letter : Letter) → IsWellFormed host letter → has_line_bytes (transaction_lines host letter) ≡ true
 unfolding transaction_lines
 transaction-bytes host letter formed =
     let path = fit-append (fit-append (fit-known 9 (codes "RCPT TO:<") refl refl) (fit-path letter.draft.return_path formed.path_legal)) (fit-known 1 (codes ">") refl refl) in
-    let notice = line-bytes-dot_stuffed (notice_lines host letter) (has_line_bytes-legal (notice_lines host letter) (notice_lines-legal host letter formed)) in
-    rw (fit-mail path, list_all-append (list_all is_mail_byte) (map dot_stuffed (notice_lines host letter)) (codes "." ∷ []), notice) refl
+    rw (fit-mail path, data-bytes host letter formed) refl
+
+-- the lines of the message come back from those of its data
+message_lines-data : (host : List ℕ) (letter : Letter) → text_of_lines (message_lines (data_lines host letter ++ [] ∷ [])) ≡ notice_of host letter
+unfolding notice_of
+message_lines-data host letter =
+    ap (λ lines. text_of_lines (message_lines lines)) (append_assoc (map dot_stuffed (notice_lines host letter)) (codes "." ∷ []) ([] ∷ []))
+    ∙ ap text_of_lines (message_lines-dot_stuffed (notice_lines host letter) ([] ∷ []))
+
+pub data_law : (host : List ℕ) (letter : Letter) → IsWellFormed host letter → ReceivesData host letter
+unfolding mail_data
+data_law host letter formed =
+    ap (λ pieces. text_of_lines (message_lines pieces)) (pieces-lines (data_lines host letter) (data-bytes host letter formed))
+    ∙ message_lines-data host letter
 
 pub dots_law : (host : List ℕ) (letter : Letter) → IsWellFormed host letter → ReceivesNotice host letter
-unfolding message_of mail_transaction notice_of data_after transaction_lines
+unfolding message_of mail_transaction data_after transaction_lines
 dots_law host letter formed =
     ap (λ pieces. text_of_lines (message_lines (data_after pieces))) (pieces-lines (transaction_lines host letter) (transaction-bytes host letter formed))
-    ∙ ap (λ lines. text_of_lines (message_lines lines)) (append_assoc (map dot_stuffed (notice_lines host letter)) (codes "." ∷ []) ([] ∷ []))
-    ∙ ap text_of_lines (message_lines-dot_stuffed (notice_lines host letter) ([] ∷ []))
+    ∙ message_lines-data host letter
 
 -- ---- a whole session
 

@@ -52,6 +52,7 @@ to_ann envelope_id header = record {
   return_path = Some (codes "ann@example.com");
   envelope_id = envelope_id;
   header = header;
+  extensions = [];
   expected = None;
   returned = Header;
   wording = ByService;
@@ -124,6 +125,34 @@ extended_recipient :
     ∷ []
 unfolding per_recipient_fields line_if_any lines_ended_by_lf
 extended_recipient = refl
+
+-- a message of which the mail system says more: its extension fields end its group, as they stand
+extended_message :
+    per_message_fields host (letter_with (record (to_ann (Some (codes "QQ314159")) []) { extensions = codes "X-Postfix-Queue-ID: 4F9D195432C\nX-Postfix-Sender: rfc822; ann@example.com\n" }) bob_fails) ≡
+    codes "Original-Envelope-Id: QQ314159"
+    ∷ codes "Reporting-MTA: dns; mx.example.net"
+    ∷ codes "Arrival-Date: Tue, 14 Nov 2023 21:13:20 +0000"
+    ∷ codes "X-Postfix-Queue-ID: 4F9D195432C"
+    ∷ codes "X-Postfix-Sender: rfc822; ann@example.com"
+    ∷ []
+unfolding per_message_fields line_if_any lines_ended_by_lf
+extended_message = rw arrived_at refl
+
+-- its fields stand in its own group, before the first recipient's
+extended_message_and_recipient :
+    delivery_status host (letter_with (record (to_ann None []) { extensions = codes "X-A: b\nX-C: d\n" }) (record bob_fails { extensions = codes "X-E: f\n" })) ≡
+    codes "Reporting-MTA: dns; mx.example.net"
+    ∷ codes "Arrival-Date: Tue, 14 Nov 2023 21:13:20 +0000"
+    ∷ codes "X-A: b"
+    ∷ codes "X-C: d"
+    ∷ []
+    ∷ codes "Final-Recipient: rfc822; bob@example.org"
+    ∷ codes "Action: failed"
+    ∷ codes "Status: 5.1.1"
+    ∷ codes "X-E: f"
+    ∷ []
+unfolding delivery_status per_message_fields per_recipient_fields line_if_any lines_ended_by_lf
+extended_message_and_recipient = rw arrived_at refl
 
 -- one append and one flush: the whole outbox
 one_append_one_flush : outbox_of host (letter_with (to_ann None []) bob_fails ∷ []) ≡

@@ -1,5 +1,5 @@
 -- A notice's second part is a delivery status.
-use Rattle.std.proofs.Common.{◌≡◌, ◌≢◌, ℕ, Bool, true, false, List, [], ◌∷◌, ◌++◌, Option, Some, None, map, codes, refl, sym, ap, subst, ◌∙◌, append_assoc, suc, arith}
+use Rattle.std.proofs.Common.{◌≡◌, ◌≢◌, ℕ, Bool, true, false, List, [], ◌∷◌, ◌++◌, Option, Some, None, map, codes, refl, sym, ap, subst, ◌∙◌, append_assoc, append-nil, suc, arith}
 use Rattle.std.specs.Prelude.{All, IsTrue, IsSome, IfSome, IsSomeAnd, option_map, is_some, if◌then◌else◌}
 use Rattle.std.proofs.lemmas.List.Elements.{All-map}
 use Rattle.std.proofs.lemmas.List.Folds.{list_all-append, list_any-append}
@@ -12,15 +12,15 @@ use Rattle.dsn_text.specs.declared.action.Action.TheVariants.{Failed, Delayed, D
 use Rattle.dsn_outcome.specs.Letter.{Letter}
 use Rattle.dsn_outcome.specs.Outcome.{Outcome, IsLegalOutcome}
 use Rattle.dsn_text.specs.Optional.{is_none_or}
-use Rattle.dsn_text.specs.Extension.{lines_ended_by_lf, is_extension_line, is_extension_name}
+use Rattle.dsn_text.specs.Extension.{lines_ended_by_lf, is_extension_line, is_extension_name, is_extension_text}
 use Rattle.dsn_text.specs.Status.{is_status_code}
 use Rattle.dsn_text.specs.Text.{is_printable, is_address, is_mta_name, is_remark, is_type_name, is_envelope_id}
 use Rattle.dsn_report.proofs.DateText.{shown-append, shown-date}
 use Rattle.dsn_report.proofs.DivisionLemmas.{division_law}
-use Rattle.dsn_report.proofs.ExtensionLemmas.{all-extensions, choice-extensions, extension_field, extension_lines-pass, extensions-laid, none-of-extensions, plain-extensions}
+use Rattle.dsn_report.proofs.ExtensionLemmas.{all-extensions, choice-extensions, extension_field, extension-first, extension_lines-pass, extensions-laid, none-of-extensions, plain-extensions}
 use Rattle.dsn_report.proofs.LinesLemmas.{delivery_status-legal}
 use Rattle.dsn_report.proofs.PieceLemmas.{has_line_bytes-legal, pieces-lines}
-use Rattle.dsn_report.proofs.PlainLemmas.{address-plain, mta-plain, remark-plain, type_name-plain, envelope_id-plain, status-plain, host-plain}
+use Rattle.dsn_report.proofs.PlainLemmas.{and-parts, address-plain, mta-plain, remark-plain, type_name-plain, envelope_id-plain, status-plain, host-plain}
 use Rattle.dsn_text.specs.Stamp.{date_text, is_moment, last_moment}
 use Rattle.dsn_report.specs.DeliveryStatus.{line_if_any, per_message_fields, per_recipient_fields, recipient_group, delivery_status, typed, usual_address_type, usual_diagnostic_type}
 use Rattle.dsn_report.specs.Grammar.{Field, HasType, field_line, same_text, value_of, is_choice_of, extensions_in, IsMessageGroup, IsRecipientGroup, GivesOutcome, GivesMessage, EmptyLogLaw, ReportsOutcomes, delivery_status_in, per_message_names, per_recipient_names, has_plain_values, is_action_word}
@@ -37,10 +37,14 @@ abbrev field_if_any : List ℕ → List ℕ → Option (List ℕ) → List Field
 field_if_any name kind None = []
 field_if_any name kind (Some value) = field name (kind ++ value) ∷ []
 
+-- the fields of a message with these lines of extension fields
+abbrev fields_of_message : Option (List ℕ) → List ℕ → List ℕ → List (List ℕ) → List Field
+fields_of_message id host date lines =
+    field_if_any (codes "Original-Envelope-Id") [] id
+    ++ (field (codes "Reporting-MTA") (codes "dns; " ++ host) ∷ field (codes "Arrival-Date") date ∷ map extension_field lines)
+
 abbrev message_fields : List ℕ → Letter → List Field
-message_fields host letter =
-    field_if_any (codes "Original-Envelope-Id") [] letter.draft.envelope_id
-    ++ (field (codes "Reporting-MTA") (codes "dns; " ++ host) ∷ field (codes "Arrival-Date") (date_text letter.draft.arrival) ∷ [])
+message_fields host letter = fields_of_message letter.draft.envelope_id host (date_text letter.draft.arrival) (lines_ended_by_lf letter.draft.extensions)
 
 -- the fields of a recipient from its extension fields on, from Will-Retry-Until on, from Last-Attempt-Date on, and so from each that may be missing
 abbrev extension_fields : Outcome → List Field
@@ -74,10 +78,10 @@ abbrev recipient_fields : Outcome → List Field
 recipient_fields outcome = field_if_any (codes "Original-Recipient") (typed [] usual_address_type outcome.original_type) outcome.original ++ final_fields outcome
 
 -- in order, whatever is missing
-message-in-order : (id : Option (List ℕ)) (host date : List ℕ)
-    → is_choice_of per_message_names (field_if_any (codes "Original-Envelope-Id") [] id ++ (field (codes "Reporting-MTA") (codes "dns; " ++ host) ∷ field (codes "Arrival-Date") date ∷ [])) ≡ true
-message-in-order None host date = refl
-message-in-order (Some id) host date = refl
+message-in-order : (id : Option (List ℕ)) (host date : List ℕ) (lines : List (List ℕ)) → list_all is_extension_line lines ≡ true
+    → is_choice_of per_message_names (fields_of_message id host date lines) ≡ true
+message-in-order None host date lines pass = choice-extensions lines pass
+message-in-order (Some id) host date lines pass = choice-extensions lines pass
 
 -- ---- fields that may be missing
 
@@ -154,12 +158,14 @@ module _ (outcome : Outcome) (passed : ArePassed outcome) where
 
 -- ---- the layout
 
-message-laid-out : (id : Option (List ℕ)) (host date : List ℕ)
-    → line_if_any (codes "Original-Envelope-Id: ") id ++ ((codes "Reporting-MTA: dns; " ++ host) ∷ (codes "Arrival-Date: " ++ date) ∷ [])
-    ≡ map field_line (field_if_any (codes "Original-Envelope-Id") [] id ++ (field (codes "Reporting-MTA") (codes "dns; " ++ host) ∷ field (codes "Arrival-Date") date ∷ []))
+message-laid-out : (id : Option (List ℕ)) (host date : List ℕ) (lines : List (List ℕ)) → list_all is_extension_line lines ≡ true
+    → line_if_any (codes "Original-Envelope-Id: ") id ++ ((codes "Reporting-MTA: dns; " ++ host) ∷ (codes "Arrival-Date: " ++ date) ∷ lines)
+    ≡ map field_line (fields_of_message id host date lines)
 unfolding line_if_any
-message-laid-out None host date = refl
-message-laid-out (Some id) host date = refl
+message-laid-out None host date lines pass =
+    ap (λ (rest : List (List ℕ)). (codes "Reporting-MTA: dns; " ++ host) ∷ (codes "Arrival-Date: " ++ date) ∷ rest) (extensions-laid lines pass)
+message-laid-out (Some id) host date lines pass =
+    ap (λ (rest : List (List ℕ)). (codes "Original-Envelope-Id: " ++ id) ∷ (codes "Reporting-MTA: dns; " ++ host) ∷ (codes "Arrival-Date: " ++ date) ∷ rest) (extensions-laid lines pass)
 
 -- the line of a field that may be missing, before the lines of later fields
 laid-if-any : (label name kind : List ℕ) (value : Option (List ℕ)) (lines : List (List ℕ)) (rest : List Field) → label ≡ name ++ codes ": " ++ kind
@@ -192,11 +198,11 @@ groups-laid-out (outcome ∷ outcomes) legal =
     ap (λ lines. lines ++ flat_map recipient_group outcomes) (group-laid-out outcome (extension_lines-pass outcome.extensions (legal 0 outcome (omega arith)).extensions_legal))
     ∙ ap (λ lines. ([] ∷ map field_line (recipient_fields outcome)) ++ lines) (groups-laid-out outcomes (λ k d below. legal (suc k) d (omega arith)))
 
-status-laid-out : (host : List ℕ) (letter : Letter) → All IsLegalOutcome letter.outcomes
+status-laid-out : (host : List ℕ) (letter : Letter) → list_all is_extension_line (lines_ended_by_lf letter.draft.extensions) ≡ true → All IsLegalOutcome letter.outcomes
     → delivery_status host letter ≡ map field_line (message_fields host letter) ++ flat_map (λ group. [] ∷ map field_line group) (map recipient_fields letter.outcomes)
 unfolding delivery_status per_message_fields
-status-laid-out host letter legal =
-    ap (λ lines. lines ++ flat_map recipient_group letter.outcomes) (message-laid-out letter.draft.envelope_id host (date_text letter.draft.arrival))
+status-laid-out host letter pass legal =
+    ap (λ lines. lines ++ flat_map recipient_group letter.outcomes) (message-laid-out letter.draft.envelope_id host (date_text letter.draft.arrival) (lines_ended_by_lf letter.draft.extensions) pass)
     ∙ ap (λ lines. map field_line (message_fields host letter) ++ lines) (groups-laid-out letter.outcomes legal)
 
 -- ---- the values
@@ -349,19 +355,19 @@ legal-group outcome legal =
       retry_until = λ some. gives.action ∙ retry-delayed outcome.action outcome.retry_until legal.retry_fits (subst IsSome gives.retry_until some);
     }
 
-gives-message : (host : List ℕ) (letter : Letter) → GivesMessage host letter (message_fields host letter)
-gives-message host letter = record {
+gives-message : (host : List ℕ) (letter : Letter) → list_all is_extension_line (lines_ended_by_lf letter.draft.extensions) ≡ true → GivesMessage host letter (message_fields host letter)
+gives-message host letter pass = record {
   envelope_id = of_id letter.draft.envelope_id;
   reporter = of_host letter.draft.envelope_id;
   arrival = of_arrival letter.draft.envelope_id;
-  no_extensions = of_none letter.draft.envelope_id;
+  extensions = of_extensions letter.draft.envelope_id;
 }
   where
     fields : Option (List ℕ) → List Field
-    fields id = field_if_any (codes "Original-Envelope-Id") [] id ++ (field (codes "Reporting-MTA") (codes "dns; " ++ host) ∷ field (codes "Arrival-Date") (date_text letter.draft.arrival) ∷ [])
+    fields id = fields_of_message id host (date_text letter.draft.arrival) (lines_ended_by_lf letter.draft.extensions)
 
     of_id : (id : Option (List ℕ)) → value_of (codes "Original-Envelope-Id") (fields id) ≡ id
-    of_id None = refl
+    of_id None = none-of-extensions (codes "Original-Envelope-Id") (λ rest. refl) (lines_ended_by_lf letter.draft.extensions) pass
     of_id (Some id) = refl
 
     of_host : (id : Option (List ℕ)) → value_of (codes "Reporting-MTA") (fields id) ≡ Some (codes "dns; " ++ host)
@@ -372,20 +378,25 @@ gives-message host letter = record {
     of_arrival None = refl
     of_arrival (Some id) = refl
 
-    of_none : (id : Option (List ℕ)) → extensions_in (fields id) ≡ []
-    of_none None = refl
-    of_none (Some id) = refl
+    of_lines : map field_line (extensions_in (map extension_field (lines_ended_by_lf letter.draft.extensions))) ≡ lines_ended_by_lf letter.draft.extensions
+    of_lines = ap (map field_line) (all-extensions (lines_ended_by_lf letter.draft.extensions) pass) ∙ sym (extensions-laid (lines_ended_by_lf letter.draft.extensions) pass)
+
+    of_extensions : (id : Option (List ℕ)) → map field_line (extensions_in (fields id)) ≡ lines_ended_by_lf letter.draft.extensions
+    of_extensions None = of_lines
+    of_extensions (Some id) = of_lines
 
 message-group : (host : List ℕ) (letter : Letter) → IsWellFormed host letter → IsMessageGroup (message_fields host letter)
-message-group host letter formed = record {
-  in_order = message-in-order letter.draft.envelope_id host (date_text letter.draft.arrival);
-  plain =
-      plain-append (field_if_any (codes "Original-Envelope-Id") [] letter.draft.envelope_id) _
-      (plain-if-any (codes "Original-Envelope-Id") [] letter.draft.envelope_id refl
-      (optional-printable is_envelope_id (λ text e. (envelope_id-plain text e).printable) letter.draft.envelope_id formed.envelope_id_legal))
-      (rw ((host-plain host formed.host_legal).printable, shown-date letter.draft.arrival formed.arrival_dated) refl);
-  reporter = ap is_some (gives-message host letter).reporter;
-}
+message-group host letter formed =
+    let pass = extension_lines-pass letter.draft.extensions formed.extensions_legal in
+    record {
+      in_order = message-in-order letter.draft.envelope_id host (date_text letter.draft.arrival) (lines_ended_by_lf letter.draft.extensions) pass;
+      plain =
+          plain-append (field_if_any (codes "Original-Envelope-Id") [] letter.draft.envelope_id) _
+          (plain-if-any (codes "Original-Envelope-Id") [] letter.draft.envelope_id refl
+          (optional-printable is_envelope_id (λ text e. (envelope_id-plain text e).printable) letter.draft.envelope_id formed.envelope_id_legal))
+          (rw ((host-plain host formed.host_legal).printable, shown-date letter.draft.arrival formed.arrival_dated, plain-extensions (lines_ended_by_lf letter.draft.extensions) pass) refl);
+      reporter = ap is_some (gives-message host letter pass).reporter;
+    }
 
 some-group : (outcomes : List Outcome) → outcomes ≢ [] → map recipient_fields outcomes ≢ []
 some-group [] some = λ none. some refl
@@ -409,19 +420,21 @@ status-found host letter formed =
     ∙ ap (λ pieces. Some (message_body pieces)) (pieces-lines lines legal)
 
 pub grammar_law : (host : List ℕ) (letter : Letter) → IsWellFormed host letter → ReportsOutcomes host letter
-grammar_law host letter formed = record {
-  found = status-found host letter formed;
-  message = message_fields host letter;
-  recipients = map recipient_fields letter.outcomes;
-  grammar = record {
-    laid_out = status-laid-out host letter formed.outcomes_legal;
-    message_group = message-group host letter formed;
-    some_recipient = some-group letter.outcomes formed.sealed.reports;
-    recipient_groups = All-map IsRecipientGroup recipient_fields letter.outcomes (λ k d below. legal-group _ (formed.outcomes_legal k d below));
-  };
-  gives_message = gives-message host letter;
-  gives_outcomes = each-gives letter.outcomes formed.outcomes_legal;
-}
+grammar_law host letter formed =
+    let pass = extension_lines-pass letter.draft.extensions formed.extensions_legal in
+    record {
+      found = status-found host letter formed;
+      message = message_fields host letter;
+      recipients = map recipient_fields letter.outcomes;
+      grammar = record {
+        laid_out = status-laid-out host letter pass formed.outcomes_legal;
+        message_group = message-group host letter formed;
+        some_recipient = some-group letter.outcomes formed.sealed.reports;
+        recipient_groups = All-map IsRecipientGroup recipient_fields letter.outcomes (λ k d below. legal-group _ (formed.outcomes_legal k d below));
+      };
+      gives_message = gives-message host letter pass;
+      gives_outcomes = each-gives letter.outcomes formed.outcomes_legal;
+    }
 
 -- ---- an empty log
 
@@ -429,22 +442,34 @@ abbrev is_empty_line : List ℕ → Bool
 is_empty_line [] = true
 is_empty_line (byte ∷ rest) = false
 
-none-empty : (host : List ℕ) (letter : Letter) → letter.outcomes ≡ [] → list_any is_empty_line (delivery_status host letter) ≡ false
+none-empty-lines : (lines : List (List ℕ)) → list_all is_extension_line lines ≡ true → list_any is_empty_line lines ≡ false
+none-empty-lines [] pass = refl
+none-empty-lines (line ∷ lines) pass =
+    let parts = and-parts (is_extension_line line) (list_all is_extension_line lines) pass in
+    let full : is_empty_line line ≡ false = ap is_empty_line (extension-first line parts.0) in
+    rw (full, none-empty-lines lines parts.1) refl
+
+none-empty : (host : List ℕ) (letter : Letter) → letter.outcomes ≡ [] → is_extension_text letter.draft.extensions ≡ true → list_any is_empty_line (delivery_status host letter) ≡ false
 unfolding delivery_status per_message_fields line_if_any
-none-empty host letter empty = rw empty (here letter.draft.envelope_id)
+none-empty host letter empty legal = rw empty (here letter.draft.envelope_id)
   where
+    own : list_any is_empty_line (lines_ended_by_lf letter.draft.extensions ++ []) ≡ false
+    own =
+        ap (list_any is_empty_line) (append-nil (lines_ended_by_lf letter.draft.extensions))
+        ∙ none-empty-lines (lines_ended_by_lf letter.draft.extensions) (extension_lines-pass letter.draft.extensions legal)
+
     here : (id : Option (List ℕ))
-        → list_any is_empty_line (line_if_any (codes "Original-Envelope-Id: ") id ++ (codes "Reporting-MTA: dns; " ++ host) ∷ (codes "Arrival-Date: " ++ date_text letter.draft.arrival) ∷ [] ++ []) ≡ false
-    here None = refl
-    here (Some id) = refl
+        → list_any is_empty_line (line_if_any (codes "Original-Envelope-Id: ") id ++ (codes "Reporting-MTA: dns; " ++ host) ∷ (codes "Arrival-Date: " ++ date_text letter.draft.arrival) ∷ lines_ended_by_lf letter.draft.extensions ++ []) ≡ false
+    here None = own
+    here (Some id) = own
 
 some-empty : (before : List (List ℕ)) (after : List (List ℕ)) → list_any is_empty_line (before ++ ([] ∷ after)) ≡ true
 some-empty before after = list_any-append is_empty_line before ([] ∷ after) ∙ or-true (list_any is_empty_line before)
 
 pub empty_log_law : EmptyLogLaw
-empty_log_law host letter message [] empty status = status.some_recipient refl
-empty_log_law host letter message (group ∷ groups) empty status =
+empty_log_law host letter message [] empty legal status = status.some_recipient refl
+empty_log_law host letter message (group ∷ groups) empty legal status =
     false≢true
-    (sym (none-empty host letter empty)
+    (sym (none-empty host letter empty legal)
     ∙ ap (list_any is_empty_line) status.laid_out
     ∙ some-empty (map field_line message) (map field_line group ++ flat_map (λ group. [] ∷ map field_line group) groups))

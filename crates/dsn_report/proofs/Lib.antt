@@ -16,6 +16,7 @@ mod LinesLemmas
 pub mod OutgoingLemmas
 mod PieceLemmas
 mod PlainLemmas
+pub mod NoticeTextLemmas
 pub mod PosterLemmas
 mod ReaderExamples
 mod RoomLemmas

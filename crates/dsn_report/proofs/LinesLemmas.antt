@@ -404,7 +404,8 @@ module _ (ok : List ℕ → Bool) (sure : (line : List ℕ) → is_legal_line li
       (legal-append
       (legal-if-any (codes "Original-Envelope-Id: ") 40 100 is_envelope_id letter.draft.envelope_id (fit-known 40 (codes "Original-Envelope-Id: ") refl refl) (λ text e. fit-plain (envelope_id-plain text e)) (omega arith) formed.envelope_id_legal)
       (legal-cons (fit-append (fit-known 40 (codes "Reporting-MTA: dns; ") refl refl) fit-host) (omega arith)
-      (legal-cons (fit-append (fit-known 40 (codes "Arrival-Date: ") refl refl) (fit-date letter.draft.arrival formed.arrival_dated)) (omega arith) legal-none)))
+      (legal-cons (fit-append (fit-known 40 (codes "Arrival-Date: ") refl refl) (fit-date letter.draft.arrival formed.arrival_dated)) (omega arith)
+      (legal-extensions (lines_ended_by_lf letter.draft.extensions) (extension_lines-pass letter.draft.extensions formed.extensions_legal)))))
       (legal-flat_map recipient_group letter.outcomes formed.outcomes_legal group-legal)
 
   returned-part-legal : (description content_type : List ℕ) (lines : List (List ℕ)) → IsFit 50 description → IsFit 50 content_type → AreLegal ok lines

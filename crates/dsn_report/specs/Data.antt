@@ -5,7 +5,7 @@ use Rattle.dsn_outcome.specs.Letter.{Letter}
 use lib.Pointwise.{pointwise}
 use Rattle.dsn_report.specs.Lines.{begins_with_dot, pieces_of_text, text_of_lines}
 use Rattle.dsn_report.specs.Notice.{notice_of}
-use Rattle.dsn_report.specs.Outbox.{mail_transaction, outbox_of}
+use Rattle.dsn_report.specs.Outbox.{mail_data, mail_transaction, outbox_of}
 
 -- the line that begins the data
 abbrev pub begins_data : List ℕ → Bool
@@ -36,6 +36,11 @@ message_of transaction = text_of_lines (message_lines (data_after (pieces_of_tex
 -- the receiver of a letter's mail transaction gets the notice
 abbrev pub ReceivesNotice : List ℕ → Letter → Type 0
 ReceivesNotice host letter = message_of (mail_transaction host letter) ≡ notice_of host letter
+
+-- the receiver of a letter's mail data gets the notice
+abbrev pub ReceivesData : List ℕ → Letter → Type 0
+ReceivesData host letter =
+    text_of_lines (message_lines (pieces_of_text (mail_data host letter))) ≡ notice_of host letter
 
 -- the messages of a session's lines, by what has come of the message under way, if one is: the line
 -- DATA begins one, and the line that ends the data ends it. One that is cut short is none (RFC 5321

@@ -24,13 +24,13 @@ usual_diagnostic_type = codes "smtp"
 abbrev pub typed : List ℕ → List ℕ → Option (List ℕ) → List ℕ
 typed name usual kind = name ++ unwrap_or kind usual ++ codes "; "
 
--- the fields of the message as a whole (RFC 3464 section 2.2)
+-- the fields of the message as a whole (RFC 3464 section 2.2), its extension fields last (section 2.4)
 unfoldable pub per_message_fields : List ℕ → Letter → List (List ℕ)
 per_message_fields host letter =
     line_if_any (codes "Original-Envelope-Id: ") letter.draft.envelope_id
     ++ (codes "Reporting-MTA: dns; " ++ host)
     ∷ (codes "Arrival-Date: " ++ date_text letter.draft.arrival)
-    ∷ []
+    ∷ lines_ended_by_lf letter.draft.extensions
 
 -- the fields of one recipient (RFC 3464 section 2.3), its extension fields last (section 2.4)
 unfoldable pub per_recipient_fields : Outcome → List (List ℕ)

@@ -5,7 +5,7 @@ use lib.Pointwise.{pointwise}
 use Rattle.dsn_text.specs.Action.{action_word}
 use Rattle.dsn_outcome.specs.Letter.{Letter}
 use Rattle.dsn_outcome.specs.Outcome.{Outcome}
-use Rattle.dsn_text.specs.Extension.{lines_ended_by_lf, is_extension_name}
+use Rattle.dsn_text.specs.Extension.{lines_ended_by_lf, is_extension_name, is_extension_text}
 use Rattle.dsn_text.specs.Stamp.{date_text}
 use Rattle.dsn_text.specs.Status.{is_status_code}
 use Rattle.dsn_text.specs.Text.{is_printable, is_type_name}
@@ -128,13 +128,13 @@ pub record GivesOutcome (outcome : Outcome) (fields : List Field) : Type 0 where
       ≡ option_map date_text outcome.retry_until
   pub extensions : map field_line (extensions_in fields) ≡ lines_ended_by_lf outcome.extensions
 
--- the group says whose message it is, who reports, and when the message came, and has no extension
--- field
+-- the group says whose message it is, who reports, and when the message came, and its extension
+-- fields are the message's own, as they stand
 pub record GivesMessage (host : List ℕ) (letter : Letter) (fields : List Field) : Type 0 where
   pub envelope_id : value_of (codes "Original-Envelope-Id") fields ≡ letter.draft.envelope_id
   pub reporter : value_of (codes "Reporting-MTA") fields ≡ Some (codes "dns; " ++ host)
   pub arrival : value_of (codes "Arrival-Date") fields ≡ Some (date_text letter.draft.arrival)
-  pub no_extensions : extensions_in fields ≡ []
+  pub extensions : map field_line (extensions_in fields) ≡ lines_ended_by_lf letter.draft.extensions
 
 -- the second of some texts, if there are two
 abbrev pub second_of : List (List ℕ) → Option (List ℕ)
@@ -163,4 +163,5 @@ pub record ReportsOutcomes (host : List ℕ) (letter : Letter) : Type 0 where
 abbrev pub EmptyLogLaw : Type 0
 EmptyLogLaw =
     (host : List ℕ) (letter : Letter) (message : List Field) (recipients : List (List Field))
-    → letter.outcomes ≡ [] → IsDeliveryStatus (delivery_status host letter) message recipients → ⊥
+    → letter.outcomes ≡ [] → IsTrue (is_extension_text letter.draft.extensions)
+    → IsDeliveryStatus (delivery_status host letter) message recipients → ⊥

@@ -14,6 +14,15 @@ greeting host = text_of_lines ((codes "EHLO " ++ host) ∷ [])
 unfoldable pub goodbye : List ℕ
 goodbye = text_of_lines (codes "QUIT" ∷ [])
 
+-- the lines after the command DATA: those of a notice, each with the dot that it needs, and a dot
+-- alone (RFC 5321 section 4.5.2)
+abbrev pub data_lines : List ℕ → Letter → List (List ℕ)
+data_lines host letter = map dot_stuffed (notice_lines host letter) ++ codes "." ∷ []
+
+-- the mail data of a notice (RFC 5321 section 4.1.1.4), with the dot that ends it
+unfoldable pub mail_data : List ℕ → Letter → List ℕ
+mail_data host letter = text_of_lines (data_lines host letter)
+
 -- the lines of one mail transaction: a notice comes from the null path, so that nobody answers it
 -- with another (RFC 3464 section 2, RFC 5321 section 4.5.5), and a dot alone ends it
 unfoldable pub transaction_lines : List ℕ → Letter → List (List ℕ)
@@ -21,8 +30,7 @@ transaction_lines host letter =
     codes "MAIL FROM:<>"
     ∷ (codes "RCPT TO:<" ++ return_path_of letter ++ codes ">")
     ∷ codes "DATA"
-    ∷ map dot_stuffed (notice_lines host letter)
-    ++ codes "." ∷ []
+    ∷ data_lines host letter
 
 unfoldable pub mail_transaction : List ℕ → Letter → List ℕ
 mail_transaction host letter = text_of_lines (transaction_lines host letter)

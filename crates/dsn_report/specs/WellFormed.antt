@@ -2,6 +2,7 @@
 use Rattle.std.specs.Prelude.{ℕ, ◌<◌, ◌≤◌, ◌^◌, List, length, All, IsTrue}
 use Rattle.dsn_outcome.specs.Letter.{Letter, IsLetter}
 use Rattle.dsn_outcome.specs.Outcome.{IsLegalOutcome}
+use Rattle.dsn_text.specs.Extension.{is_extension_text}
 use Rattle.dsn_text.specs.Optional.{is_none_or}
 use Rattle.dsn_text.specs.Stamp.{last_moment}
 use Rattle.dsn_text.specs.Text.{is_address, is_envelope_id, is_queue_id, longest_header}
@@ -16,5 +17,6 @@ pub record IsWellFormed (host : List ℕ) (letter : Letter) : Type 0 where
   pub envelope_id_legal : IsTrue (is_none_or is_envelope_id letter.draft.envelope_id)
   pub serial_fits : letter.serial < 2 ^ 64
   pub header_short : length letter.draft.header ≤ longest_header
+  pub extensions_legal : IsTrue (is_extension_text letter.draft.extensions)
   pub outcomes_legal : All IsLegalOutcome letter.outcomes
   pub sealed : IsLetter letter

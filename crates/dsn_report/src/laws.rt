@@ -6,7 +6,7 @@ ghost use Rattle.dsn_outcome.specs.Outcome.{IsLegalOutcome};
 ghost use Rattle.dsn_text.specs.Optional.{is_none_or};
 ghost use Rattle.dsn_text.specs.Text.{is_envelope_id};
 ghost use Rattle.dsn_report.specs.Boundary.{returned_lines, returns_message};
-ghost use Rattle.dsn_report.specs.Data.{ReceivesNotice, ReceivesNotices};
+ghost use Rattle.dsn_report.specs.Data.{ReceivesData, ReceivesNotice, ReceivesNotices};
 ghost use Rattle.dsn_report.specs.Grammar.{EmptyLogLaw, ReportsOutcomes};
 ghost use Rattle.dsn_report.specs.LegalLines.{HasLegalLines, is_legal_line};
 ghost use Rattle.dsn_report.specs.Multipart.{DividesIntoParts};
@@ -19,6 +19,13 @@ use dsn_outcome::Letter;
 /// The receiver of a letter's mail transaction, who takes the added dots away, gets the notice.
 pub fn dots_law(site: &Site, letter: &Letter)
     ensures { ReceivesNotice site.now letter.now }
+{
+    well_formed_law(site, letter);
+}
+
+/// The receiver of a letter's mail data, who takes the added dots away, gets the notice.
+pub fn data_law(site: &Site, letter: &Letter)
+    ensures { ReceivesData site.now letter.now }
 {
     well_formed_law(site, letter);
 }
@@ -76,6 +83,7 @@ pub fn well_formed_law(site: &Site, letter: &Letter)
     letter.arrival().seconds();
     letter.return_path().bytes();
     letter.header().bytes();
+    letter.terms().extensions();
     legal_envelope_id(letter);
     legal_outcomes(letter);
 }

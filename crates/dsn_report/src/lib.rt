@@ -23,9 +23,10 @@ mod site;
 
 pub use boundary_number::boundary;
 pub use laws::{
-    division_law, dots_law, empty_log_law, grammar_law, lines_law, outbox_law, well_formed_law,
+    data_law, division_law, dots_law, empty_log_law, grammar_law, lines_law, outbox_law,
+    well_formed_law,
 };
-pub use notice_text::notice;
+pub use notice_text::{mail_data, notice};
 pub use outbox_end::OutboxEnd;
 pub use outgoing::Outgoing;
 pub use post_fault::PostFault;

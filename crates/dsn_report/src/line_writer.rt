@@ -21,18 +21,25 @@ pub(crate) struct LineWriter<W> {
 
 impl<W: Drain> LineWriter<W> {
     /// Writes the text as it is.
+    #[inline(always)]
     pub(crate) fn piece(&mut self, text: &[u8])
         ensures { Took W.Drain self.old self.new text.now }
     {
-        if self.pending.push(text) {
-            return;
+        if !self.pending.push(text) {
+            self.write_through(text);
         }
+    }
+
+    /// Writes what it holds back, and then the text.
+    #[inline(never)]
+    fn write_through(&mut self, text: &[u8])
+        ensures { Took W.Drain self.old self.new text.now }
+    {
         self.settle();
         self.writer.write(text);
     }
 
     /// Writes what it holds back.
-    #[inline(never)]
     pub(crate) fn settle(&mut self)
         ensures { Settled W.Drain self.old self.new }
     {

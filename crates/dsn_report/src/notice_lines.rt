@@ -202,6 +202,7 @@ fn write_message_fields<W: Drain>(lines: &mut LineWriter<W>, site: &Site, letter
         &letter.arrival().date(),
         b"\r\n",
     ]);
+    write_extensions(lines, letter.terms().extensions());
 }
 
 /// Writes the fields of a recipient.

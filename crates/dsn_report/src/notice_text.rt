@@ -1,6 +1,9 @@
 //! A notice in memory.
-ghost use Rattle.std.specs.Prelude.{◌≡◌, IfOk};
-ghost use Rattle.dsn_report.specs.Notice.{notice_of};
+ghost use Rattle.std.specs.Prelude.{◌≡◌, ◌++◌, [], codes, IfOk, if◌then◌else◌};
+ghost use Rattle.dsn_report.specs.LineWriter.{lines_sent};
+ghost use Rattle.dsn_report.specs.Lines.{text_of_lines};
+ghost use Rattle.dsn_report.specs.Notice.{notice_lines, notice_of};
+ghost use Rattle.dsn_report.specs.Outbox.{mail_data};
 
 use crate::line_writer::LineWriter;
 use crate::notice_lines::write_notice;
@@ -12,15 +15,36 @@ use std::alloc::Global;
 
 /// The text of a letter's notice, as a mail program shows it: without the dots that the mail
 /// protocol adds. `NoMemory` comes only where the memory for it was refused.
+#[tactic(auto, using(crate::proofs::NoticeTextLemmas::plain_text))]
 pub fn notice(alloc: Global, site: &Site, letter: &Letter) -> Result<Vec<u8>, NoMemory>
     ensures { IfOk result (λ text. text.items ≡ notice_of site.now letter.now) }
 {
+    notice_text(alloc, site, letter, false)
+}
+
+/// The mail data of a letter's notice: what is sent after the command DATA (RFC 5321 section
+/// 4.1.1.4), with the dots that the mail protocol adds and the one that ends it (section 4.5.2).
+/// `NoMemory` comes only where the memory for it was refused.
+#[tactic(auto, using(crate::proofs::NoticeTextLemmas::data_text))]
+pub fn mail_data(alloc: Global, site: &Site, letter: &Letter) -> Result<Vec<u8>, NoMemory>
+    ensures { IfOk result (λ text. text.items ≡ mail_data site.now letter.now) }
+{
+    notice_text(alloc, site, letter, true)
+}
+
+/// The text of a letter's notice, without dots, or with them and the one that ends it.
+fn notice_text(alloc: Global, site: &Site, letter: &Letter, dots: bool) -> Result<Vec<u8>, NoMemory>
+    ensures { IfOk result (λ text. text.items
+        ≡ text_of_lines (lines_sent dots (notice_lines site.now letter.now))
+        ++ (if dots then codes ".\r\n" else [])) }
+{
     let mut lines = LineWriter {
         writer: QuietWriter::new(Plain::new(Vec::new(alloc))),
-        dots: false,
+        dots,
         pending: PendingBytes::new(),
     };
     write_notice(&mut lines, site, letter);
+    lines.piece(end_of_text(dots));
     lines.settle();
     let LineWriter {
         writer,
@@ -33,4 +57,11 @@ pub fn notice(alloc: Global, site: &Site, letter: &Letter) -> Result<Vec<u8>, No
         return Err(NoMemory);
     }
     Ok(text)
+}
+
+/// What ends the text of a notice: nothing, or the dot that ends mail data.
+fn end_of_text(dots: bool) -> &'static [u8]
+    ensures { result.now ≡ (if dots then codes ".\r\n" else []) }
+{
+    if dots { b".\r\n" } else { b"" }
 }

@@ -36,6 +36,7 @@ impl PendingBytes {
     }
 
     /// Adds a text at the end where there is room for it, and says whether there is.
+    #[inline(always)]
     pub(crate) fn push(&mut self, text: &[u8]) -> bool
         ensures { self.new ≡ (if result then self.old ++ text.now else self.old) }
     {

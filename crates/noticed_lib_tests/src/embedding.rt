@@ -49,6 +49,7 @@ fn flush(alloc: Global) -> Result<Vec<u8>, Fail> {
         expected: Some(1),
         returned: 0, // the header
         wording: 0, // by the service
+        extensions: b"",
     };
     let draft = Draft::read(alloc, moment, arrival, parts)?;
     Ok(encode_request(alloc, 1, &Body::Flush(message()?, draft))?)

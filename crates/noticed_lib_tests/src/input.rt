@@ -155,8 +155,9 @@ impl Input {
         let mut body = self.head(alloc, [3, 2], service, id)?;
         push_draft(&mut body, &TO_ANN)?;
         body.extend_from_slice(&count.to_be_bytes())?;
-        // A header is returned, and the words are by the service.
+        // A header is returned, the words are by the service, and the message has no extension field.
         body.extend_from_slice(&[0, 0])?;
+        push_text(&mut body, b"")?;
         self.push_frame(&body)
     }
 

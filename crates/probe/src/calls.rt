@@ -57,6 +57,7 @@ fn come_to(rt: &(impl Print + Wait), alloc: Global, name: &str) -> Option<u32> {
         "encode-flush" => frames::encode(rt, alloc, frames::FLUSH),
         "site" => notices::site(rt, alloc),
         "notice" => notices::notice_of_letter(rt, alloc),
+        "mail-data" => notices::mail_data_of_letter(rt, alloc),
         "open-lane" => lanes::lane(rt, alloc),
         "open-post" => lanes::post(rt, alloc),
         "open-crew" => lanes::crew(rt, alloc),

@@ -99,9 +99,9 @@ fn answer_all<D: Replaceable + Drop>(
 fn show_answers(rt: &impl Print, alloc: Global, steps: &[Step]) -> Option<()> {
     let mut frames = Vec::new(alloc);
     for step in steps {
-        let said = Spoken::Reply(step.answer.reply);
+        let said = Spoken::Reply(step.answer.replied()).told_to(b"\x01");
         frames
-            .extend_from_slice(&encode_answer(step.answer.number, &said))
+            .extend_from_slice(encode_answer(step.answer.number, &said).bytes())
             .ok()?;
     }
     io::writer(rt).write_all(&frames).ok()

@@ -147,6 +147,7 @@ fn same_terms(a: &Terms, b: &Terms) -> bool {
         && a.expected() == b.expected()
         && a.returned() == b.returned()
         && a.wording() == b.wording()
+        && a.extensions() == b.extensions()
 }
 
 fn same_body(a: &Body, b: &Body) -> bool {
@@ -238,7 +239,7 @@ fn a_flush_that_expects_a_number_encoded(rt: HostRuntime) -> Result<(), Fail> {
     let body = flush(&rt, [1_700_000_000, 1_699_996_400], texts, counting(258))?;
     let frame = frame_of(&rt, 8, &body)?;
     let want =
-        b"\0\0\0\x2b\x03\x02\0\0\0\x08\x02\0\x01Q\0\0\0\0\x65\x53\xf1\0\0\0\0\0\x65\x53\xe2\xf0\0\x03a@b\0\0\0\x02h\n\0\0\x01\x02\0\0";
+        b"\0\0\0\x2d\x03\x02\0\0\0\x08\x02\0\x01Q\0\0\0\0\x65\x53\xf1\0\0\0\0\0\x65\x53\xe2\xf0\0\x03a@b\0\0\0\x02h\n\0\0\x01\x02\0\0\0\0";
     same(&rt, frame.as_slice(), want.as_slice());
     goes_and_comes_back(&rt, 8, &body)?;
     let body = flush(&rt, [0, 0], texts, counting(0))?;
@@ -271,17 +272,17 @@ fn a_flush_with_a_message_encoded(rt: HostRuntime) -> Result<(), Fail> {
         (
             Returned::Message,
             Wording::ByService,
-            [255, 255, 255, 255, 1, 0],
+            [255, 255, 255, 255, 1, 0, 0, 0],
         ),
         (
             Returned::Header,
             Wording::ByOutcome,
-            [255, 255, 255, 255, 0, 1],
+            [255, 255, 255, 255, 0, 1, 0, 0],
         ),
         (
             Returned::Message,
             Wording::ByOutcome,
-            [255, 255, 255, 255, 1, 1],
+            [255, 255, 255, 255, 1, 1, 0, 0],
         ),
     ] {
         let wishes = Wishes {
@@ -295,6 +296,40 @@ fn a_flush_with_a_message_encoded(rt: HostRuntime) -> Result<(), Fail> {
         assert!(rt; frame.as_slice().ends_with(&end));
         goes_and_comes_back(&rt, 8, &body)?;
     }
+    Ok(())
+}
+
+/// A flush of these texts, which asks for nothing unusual but that it has these extension fields of
+/// its message.
+fn described(
+    rt: &HostRuntime,
+    seconds: [u64; 2],
+    texts: Texts<'_>,
+    extensions: &[u8],
+) -> Result<Body, Fail> {
+    let Body::Flush(key, draft) = flush(rt, seconds, texts, Wishes::usual())? else {
+        return Err("no flush")?;
+    };
+    let draft = draft.with_extensions(rt.alloc(), extensions)?;
+    Ok(Body::Flush(key, draft))
+}
+
+#[test]
+fn a_flush_with_extension_fields_encoded(rt: HostRuntime) -> Result<(), Fail> {
+    let texts = Texts {
+        return_path: b"a@b",
+        envelope_id: b"",
+        header: b"h\n",
+    };
+    let body = described(&rt, [1_700_000_000, 1_699_996_400], texts, b"X-A: b\n")?;
+    let frame = frame_of(&rt, 8, &body)?;
+    let want =
+        b"\0\0\0\x34\x03\x02\0\0\0\x08\x02\0\x01Q\0\0\0\0\x65\x53\xf1\0\0\0\0\0\x65\x53\xe2\xf0\0\x03a@b\0\0\0\x02h\n\xff\xff\xff\xff\0\0\0\x07X-A: b\n";
+    same(&rt, frame.as_slice(), want.as_slice());
+    same(&rt, goes_and_comes_back(&rt, 8, &body)?, 52);
+    // without a field it is of version 1
+    let body = described(&rt, [0, 0], texts, b"")?;
+    same(&rt, frame_of(&rt, 8, &body)?.get(4).copied(), Some(1));
     Ok(())
 }
 
@@ -436,17 +471,23 @@ fn types_are_read(rt: HostRuntime) -> Result<(), Fail> {
     Ok(())
 }
 
-#[test]
-fn a_longest_append_reads_back(rt: HostRuntime) -> Result<(), Fail> {
-    let long = vec![in rt.alloc(); b'a'; 800]?;
+/// Eight extension fields, each with the longest name and the longest value.
+fn longest_fields(rt: &HostRuntime) -> Result<Vec<u8>, Fail> {
     let mut extensions = Vec::new(rt.alloc());
     for _ in 0..8 {
         extensions.extend_from_slice(b"X-")?;
-        extensions.extend_from_slice(&long[..62])?;
+        extensions.resize(extensions.len().saturating_add(62), b'a')?;
         extensions.extend_from_slice(b": ")?;
-        extensions.extend_from_slice(&long[..255])?;
+        extensions.resize(extensions.len().saturating_add(255), b'a')?;
         extensions.push(b'\n')?;
     }
+    Ok(extensions)
+}
+
+#[test]
+fn a_longest_append_reads_back(rt: HostRuntime) -> Result<(), Fail> {
+    let long = vec![in rt.alloc(); b'a'; 800]?;
+    let extensions = longest_fields(&rt)?;
     let longest = Parts {
         recipient: &long[..256],
         original: &long[..256],
@@ -526,5 +567,9 @@ fn a_longest_flush_reads_back(rt: HostRuntime) -> Result<(), Fail> {
         envelope_id: &long[..100],
         header: &long,
     };
-    flush_comes_back(&rt, [1_700_000_000, 1_699_996_400], texts)
+    flush_comes_back(&rt, [1_700_000_000, 1_699_996_400], texts)?;
+    let extensions = longest_fields(&rt)?;
+    let body = described(&rt, [1_700_000_000, 0], texts, &extensions)?;
+    same(&rt, goes_and_comes_back(&rt, 1, &body)?, 35_740);
+    Ok(())
 }

@@ -73,6 +73,7 @@ pub(crate) struct Flush<'a> {
     pub(crate) header: &'a [u8],
     pub(crate) returned: Returned,
     pub(crate) wording: Wording,
+    pub(crate) extensions: &'a [u8],
 }
 
 /// A flush of the message A1B2C3 without optional texts.
@@ -83,6 +84,7 @@ pub(crate) const A1B2C3: Flush<'static> = Flush {
     header: b"",
     returned: Returned::Header,
     wording: Wording::ByService,
+    extensions: b"",
 };
 
 /// A letter to the sender about one recipient of the bounce service.
@@ -119,6 +121,7 @@ pub(crate) fn sealed(alloc: Global, chain: Chain, flush: Flush<'_>) -> Result<Le
             wording: flush.wording,
         },
     )?;
+    let draft = draft.with_extensions(alloc, flush.extensions)?;
     let key = Key {
         service: Service::Bounce,
         id: QueueId::new(flush.id).ok_or("the queue id")?,

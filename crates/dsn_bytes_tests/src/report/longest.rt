@@ -123,10 +123,15 @@ fn thousand_outcomes_of_the_longest_texts(rt: HostRuntime) -> Result<(), Fail> {
     };
     let site = site(alloc)?;
     let least = notice(alloc, &site, &letter(alloc, BOB, A1B2C3)?)?;
-    let letter = sealed(alloc, outcomes(alloc, texts, 1_000)?, A1B2C3)?;
+    let flush = Flush {
+        extensions: &extensions,
+        ..A1B2C3
+    };
+    let letter = sealed(alloc, outcomes(alloc, texts, 1_000)?, flush)?;
     let text = notice(alloc, &site, &letter)?;
-    // 110 bytes of the notice about bob are his; an outcome of the longest texts has 5,455
+    // 110 bytes of the notice about bob are his; an outcome of the longest texts has 5,455, and the
+    // message's extension fields 2,584
     let more = text.len().saturating_sub(least.len());
-    same(&rt, more.saturating_add(110), 5_455_000);
+    same(&rt, more.saturating_add(110), 5_457_584);
     Ok(())
 }

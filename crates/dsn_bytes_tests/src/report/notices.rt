@@ -90,6 +90,38 @@ fn extensions_are_printed(rt: HostRuntime) -> Result<(), Fail> {
     Ok(())
 }
 
+/// The group of a message of which the mail system says more, and that of its recipient.
+const EXTENDED_MESSAGE: &[u8] = b"\r\n\r\n\
+Original-Envelope-Id: QQ314159\r\n\
+Reporting-MTA: dns; mx.example.net\r\n\
+Arrival-Date: Tue, 14 Nov 2023 21:13:20 +0000\r\n\
+X-Postfix-Queue-ID: 4F9D195432C\r\n\
+X-A: : b \r\n\
+\r\n\
+Final-Recipient: rfc822; bob@example.org\r\n\
+Action: failed\r\n\
+Status: 5.1.1\r\n\
+X-C: d\r\n\
+\r\n\
+--B.A1B2C3.1700000000.0000--\r\n";
+
+#[test]
+fn extensions_of_a_message_are_printed(rt: HostRuntime) -> Result<(), Fail> {
+    let texts = Texts {
+        extensions: b"X-C: d\n",
+        ..BOB
+    };
+    let flush = Flush {
+        envelope_id: b"QQ314159",
+        extensions: b"X-Postfix-Queue-ID: 4F9D195432C\nX-A: : b \n",
+        ..A1B2C3
+    };
+    let letter = letter(rt.alloc(), texts, flush)?;
+    let text = notice(rt.alloc(), &site(rt.alloc())?, &letter)?;
+    assert!(rt; text.as_slice().ends_with(EXTENDED_MESSAGE));
+    Ok(())
+}
+
 #[test]
 fn dots_long_lines_eight_bit(rt: HostRuntime) -> Result<(), Fail> {
     let mut header = Vec::new(rt.alloc());

@@ -2,7 +2,7 @@
 use crate::assert_same::same;
 use crate::report::letters::{A1B2C3, BOB, Flush, letter, site};
 use dsn_outcome::{Letter, Plain};
-use dsn_report::{Ended, PostFault, Poster};
+use dsn_report::{Ended, PostFault, Poster, mail_data};
 use std::alloc::Global;
 use std::io;
 use std::io::{ErrorKind, Write};
@@ -53,6 +53,29 @@ fn one_append_one_flush(rt: HostRuntime) -> Result<(), Fail> {
     let Ended { outbox, whole } = poster.finish();
     assert!(rt; whole);
     same(&rt, outbox.into_inner().as_slice(), OUTBOX.as_slice());
+    Ok(())
+}
+
+/// Mail data is what an outbox has between the command DATA and the next one.
+#[test]
+fn mail_data_stands_in_the_outbox(rt: HostRuntime) -> Result<(), Fail> {
+    let letter = letter(rt.alloc(), BOB, A1B2C3)?;
+    let data = mail_data(rt.alloc(), &site(rt.alloc())?, &letter)?;
+    let outbox = &OUTBOX[..];
+    same(&rt, data.as_slice(), &outbox[BEFORE_DATA..outbox.len() - 6]);
+    Ok(())
+}
+
+/// A line that begins with a dot gets one more in front, and one dot alone ends the data.
+#[test]
+fn mail_data_has_dots(rt: HostRuntime) -> Result<(), Fail> {
+    let flush = Flush {
+        header: b".\n..a: b\nc: .\n",
+        ..A1B2C3
+    };
+    let letter = letter(rt.alloc(), BOB, flush)?;
+    let data = mail_data(rt.alloc(), &site(rt.alloc())?, &letter)?;
+    assert!(rt; data.as_slice().ends_with(DOTTED_END));
     Ok(())
 }
 
@@ -123,6 +146,13 @@ fn nothing_after_the_fault(rt: HostRuntime) -> Result<(), Fail> {
 
 /// The bytes of the mail transaction of a letter whose queue id has two bytes.
 const FIRST_LETTER: usize = 958;
+
+/// The bytes of an outbox of one letter before its mail data.
+const BEFORE_DATA: usize = 68;
+
+/// The end of mail data that gives back three lines, two of which begin with a dot.
+const DOTTED_END: &[u8] = b"\r\n\r\n..\r\n...a: b\r\nc: .\r\n\r\n\
+--B.A1B2C3.1700000000.0000--\r\n.\r\n";
 
 /// The outbox of one letter.
 const OUTBOX: &[u8; 1005] = b"\

@@ -5,9 +5,10 @@ use Rattle.std.proofs.lemmas.List.Elements.{All-append, All-cons, All-nil, filte
 use Rattle.std.specs.Prelude.{◌≢◌, Option, Some, None, Err}
 use Rattle.dsn_crew.specs.lane.Halves.{Half, Out}
 use Rattle.dsn_outcome.specs.Agents.{from_agent}
+use Rattle.dsn_outcome.specs.History.{plain}
 use Rattle.dsn_outcome.specs.Request.{Request, Body, Bye}
 use Rattle.dsn_outcome.specs.declared.answer.Answer.{Answer}
-use Rattle.dsn_outcome.specs.declared.answer.Reply.{Reply}
+use Rattle.dsn_outcome.specs.declared.answer.Replied.{Replied}
 use Rattle.dsn_outcome.specs.declared.answer.Reply.TheVariants.{Gone}
 use Rattle.dsn_outcome.specs.declared.body.Body as Sent
 use Rattle.dsn_crew.specs.agents.Agent.{Agent, AreHalves, LaneHalves, IsAgent, IsFaultOf, IsFinished, IsGoodbye, IsLeave, IsUnanswered, Stays, after_reply, answer_with, losing, request_with, with_halves}
@@ -16,10 +17,10 @@ use Rattle.dsn_crew.specs.declared.agents.ask_fault.AskFault.TheVariants.{Limit,
 use Rattle.dsn_crew.specs.declared.agents.unheard.Unheard.{Unheard}
 
 -- after a goodbye that was answered Gone
-pub finishes : (old new : LaneHalves) (reply : Reply) → Stays old.requests.sent → length old.answers.taken ≡ length old.requests.sent → new ≡ after_reply old Bye reply → reply ≡ Gone → IsFinished new
-finishes old new reply stays answered is gone =
-    let here : IsFinished (after_reply old Bye Gone) = record {
-      answered = omega (arith, length-append old.answers.taken (record { agent = old.requests.agent; number = length old.requests.sent; reply = Gone } ∷ []), length-append old.requests.sent (record { agent = old.requests.agent; number = length old.requests.sent; body = Bye } ∷ []));
+pub finishes : (old new : LaneHalves) (replied : Replied) → Stays old.requests.sent → length old.answers.taken ≡ length old.requests.sent → new ≡ after_reply old Bye replied → replied ≡ plain Gone → IsFinished new
+finishes old new replied stays answered is gone =
+    let here : IsFinished (after_reply old Bye (plain Gone)) = record {
+      answered = omega (arith, length-append old.answers.taken (record { agent = old.requests.agent; number = length old.requests.sent; reply = Gone; serial = None } ∷ []), length-append old.requests.sent (record { agent = old.requests.agent; number = length old.requests.sent; body = Bye } ∷ []));
       before = old.requests.sent;
       stays = stays;
       bye = refl;
@@ -46,10 +47,10 @@ stays_more old body before stays =
     All-append P old.requests.sent (request_with old body ∷ []) before (All-cons P (request_with old body) [] stays (All-nil P))
 
 -- an agent that was answered
-pub asked_more : (old : Agent) (body : Body) (new : LaneHalves) (reply : Reply) → IsAgent old → body ≢ Bye → length old.halves.requests.sent < old.limit → new ≡ after_reply old.halves body reply → IsAgent (with_halves old new)
-asked_more old body new reply kept stays below is =
+pub asked_more : (old : Agent) (body : Body) (new : LaneHalves) (replied : Replied) → IsAgent old → body ≢ Bye → length old.halves.requests.sent < old.limit → new ≡ after_reply old.halves body replied → IsAgent (with_halves old new)
+asked_more old body new replied kept stays below is =
     let asked = length-append old.halves.requests.sent (request_with old.halves body ∷ []) in
-    let longer = length-append old.halves.answers.taken (answer_with old.halves reply ∷ []) in
+    let longer = length-append old.halves.answers.taken (answer_with old.halves replied ∷ []) in
     subst (λ (halves : LaneHalves). IsAgent (with_halves old halves)) (sym is) (record {
       limited = omega (arith, asked, below);
       few = kept.few;

@@ -7,6 +7,7 @@ use Rattle.dsn_crew.specs.lane.Halves.{Identity}
 use Rattle.dsn_outcome.specs.Request.{Request, Body, Bye}
 use Rattle.dsn_outcome.specs.declared.answer.Answer.{Answer}
 use Rattle.dsn_outcome.specs.declared.answer.Reply.TheVariants.{Closed, Discarded, Gone}
+use Rattle.dsn_outcome.specs.History.{plain}
 use Rattle.dsn_outcome.specs.declared.answer.Reply.{Reply as ReplyOf}
 use Rattle.dsn_frame.specs.bodies.FrameBody.{frame}
 use Rattle.dsn_frame.specs.declared.bodies.spoken.Spoken.TheVariants.{Reply}
@@ -26,7 +27,7 @@ conns =
 
 -- a session with the discard, and its reply
 with_discard : ReplyOf → Session
-with_discard reply = record { start = Some (frame discard_body); left = Some []; frames = discard_body ∷ []; bodies = discard ∷ []; answers = Reply reply ∷ []; end = None }
+with_discard reply = record { start = Some (frame discard_body); left = Some []; frames = discard_body ∷ []; bodies = discard ∷ []; answers = Reply (plain reply) ∷ []; end = None }
 
 without_body : Session
 without_body = record { start = Some (0 ∷ 0 ∷ 0 ∷ 0 ∷ []); left = Some []; frames = []; bodies = []; answers = []; end = Some 12 }
@@ -44,7 +45,7 @@ module _ (asks : Identity Request) (hears : Identity Answer) where
   request number body = record { agent = 5; number = number; body = body }
 
   answer : ℕ → ReplyOf → Answer
-  answer number reply = record { agent = 5; number = number; reply = reply }
+  answer number reply = record { agent = 5; number = number; reply = reply; serial = None }
 
   -- both discards are asked, as its requests 0 and 1; its goodbye is request 2. The second connection has a fault
   three_connections :
@@ -61,7 +62,7 @@ module _ (asks : Identity Request) (hears : Identity Answer) where
       follow = (
         record {
           made = None;
-          takes = taken [] [] (discard ∷ []) [] (Reply (Discarded 0) ∷ []) discard_body None None begun (lit< tt) (lit≤ tt, lit≤ tt) (asked discard (Discarded 0) discard_is_encoded (lit< tt)) (written _ None);
+          takes = taken [] [] (discard ∷ []) [] (Reply (plain (Discarded 0)) ∷ []) discard_body None None begun (lit< tt) (lit≤ tt, lit≤ tt) (asked discard (plain (Discarded 0)) discard_is_encoded (lit< tt)) (written _ None);
           left = Some [];
           read = refl;
           ends = well refl refl refl;
@@ -77,7 +78,7 @@ module _ (asks : Identity Request) (hears : Identity Answer) where
           (
             record {
               made = None;
-              takes = taken [] [] (discard ∷ []) [] (Reply Closed ∷ []) discard_body None None begun (lit< tt) (lit≤ tt, lit≤ tt) (asked discard Closed discard_is_encoded (lit< tt)) (written _ None);
+              takes = taken [] [] (discard ∷ []) [] (Reply (plain Closed) ∷ []) discard_body None None begun (lit< tt) (lit≤ tt, lit≤ tt) (asked discard (plain Closed) discard_is_encoded (lit< tt)) (written _ None);
               left = Some [];
               read = refl;
               ends = well refl refl refl;

@@ -7,6 +7,7 @@ use Rattle.dsn_device.specs.declared.source.Source.{Ghosts as Source}
 use Rattle.dsn_crew.specs.lane.Halves.{Identity}
 use Rattle.dsn_outcome.specs.Request.{Request, Body, Discard}
 use Rattle.dsn_outcome.specs.declared.answer.Answer.{Answer}
+use Rattle.dsn_outcome.specs.History.{plain}
 use Rattle.dsn_outcome.specs.declared.answer.Reply.{Reply as ReplyOf}
 use Rattle.dsn_outcome.specs.declared.answer.Reply.TheVariants.{Discarded}
 use Rattle.dsn_text.specs.declared.service.Service.TheVariants.{Bounce}
@@ -64,23 +65,23 @@ module _ (asks : Identity Request) (hears : Identity Answer) (body : Body) (repl
   }
 
   before : Agent
-  before = agent_with (record { agent = 5; number = 0; body = body } ∷ []) (record { agent = 5; number = 0; reply = reply } ∷ []) false
+  before = agent_with (record { agent = 5; number = 0; body = body } ∷ []) (record { agent = 5; number = 0; reply = reply; serial = None } ∷ []) false
 
   -- the discard is the agent's request 1, and its answer has number 0, its place on the connection
   one_discard :
       IsServed reads writes before
       (agent_with
       (record { agent = 5; number = 0; body = body } ∷ record { agent = 5; number = 1; body = discard } ∷ [])
-      (record { agent = 5; number = 0; reply = reply } ∷ record { agent = 5; number = 1; reply = Discarded 0 } ∷ []) false)
+      (record { agent = 5; number = 0; reply = reply; serial = None } ∷ record { agent = 5; number = 1; reply = Discarded 0; serial = None } ∷ []) false)
       (frame discard_body, []) ([], none_discarded) (Ok (record { frames = 1 }))
   unfolding reads writes before agent_with numbered_from answer_frames_from answer_bytes answer_body none_discarded discard_body
   one_discard = record {
     frames = discard_body ∷ [];
     bodies = discard ∷ [];
-    answers = Reply (Discarded 0) ∷ [];
+    answers = Reply (plain (Discarded 0)) ∷ [];
     session = record {
       made = None;
-      takes = taken [] [] (discard ∷ []) [] (Reply (Discarded 0) ∷ []) discard_body None None begun (lit< tt) (lit≤ tt, lit≤ tt) (asked discard (Discarded 0) discard_is_encoded (lit< tt)) (written _ None);
+      takes = taken [] [] (discard ∷ []) [] (Reply (plain (Discarded 0)) ∷ []) discard_body None None begun (lit< tt) (lit≤ tt, lit≤ tt) (asked discard (plain (Discarded 0)) discard_is_encoded (lit< tt)) (written _ None);
       left = Some [];
       read = refl;
       ends = well refl refl refl;

@@ -5,6 +5,7 @@ use Rattle.std.specs.List.{flat_map}
 use Rattle.std.proofs.lemmas.Grind.{flat_map-append}
 use Rattle.std.proofs.lemmas.List.Elements.{All-append, All-cons, All-nil}
 use Rattle.std.proofs.lemmas.List.{append-nil, length-append}
+use Rattle.dsn_outcome.specs.History.{replied_in}
 use Rattle.dsn_outcome.specs.Request.{Request, Body}
 use Rattle.dsn_outcome.specs.declared.answer.Answer.{Answer}
 use Rattle.dsn_outcome.specs.OutcomeFault.{outcome_fault_code}
@@ -88,6 +89,7 @@ body_few faults.ReturnPath = lit≤ tt
 body_few faults.EnvelopeId = lit≤ tt
 body_few faults.Returned = lit≤ tt
 body_few faults.Wording = lit≤ tt
+body_few faults.Extensions = lit≤ tt
 body_few faults.NoMemory = lit≤ tt
 body_few (faults.Outcome fault) = outcome_few fault
 
@@ -184,9 +186,9 @@ module _ (old new : Agent) (body : Body) (place : ℕ) (bytes : List ℕ) (encod
   pub turn-asked : (result : Result Answer AskFault) → IsAsk old body new result → IsTurn old new place bytes (asked_turn result)
   turn-asked (Ok answer) ask = record {
     bodies = body ∷ [];
-    takes = asked body answer.reply encoded ask.0.1;
+    takes = asked body (replied_in answer) encoded ask.0.1;
     asked = record {
-      agent_is = ask.2 ∙ (λ i. with_lists old (sym (numbered-one (numbered_request old.halves.requests.agent) old.halves.requests.sent (length old.halves.requests.sent) body) i) (sym (numbered-one (numbered_answer old.halves.requests.agent) old.halves.answers.taken (length old.halves.requests.sent) answer.reply) i) (sym (or-false old.lost) i));
+      agent_is = ask.2 ∙ (λ i. with_lists old (sym (numbered-one (numbered_request old.halves.requests.agent) old.halves.requests.sent (length old.halves.requests.sent) body) i) (sym (numbered-one (numbered_answer old.halves.requests.agent) old.halves.answers.taken (length old.halves.requests.sent) (replied_in answer)) i) (sym (or-false old.lost) i));
       idle = λ was. never old.lost ask.0.0 was;
       replied = refl;
     };

@@ -12,9 +12,9 @@ use Rattle.dsn_device.proofs.CountsLemmas.{counts-none, counts-then}
 use Rattle.dsn_device.specs.Transfer.{AppendsPart}
 use Rattle.dsn_outcome.specs.Request.{Body}
 use Rattle.dsn_frame.specs.bodies.FrameBody.{frame}
-use Rattle.dsn_frame.specs.bodies.Spoken.{answer_bytes, answer_frames_from}
+use Rattle.dsn_frame.specs.bodies.Spoken.{answer_bytes, answer_frames_from, told_each, told_to}
 use Rattle.dsn_frame.specs.declared.bodies.spoken.Spoken.{Spoken}
-use Rattle.dsn_frame.proofs.AnswerLemmas.{answer_frames_from-more}
+use Rattle.dsn_frame.proofs.AnswerLemmas.{answer_frames_from-more, told-length, told-more, told-unanswered}
 use Rattle.dsn_frame.specs.Frame.{ReadsNext}
 use Rattle.dsn_frame.specs.Session.{Connection, IsOpenSession, IsSession, Takes, written}
 use Rattle.dsn_frame.proofs.SentAnswersLemmas.{length-more, sent-more, sent-lost}
@@ -56,7 +56,7 @@ module _ {S : Type 0} (source : Source S) (drain : Drain S) where
     pub answers : List Spoken
     pub session : IsOpenSession Connection old.limit (length old.halves.requests.sent) (source.remaining before) (source.remaining stream) frames bodies answers
     pub asked : HasAsked old now bodies answers false
-    pub written : Appends (drain.contents before) (drain.contents stream) (answer_frames_from 0 answers)
+    pub written : Appends (drain.contents before) (drain.contents stream) (answer_frames_from 0 (told_each frames answers))
     pub counts : Counts source.failures drain.flushes source.steady false before stream
     pub frames_counted : length frames ≡ count
     pub answers_counted : length answers ≡ count
@@ -88,7 +88,7 @@ module _ {S : Type 0} (source : Source S) (drain : Drain S) where
     answers = so_far.answers;
     session = session;
     asked = rw not_lost so_far.asked;
-    written = rw all_written (Appends-kept (drain.contents before) (drain.contents stream) (drain.contents after) (answer_frames_from 0 so_far.answers) so_far.written kept);
+    written = rw all_written (Appends-kept (drain.contents before) (drain.contents stream) (drain.contents after) (answer_frames_from 0 (told_each so_far.frames so_far.answers)) so_far.written kept);
     answered = rw so_far.answers_counted answered;
     counts = counts-then source.failures drain.flushes source.steady (is_stream_failed result) before stream after so_far.counts counts;
   }
@@ -99,8 +99,11 @@ module _ {S : Type 0} (source : Source S) (drain : Drain S) where
     fewer : length so_far.frames < old.limit
     fewer = rw so_far.frames_counted few
 
-    written-by-then : Appends (drain.contents before) (drain.contents read) (answer_frames_from 0 so_far.answers)
-    written-by-then = Appends-kept (drain.contents before) (drain.contents stream) (drain.contents read) (answer_frames_from 0 so_far.answers) so_far.written kept
+    written-by-then : Appends (drain.contents before) (drain.contents read) (answer_frames_from 0 (told_each so_far.frames so_far.answers))
+    written-by-then = Appends-kept (drain.contents before) (drain.contents stream) (drain.contents read) (answer_frames_from 0 (told_each so_far.frames so_far.answers)) so_far.written kept
+
+    as-many : length so_far.frames ≡ length so_far.answers
+    as-many = so_far.frames_counted ∙ sym so_far.answers_counted
 
     takes-here : (turn : Option Turn) (is : IsTurn now next count bytes turn) → Takes Connection old.limit (length old.halves.requests.sent + length so_far.bodies) (length so_far.frames) bytes is.bodies (answer_in turn) (turn_end turn)
     takes-here turn is =
@@ -116,7 +119,7 @@ module _ {S : Type 0} (source : Source S) (drain : Drain S) where
       answers = so_far.answers ++ [];
       session = session_stopped Connection old.limit (length old.halves.requests.sent) (source.remaining before) (source.remaining stream) (source.remaining read) so_far.frames so_far.bodies so_far.answers bytes so_far.session fewer reads is.bodies [] (Some 41) 41 (takes-here None is) (written [] (Some 41));
       asked = asked-then old now next so_far.bodies is.bodies so_far.answers [] true so_far.asked is.asked;
-      written = rw (append-nil so_far.answers) written-by-then;
+      written = rw (append-nil so_far.answers, told-unanswered so_far.frames so_far.answers bytes as-many) written-by-then;
       answered = tt;
       counts = counts-then source.failures drain.flushes source.steady false before stream read so_far.counts good;
     }
@@ -129,16 +132,23 @@ module _ {S : Type 0} (source : Source S) (drain : Drain S) where
       then-asked : HasAsked old next (so_far.bodies ++ is.bodies) (so_far.answers ++ turn.answer ∷ []) false
       then-asked = asked-then old now next so_far.bodies is.bodies so_far.answers (turn.answer ∷ []) false so_far.asked is.asked
 
-      then-written : Appends (drain.contents read) (drain.contents sent) (answer_bytes number turn.answer) → Appends (drain.contents before) (drain.contents sent) (answer_frames_from 0 (so_far.answers ++ turn.answer ∷ []))
+      told-here : told_each (so_far.frames ++ bytes ∷ []) (so_far.answers ++ turn.answer ∷ []) ≡ told_each so_far.frames so_far.answers ++ told_to bytes turn.answer ∷ []
+      told-here = told-more so_far.frames so_far.answers bytes turn.answer as-many
+
+      told-counted : length (told_each so_far.frames so_far.answers) ≡ count
+      told-counted = told-length so_far.frames so_far.answers as-many ∙ so_far.answers_counted
+
+      then-written : Appends (drain.contents read) (drain.contents sent) (answer_bytes number (told_to bytes turn.answer)) → Appends (drain.contents before) (drain.contents sent) (answer_frames_from 0 (told_each (so_far.frames ++ bytes ∷ []) (so_far.answers ++ turn.answer ∷ [])))
       then-written one =
-          sent-more answer_bytes answer_frames_from (drain.contents before) (drain.contents read) (drain.contents sent) so_far.answers turn.answer count so_far.answers_counted written-by-then
-          (answer_frames_from-more 0 so_far.answers turn.answer) (rw number_is at one)
+          rw told-here
+          (sent-more answer_bytes answer_frames_from (drain.contents before) (drain.contents read) (drain.contents sent) (told_each so_far.frames so_far.answers) (told_to bytes turn.answer) count told-counted written-by-then
+          (answer_frames_from-more 0 (told_each so_far.frames so_far.answers) (told_to bytes turn.answer)) (rw number_is at one))
 
       then-counts : (failed : Bool) → Counts source.failures drain.flushes source.steady failed read sent → Counts source.failures drain.flushes source.steady failed before sent
       then-counts failed counts = counts-then source.failures drain.flushes source.steady failed before stream sent so_far.counts (counts-then source.failures drain.flushes source.steady failed stream read sent good counts)
 
       -- one more frame was read and answered
-      pub served-more : turn.over ≡ false → Appends (drain.contents read) (drain.contents sent) (answer_bytes number turn.answer) → Counts source.failures drain.flushes source.steady false read sent
+      pub served-more : turn.over ≡ false → Appends (drain.contents read) (drain.contents sent) (answer_bytes number (told_to bytes turn.answer)) → Counts source.failures drain.flushes source.steady false read sent
           → ServedSoFar old before (count + 1) next sent
       served-more goes_on one counts = record {
         frames = so_far.frames ++ bytes ∷ [];
@@ -153,7 +163,7 @@ module _ {S : Type 0} (source : Source S) (drain : Drain S) where
       }
 
       -- the answer could not be written
-      pub served-unwritten : AppendsPart (drain.contents read) (drain.contents sent) (answer_bytes number turn.answer) → Counts source.failures drain.flushes source.steady true read sent
+      pub served-unwritten : AppendsPart (drain.contents read) (drain.contents sent) (answer_bytes number (told_to bytes turn.answer)) → Counts source.failures drain.flushes source.steady true read sent
           → IsServed source drain old next before sent (Err WriteBack)
       served-unwritten part counts = record {
         frames = so_far.frames ++ bytes ∷ [];
@@ -161,13 +171,13 @@ module _ {S : Type 0} (source : Source S) (drain : Drain S) where
         answers = so_far.answers ++ turn.answer ∷ [];
         session = session_unwritten Connection old.limit (length old.halves.requests.sent) (source.remaining before) (source.remaining stream) (source.remaining sent) so_far.frames so_far.bodies so_far.answers bytes so_far.session fewer reads-then is.bodies turn.answer (turn_end (Some turn)) (takes-here (Some turn) is);
         asked = then-asked;
-        written = sent-lost answer_bytes answer_frames_from (drain.contents before) (drain.contents read) (drain.contents sent) so_far.answers turn.answer count so_far.answers_counted written-by-then (rw number_is at part);
+        written = rw told-here (sent-lost answer_bytes answer_frames_from (drain.contents before) (drain.contents read) (drain.contents sent) (told_each so_far.frames so_far.answers) (told_to bytes turn.answer) count told-counted written-by-then (rw number_is at part));
         answered = tt;
         counts = then-counts true counts;
       }
 
       -- the number was out of turn, and that was answered
-      pub served-out-of-turn : turn.over ≡ true → Appends (drain.contents read) (drain.contents sent) (answer_bytes number turn.answer) → Counts source.failures drain.flushes source.steady false read sent
+      pub served-out-of-turn : turn.over ≡ true → Appends (drain.contents read) (drain.contents sent) (answer_bytes number (told_to bytes turn.answer)) → Counts source.failures drain.flushes source.steady false read sent
           → IsServed source drain old next before sent (Err Number)
       served-out-of-turn over one counts = record {
         frames = so_far.frames ++ bytes ∷ [];

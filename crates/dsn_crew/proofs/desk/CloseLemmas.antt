@@ -17,7 +17,7 @@ use Rattle.dsn_crew.specs.agents.Agent.{LaneHalves, IsFinished}
 use Rattle.dsn_crew.specs.desk.Close.{AreCrew, AreOf, IsHeard}
 use Rattle.dsn_crew.specs.desk.Desk.{Desk, IsDesk, IsEarlier, StandsAfter, all_gone, history}
 use Rattle.dsn_crew.specs.agents.Place.{Place, place_at, place_of}
-use Rattle.dsn_crew.proofs.desk.EarlierLemmas.{answers_after}
+use Rattle.dsn_crew.proofs.desk.EarlierLemmas.{answered_as_asked}
 use Rattle.dsn_crew.proofs.desk.DeskLemmas.{first_half}
 
 -- ---- prefixes and lists
@@ -59,7 +59,7 @@ pub record IsAnswered (exchanges : List Exchange) (halves : LaneHalves) : Type 0
 heard : {B : Type 0} (keeper : Keeper B) (before : List Exchange) (desk : Desk B) (halves : LaneHalves) → IsEarlier before → halves.requests.agent < most_agents → IsAnswered (history keeper before desk) halves → IsPrefix (from_agent (λ (request : Request). request.agent) halves.requests.agent desk.requests.taken) halves.requests.sent → IsHeard keeper before desk halves
 heard keeper before desk halves earlier small answered taken =
     let each = answered.finished.answered in
-    let as_many = answers_after (keeper.limits desk.start) before halves.requests.agent desk.requests.taken earlier small in
+    let as_many = answered_as_asked (keeper.limits desk.start) before halves.requests.agent desk.requests.taken earlier small in
     let less = prefix-length _ _ answered.got in
     let few = prefix-length _ _ taken in
     record {

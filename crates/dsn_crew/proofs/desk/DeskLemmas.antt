@@ -13,7 +13,7 @@ use Rattle.dsn_book.specs.declared.keeper.Keeper.{Ghosts as Keeper}
 use Rattle.dsn_device.proofs.ThroughoutLemmas.{stood_still}
 use Rattle.dsn_crew.specs.lane.Halves.{Half, Out, Identity}
 use Rattle.dsn_outcome.specs.Agents.{from_agent}
-use Rattle.dsn_outcome.specs.History.{Exchange, answer_of, answers_to, exchange_of, history_after}
+use Rattle.dsn_outcome.specs.History.{Exchange, answer_of, answers_after, answers_to, exchange_of, history_after}
 use Rattle.dsn_outcome.specs.Request.{Request}
 use Rattle.dsn_outcome.specs.declared.answer.Answer.{Answer}
 use Rattle.dsn_outcome.proofs.HistoryLaws.{answers_mine, answers_more, answers_other}
@@ -163,7 +163,7 @@ module _ {B : Type 0} (keeper : Keeper B) (desk : Desk B) (request : Request) (r
               omega (arith, here, then, more, all)
         ]
 
-    module _ (before : List Exchange) (stands : StandsAfter keeper before desk) (answer_is : answer ≡ answer_of (next_exchange keeper before desk request)) where
+    module _ (before : List Exchange) (stands : StandsAfter keeper before desk) (answer_is : answer ≡ answer_of (history keeper before desk) (next_exchange keeper before desk request)) where
       mine : ((next_exchange keeper before desk request).request.agent == answer.agent) ≡ true
       unfolding exchange_of
       mine = eq-eqb request.agent answer.agent (sym asked.agent_is)
@@ -204,8 +204,8 @@ module _ {B : Type 0} (keeper : Keeper B) (desk : Desk B) (request : Request) (r
           let same = sent_none desk.answers halves answer d is_sent in
           let sent_then : (slice_index_or halves a d').sent ≡ answers_to a (history keeper before desk) =
           ap (λ (es : List (Half Answer)). (slice_index_or es a d').sent) same ∙ stands.answered asked.going a d' (subst (λ (es : List (Half Answer)). a < length es) same inside) in (
-            answers_to a (next_exchange keeper before desk request ∷ []),
-            ap (λ (l : List Answer). l ++ answers_to a (next_exchange keeper before desk request ∷ [])) sent_then
+            from_agent (λ (it : Answer). it.agent) a (answers_after (history keeper before desk) (next_exchange keeper before desk request ∷ [])),
+            ap (λ (l : List Answer). l ++ from_agent (λ (it : Answer). it.agent) a (answers_after (history keeper before desk) (next_exchange keeper before desk request ∷ []))) sent_then
                 ∙ (sym (answers_more a (history keeper before desk) (next_exchange keeper before desk request ∷ []))
                 ∙ ap (answers_to a) (sym history_new)),
           )
@@ -242,7 +242,7 @@ module _ {B : Type 0} (keeper : Keeper B) (desk : Desk B) (request : Request) (r
     pub keeps :
         (sent : Bool) (d : Half Answer) → IsAnswerSent sent desk.answers answer halves → (failed ≡ false → sent ≡ true) → keeper.limits book ≡ keeper.limits desk.book → keeper.sealed book ≤ keeper.sealed desk.book + 1
         → (keeper.moment book ≡ keeper.moment desk.book) × ((t : ℕ) (left : List ℕ) → keeper.left_since book t left → keeper.left_since desk.book t left)
-        → ((before : List Exchange) → BeginsWith keeper desk.start before → (answer ≡ answer_of (next_exchange keeper before desk request)) × keeper.has book (history keeper before desk ++ next_exchange keeper before desk request ∷ []) rest) → IsDesk keeper answered_desk
+        → ((before : List Exchange) → BeginsWith keeper desk.start before → (answer ≡ answer_of (history keeper before desk) (next_exchange keeper before desk request)) × keeper.has book (history keeper before desk ++ next_exchange keeper before desk request ∷ []) rest) → IsDesk keeper answered_desk
     keeps sent d is_sent going_on limits sealed still book_is =
         let same = long sent d is_sent in
         let first = asked.kept.first in

@@ -2,7 +2,7 @@
 use Rattle.std.proofs.Common.{◌≡◌, ℕ, ◌+◌, ◌<◌, ◌==◌, Bool, true, false, List, [], ◌∷◌, ◌++◌, length, refl, ap, ◌∙◌, length-append, arith}
 use Rattle.dsn_crew.specs.lane.Lane.{most_agents}
 use Rattle.dsn_outcome.specs.Agents.{from_agent}
-use Rattle.dsn_outcome.specs.History.{Limits, Exchange, answer_of, answers_to, exchange_of, history_after}
+use Rattle.dsn_outcome.specs.History.{Limits, Exchange, answer_of, answers_after, answers_to, exchange_of, history_after}
 use Rattle.dsn_outcome.specs.Request.{Request}
 use Rattle.dsn_outcome.proofs.HistoryLaws.{answers_mine, answers_other}
 use Rattle.dsn_crew.specs.desk.Desk.{IsEarlier}
@@ -18,7 +18,7 @@ one_asked : (limits : Limits) (before : List Exchange) (agent : ℕ) (request : 
     → length (answers_to agent (before ++ exchange_of limits before request ∷ [])) + length (from_agent (λ (r : Request). r.agent) agent rest) ≡ length (answers_to agent before) + length (from_agent (λ (r : Request). r.agent) agent (request ∷ rest))
 unfolding exchange_of
 one_asked limits before agent request rest true is =
-    let more = ap length (answers_mine agent before (exchange_of limits before request) is) ∙ length-append (answers_to agent before) (answer_of (exchange_of limits before request) ∷ []) in
+    let more = ap length (answers_mine agent before (exchange_of limits before request) is) ∙ length-append (answers_to agent before) (answer_of before (exchange_of limits before request) ∷ []) in
     rw is (omega (arith, more))
 one_asked limits before agent request rest false is =
     let same = ap length (answers_other agent before (exchange_of limits before request) is) in
@@ -32,12 +32,12 @@ length_after limits before agent (request ∷ rest) =
     length_after limits (before ++ exchange_of limits before request ∷ []) agent rest ∙ one_asked limits before agent request rest (request.agent == agent) refl
 
 -- so an agent of the run is answered as often as it asked
-pub answers_after : (limits : Limits) (before : List Exchange) (agent : ℕ) (requests : List Request) → IsEarlier before → agent < most_agents → length (answers_to agent (history_after limits before requests)) ≡ length (from_agent (λ (r : Request). r.agent) agent requests)
-answers_after limits before agent requests earlier few =
+pub answered_as_asked : (limits : Limits) (before : List Exchange) (agent : ℕ) (requests : List Request) → IsEarlier before → agent < most_agents → length (answers_to agent (history_after limits before requests)) ≡ length (from_agent (λ (r : Request). r.agent) agent requests)
+answered_as_asked limits before agent requests earlier few =
     let none = ap length (earlier agent few) in
     let all = length_after limits before agent requests in omega (arith, none, all)
 
 -- nothing is answered in no history
 pub none_earlier : IsEarlier []
-unfolding answers_to
+unfolding answers_after answers_to
 none_earlier agent few = refl

@@ -149,9 +149,9 @@ module _ {B : Type 0} (keeper : Keeper B) (desk : Desk B) (kept : IsDesk keeper 
     has_some = (_, rest, has_next kept.began.0 kept.began.1)
 
     -- the answer is the one that each history says
-    pub answer_says : (answer : Answer) → ((t : List Exchange) (q : List Request) → keeper.has desk.book t (request ∷ q) → answer ≡ answer_of (exchange_of (keeper.limits desk.book) t request)) → (before : List Exchange) → BeginsWith keeper desk.start before → answer ≡ answer_of (next_exchange keeper before desk request)
+    pub answer_says : (answer : Answer) → ((t : List Exchange) (q : List Request) → keeper.has desk.book t (request ∷ q) → answer ≡ answer_of t (exchange_of (keeper.limits desk.book) t request)) → (before : List Exchange) → BeginsWith keeper desk.start before → answer ≡ answer_of (history keeper before desk) (next_exchange keeper before desk request)
     answer_says answer says before begins =
-        says _ rest (has_next before begins) ∙ ap (λ l. answer_of (exchange_of l (history keeper before desk) request)) kept.limits
+        says _ rest (has_next before begins) ∙ ap (λ l. answer_of (history keeper before desk) (exchange_of l (history keeper before desk) request)) kept.limits
 
     -- and so is the letter
     pub letter_says : (letters : List Letter) → ((t : List Exchange) (q : List Request) → keeper.has desk.book t (request ∷ q) → letters ≡ letter_of t (exchange_of (keeper.limits desk.book) t request)) → (before : List Exchange) → BeginsWith keeper desk.start before
@@ -165,7 +165,7 @@ module _ {B : Type 0} (keeper : Keeper B) (desk : Desk B) (kept : IsDesk keeper 
           subst (λ l. keeper.has book (history keeper before desk ++ exchange_of l (history keeper before desk) request ∷ []) rest) kept.limits (has _ rest (has_next before begins))
 
       -- the answer may be sent
-      pub may_be_sent : (answer : Answer) → ((before : List Exchange) → BeginsWith keeper desk.start before → answer ≡ answer_of (next_exchange keeper before desk request)) → (intake : Intake) → intake.requests ≡ taken_request desk.requests request → intake.behind ≡ rest → (before : List Exchange) → BeginsWith keeper desk.start before
+      pub may_be_sent : (answer : Answer) → ((before : List Exchange) → BeginsWith keeper desk.start before → answer ≡ answer_of (history keeper before desk) (next_exchange keeper before desk request)) → (intake : Intake) → intake.requests ≡ taken_request desk.requests request → intake.behind ≡ rest → (before : List Exchange) → BeginsWith keeper desk.start before
           → MayBeSent keeper (keeper.limits desk.start) before intake book answer
       may_be_sent answer says intake taken left before begins =
           let more = ap (λ (o : Out Request). o.taken) taken in record {

@@ -4,9 +4,10 @@ use Rattle.dsn_text.specs.FaultCode.{lane_lost_code, used_up_code}
 use Rattle.dsn_crew.specs.lane.Halves.{Half, Out}
 use Rattle.dsn_outcome.specs.Agents.{from_agent}
 use Rattle.dsn_outcome.specs.Body.{body_of}
+use Rattle.dsn_outcome.specs.History.{plain, replied_in}
 use Rattle.dsn_outcome.specs.Request.{Request, Body, Bye}
 use Rattle.dsn_outcome.specs.declared.answer.Answer.{Answer}
-use Rattle.dsn_outcome.specs.declared.answer.Reply.{Reply}
+use Rattle.dsn_outcome.specs.declared.answer.Replied.{Replied}
 use Rattle.dsn_outcome.specs.declared.answer.Reply.TheVariants.{Gone}
 use Rattle.dsn_outcome.specs.declared.body.Body
 use Rattle.dsn_crew.specs.declared.agents.ask_fault.AskFault.{AskFault}
@@ -29,14 +30,19 @@ pub record LaneHalves : Type 0 where
   pub requests : Half Request
   pub answers : Out Answer
 
--- the request of an agent that has this body, and the answer to it with this reply
+-- the request of an agent that has this body, and the answer to it that is so replied
 abbrev pub request_with : LaneHalves → Body → Request
 request_with halves body =
     record { agent = halves.requests.agent; number = length halves.requests.sent; body = body }
 
-abbrev pub answer_with : LaneHalves → Reply → Answer
-answer_with halves reply =
-    record { agent = halves.requests.agent; number = length halves.requests.sent; reply = reply }
+abbrev pub answer_with : LaneHalves → Replied → Answer
+answer_with halves replied =
+    record {
+      agent = halves.requests.agent;
+      number = length halves.requests.sent;
+      reply = replied.reply;
+      serial = replied.serial;
+    }
 
 abbrev pub sent_more : Half Request → Request → Half Request
 sent_more half request =
@@ -51,11 +57,11 @@ abbrev pub after_send : LaneHalves → Body → LaneHalves
 after_send halves body =
     record { requests = sent_more halves.requests (request_with halves body); answers = halves.answers }
 
-abbrev pub after_reply : LaneHalves → Body → Reply → LaneHalves
-after_reply halves body reply =
+abbrev pub after_reply : LaneHalves → Body → Replied → LaneHalves
+after_reply halves body replied =
     record {
       requests = sent_more halves.requests (request_with halves body);
-      answers = taken_more halves.answers (answer_with halves reply);
+      answers = taken_more halves.answers (answer_with halves replied);
     }
 
 -- a body that has no answer is not sent, and handed back; or it is sent
@@ -66,7 +72,8 @@ IsUnanswered old body new None = new ≡ after_send old body
 -- what a body that is sent comes to: the answer to it, or none
 abbrev pub IsExchange : LaneHalves → Body → LaneHalves → Result Answer Unanswered → Type 0
 IsExchange old body new (Ok answer) =
-    (answer ≡ answer_with old answer.reply) × (new ≡ after_reply old body answer.reply)
+    (answer ≡ answer_with old (replied_in answer))
+    × (new ≡ after_reply old body (replied_in answer))
 IsExchange old body new (Err lost) = IsUnanswered old body new lost.body
 
 -- what both halves keep: the answer lane is the agent's own
@@ -97,8 +104,8 @@ losing agent halves = record { halves = halves; limit = agent.limit; lost = true
 -- agent stays as it is
 abbrev pub IsAsk : Agent → Body → Agent → Result Answer AskFault → Type 0
 IsAsk old body new (Ok answer) =
-    MayAsk old × (answer ≡ answer_with old.halves answer.reply)
-    × (new ≡ with_halves old (after_reply old.halves body answer.reply))
+    MayAsk old × (answer ≡ answer_with old.halves (replied_in answer))
+    × (new ≡ with_halves old (after_reply old.halves body (replied_in answer)))
 IsAsk old body new (Err (Lost (Some back))) =
     (old.lost ≡ false → length old.halves.requests.sent < old.limit) × (body_of back ≡ body)
     × (new ≡ losing old old.halves)
@@ -123,7 +130,7 @@ pub record IsAgent (agent : Agent) : Type 0 where
 -- what a goodbye comes to: it is the agent's last request, and Gone is the answer to it; or a lane
 -- is lost
 abbrev pub IsGoodbye : Agent → Result LaneHalves AskFault → Type 0
-IsGoodbye old (Ok finished) = (old.lost ≡ false) × (finished ≡ after_reply old.halves Bye Gone)
+IsGoodbye old (Ok finished) = (old.lost ≡ false) × (finished ≡ after_reply old.halves Bye (plain Gone))
 IsGoodbye old (Err (Lost (Some back))) = body_of back ≡ Bye
 IsGoodbye old (Err (Lost None)) = old.lost ≡ false
 IsGoodbye old (Err (Limit back)) = ⊥
@@ -139,7 +146,7 @@ was_unsent unheard = is_unsent unheard.cause ≡ true
 
 -- what a goodbye that says why it was not heard comes to
 abbrev pub IsLeave : Agent → Result LaneHalves Unheard → Type 0
-IsLeave old (Ok finished) = (old.lost ≡ false) × (finished ≡ after_reply old.halves Bye Gone)
+IsLeave old (Ok finished) = (old.lost ≡ false) × (finished ≡ after_reply old.halves Bye (plain Gone))
 IsLeave old (Err unheard) = old.lost ≡ true → was_unsent unheard
 
 -- the fault that a goodbye answers where it was not heard
@@ -158,4 +165,9 @@ pub record IsFinished (halves : LaneHalves) : Type 0 where
       ≡ before ++ record { agent = halves.requests.agent; number = length before; body = Bye } ∷ []
   pub got : List Answer
   pub gone : halves.answers.taken
-      ≡ got ++ record { agent = halves.requests.agent; number = length before; reply = Gone } ∷ []
+      ≡ got ++ record {
+        agent = halves.requests.agent;
+        number = length before;
+        reply = Gone;
+        serial = None;
+      } ∷ []

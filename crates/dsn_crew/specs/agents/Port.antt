@@ -5,6 +5,7 @@ use Rattle.std.specs.List.{AllZip, flat_map}
 use Rattle.dsn_device.specs.Failures.{most_failures}
 use Rattle.dsn_device.specs.declared.source.Source.{Ghosts as Source}
 use Rattle.dsn_text.specs.FaultCode.{connection_write_code, lane_lost_code, read_failed_code}
+use Rattle.dsn_outcome.specs.History.{plain}
 use Rattle.dsn_outcome.specs.Request.{Body, Bye}
 use Rattle.dsn_outcome.specs.declared.answer.Reply.TheVariants.{Gone}
 use Rattle.dsn_frame.specs.declared.bodies.spoken.Spoken.{Spoken}
@@ -188,4 +189,4 @@ pub record IsPortServed (conns : Option (List Conn)) (may_give : List Given → 
   pub last : Agent
   pub served : HasServed conns may_give agent last end.line
   pub goodbye : IfSome end.finished
-      (λ (finished : LaneHalves). (served.lost ≡ false) × (finished ≡ after_reply last.halves Bye Gone))
+      (λ (finished : LaneHalves). (served.lost ≡ false) × (finished ≡ after_reply last.halves Bye (plain Gone)))

@@ -6,10 +6,11 @@ use Rattle.dsn_device.specs.Counts.{Counts}
 use Rattle.dsn_device.specs.declared.drain.Drain.{Ghosts as Drain}
 use Rattle.dsn_device.specs.declared.source.Source.{Ghosts as Source}
 use Rattle.dsn_text.specs.FaultCode.{connection_write_code, lane_lost_code, out_of_turn_code, too_many_frames_code, used_up_code}
+use Rattle.dsn_outcome.specs.History.{replied_in}
 use Rattle.dsn_outcome.specs.Request.{Request, Body}
 use Rattle.dsn_outcome.specs.declared.answer.Answer.{Answer}
-use Rattle.dsn_outcome.specs.declared.answer.Reply.{Reply}
-use Rattle.dsn_frame.specs.bodies.Spoken.{answer_bytes, answer_frames_from, reply_of}
+use Rattle.dsn_outcome.specs.declared.answer.Replied.{Replied}
+use Rattle.dsn_frame.specs.bodies.Spoken.{answer_bytes, answer_frames_from, reply_of, told_each}
 use Rattle.dsn_frame.specs.declared.bodies.spoken.Spoken.{Spoken}
 use Rattle.dsn_frame.specs.declared.bodies.spoken.Spoken.TheVariants as spoken
 use Rattle.dsn_frame.specs.FrameFault.{frame_fault_code, source_failed}
@@ -74,19 +75,20 @@ numbered_from make number (item ∷ rest) = make number item ∷ numbered_from m
 abbrev pub numbered_request : ℕ → ℕ → Body → Request
 numbered_request agent number body = record { agent = agent; number = number; body = body }
 
-abbrev pub numbered_answer : ℕ → ℕ → Reply → Answer
-numbered_answer agent number reply = record { agent = agent; number = number; reply = reply }
+abbrev pub numbered_answer : ℕ → ℕ → Replied → Answer
+numbered_answer agent number replied =
+    record { agent = agent; number = number; reply = replied.reply; serial = replied.serial }
 
 -- the requests of an agent with these bodies, and the answers to an agent with these replies
 abbrev pub requests_from : ℕ → ℕ → List Body → List Request
 requests_from agent = numbered_from (numbered_request agent)
 
-abbrev pub answers_from : ℕ → ℕ → List Reply → List Answer
+abbrev pub answers_from : ℕ → ℕ → List Replied → List Answer
 answers_from agent = numbered_from (numbered_answer agent)
 
 -- an agent that sent requests with these bodies, and got these replies to them, in order; and then
 -- lost a lane, or not
-abbrev pub after_requests : Agent → List Body → List Reply → Bool → Agent
+abbrev pub after_requests : Agent → List Body → List Replied → Bool → Agent
 after_requests agent bodies replies lost = record {
   halves = record {
     requests = record {
@@ -126,8 +128,8 @@ pub record HasAsked (old new : Agent) (bodies : List Body) (answers : List Spoke
 -- ---- a session
 
 -- what serving one connection came to: a session over what the stream had to read; the requests of
--- its bodies, and their answers, at the agent; the frames of its answers, in the stream, which
--- failed once where that ended the session
+-- its bodies, and their answers, at the agent; the frames of what its frames were told of these
+-- answers, in the stream, which failed once where that ended the session
 pub record IsServed {S : Type 0} (source : Source S) (drain : Drain S) (old new : Agent)
     (before after : S) (result : Result Served ServeFault) : Type 0 where
   pub frames : List (List ℕ)
@@ -137,7 +139,7 @@ pub record IsServed {S : Type 0} (source : Source S) (drain : Drain S) (old new 
       (source.remaining before) (source.remaining after) frames bodies answers (served_end result)
   pub asked : HasAsked old new bodies answers (is_lost result)
   pub written : AnswersSent answer_bytes answer_frames_from (is_unwritten result)
-      (drain.contents before) (drain.contents after) answers
+      (drain.contents before) (drain.contents after) (told_each frames answers)
   pub answered : IfOk result (λ served. served.frames ≡ length answers)
   pub counts : Counts source.failures drain.flushes source.steady (is_stream_failed result) before after
 
@@ -145,7 +147,7 @@ pub record IsServed {S : Type 0} (source : Source S) (drain : Drain S) (old new 
 
 -- what a frame is answered whose body was asked: none where the collector is gone
 abbrev pub asked_turn : Result Answer AskFault → Option Turn
-asked_turn (Ok answer) = Some (record { answer = spoken.Reply answer.reply; over = false })
+asked_turn (Ok answer) = Some (record { answer = spoken.Reply (replied_in answer); over = false })
 asked_turn (Err (asks.Limit body)) = Some (record { answer = spoken.Refused used_up_code; over = false })
 asked_turn (Err (asks.Lost back)) = None
 

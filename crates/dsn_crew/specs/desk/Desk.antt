@@ -140,7 +140,9 @@ pub record MayBeSent {B : Type 0} (keeper : Keeper B) (limits : Limits) (before 
   pub last : Request
   pub taken_are : intake.requests.taken ≡ earlier ++ last ∷ []
   pub has : keeper.has book (history_after limits before intake.requests.taken) intake.behind
-  pub answers : answer ≡ answer_of (exchange_of limits (history_after limits before earlier) last)
+  pub answers : answer
+      ≡ answer_of (history_after limits before earlier)
+      (exchange_of limits (history_after limits before earlier) last)
 
 -- these requests are the next ones of so many agents, behind those that were carried out
 pub record AreNextOf (agents : ℕ) (taken requests : List Request) : Type 0 where
@@ -254,7 +256,8 @@ abbrev pub IsRequestTaken :
 IsRequestTaken keeper before old new (Ok letter) =
     (request : Request) × (old.failed ≡ false) × (new.failed ≡ false)
     × (new.requests ≡ taken_request old.requests request)
-    × IsAnswerSent true old.answers (answer_of (next_exchange keeper before old request)) new.answers
+    × IsAnswerSent true old.answers
+    (answer_of (history keeper before old) (next_exchange keeper before old request)) new.answers
     × (new.missed ≡ old.missed)
     × (letters_in letter
     ≡ letter_of (history keeper before old) (next_exchange keeper before old request))

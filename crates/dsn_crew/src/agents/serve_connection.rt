@@ -1,8 +1,9 @@
 //! An agent's session over one connection.
-ghost use Rattle.std.specs.Prelude.{◌≢◌, ℕ, List};
+ghost use Rattle.std.specs.Prelude.{◌≡◌, ◌≢◌, ℕ, List};
 ghost use Rattle.dsn_outcome.specs.Body.{body_of};
 ghost use Rattle.dsn_outcome.specs.Request.{Bye};
 ghost use Rattle.dsn_frame.specs.bodies.Request.{Encodes};
+ghost use Rattle.dsn_frame.specs.bodies.Spoken.{answer_bytes, told_to};
 ghost use Rattle.dsn_crew.specs.agents.Agent.{IsAgent};
 ghost use Rattle.dsn_crew.specs.agents.Serve.{IsServed, IsTurn};
 
@@ -13,13 +14,14 @@ use crate::agents::served::Served;
 use crate::agents::turn::Turn;
 use dsn_device::{Stream, send};
 use dsn_frame::{FrameBuffer, Spoken, encode_answer, next_request};
-use dsn_outcome::Body;
+use dsn_outcome::{Body, ShortText};
 use std::alloc::Global;
 use std::sync::Wait;
 
 impl Agent {
     /// Serves one connection: reads its frames, asks the collector what they ask, and answers each
-    /// frame before the next one is read. It makes no flush. Memory is taken only to read a frame
+    /// frame before the next one is read: one of version 3 with the serial of the notice that it made,
+    /// if it did. It makes no flush. Memory is taken only to read a frame
     /// that is longer than any before it on the connection, in one buffer that is kept until its
     /// end, and for what a frame asks.
     ///
@@ -49,10 +51,11 @@ impl Agent {
             let Some(frame) = buffer.frame() else {
                 return Ok(Served { frames: place });
             };
-            let Some(turn) = self.answer(rt, alloc, gate, place, frame.body()) else {
+            let bytes = frame.body();
+            let Some(turn) = self.answer(rt, alloc, gate, place, bytes) else {
                 return Err(ServeFault::Lost);
             };
-            if send(stream, &encode_answer(place, &turn.answer)).is_err() {
+            if send(stream, frame_told(place, bytes, turn.answer).bytes()).is_err() {
                 return Err(ServeFault::WriteBack);
             }
             if turn.over {
@@ -105,4 +108,11 @@ impl Agent {
         }
         Turn::of_ask(asked)
     }
+}
+
+/// The frame of what the frame with this body, at this place, is told of an answer.
+fn frame_told(place: u32, bytes: &[u8], answer: Spoken) -> ShortText
+    ensures { result ≡ answer_bytes place (told_to bytes.now answer) }
+{
+    encode_answer(place, &answer.told_to(bytes))
 }

@@ -20,7 +20,7 @@ impl Turn {
         ensures { result ≡ asked_turn asked }
     {
         let answer = match asked {
-            Ok(answer) => Spoken::Reply(answer.reply),
+            Ok(answer) => Spoken::Reply(answer.replied()),
             Err(AskFault::Limit(_)) => Spoken::Refused(fault_code::USED_UP),
             Err(AskFault::Lost(_)) => return None,
         };

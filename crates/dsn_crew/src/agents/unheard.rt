@@ -1,6 +1,7 @@
 //! A goodbye, and why it was not heard.
 ghost use Rattle.std.specs.Prelude.{◌≡◌, ◌<◌, length, IfErr, IfOk};
 ghost use Rattle.dsn_crew.specs.lane.Lane.{most_sent};
+ghost use Rattle.dsn_outcome.specs.History.{plain};
 ghost use Rattle.dsn_outcome.specs.declared.answer.Reply.TheVariants.{Gone};
 ghost use Rattle.dsn_outcome.specs.Request.{Bye};
 ghost use Rattle.dsn_crew.specs.agents.Agent.{IsFaultOf, IsFinished, Stays, after_reply, was_unsent};
@@ -10,7 +11,7 @@ use crate::agents::finished_agent::Finished;
 use crate::agents::lane_halves::LaneHalves;
 use crate::agents::unanswered::Unanswered;
 use crate::lane::LaneGone;
-use dsn_outcome::{Body, Reply};
+use dsn_outcome::{Answer, Body, Reply};
 use std::sync::Wait;
 
 /// Why a goodbye was not heard.
@@ -58,12 +59,18 @@ pub(crate) fn say_bye(rt: &impl Wait, halves: LaneHalves) -> Result<Finished, Un
     requires answered { length halves.answers.taken ≡ length halves.requests.sent }
     requires room { length halves.requests.sent < most_sent }
     requires stays { Stays halves.requests.sent }
-    ensures heard { IfOk result (λ finished. finished ≡ after_reply halves Bye Gone) }
+    ensures heard { IfOk result (λ finished. finished ≡ after_reply halves Bye (plain Gone)) }
     ensures finished { IfOk result IsFinished }
 {
     let mut halves = halves;
     match halves.exchange(rt, Body::Bye) {
-        Ok(answer) if answer.reply == Reply::Gone => Ok(Finished::new(halves)),
+        Ok(
+            Answer {
+                reply: Reply::Gone,
+                serial: None,
+                ..
+            },
+        ) => Ok(Finished::new(halves)),
         Ok(_) => Err(Unheard {
             cause: Cause::Answered,
         }),

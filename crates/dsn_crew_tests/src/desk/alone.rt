@@ -71,6 +71,7 @@ fn discarded(rt: &impl Wait, alloc: Global) -> Option<(u32, u64, Memory<'static>
         agent: 3,
         number: 0,
         reply: Reply::Nothing,
+        serial: None,
     };
     line.send(rt, first).ok()?;
     agent.ask(rt, discard()?).ok()?;
@@ -78,6 +79,7 @@ fn discarded(rt: &impl Wait, alloc: Global) -> Option<(u32, u64, Memory<'static>
         agent: 3,
         number: 1,
         reply: Reply::Discarded(0),
+        serial: None,
     };
     line.send(rt, second).ok()?;
     let gate = Recorded {

@@ -3,7 +3,7 @@ use Rattle.std.proofs.Common.{◌≡◌, ℕ, suc, ◌<◌, ◌^◌, ◌⊎◌, 
 use Rattle.std.specs.Int.{w32, w64}
 use Rattle.std.proofs.lemmas.Bool.{eqb-true}
 use Rattle.std.proofs.lemmas.List.{append-nil}
-use Rattle.dsn_frame.specs.bodies.Wire.{Head, RecipientFields, RetryFields, TypeFields, FlushFields, WishFields, WireBody, AppendFields, DatedAppendFields, TypedAppendFields, FlushFieldsOf, CountedFlushFields, DiscardFields, ForgetFields, number_bytes, text_bytes, head_bytes, append_bytes, retry_bytes, type_bytes, flush_bytes, wish_bytes, counted_flush_bytes, body_bytes, FitsText, FitsHead, FitsAppend, FitsRetry, FitsTypes, FitsFlush, FitsOwn, Fits, kind_of, own_bytes, head_of, ◌>>=◌, byte_at, number_at, text_at, head_at, append_at, retry_at, types_at, append_body_at, flush_at, wishes_at, flush_body_at, own_at, body_at}
+use Rattle.dsn_frame.specs.bodies.Wire.{Head, RecipientFields, RetryFields, TypeFields, FlushFields, WishFields, WireBody, AppendFields, DatedAppendFields, TypedAppendFields, FlushFieldsOf, CountedFlushFields, DiscardFields, ForgetFields, number_bytes, text_bytes, head_bytes, append_bytes, retry_bytes, type_bytes, flush_bytes, wish_bytes, counted_flush_bytes, body_bytes, FitsText, FitsHead, FitsAppend, FitsRetry, FitsTypes, FitsFlush, FitsWishes, FitsOwn, Fits, kind_of, own_bytes, head_of, ◌>>=◌, byte_at, number_at, text_at, head_at, append_at, retry_at, types_at, append_body_at, flush_at, wishes_at, flush_body_at, own_at, body_at}
 use Rattle.dsn_frame.proofs.bodies.FieldLaws.{IsBytes, bind_some, some_is, Takes, Takes-then, wide32, wide64, number_takes, number_again, text_takes, text_again}
 
 -- ---- what was written is read again
@@ -52,12 +52,12 @@ flush_again fields rest fits =
     let regrouped : flush_bytes fields ++ rest ≡ number_bytes w64 fields.moment ++ r1 = simp append_assoc in
     ap flush_at regrouped ∙ rw (number_again w64 (2 ^ 64) wide64 fields.moment r1 fits.moment, number_again w64 (2 ^ 64) wide64 fields.arrival r2 fits.arrival, text_again fields.return_path r3 fits.return_path, text_again fields.envelope_id r4 fits.envelope_id, text_again fields.header rest fits.header) refl
 
-wishes_again : (wishes : WishFields) (rest : List ℕ) → wishes.expected < 2 ^ 32 → wishes_at (wish_bytes wishes ++ rest) ≡ Some (wishes, rest)
+wishes_again : (wishes : WishFields) (rest : List ℕ) → FitsWishes wishes → wishes_at (wish_bytes wishes ++ rest) ≡ Some (wishes, rest)
 unfolding wishes_at wish_bytes
 wishes_again wishes rest fits =
-    let later = wishes.returned ∷ wishes.wording ∷ rest in
-    let regrouped : wish_bytes wishes ++ rest ≡ number_bytes w32 wishes.expected ++ later = append_assoc (number_bytes w32 wishes.expected) (wishes.returned ∷ wishes.wording ∷ []) rest in
-    ap wishes_at regrouped ∙ rw (number_again w32 (2 ^ 32) wide32 wishes.expected later fits) refl
+    let later = wishes.returned ∷ wishes.wording ∷ (text_bytes wishes.extensions ++ rest) in
+    let regrouped : wish_bytes wishes ++ rest ≡ number_bytes w32 wishes.expected ++ later = append_assoc (number_bytes w32 wishes.expected) (wishes.returned ∷ wishes.wording ∷ text_bytes wishes.extensions) rest in
+    ap wishes_at regrouped ∙ rw (number_again w32 (2 ^ 32) wide32 wishes.expected later fits.expected, text_again wishes.extensions rest fits.extensions) refl
 
 pub own_again : (wire : WireBody) (rest : List ℕ) → FitsOwn wire → own_at (kind_of wire) (head_of wire) (own_bytes wire ++ rest) ≡ Some (wire, rest)
 unfolding own_at append_body_at flush_body_at own_bytes counted_flush_bytes FitsOwn
@@ -257,19 +257,22 @@ own_uncounted kind head bytes x is version fits e =
     subst (λ (y : WireBody × List ℕ). TakesOwn kind head bytes y.0 y.1) (some_is made x read.2)
     (record { taken = taken.0; fits = (version, taken.1); kind_is = is; head_is = refl })
 
-wishes_takes : (bytes : List ℕ) (x : WishFields × List ℕ) → IsBytes bytes → wishes_at bytes ≡ Some x → Takes bytes (wish_bytes x.0) x.1 × (x.0.expected < 2 ^ 32)
+wishes_takes : (bytes : List ℕ) (x : WishFields × List ℕ) → IsBytes bytes → wishes_at bytes ≡ Some x → Takes bytes (wish_bytes x.0) x.1 × FitsWishes x.0
 unfolding wishes_at wish_bytes
 wishes_takes bytes x fits e =
-    let a = bind_some (number_at w32 bytes) (λ expected. byte_at expected.1 >>= λ returned. byte_at returned.1 >>= λ wording. Some (record { expected = expected.0; returned = returned.0; wording = wording.0 }, wording.1)) x e in
-    let b = bind_some (byte_at a.0.1) (λ returned. byte_at returned.1 >>= λ wording. Some (record { expected = a.0.0; returned = returned.0; wording = wording.0 }, wording.1)) x a.2 in
-    let c = bind_some (byte_at b.0.1) (λ wording. Some (record { expected = a.0.0; returned = b.0.0; wording = wording.0 }, wording.1)) x b.2 in
+    let a = bind_some (number_at w32 bytes) (λ expected. byte_at expected.1 >>= λ returned. byte_at returned.1 >>= λ wording. text_at wording.1 >>= λ extensions. Some (record { expected = expected.0; returned = returned.0; wording = wording.0; extensions = extensions.0 }, extensions.1)) x e in
+    let b = bind_some (byte_at a.0.1) (λ returned. byte_at returned.1 >>= λ wording. text_at wording.1 >>= λ extensions. Some (record { expected = a.0.0; returned = returned.0; wording = wording.0; extensions = extensions.0 }, extensions.1)) x a.2 in
+    let c = bind_some (byte_at b.0.1) (λ wording. text_at wording.1 >>= λ extensions. Some (record { expected = a.0.0; returned = b.0.0; wording = wording.0; extensions = extensions.0 }, extensions.1)) x b.2 in
+    let d = bind_some (text_at c.0.1) (λ extensions. Some (record { expected = a.0.0; returned = b.0.0; wording = c.0.0; extensions = extensions.0 }, extensions.1)) x c.2 in
     let t0 = number_takes w32 (2 ^ 32) wide32 bytes a.0.0 a.0.1 fits a.1 in
     let t1 = byte_takes a.0.1 b.0 t0.0.rest_fits b.1 in
     let t2 = byte_takes b.0.1 c.0 t1.rest_fits c.1 in
-    let e12 = Takes-then a.0.1 (b.0.0 ∷ []) b.0.1 (c.0.0 ∷ []) c.0.1 t1 t2 in
-    let e02 = Takes-then bytes (number_bytes w32 a.0.0) a.0.1 (b.0.0 ∷ c.0.0 ∷ []) c.0.1 t0.0 e12 in
-    let made : WishFields × List ℕ = (record { expected = a.0.0; returned = b.0.0; wording = c.0.0 }, c.0.1) in
-    subst (λ (y : WishFields × List ℕ). Takes bytes (wish_bytes y.0) y.1 × (y.0.expected < 2 ^ 32)) (some_is made x c.2) (e02, t0.1)
+    let t3 = text_takes c.0.1 d.0.0 d.0.1 t2.rest_fits d.1 in
+    let e23 = Takes-then b.0.1 (c.0.0 ∷ []) c.0.1 (text_bytes d.0.0) d.0.1 t2 t3.0 in
+    let e13 = Takes-then a.0.1 (b.0.0 ∷ []) b.0.1 (c.0.0 ∷ text_bytes d.0.0) d.0.1 t1 e23 in
+    let e03 = Takes-then bytes (number_bytes w32 a.0.0) a.0.1 (b.0.0 ∷ c.0.0 ∷ text_bytes d.0.0) d.0.1 t0.0 e13 in
+    let made : WishFields × List ℕ = (record { expected = a.0.0; returned = b.0.0; wording = c.0.0; extensions = d.0.0 }, d.0.1) in
+    subst (λ (y : WishFields × List ℕ). Takes bytes (wish_bytes y.0) y.1 × FitsWishes y.0) (some_is made x d.2) (e03, record { expected = t0.1; extensions = t3.1 })
 
 own_counted : (kind : ℕ) (head : Head) (bytes : List ℕ) (x : WireBody × List ℕ) → kind ≡ 2 → eqb head.version 3 ≡ true → IsBytes bytes
     → (flush_at bytes >>= λ fields. wishes_at fields.1 >>= λ wishes. Some (CountedFlushFields head fields.0 wishes.0, wishes.1)) ≡ Some x → TakesOwn kind head bytes x.0 x.1

@@ -29,12 +29,12 @@ use Rattle.dsn_text.specs.declared.action.Action.TheVariants.{Failed, Delayed, D
 use Rattle.dsn_text.specs.declared.key.Key.{Key}
 use Rattle.dsn_text.specs.declared.service.Service.{Service}
 use Rattle.dsn_text.specs.declared.service.Service.TheVariants.{Bounce, Defer, Trace}
-use Rattle.dsn_text.specs.Extension.{longest_extension_text}
+use Rattle.dsn_text.specs.Extension.{is_extension_text, longest_extension_text}
 use Rattle.dsn_text.proofs.ExtensionLemmas.{extension_text_read}
 use Rattle.dsn_text.proofs.StatusLemmas.{IsStatusCode-test, length-IsStatusCode}
 use Rattle.dsn_frame.specs.bodies.FrameBody.{IsFrameBody}
 use Rattle.dsn_frame.specs.bodies.Request.{text_or_empty, head_for, fields_for, no_moment, moment_if_any, moment_or_none, outcome_fields, usual_types, undated_fields, dated_fields, typed_fields, retry_fields_for, type_fields_for, has_usual_types, append_written_as, any_count, count_if_any, count_or_any, flush_fields_for, flush_written_as, are_usual, usual_wishes, wish_fields_for, draft_of, flush_checks, first_own_fault, StandsFor, Encodes, IsWritten}
-use Rattle.dsn_frame.specs.bodies.Wire.{Head, RecipientFields, RetryFields, TypeFields, FlushFields, WishFields, WireBody, AppendFields, DatedAppendFields, TypedAppendFields, FlushFieldsOf, CountedFlushFields, DiscardFields, ForgetFields, head_of, own_bytes, body_bytes, number_bytes, text_bytes, head_bytes, append_bytes, retry_bytes, type_bytes, flush_bytes, wish_bytes, counted_flush_bytes, FitsAppend, FitsTypes, FitsFlush, FitsOwn}
+use Rattle.dsn_frame.specs.bodies.Wire.{Head, RecipientFields, RetryFields, TypeFields, FlushFields, WishFields, WireBody, AppendFields, DatedAppendFields, TypedAppendFields, FlushFieldsOf, CountedFlushFields, DiscardFields, ForgetFields, head_of, own_bytes, body_bytes, number_bytes, text_bytes, head_bytes, append_bytes, retry_bytes, type_bytes, flush_bytes, wish_bytes, counted_flush_bytes, FitsAppend, FitsTypes, FitsFlush, FitsWishes, FitsOwn}
 
 -- ---- texts
 
@@ -274,14 +274,14 @@ flush_length fields =
       text_length fields.header,
     )
 
-pub counted_length : (fields : FlushFields) (wishes : WishFields) → length (counted_flush_bytes fields wishes) ≡ length (flush_bytes fields) + 6
-unfolding counted_flush_bytes wish_bytes number_bytes
-counted_length fields wishes =
-    omega (
-      arith,
-      length-append (flush_bytes fields) (to_be_bytes w32 wishes.expected ++ (wishes.returned ∷ wishes.wording ∷ [])),
-      length-append (to_be_bytes w32 wishes.expected) (wishes.returned ∷ wishes.wording ∷ []),
-    )
+pub wishes_length : (wishes : WishFields) → length (wish_bytes wishes) ≡ 8 + length wishes.extensions
+unfolding wish_bytes number_bytes
+wishes_length wishes =
+    omega (arith, length-append (to_be_bytes w32 wishes.expected) (wishes.returned ∷ wishes.wording ∷ text_bytes wishes.extensions), text_length wishes.extensions)
+
+pub counted_length : (fields : FlushFields) (wishes : WishFields) → length (counted_flush_bytes fields wishes) ≡ length (flush_bytes fields) + length (wish_bytes wishes)
+unfolding counted_flush_bytes
+counted_length fields wishes = length-append (flush_bytes fields) (wish_bytes wishes)
 
 pub body_length : (wire : WireBody) → length (body_bytes wire) ≡ 9 + (length (head_of wire).id + length (own_bytes wire))
 unfolding body_bytes
@@ -468,7 +468,7 @@ flush-accepted draft legal =
     let header = le-leb _ _ legal.header_short in
     let path = back draft.return_path (said is_address refl draft.return_path legal.return_path_legal) in
     let id = back draft.envelope_id (said is_envelope_id refl draft.envelope_id legal.envelope_id_legal) in
-    rw (moment, arrival, header, path, legal.return_path_legal, id, legal.envelope_id_legal, returned-back draft.returned, wording-back draft.wording) refl
+    rw (moment, arrival, header, path, legal.return_path_legal, id, legal.envelope_id_legal, returned-back draft.returned, wording-back draft.wording, legal.extensions_legal) refl
 
 flush-back : (draft : Draft) → IsLegalDraft draft → draft ≡ draft_of (flush_fields_for draft) (wish_fields_for draft)
 flush-back draft legal =
@@ -480,11 +480,13 @@ flush-back draft legal =
 usual-is : (wishes : WishFields) → are_usual wishes ≡ true → wishes ≡ usual_wishes
 usual-is wishes e =
     let count = and_parts (wishes.expected == any_count) _ e in
-    let bytes = and_parts (wishes.returned == 0) (wishes.wording == 0) count.1 in
+    let bytes = and_parts (wishes.returned == 0) _ count.1 in
+    let others = and_parts (wishes.wording == 0) (length wishes.extensions == 0) bytes.1 in
     let expected : wishes.expected ≡ any_count = eqb-true _ _ count.0 in
     let returned : wishes.returned ≡ 0 = eqb-true _ _ bytes.0 in
-    let wording : wishes.wording ≡ 0 = eqb-true _ _ bytes.1 in
-    rw (expected, returned, wording) refl
+    let wording : wishes.wording ≡ 0 = eqb-true _ _ others.0 in
+    let extensions : wishes.extensions ≡ [] = nil_from_length wishes.extensions (eqb-true (length wishes.extensions) 0 others.1) in
+    rw (expected, returned, wording, extensions) refl
 
 path-short : (draft : Draft) → IsLegalDraft draft → length (text_or_empty draft.return_path) ≤ longest_address
 path-short draft legal = optional-short is_address longest_address address-short draft.return_path legal.return_path_legal
@@ -499,6 +501,15 @@ flush-fits draft legal = record {
   return_path = omega (arith, path-short draft legal);
   envelope_id = omega (arith, id-short draft legal);
   header = omega (arith, legal.header_short);
+}
+
+extensions-short : (draft : Draft) → IsLegalDraft draft → length draft.extensions ≤ longest_extension_text
+extensions-short draft legal = (extension_text_read draft.extensions legal.extensions_legal).short
+
+wishes-fit : (draft : Draft) → IsLegalDraft draft → FitsWishes (wish_fields_for draft)
+wishes-fit draft legal = record {
+  expected = count-fits draft.expected legal.expected_counted;
+  extensions = omega (arith, extensions-short draft legal);
 }
 
 flush-few : (draft : Draft) → IsLegalDraft draft → length (flush_bytes (flush_fields_for draft)) ≤ 22 + (longest_address + (longest_envelope_id + longest_header))
@@ -530,8 +541,8 @@ counted_written number key draft few legal_id legal =
     let id_short = queue-id-short key.id legal_id in record {
       number_is = refl;
       known = refl;
-      fits = (record { number = few; id = omega (arith, id_short) }, (refl, (flush-fits draft legal, count-fits draft.expected legal.expected_counted)));
-      own_short = omega (arith, flush-few draft legal, counted_length (flush_fields_for draft) (wish_fields_for draft));
+      fits = (record { number = few; id = omega (arith, id_short) }, (refl, (flush-fits draft legal, wishes-fit draft legal)));
+      own_short = omega (arith, flush-few draft legal, extensions-short draft legal, wishes_length (wish_fields_for draft), counted_length (flush_fields_for draft) (wish_fields_for draft));
       id_short = id_short;
       accepted = rw (service-back key.service, legal_id, flush-accepted draft legal) refl;
       stands_for = (record { service_is = service-back key.service; id_is = refl }, flush-back draft legal);
@@ -592,20 +603,21 @@ written_fits number body wire written =
 -- ---- refusals
 
 -- a draft is refused as the flush is that it is read from, whose moments have no fault
-refused-as : (dated header path id returned wording : Bool) → dated ≡ true
-    → draft_refusal (unwrap_or (first_failed ((header, drafts.Header) ∷ (path, drafts.ReturnPath) ∷ (id, drafts.EnvelopeId) ∷ (returned, drafts.Returned) ∷ (wording, drafts.Wording) ∷ [])) drafts.NoMemory)
-    ≡ unwrap_or (first_failed ((dated, faults.Moment) ∷ (header, faults.Header) ∷ (path, faults.ReturnPath) ∷ (id, faults.EnvelopeId) ∷ (returned, faults.Returned) ∷ (wording, faults.Wording) ∷ [])) faults.NoMemory
-refused-as false header path id returned wording is = cc
-refused-as true false path id returned wording is = refl
-refused-as true true false id returned wording is = refl
-refused-as true true true false returned wording is = refl
-refused-as true true true true false wording is = refl
-refused-as true true true true true false is = refl
-refused-as true true true true true true is = refl
+refused-as : (dated header path id returned wording extensions : Bool) → dated ≡ true
+    → draft_refusal (unwrap_or (first_failed ((header, drafts.Header) ∷ (path, drafts.ReturnPath) ∷ (id, drafts.EnvelopeId) ∷ (returned, drafts.Returned) ∷ (wording, drafts.Wording) ∷ (extensions, drafts.Extensions) ∷ [])) drafts.NoMemory)
+    ≡ unwrap_or (first_failed ((dated, faults.Moment) ∷ (header, faults.Header) ∷ (path, faults.ReturnPath) ∷ (id, faults.EnvelopeId) ∷ (returned, faults.Returned) ∷ (wording, faults.Wording) ∷ (extensions, faults.Extensions) ∷ [])) faults.NoMemory
+refused-as false header path id returned wording extensions is = cc
+refused-as true false path id returned wording extensions is = refl
+refused-as true true false id returned wording extensions is = refl
+refused-as true true true false returned wording extensions is = refl
+refused-as true true true true false wording extensions is = refl
+refused-as true true true true true false extensions is = refl
+refused-as true true true true true true false is = refl
+refused-as true true true true true true true is = refl
 
 pub draft_refused : (fields : FlushFields) (wishes : WishFields) → (nat_le fields.moment last_moment && nat_le fields.arrival last_moment) ≡ true
-    → draft_refusal (unwrap_or (first_draft_fault (record { return_path = fields.return_path; envelope_id = fields.envelope_id; header = fields.header; returned = wishes.returned; wording = wishes.wording })) drafts.NoMemory)
+    → draft_refusal (unwrap_or (first_draft_fault (record { return_path = fields.return_path; envelope_id = fields.envelope_id; header = fields.header; returned = wishes.returned; wording = wishes.wording; extensions = wishes.extensions })) drafts.NoMemory)
     ≡ unwrap_or (first_failed (flush_checks fields wishes)) faults.NoMemory
 draft_refused fields wishes dated =
     refused-as (nat_le fields.moment last_moment && nat_le fields.arrival last_moment) (nat_le (length fields.header) longest_header) (is_none_or is_address (unless_empty fields.return_path))
-    (is_none_or is_envelope_id (unless_empty fields.envelope_id)) (is_some (returned_of_byte wishes.returned)) (is_some (wording_of_byte wishes.wording)) dated
+    (is_none_or is_envelope_id (unless_empty fields.envelope_id)) (is_some (returned_of_byte wishes.returned)) (is_some (wording_of_byte wishes.wording)) (is_extension_text wishes.extensions) dated

@@ -110,7 +110,7 @@ unfolding first_body_fault has_kind first_own_fault body_at head_at text_at numb
 append_is_accepted = refl
 
 flush_is_accepted : refused flush_body ≡ None
-unfolding first_body_fault has_kind first_own_fault body_at head_at text_at number_at own_at flush_at flush_body_at wishes_at
+unfolding first_body_fault has_kind first_own_fault body_at head_at text_at number_at own_at flush_at flush_body_at wishes_at are_extension_lines
 flush_is_accepted = refl
 
 byte_after_append : refused (append_body ++ (0 ∷ [])) ≡ Some 24
@@ -145,6 +145,7 @@ flush_wishing expected returned wording =
       return_path = Some (codes "ann@example.com");
       envelope_id = None;
       header = [];
+      extensions = [];
       expected = expected;
       returned = returned;
       wording = wording;
@@ -173,7 +174,7 @@ append_is_encoded = record {
 }
 
 pub flush_is_encoded : Encodes flush_body 1 flush_asked
-unfolding body_bytes own_bytes head_bytes append_bytes flush_bytes text_bytes number_bytes FitsOwn first_own_fault StandsFor
+unfolding body_bytes own_bytes head_bytes append_bytes flush_bytes text_bytes number_bytes FitsOwn first_own_fault StandsFor are_extension_lines
 flush_is_encoded = record {
   wire = FlushFieldsOf (record { version = 1; number = 1; service = 1; id = codes "A1B2C3" }) (record { moment = 1700000000; arrival = 1699996400; return_path = codes "ann@example.com"; envelope_id = []; header = [] });
   laid_out = refl;
@@ -199,88 +200,138 @@ flush_with version rest =
     (version ∷ 2 ∷ 0 ∷ 0 ∷ 0 ∷ 1 ∷ 1 ∷ 0 ∷ 6 ∷ []) ++ codes "A1B2C3" ++ (0 ∷ 0 ∷ 0 ∷ 0 ∷ 0x65 ∷ 0x53 ∷ 0xf1 ∷ 0 ∷ [])
     ++ (0 ∷ 0 ∷ 0 ∷ 0 ∷ 0x65 ∷ 0x53 ∷ 0xe2 ∷ 0xf0 ∷ []) ++ (0 ∷ 15 ∷ []) ++ codes "ann@example.com" ++ (0 ∷ 0 ∷ 0 ∷ 0 ∷ []) ++ rest
 
-counted_flush_is_accepted : refused (flush_with 3 (0 ∷ 0 ∷ 1 ∷ 2 ∷ 0 ∷ 0 ∷ [])) ≡ None
-unfolding first_body_fault has_kind first_own_fault body_at head_at text_at number_at own_at flush_at flush_body_at wishes_at
+counted_flush_is_accepted : refused (flush_with 3 (0 ∷ 0 ∷ 1 ∷ 2 ∷ 0 ∷ 0 ∷ 0 ∷ 0 ∷ [])) ≡ None
+unfolding first_body_fault has_kind first_own_fault body_at head_at text_at number_at own_at flush_at flush_body_at wishes_at are_extension_lines
 counted_flush_is_accepted = refl
 
-counted_flush_is_written : request_body 1 (flush_expecting (Some 258)) ≡ flush_with 3 (0 ∷ 0 ∷ 1 ∷ 2 ∷ 0 ∷ 0 ∷ [])
+counted_flush_is_written : request_body 1 (flush_expecting (Some 258)) ≡ flush_with 3 (0 ∷ 0 ∷ 1 ∷ 2 ∷ 0 ∷ 0 ∷ 0 ∷ 0 ∷ [])
 unfolding request_body fields_written flush_written_as body_bytes own_bytes counted_flush_bytes wish_bytes head_bytes flush_bytes text_bytes number_bytes
 counted_flush_is_written = refl
 
-counted_flush_is_encoded : Encodes (flush_with 3 (0 ∷ 0 ∷ 1 ∷ 2 ∷ 0 ∷ 0 ∷ [])) 1 (flush_expecting (Some 258))
-unfolding body_bytes own_bytes counted_flush_bytes wish_bytes head_bytes append_bytes flush_bytes text_bytes number_bytes FitsOwn first_own_fault StandsFor
+counted_flush_is_encoded : Encodes (flush_with 3 (0 ∷ 0 ∷ 1 ∷ 2 ∷ 0 ∷ 0 ∷ 0 ∷ 0 ∷ [])) 1 (flush_expecting (Some 258))
+unfolding body_bytes own_bytes counted_flush_bytes wish_bytes head_bytes append_bytes flush_bytes text_bytes number_bytes FitsOwn first_own_fault StandsFor are_extension_lines
 counted_flush_is_encoded = record {
-  wire = CountedFlushFields (record { version = 3; number = 1; service = 1; id = codes "A1B2C3" }) (record { moment = 1700000000; arrival = 1699996400; return_path = codes "ann@example.com"; envelope_id = []; header = [] }) (record { expected = 258; returned = 0; wording = 0 });
+  wire = CountedFlushFields (record { version = 3; number = 1; service = 1; id = codes "A1B2C3" }) (record { moment = 1700000000; arrival = 1699996400; return_path = codes "ann@example.com"; envelope_id = []; header = [] }) (record { expected = 258; returned = 0; wording = 0; extensions = [] });
   laid_out = refl;
   known = refl;
-  fits = (record { number = lit< tt; id = lit< tt }, (refl, (record { moment = lit< tt; arrival = lit< tt; return_path = lit< tt; envelope_id = lit< tt; header = lit< tt }, lit< tt)));
+  fits = (record { number = lit< tt; id = lit< tt }, (refl, (record { moment = lit< tt; arrival = lit< tt; return_path = lit< tt; envelope_id = lit< tt; header = lit< tt }, record { expected = lit< tt; extensions = lit< tt })));
   number_is = refl;
   accepted = refl;
   stands_for = (record { service_is = refl; id_is = refl }, refl);
 }
 
 -- all ones are any number of outcomes
-any_number_is_encoded : Encodes (flush_with 3 (replicate 4 255 ++ 0 ∷ 0 ∷ [])) 1 flush_asked
-unfolding body_bytes own_bytes counted_flush_bytes wish_bytes head_bytes append_bytes flush_bytes text_bytes number_bytes FitsOwn first_own_fault StandsFor
+any_number_is_encoded : Encodes (flush_with 3 (replicate 4 255 ++ 0 ∷ 0 ∷ 0 ∷ 0 ∷ [])) 1 flush_asked
+unfolding body_bytes own_bytes counted_flush_bytes wish_bytes head_bytes append_bytes flush_bytes text_bytes number_bytes FitsOwn first_own_fault StandsFor are_extension_lines
 any_number_is_encoded = record {
-  wire = CountedFlushFields (record { version = 3; number = 1; service = 1; id = codes "A1B2C3" }) (record { moment = 1700000000; arrival = 1699996400; return_path = codes "ann@example.com"; envelope_id = []; header = [] }) (record { expected = 4294967295; returned = 0; wording = 0 });
+  wire = CountedFlushFields (record { version = 3; number = 1; service = 1; id = codes "A1B2C3" }) (record { moment = 1700000000; arrival = 1699996400; return_path = codes "ann@example.com"; envelope_id = []; header = [] }) (record { expected = 4294967295; returned = 0; wording = 0; extensions = [] });
   laid_out = refl;
   known = refl;
-  fits = (record { number = lit< tt; id = lit< tt }, (refl, (record { moment = lit< tt; arrival = lit< tt; return_path = lit< tt; envelope_id = lit< tt; header = lit< tt }, lit< tt)));
+  fits = (record { number = lit< tt; id = lit< tt }, (refl, (record { moment = lit< tt; arrival = lit< tt; return_path = lit< tt; envelope_id = lit< tt; header = lit< tt }, record { expected = lit< tt; extensions = lit< tt })));
   number_is = refl;
   accepted = refl;
   stands_for = (record { service_is = refl; id_is = refl }, refl);
 }
 
--- the count belongs to version 3, and it has four bytes; two bytes follow it
+-- the count belongs to version 3, and it has four bytes; two bytes and a text follow it
 count_in_version_two : refused (flush_with 2 (0 ∷ 0 ∷ 1 ∷ 2 ∷ [])) ≡ Some 24
-unfolding first_body_fault has_kind first_own_fault body_at head_at text_at number_at own_at flush_at flush_body_at wishes_at
+unfolding first_body_fault has_kind first_own_fault body_at head_at text_at number_at own_at flush_at flush_body_at wishes_at are_extension_lines
 count_in_version_two = refl
 
 no_count_in_version_three : refused (flush_with 3 []) ≡ Some 23
-unfolding first_body_fault has_kind first_own_fault body_at head_at text_at number_at own_at flush_at flush_body_at wishes_at
+unfolding first_body_fault has_kind first_own_fault body_at head_at text_at number_at own_at flush_at flush_body_at wishes_at are_extension_lines
 no_count_in_version_three = refl
 
 count_cut : refused (flush_with 3 (0 ∷ 0 ∷ 1 ∷ [])) ≡ Some 23
-unfolding first_body_fault has_kind first_own_fault body_at head_at text_at number_at own_at flush_at flush_body_at wishes_at
+unfolding first_body_fault has_kind first_own_fault body_at head_at text_at number_at own_at flush_at flush_body_at wishes_at are_extension_lines
 count_cut = refl
 
-byte_after_wishes : refused (flush_with 3 (0 ∷ 0 ∷ 1 ∷ 2 ∷ 0 ∷ 0 ∷ 0 ∷ [])) ≡ Some 24
-unfolding first_body_fault has_kind first_own_fault body_at head_at text_at number_at own_at flush_at flush_body_at wishes_at
+byte_after_wishes : refused (flush_with 3 (0 ∷ 0 ∷ 1 ∷ 2 ∷ 0 ∷ 0 ∷ 0 ∷ 0 ∷ 0 ∷ [])) ≡ Some 24
+unfolding first_body_fault has_kind first_own_fault body_at head_at text_at number_at own_at flush_at flush_body_at wishes_at are_extension_lines
 byte_after_wishes = refl
 
 count_alone : refused (flush_with 3 (0 ∷ 0 ∷ 1 ∷ 2 ∷ [])) ≡ Some 23
-unfolding first_body_fault has_kind first_own_fault body_at head_at text_at number_at own_at flush_at flush_body_at wishes_at
+unfolding first_body_fault has_kind first_own_fault body_at head_at text_at number_at own_at flush_at flush_body_at wishes_at are_extension_lines
 count_alone = refl
 
 wording_missing : refused (flush_with 3 (0 ∷ 0 ∷ 1 ∷ 2 ∷ 1 ∷ [])) ≡ Some 23
-unfolding first_body_fault has_kind first_own_fault body_at head_at text_at number_at own_at flush_at flush_body_at wishes_at
+unfolding first_body_fault has_kind first_own_fault body_at head_at text_at number_at own_at flush_at flush_body_at wishes_at are_extension_lines
 wording_missing = refl
 
 -- a message, with words by outcome; each byte is 0 or 1, and the first is judged first
-message_by_outcome_is_written : request_body 1 (flush_wishing None Message ByOutcome) ≡ flush_with 3 (replicate 4 255 ++ 1 ∷ 1 ∷ [])
+message_by_outcome_is_written : request_body 1 (flush_wishing None Message ByOutcome) ≡ flush_with 3 (replicate 4 255 ++ 1 ∷ 1 ∷ 0 ∷ 0 ∷ [])
 unfolding request_body fields_written flush_written_as body_bytes own_bytes counted_flush_bytes wish_bytes head_bytes flush_bytes text_bytes number_bytes
 message_by_outcome_is_written = refl
 
-message_is_written : request_body 1 (flush_wishing None Message ByService) ≡ flush_with 3 (replicate 4 255 ++ 1 ∷ 0 ∷ [])
+message_is_written : request_body 1 (flush_wishing None Message ByService) ≡ flush_with 3 (replicate 4 255 ++ 1 ∷ 0 ∷ 0 ∷ 0 ∷ [])
 unfolding request_body fields_written flush_written_as body_bytes own_bytes counted_flush_bytes wish_bytes head_bytes flush_bytes text_bytes number_bytes
 message_is_written = refl
 
-by_outcome_is_written : request_body 1 (flush_wishing None Header ByOutcome) ≡ flush_with 3 (replicate 4 255 ++ 0 ∷ 1 ∷ [])
+by_outcome_is_written : request_body 1 (flush_wishing None Header ByOutcome) ≡ flush_with 3 (replicate 4 255 ++ 0 ∷ 1 ∷ 0 ∷ 0 ∷ [])
 unfolding request_body fields_written flush_written_as body_bytes own_bytes counted_flush_bytes wish_bytes head_bytes flush_bytes text_bytes number_bytes
 by_outcome_is_written = refl
 
-message_by_outcome_is_accepted : refused (flush_with 3 (replicate 4 255 ++ 1 ∷ 1 ∷ [])) ≡ None
-unfolding first_body_fault has_kind first_own_fault body_at head_at text_at number_at own_at flush_at flush_body_at wishes_at
+message_by_outcome_is_accepted : refused (flush_with 3 (replicate 4 255 ++ 1 ∷ 1 ∷ 0 ∷ 0 ∷ [])) ≡ None
+unfolding first_body_fault has_kind first_own_fault body_at head_at text_at number_at own_at flush_at flush_body_at wishes_at are_extension_lines
 message_by_outcome_is_accepted = refl
 
-returned_two : refused (flush_with 3 (replicate 4 255 ++ 2 ∷ 2 ∷ [])) ≡ Some 18
-unfolding first_body_fault has_kind first_own_fault body_at head_at text_at number_at own_at flush_at flush_body_at wishes_at
+returned_two : refused (flush_with 3 (replicate 4 255 ++ 2 ∷ 2 ∷ 0 ∷ 0 ∷ [])) ≡ Some 18
+unfolding first_body_fault has_kind first_own_fault body_at head_at text_at number_at own_at flush_at flush_body_at wishes_at are_extension_lines
 returned_two = refl
 
-wording_two : refused (flush_with 3 (replicate 4 255 ++ 1 ∷ 2 ∷ [])) ≡ Some 19
-unfolding first_body_fault has_kind first_own_fault body_at head_at text_at number_at own_at flush_at flush_body_at wishes_at
+wording_two : refused (flush_with 3 (replicate 4 255 ++ 1 ∷ 2 ∷ 0 ∷ 1 ∷ 32 ∷ [])) ≡ Some 19
+unfolding first_body_fault has_kind first_own_fault body_at head_at text_at number_at own_at flush_at flush_body_at wishes_at are_extension_lines
 wording_two = refl
+
+-- extension fields of the message: what a flush of version 3 ends with, judged last
+abbrev flush_extended : List ℕ → Body
+flush_extended extensions =
+    Flush (record { service = Bounce; id = codes "A1B2C3" }) (record {
+      moment = 1700000000;
+      arrival = 1699996400;
+      return_path = Some (codes "ann@example.com");
+      envelope_id = None;
+      header = [];
+      extensions = extensions;
+      expected = None;
+      returned = Header;
+      wording = ByService;
+    })
+
+abbrev flush_ended_with : List ℕ → List ℕ
+flush_ended_with extensions = flush_with 3 (replicate 4 255 ++ 0 ∷ 0 ∷ [] ++ extensions)
+
+message_field_is_written : request_body 1 (flush_extended (codes "X-A: b\n")) ≡ flush_ended_with ((0 ∷ 7 ∷ []) ++ codes "X-A: b\n")
+unfolding request_body fields_written flush_written_as body_bytes own_bytes counted_flush_bytes wish_bytes head_bytes flush_bytes text_bytes number_bytes
+message_field_is_written = refl
+
+message_field_is_encoded : Encodes (flush_ended_with ((0 ∷ 7 ∷ []) ++ codes "X-A: b\n")) 1 (flush_extended (codes "X-A: b\n"))
+unfolding body_bytes own_bytes counted_flush_bytes wish_bytes head_bytes append_bytes flush_bytes text_bytes number_bytes FitsOwn first_own_fault StandsFor are_extension_lines is_extension_line
+message_field_is_encoded = record {
+  wire = CountedFlushFields (record { version = 3; number = 1; service = 1; id = codes "A1B2C3" }) (record { moment = 1700000000; arrival = 1699996400; return_path = codes "ann@example.com"; envelope_id = []; header = [] }) (record { expected = 4294967295; returned = 0; wording = 0; extensions = codes "X-A: b\n" });
+  laid_out = refl;
+  known = refl;
+  fits = (record { number = lit< tt; id = lit< tt }, (refl, (record { moment = lit< tt; arrival = lit< tt; return_path = lit< tt; envelope_id = lit< tt; header = lit< tt }, record { expected = lit< tt; extensions = lit< tt })));
+  number_is = refl;
+  accepted = refl;
+  stands_for = (record { service_is = refl; id_is = refl }, refl);
+}
+
+message_field_unended : refused (flush_ended_with ((0 ∷ 6 ∷ []) ++ codes "X-A: b")) ≡ Some 20
+unfolding first_body_fault has_kind first_own_fault body_at head_at text_at number_at own_at flush_at flush_body_at wishes_at are_extension_lines is_extension_line
+message_field_unended = refl
+
+message_field_without_x : refused (flush_ended_with ((0 ∷ 5 ∷ []) ++ codes "A: b\n")) ≡ Some 20
+unfolding first_body_fault has_kind first_own_fault body_at head_at text_at number_at own_at flush_at flush_body_at wishes_at are_extension_lines is_extension_line
+message_field_without_x = refl
+
+message_fields_missing : refused (flush_with 3 (replicate 4 255 ++ 0 ∷ 0 ∷ [])) ≡ Some 23
+unfolding first_body_fault has_kind first_own_fault body_at head_at text_at number_at own_at flush_at flush_body_at wishes_at
+message_fields_missing = refl
+
+message_fields_cut : refused (flush_ended_with ((0 ∷ 8 ∷ []) ++ codes "X-A: b\n")) ≡ Some 23
+unfolding first_body_fault has_kind first_own_fault body_at head_at text_at number_at own_at flush_at flush_body_at wishes_at
+message_fields_cut = refl
 
 -- a Forget, as it is written
 forget_is_written : request_body 0 (Forget (record { service = Bounce; id = codes "K1" })) ≡ 2 ∷ 4 ∷ 0 ∷ 0 ∷ 0 ∷ 0 ∷ 1 ∷ 0 ∷ 2 ∷ 75 ∷ 49 ∷ []

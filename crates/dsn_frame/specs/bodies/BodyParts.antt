@@ -56,6 +56,7 @@ wish_fields_in parts = record {
   expected = parts.expected;
   returned = parts.returned;
   wording = parts.wording;
+  extensions = parts.extensions.now;
 }
 
 abbrev pub wire_body_in : BodyParts → WireBody

@@ -9,6 +9,7 @@ use Rattle.dsn_outcome.specs.Wording.{wording_byte, wording_of_byte}
 use Rattle.dsn_outcome.specs.declared.returned.Returned.TheVariants.{Header}
 use Rattle.dsn_outcome.specs.declared.wording.Wording.TheVariants.{ByService}
 use Rattle.dsn_outcome.specs.Outcome.{Outcome, Fields, IsOutcomeOf, first_outcome_fault, first_failed}
+use Rattle.dsn_text.specs.Extension.{is_extension_text, longest_extension_text}
 use Rattle.dsn_text.specs.Optional.{is_none_or, unless_empty}
 use Rattle.dsn_outcome.specs.Request.{Body, Append, Flush, Discard, Forget, Bye}
 use Rattle.dsn_text.specs.Service.{service_byte, service_of_byte}
@@ -54,6 +55,7 @@ flush_checks fields wishes =
     ∷ (is_none_or is_envelope_id (unless_empty fields.envelope_id), faults.EnvelopeId)
     ∷ (is_some (returned_of_byte wishes.returned), faults.Returned)
     ∷ (is_some (wording_of_byte wishes.wording), faults.Wording)
+    ∷ (is_extension_text wishes.extensions, faults.Extensions)
     ∷ []
 
 -- the first of two faults
@@ -77,10 +79,10 @@ any_count = 4_294_967_295
 abbrev pub count_if_any : ℕ → Option ℕ
 count_if_any count = if count == any_count then None else Some count
 
--- what a flush asks for besides where it is of version 1 or 2: any number of outcomes, a header, and
--- words by the service
+-- what a flush asks for besides where it is of version 1 or 2: any number of outcomes, a header,
+-- words by the service, and no extension field
 abbrev pub usual_wishes : WishFields
-usual_wishes = record { expected = any_count; returned = 0; wording = 0 }
+usual_wishes = record { expected = any_count; returned = 0; wording = 0; extensions = [] }
 
 abbrev pub retry_checks : RetryFields → List (Bool × BodyFault)
 retry_checks dates = (
@@ -169,6 +171,7 @@ draft_of fields wishes = record {
   return_path = unless_empty fields.return_path;
   envelope_id = unless_empty fields.envelope_id;
   header = fields.header;
+  extensions = wishes.extensions;
   expected = count_if_any wishes.expected;
   returned = unwrap_or (returned_of_byte wishes.returned) Header;
   wording = unwrap_or (wording_of_byte wishes.wording) ByService;
@@ -293,12 +296,14 @@ wish_fields_for draft = record {
   expected = count_or_any draft.expected;
   returned = returned_byte draft.returned;
   wording = wording_byte draft.wording;
+  extensions = draft.extensions;
 }
 
 -- nothing unusual is asked for
 abbrev pub are_usual : WishFields → Bool
 are_usual wishes =
-    (wishes.expected == any_count) && ((wishes.returned == 0) && (wishes.wording == 0))
+    (wishes.expected == any_count)
+    && ((wishes.returned == 0) && ((wishes.wording == 0) && (length wishes.extensions == 0)))
 
 -- a flush is written in version 1 where it asks for nothing unusual
 unfoldable pub flush_written_as : ℕ → Key → Draft → WireBody
@@ -318,9 +323,10 @@ fields_written number (Forget key) = Some (ForgetFields (head_for 2 number key.s
 fields_written number Bye = None
 
 -- the most bytes that follow the queue id of a written body: a flush's of version 3, whose two
--- moments, three lengths, count and two bytes take 28, and each of whose texts is as long as it may be
+-- moments, four lengths, count and two bytes take 30, and each of whose texts is as long as it may be
 abbrev pub longest_own : ℕ
-longest_own = 28 + (longest_address + (longest_envelope_id + longest_header))
+longest_own =
+    30 + (longest_address + (longest_envelope_id + (longest_header + longest_extension_text)))
 
 -- fields that are written of a body: no check fails, they stand for the body, and a frame holds
 -- them

@@ -1,9 +1,11 @@
 -- Answers in bytes: which bytes stand for an answer, and why some bytes stand for none (this
--- project's profile, version 1).
-use Rattle.std.specs.Prelude.{ℕ, suc, ◌<◌, ◌^◌, Bool, true, ◌&&◌, ◌||◌, not, ◌==◌, nat_le, List, [], ◌∷◌, ◌++◌, length, drop, Option, slice_get}
-use Rattle.std.specs.Int.{w32, to_be_bytes, from_be_bytes}
+-- project's profile).
+use Rattle.std.specs.Prelude.{◌≡◌, ℕ, suc, ◌<◌, ◌^◌, Bool, true, false, ◌&&◌, ◌||◌, not, ◌==◌, nat_le, List, [], ◌∷◌, ◌++◌, length, drop, Option, Some, None, IfSome, slice_get, if◌then◌else◌}
+use Rattle.std.specs.Int.{w32, w64, to_be_bytes, from_be_bytes}
 use Rattle.std.specs.Option.{option_map_or}
+use Rattle.dsn_outcome.specs.History.{plain}
 use Rattle.dsn_outcome.specs.Outcome.{first_failed}
+use Rattle.dsn_outcome.specs.declared.answer.Replied.{Replied}
 use Rattle.dsn_outcome.specs.declared.answer.Reply.{Reply}
 use Rattle.dsn_outcome.specs.declared.answer.Reply.TheVariants.{Logged, Closed, TableFull, LogFull, Nothing, NoReturn, Sealed, Discarded, Gone, Forgotten, NotClosed, Differs}
 use Rattle.dsn_frame.specs.bodies.FrameBody.{frame}
@@ -46,18 +48,29 @@ reply_value (Differs count) = count
 
 -- a refusal has a byte of its own, and its number as value
 abbrev pub spoken_kind : Spoken → ℕ
-spoken_kind (spoken.Reply reply) = reply_kind reply
+spoken_kind (spoken.Reply replied) = reply_kind replied.reply
 spoken_kind (spoken.Refused code) = 10
 
 abbrev pub spoken_value : Spoken → ℕ
-spoken_value (spoken.Reply reply) = reply_value reply
+spoken_value (spoken.Reply replied) = reply_value replied.reply
 spoken_value (spoken.Refused code) = code
 
+-- the serial of the notice that is told of, if one is
+abbrev pub spoken_serial : Spoken → Option ℕ
+spoken_serial (spoken.Reply replied) = replied.serial
+spoken_serial (spoken.Refused code) = None
+
+-- a serial in bytes, if there is one
+abbrev pub serial_bytes : Option ℕ → List ℕ
+serial_bytes serial = option_map_or (to_be_bytes w64) serial []
+
 -- an answer's body: version 1, the byte of what is said, the place of the frame that is answered,
--- and the value
+-- the value, and the serial, if one is told
 unfoldable pub answer_body : ℕ → Spoken → List ℕ
 answer_body number said =
-    1 ∷ spoken_kind said ∷ (to_be_bytes w32 number ++ to_be_bytes w32 (spoken_value said))
+    1 ∷ spoken_kind said
+    ∷ (to_be_bytes w32 number
+    ++ (to_be_bytes w32 (spoken_value said) ++ serial_bytes (spoken_serial said)))
 
 -- an answer's frame
 unfoldable pub answer_bytes : ℕ → Spoken → List ℕ
@@ -69,16 +82,40 @@ answer_frames_from place [] = []
 answer_frames_from place (answer ∷ rest) =
     answer_bytes place answer ++ answer_frames_from (suc place) rest
 
--- both numbers fit four bytes
+-- the byte of an answer that tells of a notice
+abbrev pub sealed_kind : ℕ
+sealed_kind = 7
+
+-- both numbers fit four bytes, and a serial eight; and only an answer that tells of a notice has one
 pub record FitsAnswer (number : ℕ) (said : Spoken) : Type 0 where
   pub number_fits : number < 2 ^ 32
   pub value_fits : spoken_value said < 2 ^ 32
+  pub serial_fits : IfSome (spoken_serial said)
+      (λ serial. (spoken_kind said ≡ sealed_kind) × (serial < 2 ^ 64))
+
+-- ---- what frames are told
+
+-- whether the answer to a frame with this body says a serial: where it is of version 3
+abbrev pub says_serial : List ℕ → Bool
+says_serial bytes = option_map_or (λ version. version == 3) (slice_get bytes 0) false
+
+-- what a frame with this body is told of an answer
+abbrev pub told_to : List ℕ → Spoken → Spoken
+told_to bytes (spoken.Reply replied) =
+    spoken.Reply (if says_serial bytes then replied else plain replied.reply)
+told_to bytes (spoken.Refused code) = spoken.Refused code
+
+-- what frames with these bodies are told of these answers, each of its own
+abbrev pub told_each : List (List ℕ) → List Spoken → List Spoken
+told_each [] answers = []
+told_each (bytes ∷ frames) [] = []
+told_each (bytes ∷ frames) (answer ∷ answers) = told_to bytes answer ∷ told_each frames answers
 
 -- ---- replies
 
 -- the reply that an answer is, if it is one
-abbrev pub reply_of : Spoken → List Reply
-reply_of (spoken.Reply reply) = reply ∷ []
+abbrev pub reply_of : Spoken → List Replied
+reply_of (spoken.Reply replied) = replied ∷ []
 reply_of (spoken.Refused code) = []
 
 -- ---- refusals
@@ -93,18 +130,25 @@ abbrev pub is_without_value : ℕ → Bool
 is_without_value kind =
     (nat_le 2 kind && nat_le kind 5) || ((kind == 9) || (nat_le 11 kind && nat_le kind 12))
 
--- the value, which is the last four of ten bytes
+-- the value of an answer that tells of no notice: the last four of ten bytes
 abbrev pub value_at : List ℕ → ℕ
 value_at bytes = from_be_bytes w32 (drop 6 bytes)
 
--- a first and a second byte that there are must be right; then there must be ten bytes; then a
--- reply without a value must have none
+-- whether nothing stands behind an answer's body: it has ten bytes, or eighteen where it tells of a
+-- notice and its serial
+abbrev pub is_without_rest : List ℕ → Bool
+is_without_rest bytes =
+    nat_le (length bytes) 10
+    || ((length bytes == 18) && option_map_or (λ kind. kind == sealed_kind) (slice_get bytes 1) false)
+
+-- a first and a second byte that there are must be right; then there must be ten bytes, or eighteen;
+-- then a reply without a value must have none
 abbrev pub answer_checks : List ℕ → List (Bool × AnswerFault)
 answer_checks bytes =
     (option_map_or (λ version. version == 1) (slice_get bytes 0) true, faults.Version)
     ∷ (option_map_or is_spoken_kind (slice_get bytes 1) true, faults.Kind)
     ∷ (nat_le 10 (length bytes), faults.Short)
-    ∷ (nat_le (length bytes) 10, faults.Extra)
+    ∷ (is_without_rest bytes, faults.Extra)
     ∷ (
       option_map_or (λ kind. not (is_without_value kind) || (value_at bytes == 0))
           (slice_get bytes 1) true,

@@ -45,11 +45,13 @@ pub record FlushFields : Type 0 where
   pub header : List ℕ
 
 -- what a flush of version 3 goes on with: how many outcomes it expects (all ones mean any number),
--- the byte of what its header field holds, and the byte of its notice's wording
+-- the byte of what its header field holds, the byte of its notice's wording, and the extension fields
+-- of its message
 pub record WishFields : Type 0 where
   pub expected : ℕ
   pub returned : ℕ
   pub wording : ℕ
+  pub extensions : List ℕ
 
 -- a body's fields: of an append those of its recipient, after version 1 with its two moments, in
 -- version 3 with the types of its texts and its extension fields, of a flush its own, in version 3
@@ -106,7 +108,9 @@ flush_bytes fields =
     ++ (text_bytes fields.envelope_id ++ text_bytes fields.header)))
 
 unfoldable pub wish_bytes : WishFields → List ℕ
-wish_bytes wishes = number_bytes w32 wishes.expected ++ (wishes.returned ∷ wishes.wording ∷ [])
+wish_bytes wishes =
+    number_bytes w32 wishes.expected
+    ++ (wishes.returned ∷ wishes.wording ∷ text_bytes wishes.extensions)
 
 -- a flush's fields, and what it asks for besides
 unfoldable pub counted_flush_bytes : FlushFields → WishFields → List ℕ
@@ -187,6 +191,10 @@ pub record FitsFlush (fields : FlushFields) : Type 0 where
   pub envelope_id : FitsText fields.envelope_id
   pub header : FitsText fields.header
 
+pub record FitsWishes (wishes : WishFields) : Type 0 where
+  pub expected : wishes.expected < 2 ^ 32
+  pub extensions : FitsText wishes.extensions
+
 unfoldable pub FitsOwn : WireBody → Type 0
 FitsOwn (AppendFields head fields) = ((head.version == 1) ≡ true) × FitsAppend fields
 FitsOwn (DatedAppendFields head fields dates) =
@@ -198,7 +206,7 @@ FitsOwn (TypedAppendFields head fields dates types) =
     × (FitsAppend fields × (FitsRetry dates × FitsTypes types)))
 FitsOwn (FlushFieldsOf head fields) = ((head.version == 3) ≡ false) × FitsFlush fields
 FitsOwn (CountedFlushFields head fields wishes) =
-    ((head.version == 3) ≡ true) × (FitsFlush fields × (wishes.expected < 2 ^ 32))
+    ((head.version == 3) ≡ true) × (FitsFlush fields × FitsWishes wishes)
 FitsOwn (DiscardFields head) = Unit {0}
 FitsOwn (ForgetFields head) = Unit {0}
 
@@ -314,7 +322,16 @@ wishes_at bytes = do
   expected ← number_at w32 bytes
   returned ← byte_at expected.1
   wording ← byte_at returned.1
-  Some (record { expected = expected.0; returned = returned.0; wording = wording.0 }, wording.1)
+  extensions ← text_at wording.1
+  Some (
+    record {
+      expected = expected.0;
+      returned = returned.0;
+      wording = wording.0;
+      extensions = extensions.0;
+    },
+    extensions.1,
+  )
 
 -- a flush that begins with this head: in version 3 what it asks for besides follows
 unfoldable pub flush_body_at : Head → List ℕ → Option (WireBody × List ℕ)

@@ -1,15 +1,21 @@
 //! Answers to frames, and back.
-ghost use Rattle.std.specs.Prelude.{◌≡◌, ◌≢◌, ℕ, ◌≤◌, length, true, IfOk, IfErr, IfSome, OnOk, Ok, Some, None};
+ghost use Rattle.std.specs.Prelude.{◌≡◌, ◌≢◌, ◌⊎◌, ℕ, ◌≤◌, [], ◌∷◌, ◌++◌, length, true, IfOk, IfErr, IfSome, OnOk, Ok, Some, None};
 ghost use Rattle.std.specs.Int.{w32, from_be_bytes, to_be_bytes};
-ghost use Rattle.dsn_frame.specs.bodies.Spoken.{FitsAnswer, answer_body, answer_bytes, first_answer_fault, is_without_value, reply_kind, reply_value, spoken_kind, spoken_value};
+ghost use Rattle.dsn_frame.specs.bodies.Spoken.{FitsAnswer, answer_body, answer_bytes, first_answer_fault, is_without_rest, is_without_value, reply_kind, reply_value, sealed_kind, serial_bytes, spoken_kind, spoken_serial, spoken_value};
 
 use crate::bodies::VERSION;
 use crate::bodies::answer_fault::AnswerFault;
 use crate::bodies::spoken::Spoken;
-use dsn_outcome::Reply;
+use dsn_outcome::{Replied, Reply, ShortText};
 
 /// How many bytes an answer's body has.
 const BODY: usize = 10;
+
+/// How many bytes one has that says a serial.
+const SERIAL_BODY: usize = 18;
+
+/// The byte of a reply that tells of a notice.
+const SEALED: u8 = 7;
 
 /// The byte of a refusal.
 const REFUSED: u8 = 10;
@@ -18,16 +24,32 @@ const REFUSED: u8 = 10;
 const LAST: u8 = 13;
 
 /// The frame of an answer to the frame at this place: a length of 10, and the ten bytes of its
-/// body.
+/// body; or a length of 18, and eight bytes more, where a serial is told.
 #[tactic(auto, unfolding(crate::specs::bodies::Spoken::answer_bytes, crate::specs::bodies::Spoken::answer_body))]
-pub fn encode_answer(number: u32, answer: &Spoken) -> [u8; 14]
+pub fn encode_answer(number: u32, answer: &Spoken) -> ShortText
     ensures { result ≡ answer_bytes number answer.now }
 {
-    let (kind, value) = fields_of(*answer);
+    let mut frame = ShortText::new();
+    match serial_of(*answer) {
+        None => frame.push(&first_bytes(BODY as u8, number, *answer)),
+        Some(serial) => {
+            frame.push(&first_bytes(SERIAL_BODY as u8, number, *answer));
+            frame.push(&serial.to_be_bytes());
+        }
+    }
+    frame
+}
+
+/// A length in four bytes, and the ten bytes that each answer's body begins with.
+fn first_bytes(length: u8, number: u32, answer: Spoken) -> [u8; 14]
+    ensures { result ≡ 0 ∷ 0 ∷ 0 ∷ length ∷ 1 ∷ spoken_kind answer
+        ∷ (to_be_bytes w32 number ++ to_be_bytes w32 (spoken_value answer)) }
+{
+    let (kind, value) = fields_of(answer);
     let [n0, n1, n2, n3] = number.to_be_bytes();
     let [v0, v1, v2, v3] = value.to_be_bytes();
     [
-        0, 0, 0, BODY as u8, VERSION, kind, n0, n1, n2, n3, v0, v1, v2, v3,
+        0, 0, 0, length, VERSION, kind, n0, n1, n2, n3, v0, v1, v2, v3,
     ]
 }
 
@@ -48,16 +70,24 @@ pub fn decode_answer(bytes: &[u8]) -> Result<(u32, Spoken), AnswerFault>
     if bytes.get(1).is_some_and(|kind| *kind < 1 || LAST < *kind) {
         return Err(AnswerFault::Kind);
     }
-    if bytes.len() < BODY {
+    let [_, kind, n0, n1, n2, n3, v0, v1, v2, v3, rest @ ..] = bytes else {
         return Err(AnswerFault::Short);
-    }
-    if bytes.len() > BODY {
+    };
+    if !is_without_rest(bytes) {
         return Err(AnswerFault::Extra);
     }
-    let number = number_in(&bytes[2..6]);
-    let value = number_in(&bytes[6..]);
-    let answer = answer_from(bytes[1], value).ok_or(AnswerFault::Value)?;
+    let number = number_in([*n0, *n1, *n2, *n3]);
+    let value = number_in([*v0, *v1, *v2, *v3]);
+    let answer = answer_from(*kind, value, serial_in(rest)).ok_or(AnswerFault::Value)?;
     Ok((number, answer))
+}
+
+/// Whether an answer's body has ten bytes at most, or eighteen where it tells of a notice.
+fn is_without_rest(bytes: &[u8]) -> bool
+    ensures { result ≡ is_without_rest bytes.now }
+{
+    bytes.len() <= BODY
+        || bytes.len() == SERIAL_BODY && bytes.get(1).is_some_and(|kind| *kind == SEALED)
 }
 
 /// The byte and the value of an answer.
@@ -66,8 +96,18 @@ fn fields_of(answer: Spoken) -> (u8, u32)
     ensures value { result.1 ≡ spoken_value answer }
 {
     match answer {
-        Spoken::Reply(reply) => reply_fields(reply),
+        Spoken::Reply(replied) => reply_fields(replied.reply),
         Spoken::Refused(code) => (REFUSED, code),
+    }
+}
+
+/// The serial that an answer tells, if it does.
+fn serial_of(answer: Spoken) -> Option<u64>
+    ensures { result ≡ spoken_serial answer }
+{
+    match answer {
+        Spoken::Reply(replied) => replied.serial,
+        Spoken::Refused(_) => None,
     }
 }
 
@@ -83,7 +123,7 @@ fn reply_fields(reply: Reply) -> (u8, u32)
         Reply::LogFull => (4, 0),
         Reply::Nothing => (5, 0),
         Reply::NoReturn(count) => (6, count),
-        Reply::Sealed(count) => (7, count),
+        Reply::Sealed(count) => (SEALED, count),
         Reply::Discarded(count) => (8, count),
         Reply::Gone => (9, 0),
         Reply::Forgotten => (11, 0),
@@ -92,20 +132,22 @@ fn reply_fields(reply: Reply) -> (u8, u32)
     }
 }
 
-/// The answer with this byte and this value; none where the byte's reply has no value and this is
-/// one.
-fn answer_from(kind: u8, value: u32) -> Option<Spoken>
+/// The answer with this byte, this value and this serial; none where the byte's reply has no value
+/// and this is one.
+fn answer_from(kind: u8, value: u32, serial: Option<u64>) -> Option<Spoken>
     requires low { 1 ≤ kind }
     requires high { kind ≤ LAST }
+    requires sealed { IfSome serial (λ _. kind ≡ sealed_kind) }
     ensures kind { IfSome result (λ said. spoken_kind said ≡ kind) }
     ensures value { IfSome result (λ said. spoken_value said ≡ value) }
+    ensures serial { IfSome result (λ said. spoken_serial said ≡ serial) }
     ensures without { result ≡ None → is_without_value kind ≡ true }
     ensures some { result ≡ None → value ≢ 0 }
 {
     let reply = match kind {
         1 => Reply::Logged(value),
         6 => Reply::NoReturn(value),
-        7 => Reply::Sealed(value),
+        SEALED => Reply::Sealed(value),
         8 => Reply::Discarded(value),
         13 => Reply::Differs(value),
         REFUSED => return Some(Spoken::Refused(value)),
@@ -118,15 +160,25 @@ fn answer_from(kind: u8, value: u32) -> Option<Spoken>
         11 => Reply::Forgotten,
         _ => Reply::NotClosed,
     };
-    Some(Spoken::Reply(reply))
+    Some(Spoken::Reply(Replied { reply, serial }))
 }
 
 /// The number that four bytes are, the highest first.
 #[tactic(auto, using(std::proofs::lemmas::Nat::be_bytes_4))]
-fn number_in(bytes: &[u8]) -> u32
-    requires { length bytes.now ≡ 4 }
-    ensures value { result ≡ from_be_bytes w32 bytes.now }
-    ensures written { bytes.now ≡ to_be_bytes w32 result }
+fn number_in(bytes: [u8; 4]) -> u32
+    ensures value { result ≡ from_be_bytes w32 bytes }
+    ensures written { bytes ≡ to_be_bytes w32 result }
 {
-    u32::from_be_bytes([bytes[0], bytes[1], bytes[2], bytes[3]])
+    u32::from_be_bytes(bytes)
+}
+
+/// The serial that eight bytes are, the highest first; none where there are no bytes.
+fn serial_in(bytes: &[u8]) -> Option<u64>
+    requires { (bytes.now ≡ []) ⊎ (length bytes.now ≡ 8) }
+    ensures { bytes.now ≡ serial_bytes result }
+{
+    match bytes {
+        [a, b, c, d, e, f, g, h] => Some(u64::from_be_bytes([*a, *b, *c, *d, *e, *f, *g, *h])),
+        _ => None,
+    }
 }

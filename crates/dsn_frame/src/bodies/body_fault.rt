@@ -48,6 +48,10 @@ pub enum BodyFault {
     /// The wording of a flush's notice is unknown.
     #[error("the wording of the notice is unknown")]
     Wording,
+    /// The extension fields of a flush are neither empty nor 1 to 8 lines of a name that begins with
+    /// `X-` and a value, each ended by LF alone.
+    #[error("the extension fields of the message are none")]
+    Extensions,
     /// Memory for the request was refused.
     #[error("out of memory")]
     NoMemory,
@@ -72,6 +76,7 @@ impl BodyFault {
             BodyFault::EnvelopeId => fault_code::ENVELOPE_ID,
             BodyFault::Returned => fault_code::RETURNED,
             BodyFault::Wording => fault_code::WORDING,
+            BodyFault::Extensions => fault_code::EXTENSION,
             BodyFault::NoMemory => fault_code::NO_MEMORY,
         }
     }
@@ -102,6 +107,7 @@ impl From<DraftFault> for BodyFault {
             DraftFault::EnvelopeId => BodyFault::EnvelopeId,
             DraftFault::Returned => BodyFault::Returned,
             DraftFault::Wording => BodyFault::Wording,
+            DraftFault::Extensions => BodyFault::Extensions,
             DraftFault::NoMemory => BodyFault::NoMemory,
         }
     }

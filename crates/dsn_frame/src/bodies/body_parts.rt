@@ -91,36 +91,42 @@ pub(crate) struct FlushParts<'a> {
 
 /// What a flush of the third version goes on with.
 #[derive(Clone, Copy)]
-pub(crate) struct WishParts {
+pub(crate) struct WishParts<'a> {
     /// How many outcomes it expects; [`ANY_COUNT`] stands for any number.
     pub(crate) expected: u32,
     /// The byte of what its header field holds.
     pub(crate) returned: u8,
     /// The byte of how its notice's words are chosen.
     pub(crate) wording: u8,
+    /// The extension fields of the message. Empty for none.
+    pub(crate) extensions: &'a [u8],
 }
 
-impl WishParts {
+impl WishParts<'_> {
     ghost use Rattle.std.specs.Prelude.{◌≡◌};
     ghost use Rattle.dsn_frame.specs.bodies.BodyParts.{wish_fields_in};
     ghost use Rattle.dsn_frame.specs.bodies.Request.{are_usual, usual_wishes};
 
     /// What a flush of an earlier version asks for.
-    pub(crate) fn usual() -> WishParts
+    pub(crate) fn usual() -> WishParts<'static>
         ensures { wish_fields_in result ≡ usual_wishes }
     {
         WishParts {
             expected: ANY_COUNT,
             returned: 0,
             wording: 0,
+            extensions: b"",
         }
     }
 
     /// Whether an earlier version can say it.
     pub(crate) fn are_usual(self) -> bool
-        ensures { result ≡ are_usual (wish_fields_in self) }
+        ensures { result ≡ are_usual (wish_fields_in self.entry) }
     {
-        self.expected == ANY_COUNT && self.returned == 0 && self.wording == 0
+        self.expected == ANY_COUNT
+            && self.returned == 0
+            && self.wording == 0
+            && self.extensions.is_empty()
     }
 }
 
@@ -137,7 +143,7 @@ pub(crate) enum BodyParts<'a> {
     /// A notice to be made.
     Flush(HeadParts<'a>, FlushParts<'a>),
     /// A notice to be made, with what is asked for besides.
-    CountedFlush(HeadParts<'a>, FlushParts<'a>, WishParts),
+    CountedFlush(HeadParts<'a>, FlushParts<'a>, WishParts<'a>),
     /// A log to be dropped.
     Discard(HeadParts<'a>),
     /// A key to be let go.

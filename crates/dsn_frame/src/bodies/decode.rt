@@ -209,16 +209,20 @@ fn count_if_any(count: u32) -> Option<u32>
 
 /// The draft that a flush's fields stand for.
 #[tactic(auto, using(crate::proofs::bodies::EncodingLaws::draft_refused))]
-fn draft_from(alloc: Global, fields: FlushParts<'_>, wishes: WishParts) -> Result<Draft, BodyFault>
+fn draft_from(
+    alloc: Global,
+    fields: FlushParts<'_>,
+    wishes: WishParts<'_>,
+) -> Result<Draft, BodyFault>
     ensures draft { IfOk result
-        (λ draft. draft ≡ draft_of (flush_fields_in fields.entry) (wish_fields_in wishes)) }
+        (λ draft. draft ≡ draft_of (flush_fields_in fields.entry) (wish_fields_in wishes.entry)) }
     ensures accepted { OnOk result
-        (first_failed (flush_checks (flush_fields_in fields.entry) (wish_fields_in wishes))
+        (first_failed (flush_checks (flush_fields_in fields.entry) (wish_fields_in wishes.entry))
         ≡ None) }
     ensures refused { IfErr result
         (λ fault. fault
         ≡ unwrap_or
-        (first_failed (flush_checks (flush_fields_in fields.entry) (wish_fields_in wishes)))
+        (first_failed (flush_checks (flush_fields_in fields.entry) (wish_fields_in wishes.entry)))
         BodyFault.NoMemory) }
 {
     let (moment, arrival) = checked_moments(fields.moment, fields.arrival)?;
@@ -229,6 +233,7 @@ fn draft_from(alloc: Global, fields: FlushParts<'_>, wishes: WishParts) -> Resul
         expected: count_if_any(wishes.expected),
         returned: wishes.returned,
         wording: wishes.wording,
+        extensions: wishes.extensions,
     };
     Ok(Draft::read(alloc, moment, arrival, parts)?)
 }

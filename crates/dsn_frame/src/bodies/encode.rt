@@ -200,7 +200,7 @@ fn count_or_any(expected: Option<u32>) -> u32
 }
 
 /// The fields of a flush of each version, and what it asks for besides.
-fn flush_parts(terms: &Terms) -> (FlushParts<'_>, WishParts)
+fn flush_parts(terms: &Terms) -> (FlushParts<'_>, WishParts<'_>)
     ensures same { flush_fields_in result.0 ≡ flush_fields_for terms.now }
     ensures wishes { wish_fields_in result.1 ≡ wish_fields_for terms.now }
     ensures legal { IsLegalDraft terms.now }
@@ -216,6 +216,7 @@ fn flush_parts(terms: &Terms) -> (FlushParts<'_>, WishParts)
         expected: count_or_any(terms.expected()),
         returned: terms.returned().byte(),
         wording: terms.wording().byte(),
+        extensions: terms.extensions(),
     };
     (parts, wishes)
 }

@@ -179,17 +179,19 @@ fn flush_of(bytes: &[u8]) -> Option<(FlushParts<'_>, &[u8])>
 }
 
 #[tactic(auto, unfolding(crate::specs::bodies::Wire::wishes_at))]
-fn wishes_of(bytes: &[u8]) -> Option<(WishParts, &[u8])>
+fn wishes_of(bytes: &[u8]) -> Option<(WishParts<'_>, &[u8])>
     ensures { option_map (λ read. (wish_fields_in read.0, read.1.now)) result
         ≡ wishes_at bytes.now }
 {
     let (expected, rest) = u32_of(bytes)?;
     let (returned, rest) = byte_of(rest)?;
     let (wording, rest) = byte_of(rest)?;
+    let (extensions, rest) = text_of(rest)?;
     let parts = WishParts {
         expected,
         returned,
         wording,
+        extensions,
     };
     Some((parts, rest))
 }

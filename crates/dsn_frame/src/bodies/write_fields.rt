@@ -4,7 +4,7 @@ ghost use Rattle.std.specs.Int.{w32, w64};
 ghost use Rattle.dsn_frame.specs.bodies.BodyParts.{head_in, recipient_fields_in, retry_fields_in, type_fields_in, flush_fields_in, wish_fields_in, wire_body_in};
 ghost use Rattle.dsn_frame.specs.bodies.FrameBody.{frame, longest_body};
 ghost use Rattle.dsn_frame.specs.bodies.Wire;
-ghost use Rattle.dsn_frame.specs.bodies.Wire.{FitsAppend, FitsTypes, FitsFlush, FitsHead, FitsOwn, FitsText, number_bytes, text_bytes, head_bytes, append_bytes, retry_bytes, type_bytes, flush_bytes, wish_bytes, counted_flush_bytes, own_bytes, body_bytes};
+ghost use Rattle.dsn_frame.specs.bodies.Wire.{FitsAppend, FitsTypes, FitsFlush, FitsHead, FitsOwn, FitsText, FitsWishes, number_bytes, text_bytes, head_bytes, append_bytes, retry_bytes, type_bytes, flush_bytes, wish_bytes, counted_flush_bytes, own_bytes, body_bytes};
 
 use crate::bodies::body_parts::{
     BodyParts, FlushParts, HeadParts, RecipientParts, RetryParts, TypeParts, WishParts,
@@ -27,8 +27,9 @@ const TYPES_LEN: usize = 8;
 /// Bytes of what a flush goes on with, beside its texts: two moments, and three texts' lengths.
 const FLUSH_LEN: usize = 22;
 
-/// Bytes of what a flush of the third version asks for besides: a number, and two bytes.
-const WISHES_LEN: usize = 6;
+/// Bytes of what a flush of the third version asks for besides, beside its text: a number, two bytes,
+/// and a text's length.
+const WISHES_LEN: usize = 8;
 
 /// Adds bytes, and takes no memory.
 fn push_bytes(out: &mut Vec<u8>, bytes: &[u8])
@@ -182,26 +183,30 @@ fn push_flush(out: &mut Vec<u8>, parts: FlushParts<'_>)
 }
 
 /// Adds what a flush of the third version asks for besides.
-#[tactic(auto, using(crate::proofs::bodies::Rules::lengths), unfolding(crate::specs::bodies::Wire::wish_bytes, crate::specs::bodies::Wire::number_bytes))]
-fn push_wishes(out: &mut Vec<u8>, wishes: WishParts)
-    requires room { length out.old.items + WISHES_LEN ≤ vec_capacity out.old }
-    ensures added { out.new.items ≡ out.old.items ++ wish_bytes (wish_fields_in wishes) }
+#[tactic(auto, using(crate::proofs::bodies::EncodingLaws::wishes_length, crate::proofs::bodies::EncodingLaws::text_length), unfolding(crate::specs::bodies::Wire::wish_bytes, crate::specs::bodies::Wire::number_bytes))]
+fn push_wishes(out: &mut Vec<u8>, wishes: WishParts<'_>)
+    requires fits { FitsWishes (wish_fields_in wishes) }
+    requires room { length out.old.items + length
+        (wish_bytes (wish_fields_in wishes)) ≤ vec_capacity out.old }
+    ensures added { out.new.items ≡ out.old.items ++ wish_bytes (wish_fields_in wishes.entry) }
     ensures capacity { vec_capacity out.old ≤ vec_capacity out.new }
 {
     push_bytes(out, &wishes.expected.to_be_bytes());
     push_bytes(out, &[wishes.returned, wishes.wording]);
+    push_text(out, wishes.extensions);
 }
 
 /// Adds all that a flush of the third version goes on with.
 #[tactic(auto, using(crate::proofs::bodies::EncodingLaws::counted_length, crate::proofs::bodies::Rules::lengths), unfolding(crate::specs::bodies::Wire::counted_flush_bytes))]
-fn push_counted_flush(out: &mut Vec<u8>, fields: FlushParts<'_>, wishes: WishParts)
+fn push_counted_flush(out: &mut Vec<u8>, fields: FlushParts<'_>, wishes: WishParts<'_>)
     requires fits { FitsFlush (flush_fields_in fields) }
+    requires wishes_fit { FitsWishes (wish_fields_in wishes) }
     requires room { length out.old.items + length
         (counted_flush_bytes (flush_fields_in fields) (wish_fields_in wishes)) ≤
         vec_capacity out.old }
     ensures added { out.new.items
         ≡ out.old.items
-        ++ counted_flush_bytes (flush_fields_in fields.entry) (wish_fields_in wishes) }
+        ++ counted_flush_bytes (flush_fields_in fields.entry) (wish_fields_in wishes.entry) }
     ensures capacity { vec_capacity out.old ≤ vec_capacity out.new }
 {
     push_flush(out, fields);
@@ -305,6 +310,16 @@ fn flush_len(fields: FlushParts<'_>) -> usize
     FLUSH_LEN + fields.return_path.len() + fields.envelope_id.len() + fields.header.len()
 }
 
+/// How many bytes what a flush asks for besides takes.
+#[tactic(auto, using(crate::proofs::bodies::EncodingLaws::wishes_length))]
+fn wishes_len(wishes: WishParts<'_>) -> usize
+    requires fits { FitsWishes (wish_fields_in wishes) }
+    ensures same { result ≡ length (wish_bytes (wish_fields_in wishes.entry)) }
+    ensures small { result < 2 ^ 17 }
+{
+    WISHES_LEN + wishes.extensions.len()
+}
+
 /// How many bytes a body goes on with.
 #[tactic(auto, using(crate::proofs::bodies::EncodingLaws::counted_length, crate::proofs::bodies::EncodingLaws::dated_length, crate::proofs::bodies::EncodingLaws::typed_length), unfolding(crate::specs::bodies::Wire::own_bytes, crate::specs::bodies::Wire::FitsOwn))]
 fn own_len(parts: BodyParts<'_>) -> usize
@@ -319,7 +334,7 @@ fn own_len(parts: BodyParts<'_>) -> usize
             append_len(fields) + RETRY_LEN + types_len(types)
         }
         BodyParts::Flush(_, fields) => flush_len(fields),
-        BodyParts::CountedFlush(_, fields, _) => flush_len(fields) + WISHES_LEN,
+        BodyParts::CountedFlush(_, fields, wishes) => flush_len(fields) + wishes_len(wishes),
         BodyParts::Discard(_) | BodyParts::Forget(_) => 0,
     }
 }

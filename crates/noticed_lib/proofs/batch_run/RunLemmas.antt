@@ -13,25 +13,20 @@ use Rattle.std.proofs.lemmas.Grind.{flat_map-append}
 use Rattle.std.proofs.lemmas.List.{append-nil, length-append, map-append}
 use Rattle.dsn_book.specs.Book.{Book, Represents}
 use Rattle.dsn_book.specs.Step.{letters_in}
-use Rattle.dsn_outcome.specs.History.{Limits, Exchange, exchange_of, history_of, history_after, letters_after, reply_to, answer_of, answers_to, letter_of, sealed_letters}
+use Rattle.dsn_outcome.specs.History.{Limits, Exchange, exchange_of, history_of, history_after, letters_after, answer_of, answers_after, answers_to, letter_of, replied_in, sealed_letters}
 use Rattle.dsn_outcome.specs.Letter.{Letter}
 use Rattle.dsn_outcome.specs.Request.{Request, Body}
 use Rattle.dsn_outcome.specs.declared.answer.Answer.{Answer}
-use Rattle.dsn_outcome.specs.declared.answer.Reply.{Reply}
+use Rattle.dsn_outcome.specs.declared.answer.Replied.{Replied}
 use Rattle.dsn_outcome.proofs.HistoryLaws.{history_more, letters_more, answers_mine}
 use Rattle.dsn_frame.specs.declared.bodies.spoken.Spoken.{Spoken}
 use Rattle.dsn_frame.specs.Session.{Input, Takes, asked}
-use Rattle.noticed_lib.specs.batch_run.Requests.{batch_requests_from, requests_of, next_request, AreReplies}
+use Rattle.noticed_lib.specs.batch_run.Requests.{batch_requests_from, requests_of, next_request, replied_next, AreReplies}
 use Rattle.dsn_report.specs.Outgoing.{Delivered, Outgoing}
 use Rattle.noticed_lib.specs.batch_run.Run.{Stands, Asks, Answered, end_after}
 use Rattle.noticed_lib.specs.declared.batch_run.turn.Turn.{Turn}
 use Rattle.noticed_lib.specs.declared.batch_run.run.Run.{Run}
 use Rattle.dsn_frame.specs.declared.bodies.spoken.Spoken.TheVariants as spoken
-
--- the reply of an exchange's answer
-pub reply-answer_of : (limits : Limits) (history : List Exchange) (request : Request) → (answer_of (exchange_of limits history request)).reply ≡ reply_to limits history request
-unfolding answer_of exchange_of
-reply-answer_of limits history request = refl
 
 mine : (limits : Limits) (history : List Exchange) (before : List Request) (body : Body) → ((exchange_of limits history (next_request before body)).request.agent == 0) ≡ true
 unfolding exchange_of
@@ -70,7 +65,7 @@ requests-same before number = append-nil before
 -- ---- the replies
 
 pub replies-none : (limits : Limits) → AreReplies limits [] (requests_of [])
-unfolding history_after batch_requests_from answers_to
+unfolding history_after batch_requests_from answers_after answers_to
 replies-none limits = record { replies = refl }
 
 -- a refusal is no reply
@@ -81,16 +76,18 @@ replies-refused limits answers before number are = record {
 
 -- one more reply is that of one more request
 pub replies-asked : (limits : Limits) (answers : List Spoken) (before : List Request) (body : Body) → AreReplies limits answers before
-    → AreReplies limits (answers ++ spoken.Reply (reply_to limits (history_of limits before) (next_request before body)) ∷ []) (before ++ next_request before body ∷ [])
+    → AreReplies limits (answers ++ spoken.Reply (replied_next limits before body) ∷ []) (before ++ next_request before body ∷ [])
 replies-asked limits answers before body are =
     let history = history_of limits before in
     let request = next_request before body in
     let exchange = exchange_of limits history request in
-    let reply = reply_to limits history request in
-    let noted = flat_map-append reply_of answers (spoken.Reply reply ∷ []) in
-    let all : map (λ (a : Answer). a.reply) (answers_to 0 (history_of limits (before ++ request ∷ []))) ≡ map (λ (a : Answer). a.reply) (answers_to 0 history) ++ reply ∷ [] =
-    rw (history_more limits before request, answers_mine 0 history exchange (mine limits history before body), map-append (λ (a : Answer). a.reply) (answers_to 0 history) (answer_of exchange ∷ []), reply-answer_of limits history request) refl in
-    record { replies = noted ∙ ap (λ (rs : List Reply). rs ++ reply ∷ []) are.replies ∙ sym all }
+    let replied = replied_next limits before body in
+    let noted = flat_map-append reply_of answers (spoken.Reply replied ∷ []) in
+    let all : map replied_in (answers_to 0 (history_of limits (before ++ request ∷ []))) ≡ map replied_in (answers_to 0 history) ++ replied ∷ [] =
+    ap (λ (h : List Exchange). map replied_in (answers_to 0 h)) (history_more limits before request)
+    ∙ ap (map replied_in) (answers_mine 0 history exchange (mine limits history before body))
+    ∙ map-append replied_in (answers_to 0 history) (answer_of history exchange ∷ []) in
+    record { replies = noted ∙ ap (λ (rs : List Replied). rs ++ replied ∷ []) are.replies ∙ sym all }
 
 -- ---- one frame's answer
 
@@ -113,13 +110,13 @@ module _ {W : Type 0} (outbox_device : Drain W) (limits : Limits) (host : List �
   pub asked-next : (book next : Book) (outgoing later : Outgoing W) (accepted : ℕ) (requests : List Request) (body : Body) (applied : Request) (answer : Answer) (letter : Option Letter) (handed : List Letter)
       → Stands outbox_device limits host start (record { book = book; outgoing = outgoing; accepted = accepted }) requests
       → next.limits ≡ book.limits
-      → ((t : List Exchange) → Represents book t → answer ≡ answer_of (exchange_of book.limits t applied))
+      → ((t : List Exchange) → Represents book t → answer ≡ answer_of t (exchange_of book.limits t applied))
       → ((t : List Exchange) → Represents book t → letters_in letter ≡ letter_of t (exchange_of book.limits t applied))
       → ((t : List Exchange) → Represents book t → Represents next (t ++ exchange_of book.limits t applied ∷ []))
       → applied.agent ≡ 0 → applied.number ≡ accepted → applied.body ≡ body
       → ((letters : List Letter) → Delivered outbox_device host start outgoing letters → Delivered outbox_device host start later (letters ++ handed))
       → handed ≡ option_to_list letter
-      → Asks outbox_device limits host start (record { book = next; outgoing = later; accepted = accepted + 1 }) requests body (record { answer = spoken.Reply answer.reply; over = false })
+      → Asks outbox_device limits host start (record { book = next; outgoing = later; accepted = accepted + 1 }) requests body (record { answer = spoken.Reply (replied_in answer); over = false })
   asked-next book next outgoing later accepted requests body applied answer letter handed stands same answer_is letter_is stands_is agent_is number_is body_is delivers handed_is =
       let history = history_of limits requests in
       let request = next_request requests body in
@@ -130,7 +127,7 @@ module _ {W : Type 0} (outbox_device : Drain W) (limits : Limits) (host : List �
       let sealed = rw (kept, next_is) at (letter_is history stands.book) in
       let represents = rw (kept, next_is) at (stands_is history stands.book) in
       let delivered = rw (handed_is, sealed) at (delivers (sealed_letters history) stands.letters) in record {
-        answer_is = ap spoken.Reply (ap (λ (a : Answer). a.reply) replied ∙ reply-answer_of limits history request);
+        answer_is = ap (λ (a : Answer). spoken.Reply (replied_in a)) replied;
         goes_on = refl;
         stands = record {
           limits_kept = same ∙ kept;

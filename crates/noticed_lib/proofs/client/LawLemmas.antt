@@ -1,15 +1,16 @@
 -- Laws of sends: answers that follow one another in bytes are read as they were written.
 use Rattle.std.proofs.Common.{◌≡◌, ℕ, suc, ◌+◌, ◌^◌, ◌<◌, ◌≤◌, List, [], ◌∷◌, ◌++◌, length, take, drop, refl, sym, ap, subst, ◌∙◌, append_assoc, arith}
-use Rattle.std.specs.Prelude.{◌==◌, Option, Some, None, Err, if◌then◌else◌}
-use Rattle.std.specs.Int.{w32, from_be_bytes, to_be_bytes}
+use Rattle.std.specs.Prelude.{◌==◌, Option, Some, None, Err, IfSome, if◌then◌else◌}
+use Rattle.std.specs.Int.{w32, w64, from_be_bytes, to_be_bytes}
 use Rattle.std.specs.Io.KnownBytes.{Appends, Consumes, Keeps}
 use Rattle.std.specs.List.{flat_map}
 use Rattle.std.proofs.lemmas.List.{append-nil, append_cancel_left, length-append}
-use Rattle.std.proofs.lemmas.Nat.{from_be_bytes-to_be_bytes_4}
+use Rattle.std.proofs.lemmas.Nat.{from_be_bytes-to_be_bytes_4, from_be_bytes-to_be_bytes_8}
 use Rattle.dsn_outcome.specs.Request.{Body}
+use Rattle.dsn_outcome.specs.declared.answer.Reply.{Reply}
 use Rattle.dsn_outcome.specs.declared.answer.Reply.TheVariants.{Logged, Closed, TableFull, LogFull, Nothing, NoReturn, Sealed, Discarded, Gone, Forgotten, NotClosed, Differs}
 use Rattle.dsn_frame.specs.bodies.FrameBody.{frame, IsFrameBody}
-use Rattle.dsn_frame.specs.bodies.Spoken.{FitsAnswer, answer_body, answer_bytes, answer_frames_from, first_answer_fault, spoken_kind, spoken_value}
+use Rattle.dsn_frame.specs.bodies.Spoken.{FitsAnswer, answer_body, answer_bytes, answer_frames_from, first_answer_fault, reply_kind, reply_value, sealed_kind, serial_bytes, spoken_kind, spoken_serial, spoken_value, told_each}
 use Rattle.dsn_frame.specs.declared.bodies.spoken.Spoken.{Spoken}
 use Rattle.dsn_frame.specs.declared.bodies.spoken.Spoken.TheVariants as spoken
 use Rattle.dsn_frame.specs.Frame.{AreFramesOf, ReadsNone}
@@ -26,36 +27,43 @@ use Rattle.noticed_lib.specs.declared.client.send_fault.SendFault.TheVariants.{I
 
 -- ---- one answer
 
--- what is said by this byte and this value
-said_of : ℕ → ℕ → Spoken
-said_of kind value =
-    if kind == 1 then spoken.Reply (Logged value)
-    else (if kind == 2 then spoken.Reply Closed
-    else (if kind == 3 then spoken.Reply TableFull
-    else (if kind == 4 then spoken.Reply LogFull
-    else (if kind == 5 then spoken.Reply Nothing
-    else (if kind == 6 then spoken.Reply (NoReturn value)
-    else (if kind == 7 then spoken.Reply (Sealed value)
-    else (if kind == 8 then spoken.Reply (Discarded value)
-    else (if kind == 9 then spoken.Reply Gone
-    else (if kind == 11 then spoken.Reply Forgotten
-    else (if kind == 12 then spoken.Reply NotClosed
-    else (if kind == 13 then spoken.Reply (Differs value) else spoken.Refused value)))))))))))
+-- what is replied by this byte, this value and this serial; and what is said by them
+replied_as : Reply → Option ℕ → Spoken
+replied_as reply serial = spoken.Reply (record { reply = reply; serial = serial })
 
-said-back : (said : Spoken) → said_of (spoken_kind said) (spoken_value said) ≡ said
-unfolding said_of
-said-back (spoken.Reply (Logged place)) = refl
-said-back (spoken.Reply Closed) = refl
-said-back (spoken.Reply TableFull) = refl
-said-back (spoken.Reply LogFull) = refl
-said-back (spoken.Reply Nothing) = refl
-said-back (spoken.Reply (NoReturn count)) = refl
-said-back (spoken.Reply (Sealed count)) = refl
-said-back (spoken.Reply (Discarded count)) = refl
-said-back (spoken.Reply Gone) = refl
-said-back (spoken.Reply Forgotten) = refl
-said-back (spoken.Reply NotClosed) = refl
-said-back (spoken.Reply (Differs count)) = refl
+said_of : ℕ → ℕ → Option ℕ → Spoken
+said_of kind value serial =
+    if kind == 1 then replied_as (Logged value) serial
+    else (if kind == 2 then replied_as Closed serial
+    else (if kind == 3 then replied_as TableFull serial
+    else (if kind == 4 then replied_as LogFull serial
+    else (if kind == 5 then replied_as Nothing serial
+    else (if kind == 6 then replied_as (NoReturn value) serial
+    else (if kind == 7 then replied_as (Sealed value) serial
+    else (if kind == 8 then replied_as (Discarded value) serial
+    else (if kind == 9 then replied_as Gone serial
+    else (if kind == 11 then replied_as Forgotten serial
+    else (if kind == 12 then replied_as NotClosed serial
+    else (if kind == 13 then replied_as (Differs value) serial else spoken.Refused value)))))))))))
+
+replied-back : (reply : Reply) (serial : Option ℕ) → said_of (reply_kind reply) (reply_value reply) serial ≡ replied_as reply serial
+unfolding said_of replied_as
+replied-back (Logged place) serial = refl
+replied-back Closed serial = refl
+replied-back TableFull serial = refl
+replied-back LogFull serial = refl
+replied-back Nothing serial = refl
+replied-back (NoReturn count) serial = refl
+replied-back (Sealed count) serial = refl
+replied-back (Discarded count) serial = refl
+replied-back Gone serial = refl
+replied-back Forgotten serial = refl
+replied-back NotClosed serial = refl
+replied-back (Differs count) serial = refl
+
+said-back : (said : Spoken) → said_of (spoken_kind said) (spoken_value said) (spoken_serial said) ≡ said
+unfolding said_of replied_as
+said-back (spoken.Reply replied) = replied-back replied.reply replied.serial
 said-back (spoken.Refused code) = refl
 
 second : List ℕ → ℕ
@@ -66,34 +74,66 @@ second (a ∷ b ∷ rest) = b
 written-back : (a b : ℕ) → a < 2 ^ 32 → b < 2 ^ 32 → to_be_bytes w32 a ≡ to_be_bytes w32 b → a ≡ b
 written-back a b fits_a fits_b is = sym (from_be_bytes-to_be_bytes_4 a fits_a) ∙ ap (from_be_bytes w32) is ∙ from_be_bytes-to_be_bytes_4 b fits_b
 
+abbrev FitsSerial : ℕ → Option ℕ → Type 0
+FitsSerial kind serial = IfSome serial (λ n. (kind ≡ sealed_kind) × (n < 2 ^ 64))
+
+serial-back : (k l : ℕ) (a b : Option ℕ) → FitsSerial k a → FitsSerial l b → serial_bytes a ≡ serial_bytes b → a ≡ b
+serial-back k l None None fits_a fits_b is = refl
+serial-back k l None (Some b) fits_a fits_b is = absurd (let long : 0 ≡ 8 = ap length is in omega (arith, long))
+serial-back k l (Some a) None fits_a fits_b is = absurd (let long : 8 ≡ 0 = ap length is in omega (arith, long))
+serial-back k l (Some a) (Some b) fits_a fits_b is =
+    let same : a ≡ b = sym (from_be_bytes-to_be_bytes_8 a fits_a.1) ∙ ap (from_be_bytes w64) is ∙ from_be_bytes-to_be_bytes_8 b fits_b.1 in
+    ap (λ (n : ℕ). Some n) same
+
 -- a body is one answer to one place
 one-answer : (n m : ℕ) (x y : Spoken) → FitsAnswer n x → FitsAnswer m y → answer_body n x ≡ answer_body m y → (n ≡ m) × (x ≡ y)
 unfolding answer_body second
 one-answer n m x y fits_x fits_y is =
     let kinds : spoken_kind x ≡ spoken_kind y = ap second is in
     let numbers : n ≡ m = written-back n m fits_x.number_fits fits_y.number_fits (ap (λ (b : List ℕ). take 4 (drop 2 b)) is) in
-    let values : spoken_value x ≡ spoken_value y = written-back (spoken_value x) (spoken_value y) fits_x.value_fits fits_y.value_fits (ap (λ (b : List ℕ). drop 6 b) is) in
-    (numbers, sym (said-back x) ∙ (λ i. said_of (kinds i) (values i)) ∙ said-back y)
+    let values : spoken_value x ≡ spoken_value y = written-back (spoken_value x) (spoken_value y) fits_x.value_fits fits_y.value_fits (ap (λ (b : List ℕ). take 4 (drop 6 b)) is) in
+    let serials : spoken_serial x ≡ spoken_serial y = serial-back (spoken_kind x) (spoken_kind y) (spoken_serial x) (spoken_serial y) fits_x.serial_fits fits_y.serial_fits (ap (λ (b : List ℕ). drop 10 b) is) in
+    (numbers, sym (said-back x) ∙ (λ i. said_of (kinds i) (values i) (serials i)) ∙ said-back y)
+
+serial-few : (serial : Option ℕ) → length (serial_bytes serial) ≤ 8
+serial-few None = omega arith
+serial-few (Some serial) = omega arith
 
 legal : (n : ℕ) (x : Spoken) → IsFrameBody (answer_body n x)
 unfolding answer_body
-legal n x = (omega arith, omega arith)
+legal n x = let few = serial-few (spoken_serial x) in (omega arith, omega arith)
 
-no-fault : (n : ℕ) (x : Spoken) → first_answer_fault (answer_body n x) ≡ None
-unfolding first_answer_fault answer_body
-no-fault n (spoken.Reply (Logged place)) = refl
-no-fault n (spoken.Reply Closed) = refl
-no-fault n (spoken.Reply TableFull) = refl
-no-fault n (spoken.Reply LogFull) = refl
-no-fault n (spoken.Reply Nothing) = refl
-no-fault n (spoken.Reply (NoReturn count)) = refl
-no-fault n (spoken.Reply (Sealed count)) = refl
-no-fault n (spoken.Reply (Discarded count)) = refl
-no-fault n (spoken.Reply Gone) = refl
-no-fault n (spoken.Reply Forgotten) = refl
-no-fault n (spoken.Reply NotClosed) = refl
-no-fault n (spoken.Reply (Differs count)) = refl
-no-fault n (spoken.Refused code) = refl
+replied-no-fault : (n : ℕ) (reply : Reply) (serial : Option ℕ) → FitsSerial (reply_kind reply) serial → first_answer_fault (answer_body n (replied_as reply serial)) ≡ None
+unfolding first_answer_fault answer_body replied_as
+replied-no-fault n (Logged place) None fits = refl
+replied-no-fault n (Logged place) (Some serial) fits = absurd (omega (arith, fits.0))
+replied-no-fault n Closed None fits = refl
+replied-no-fault n Closed (Some serial) fits = absurd (omega (arith, fits.0))
+replied-no-fault n TableFull None fits = refl
+replied-no-fault n TableFull (Some serial) fits = absurd (omega (arith, fits.0))
+replied-no-fault n LogFull None fits = refl
+replied-no-fault n LogFull (Some serial) fits = absurd (omega (arith, fits.0))
+replied-no-fault n Nothing None fits = refl
+replied-no-fault n Nothing (Some serial) fits = absurd (omega (arith, fits.0))
+replied-no-fault n (NoReturn count) None fits = refl
+replied-no-fault n (NoReturn count) (Some serial) fits = absurd (omega (arith, fits.0))
+replied-no-fault n (Sealed count) None fits = refl
+replied-no-fault n (Sealed count) (Some serial) fits = refl
+replied-no-fault n (Discarded count) None fits = refl
+replied-no-fault n (Discarded count) (Some serial) fits = absurd (omega (arith, fits.0))
+replied-no-fault n Gone None fits = refl
+replied-no-fault n Gone (Some serial) fits = absurd (omega (arith, fits.0))
+replied-no-fault n Forgotten None fits = refl
+replied-no-fault n Forgotten (Some serial) fits = absurd (omega (arith, fits.0))
+replied-no-fault n NotClosed None fits = refl
+replied-no-fault n NotClosed (Some serial) fits = absurd (omega (arith, fits.0))
+replied-no-fault n (Differs count) None fits = refl
+replied-no-fault n (Differs count) (Some serial) fits = absurd (omega (arith, fits.0))
+
+no-fault : (n : ℕ) (x : Spoken) → FitsAnswer n x → first_answer_fault (answer_body n x) ≡ None
+unfolding first_answer_fault answer_body replied_as
+no-fault n (spoken.Reply replied) fits = replied-no-fault n replied.reply replied.serial fits.serial_fits
+no-fault n (spoken.Refused code) fits = refl
 
 -- ---- answers in a row
 
@@ -174,7 +214,7 @@ module _ (place : ℕ) (more : List Spoken) (fits : FitFrom place more) where
   blameless bytes sent later left (AnswerFrame fault) ask = (readable place more left fault ask.1, λ is. absurd (let never : Some (AnswerFrame fault) ≡ Some Unanswered = is in cc))
   blameless bytes sent later left (Answer fault) ask =
       let came = next place more left ask.1.body fits ask.1.got.0 ask.1.got.1 in
-      let good : first_answer_fault ask.1.body ≡ None = ap first_answer_fault came.body_is ∙ no-fault place came.answer in
+      let good : first_answer_fault ask.1.body ≡ None = ap first_answer_fault came.body_is ∙ no-fault place came.answer came.fits in
       absurd (let never : Some fault ≡ None = sym ask.1.first ∙ good in cc)
   blameless bytes sent later left OutOfTurn ask =
       let turn = ask.1 in
@@ -239,16 +279,22 @@ wrote-is a (Some xs) c earlier wrote text a_is c_is appended kept =
     let same : earlier ++ wrote ≡ xs = rw c_is at kept in
     append_cancel_left earlier wrote text (same ∙ first)
 
+told-few : (frames : List (List ℕ)) (answers : List Spoken) → length (told_each frames answers) ≤ length answers
+told-few [] answers = omega arith
+told-few (bytes ∷ frames) [] = omega arith
+told-few (bytes ∷ frames) (answer ∷ answers) = omega (arith, told-few frames answers)
+
 nothing-more : (xs : List Spoken) → length xs ≡ 0 → xs ≡ []
 nothing-more [] is = refl
 nothing-more (x ∷ xs) is = absurd (omega (arith, is))
 
 pub sees-session : (given : List Spoken) → SeesSession given
 sees-session given limit before most start now earlier wrote left frames others bodies noted end unread fit start_is now_is session sends =
-    let seen = sees-answers given most start now frames noted None unread fit sends in
+    let seen = sees-answers (told_each others given) most start now frames noted None unread fit sends in
     let wrote_is : wrote ≡ flat_map frame frames = wrote-is start.sent sends.left.sent now.sent earlier wrote (flat_map frame frames) start_is now_is sends.answered.sent sends.ends.1.nothing_sent in
     let of : AreFramesOf wrote frames None = record { rest = []; begins = record { front = wrote_is ∙ sym (append-nil (flat_map frame frames)); whole = sends.answered.legal }; ends = refl } in
     let firsts = takes_its_frames wrote Connection limit before left others frames bodies given end None session of in
     let few = few-answers Connection limit before others bodies given session.made session.takes in
-    let all : length seen.first.0 ≡ 0 = omega (arith, few, sends.answered.each, ap length firsts.first.1, length-append others firsts.first.0, ap length seen.first.1, length-append noted seen.first.0) in
+    let told_few = told-few others given in
+    let all : length seen.first.0 ≡ 0 = omega (arith, few, told_few, sends.answered.each, ap length firsts.first.1, length-append others firsts.first.0, ap length seen.first.1, length-append noted seen.first.0) in
     sym (seen.first.1 ∙ ap (λ (xs : List Spoken). noted ++ xs) (nothing-more seen.first.0 all) ∙ append-nil noted)

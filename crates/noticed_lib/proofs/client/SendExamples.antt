@@ -1,6 +1,7 @@
 -- Worked examples of sends, made by the definitions: an input of one frame.
 use Rattle.std.proofs.Common.{◌≡◌, ℕ, ◌+◌, ◌<◌, List, [], ◌∷◌, ◌++◌, length, length-append, refl, lit<, lit≤, arith}
 use Rattle.std.specs.Prelude.{Some, None, codes, decimal}
+use Rattle.dsn_outcome.specs.History.{plain}
 use Rattle.dsn_outcome.specs.declared.answer.Reply.TheVariants.{Logged}
 use Rattle.dsn_frame.specs.bodies.Spoken.{answer_body, answer_bytes, answer_frames_from}
 use Rattle.dsn_frame.specs.declared.bodies.spoken.Spoken.TheVariants.{Refused, Reply}
@@ -34,7 +35,7 @@ one_refused = record {
   answered = record {
     each = refl;
     legal = ((lit≤ tt, lit≤ tt), tt);
-    fit = (record { number_fits = lit< tt; value_fits = lit< tt }, tt);
+    fit = (record { number_fits = lit< tt; value_fits = lit< tt; serial_fits = tt }, tt);
     read = refl;
     sent = refl;
     got = refl;
@@ -62,7 +63,7 @@ one_untold = record {
       few = lit< tt;
       bytes = 7 ∷ [];
       read = ((lit≤ tt, lit≤ tt), refl);
-      asked = (refl, record { fits = record { number_fits = lit< tt; value_fits = lit< tt }; got = refl });
+      asked = (refl, record { fits = record { number_fits = lit< tt; value_fits = lit< tt; serial_fits = tt }; got = refl });
     };
     part = record { front = []; unsent = answer_line 0 (Refused 23); some = some_line; split = refl; appended = refl };
   };
@@ -101,8 +102,8 @@ one_out_of_turn = record {
         refl,
         record {
           number = 5;
-          answer = Reply (Logged 0);
-          is_answer = record { fits = record { number_fits = lit< tt; value_fits = lit< tt }; got = refl };
+          answer = Reply (plain (Logged 0));
+          is_answer = record { fits = record { number_fits = lit< tt; value_fits = lit< tt; serial_fits = tt }; got = refl };
           apart = λ same. cc;
         },
       );

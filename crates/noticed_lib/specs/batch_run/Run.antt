@@ -3,13 +3,13 @@ use Rattle.std.specs.Prelude.{◌≡◌, ℕ, Bool, false, List, [], ◌∷◌, 
 use Rattle.dsn_device.specs.declared.drain.Drain.{Ghosts as Drain}
 use Rattle.dsn_text.specs.FaultCode.{out_of_turn_code}
 use Rattle.dsn_book.specs.Book.{Represents}
-use Rattle.dsn_outcome.specs.History.{Limits, history_of, reply_to, sealed_letters}
+use Rattle.dsn_outcome.specs.History.{Limits, history_of, sealed_letters}
 use Rattle.dsn_outcome.specs.Request.{Request, Body}
 use Rattle.dsn_frame.specs.declared.bodies.spoken.Spoken.{Spoken}
 use Rattle.dsn_frame.specs.declared.bodies.spoken.Spoken.TheVariants as spoken
 use Rattle.dsn_frame.specs.Session.{Input, Takes}
 use Rattle.dsn_report.specs.Outgoing.{Delivered}
-use Rattle.noticed_lib.specs.batch_run.Requests.{AreReplies, next_request, batch_requests_from}
+use Rattle.noticed_lib.specs.batch_run.Requests.{AreReplies, next_request, replied_next, batch_requests_from}
 use Rattle.noticed_lib.specs.declared.batch_run.run.Run.{Run}
 use Rattle.noticed_lib.specs.declared.batch_run.turn.Turn.{Turn}
 
@@ -29,8 +29,7 @@ pub record Stands {W : Type 0} (outbox_device : Drain W) (limits : Limits) (host
 -- a request was taken, and the run stands for the requests with it
 pub record Asks {W : Type 0} (outbox_device : Drain W) (limits : Limits) (host : List ℕ)
     (start : W) (run : Run W) (before : List Request) (body : Body) (turn : Turn) : Type 0 where
-  pub answer_is : turn.answer
-      ≡ spoken.Reply (reply_to limits (history_of limits before) (next_request before body))
+  pub answer_is : turn.answer ≡ spoken.Reply (replied_next limits before body)
   pub goes_on : turn.over ≡ false
   pub stands : Stands outbox_device limits host start run (before ++ next_request before body ∷ [])
 

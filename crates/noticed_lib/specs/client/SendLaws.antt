@@ -2,7 +2,7 @@
 -- profile).
 use Rattle.std.specs.Prelude.{◌≡◌, ℕ, List, ◌++◌, Option, Some, None}
 use Rattle.dsn_outcome.specs.Request.{Body}
-use Rattle.dsn_frame.specs.bodies.Spoken.{answer_frames_from}
+use Rattle.dsn_frame.specs.bodies.Spoken.{answer_frames_from, told_each}
 use Rattle.dsn_frame.specs.declared.bodies.spoken.Spoken.{Spoken}
 use Rattle.dsn_frame.specs.Session.{Connection, IsSession}
 use Rattle.dsn_frame.specs.declared.frame_fault.FrameFault.TheVariants.{NoMemory, TooLong, Empty, CutShort, Read}
@@ -44,15 +44,15 @@ SeesAnswers given =
     → Sends most start now frames noted fault
     → Sees given noted fault
 
--- and where they are those of a session over the bytes that the client wrote, it notes all of them
--- where it ends well
+-- and where they are what the frames of a session are told, over the bytes that the client wrote, it
+-- notes all of them where it ends well
 abbrev pub SeesSession : List Spoken → Type 0
 SeesSession given =
     (limit before most : ℕ) (start now : Known) (earlier wrote : List ℕ) (left : Option (List ℕ))
     (frames taken : List (List ℕ))
     (bodies : List Body) (noted : List Spoken) (end : Option ℕ)
-    → start.unread ≡ Some (answer_frames_from 0 given) → FitFrom 0 given
+    → start.unread ≡ Some (answer_frames_from 0 (told_each taken given)) → FitFrom 0 (told_each taken given)
     → start.sent ≡ Some earlier → now.sent ≡ Some (earlier ++ wrote)
     → IsSession Connection limit before (Some wrote) left taken bodies given end
     → Sends most start now frames noted None
-    → noted ≡ given
+    → noted ≡ told_each taken given

@@ -46,8 +46,9 @@ reply_words Forgotten = codes "forgotten"
 reply_words NotClosed = codes "not closed"
 reply_words (Differs count) = codes "differs " ++ decimal count
 
+-- an answer in words; a serial isn't said
 unfoldable pub spoken_words : Spoken → List ℕ
-spoken_words (spoken.Reply reply) = reply_words reply
+spoken_words (spoken.Reply replied) = reply_words replied.reply
 spoken_words (spoken.Refused code) = codes "refused " ++ decimal code
 
 -- the line of an answer: the frame's place in the input, and what it was answered

@@ -58,7 +58,7 @@ impl<W: Drain> Run<W> {
         let Step { answer, letter } = self.book.apply(request);
         self.outgoing.hand_any(letter);
         Turn {
-            answer: Spoken::Reply(answer.reply),
+            answer: Spoken::Reply(answer.replied()),
             over: false,
         }
     }

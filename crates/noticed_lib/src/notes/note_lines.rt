@@ -72,7 +72,7 @@ fn push_spoken(line: &mut ShortText, answer: Spoken)
     ensures short { length line.new ≤ length line.old + longest_reply }
 {
     match answer {
-        Spoken::Reply(reply) => push_reply(line, reply),
+        Spoken::Reply(replied) => push_reply(line, replied.reply),
         Spoken::Refused(code) => push_counted(line, b"refused ", code),
     }
 }

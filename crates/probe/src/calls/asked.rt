@@ -38,6 +38,9 @@ pub(crate) fn header(alloc: Global) -> Option<RawHeader> {
     RawHeader::new(alloc, b"Subject: hi\nX: y\n").ok()
 }
 
+/// The extension fields of a message.
+pub(crate) const EXTENSIONS: &[u8] = b"X-Postfix-Queue-ID: 4F9D195432C\n";
+
 /// A draft of a notice to the return path.
 pub(crate) fn draft(alloc: Global) -> Option<Draft> {
     let moment = Stamp::new(1_700_000_000)?;
@@ -53,6 +56,8 @@ pub(crate) fn draft(alloc: Global) -> Option<Draft> {
         header,
         wishes,
     )
+    .ok()?
+    .with_extensions(alloc, EXTENSIONS)
     .ok()
 }
 

@@ -1,8 +1,10 @@
 //! Outcomes, drafts, and a book of logs.
-use crate::calls::asked::{append, envelope_id, header, key, return_path};
+use crate::calls::asked::{EXTENSIONS, append, envelope_id, header, key, return_path};
 use crate::calls::{asked, begin};
 use dsn_book::{Book, Limits};
-use dsn_outcome::{Body, Draft, Letter, OutcomeFault, Request, Returned, Stamp, Wishes, Wording};
+use dsn_outcome::{
+    Body, Draft, DraftFault, Letter, OutcomeFault, Request, Returned, Stamp, Wishes, Wording,
+};
 use std::alloc::Global;
 
 /// An outcome with all its texts.
@@ -27,7 +29,7 @@ pub(crate) fn draft(rt: &impl Print, alloc: Global) -> Option<u32> {
         returned: Returned::Header,
         wording: Wording::ByService,
     };
-    let draft = Draft::new(
+    let Ok(draft) = Draft::new(
         alloc,
         moment,
         moment,
@@ -35,8 +37,14 @@ pub(crate) fn draft(rt: &impl Print, alloc: Global) -> Option<u32> {
         Some(envelope_id),
         header,
         wishes,
-    );
-    Some(if draft.is_ok() { 0 } else { 9 })
+    ) else {
+        return Some(9);
+    };
+    match draft.with_extensions(alloc, EXTENSIONS) {
+        Ok(_) => Some(0),
+        Err(DraftFault::NoMemory) => Some(9),
+        Err(_) => None,
+    }
 }
 
 /// A book for eight logs.

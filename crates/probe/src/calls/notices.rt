@@ -4,7 +4,7 @@ use crate::calls::begin;
 use crate::calls::logs::ask;
 use dsn_book::{Book, Limits};
 use dsn_outcome::Letter;
-use dsn_report::{Site, SiteFault, notice};
+use dsn_report::{Site, SiteFault, mail_data, notice};
 use std::alloc::Global;
 
 /// The site of a host.
@@ -32,6 +32,18 @@ pub(crate) fn notice_of_letter(rt: &impl Print, alloc: Global) -> Option<u32> {
     let letter = letter(alloc)?;
     begin(rt)?;
     Some(if notice(alloc, &site, &letter).is_ok() {
+        0
+    } else {
+        9
+    })
+}
+
+/// A letter's mail data.
+pub(crate) fn mail_data_of_letter(rt: &impl Print, alloc: Global) -> Option<u32> {
+    let site = Site::new(alloc, b"mx.example.net").ok()?;
+    let letter = letter(alloc)?;
+    begin(rt)?;
+    Some(if mail_data(alloc, &site, &letter).is_ok() {
         0
     } else {
         9

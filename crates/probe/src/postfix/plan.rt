@@ -1,14 +1,20 @@
 //! The notices that a request has of a log and a queue file.
 use dsn_postfix::{
-    PlannedNotice, PostfixVersion, ReturnedPart, decode_postfix_request, plan_notices,
+    NoticeRequest, PlannedNotice, PostfixRequest, PostfixVersion, ReturnedPart,
+    decode_postfix_request, plan_notices,
 };
 use dsn_postfix_files::{
     MessageFacts, QueueReader, QueuedRecipient, header_of_message, text_of_message,
 };
-use dsn_text::Service;
+use dsn_postfix_service::{LetterFault, ReportedMessage, letter_of_notice};
+use dsn_report::{Site, notice};
+use dsn_text::{QueueId, Service, Stamp};
 
 /// The sender of notices about notices.
 const DOUBLE_BOUNCE: &[u8] = b"double-bounce@mx.example.net";
+
+/// For how many seconds Postfix tries a delivery, unless it is told otherwise.
+const LIFETIME: u32 = 432_000;
 
 /// The bytes at the front that a length in four bytes stands before, and those after them.
 pub(crate) fn first_part(bytes: &[u8]) -> Option<(&[u8], &[u8])> {
@@ -73,6 +79,52 @@ fn push_notice(
     }
 }
 
+/// Writes the text of a planned notice about a message, or why it has none.
+fn push_text(
+    text: &mut Vec<u8>,
+    rt: &HostRuntime,
+    planned: &PlannedNotice<'_>,
+    asked: &NoticeRequest<'_>,
+    facts: &MessageFacts<'_>,
+    message: &[u8],
+) -> Option<()> {
+    let site = Site::new(rt.alloc(), b"mx.example.net").ok()?;
+    let about = ReportedMessage {
+        queue_id: asked.queue_id,
+        arrival: facts.arrival,
+        sender: asked.sender.bytes(),
+        envelope_id: asked.envelope_id.bytes(),
+        text: message,
+        lifetime: LIFETIME,
+    };
+    match letter_of_notice(rt.alloc(), &about, planned, Stamp::new(1_700_000_000)?, 0) {
+        Ok(letter) => push_part(text, rt, "text", &notice(rt.alloc(), &site, &letter).ok()?),
+        Err(fault) => push_fault(text, rt, fault),
+    }
+}
+
+/// Writes why a planned notice has no text.
+fn push_fault(text: &mut Vec<u8>, rt: &HostRuntime, fault: LetterFault) -> Option<()> {
+    push_part(
+        text,
+        rt,
+        "no-text",
+        format!(in rt.alloc(); "{fault}").ok()?.as_bytes(),
+    )
+}
+
+/// What a request for a notice says.
+fn notice_asked<'b, 'a>(request: &'b PostfixRequest<'a>) -> Option<&'b NoticeRequest<'a>> {
+    match request {
+        PostfixRequest::Append(_) => None,
+        PostfixRequest::Flush(notice)
+        | PostfixRequest::Warn(notice)
+        | PostfixRequest::Verp(notice, _)
+        | PostfixRequest::One(notice, _, _)
+        | PostfixRequest::Trace(notice) => Some(notice),
+    }
+}
+
 /// What a request asks of a service's log and a queue file, each with a length before it; without a request nothing is
 /// read. First when the message came and its id, and then each notice; or `unsaid` where none can be said.
 pub(crate) fn planned(rt: &HostRuntime, service: Service, given: &[u8]) -> Option<Vec<u8>> {
@@ -80,6 +132,7 @@ pub(crate) fn planned(rt: &HostRuntime, service: Service, given: &[u8]) -> Optio
     let (log, rest) = first_part(rest)?;
     let (file, _) = first_part(rest)?;
     let request = decode_postfix_request(PostfixVersion::V3_7, request).ok()?;
+    let asked = notice_asked(&request)?;
     let facts = MessageFacts::read(file).ok()?;
     let queued = recipients(rt, file)?;
     let message = text_of_message(rt.alloc(), file).ok()?;
@@ -98,6 +151,7 @@ pub(crate) fn planned(rt: &HostRuntime, service: Service, given: &[u8]) -> Optio
         Ok(notices) => {
             for notice in &notices {
                 push_notice(&mut text, rt, notice, &message)?;
+                push_text(&mut text, rt, notice, asked, &facts, &message)?;
             }
         }
         Err(_) => push_part(&mut text, rt, "unsaid", b"")?,

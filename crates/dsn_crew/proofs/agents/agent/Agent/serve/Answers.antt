@@ -37,7 +37,7 @@ returns-in_default-answer-clause-served g c =
     let few : c.loop-place.place < c.args.self.now.limit = omega arith in
     let kept = keeps-as g.S.Source.holds g.S.Drain.contents laws.held_is_written _ _ c.in_default.ensures.held in
     let counts = counts-read g.S.Source g.S.Drain laws.one_count laws.one_flush_count laws.one_promise _ _ false c.in_default.ensures.count c.in_default.ensures.no_flush c.in_default.ensures.steady in
-    served-lost g.S.Source g.S.Drain _ _ _ _ _ _ c.loop-place.place c.body.result.now so_far few (rw c.body.ensures.same read) kept counts c.in_default-answer.ensures.turn
+    served-lost g.S.Source g.S.Drain _ _ _ _ _ _ c.loop-place.place c.body-bytes.result.now so_far few (rw c.body-bytes.ensures.same read) kept counts c.in_default-answer.ensures.turn
 
 pub returns-then-is_err-clause-served : goal.returns-then-is_err-clause-served
 returns-then-is_err-clause-served g c =
@@ -51,8 +51,8 @@ returns-then-is_err-clause-served g c =
     let failed = sym c.is_err.ensures.value ∙ c.if-is_err.true in
     let unread = keeps-as g.S.Drain.left g.S.Source.remaining laws.left_is_unread _ _ c.send.ensures.unread in
     let sent = counts-sent g.S.Source g.S.Drain laws.one_count laws.one_flush_count laws.one_promise _ _ _ c.send.ensures.count c.send.ensures.no_flush c.send.ensures.steady in
-    served-unwritten g.S.Source g.S.Drain _ _ _ _ _ _ c.loop-place.place c.body.result.now so_far few (rw c.body.ensures.same read) kept counts _ unread c.in-Some-answer.turn c.in-Some-answer.ensures.turn _ (omega arith)
-    (rw c.encode_answer.ensures at (OnErr-is_err c.send.result _ failed c.send.ensures.part)) (rw failed at sent)
+    served-unwritten g.S.Source g.S.Drain _ _ _ _ _ _ c.loop-place.place c.body-bytes.result.now so_far few (rw c.body-bytes.ensures.same read) kept counts _ unread c.in-Some-answer.turn c.in-Some-answer.ensures.turn _ (omega arith)
+    (rw (c.bytes.ensures.same, c.frame_told.ensures) at (OnErr-is_err c.send.result _ failed c.send.ensures.part)) (rw failed at sent)
 
 pub returns-then-turn-clause-served : goal.returns-then-turn-clause-served
 returns-then-turn-clause-served g c =
@@ -66,8 +66,8 @@ returns-then-turn-clause-served g c =
     let fine = sym c.is_err.ensures.value ∙ c.if-is_err.false in
     let unread = keeps-as g.S.Drain.left g.S.Source.remaining laws.left_is_unread _ _ c.send.ensures.unread in
     let sent = counts-sent g.S.Source g.S.Drain laws.one_count laws.one_flush_count laws.one_promise _ _ _ c.send.ensures.count c.send.ensures.no_flush c.send.ensures.steady in
-    served-out-of-turn g.S.Source g.S.Drain _ _ _ _ _ _ c.loop-place.place c.body.result.now so_far few (rw c.body.ensures.same read) kept counts _ unread c.in-Some-answer.turn c.in-Some-answer.ensures.turn _ (omega arith)
-    c.if-turn.true (rw c.encode_answer.ensures at (OnOk-is_err c.send.result _ fine c.send.ensures.sent)) (rw fine at sent)
+    served-out-of-turn g.S.Source g.S.Drain _ _ _ _ _ _ c.loop-place.place c.body-bytes.result.now so_far few (rw c.body-bytes.ensures.same read) kept counts _ unread c.in-Some-answer.turn c.in-Some-answer.ensures.turn _ (omega arith)
+    c.if-turn.true (rw (c.bytes.ensures.same, c.frame_told.ensures) at (OnOk-is_err c.send.result _ fine c.send.ensures.sent)) (rw fine at sent)
 
 pub loop-place-preserved : goal.loop-place-preserved
 loop-place-preserved g c =
@@ -81,8 +81,8 @@ loop-place-preserved g c =
     let fine = sym c.is_err.ensures.value ∙ c.if-is_err.false in
     let unread = keeps-as g.S.Drain.left g.S.Source.remaining laws.left_is_unread _ _ c.send.ensures.unread in
     let sent = counts-sent g.S.Source g.S.Drain laws.one_count laws.one_flush_count laws.one_promise _ _ _ c.send.ensures.count c.send.ensures.no_flush c.send.ensures.steady in (
-      served-more g.S.Source g.S.Drain _ _ _ _ _ _ c.loop-place.place c.body.result.now so_far few (rw c.body.ensures.same read) kept counts _ unread c.in-Some-answer.turn c.in-Some-answer.ensures.turn _ (omega arith)
-          c.if-turn.false (rw c.encode_answer.ensures at (OnOk-is_err c.send.result _ fine c.send.ensures.sent)) (rw fine at sent),
+      served-more g.S.Source g.S.Drain _ _ _ _ _ _ c.loop-place.place c.body-bytes.result.now so_far few (rw c.body-bytes.ensures.same read) kept counts _ unread c.in-Some-answer.turn c.in-Some-answer.ensures.turn _ (omega arith)
+          c.if-turn.false (rw (c.bytes.ensures.same, c.frame_told.ensures) at (OnOk-is_err c.send.result _ fine c.send.ensures.sent)) (rw fine at sent),
       c.answer.ensures.kept,
     )
 

@@ -1,0 +1,64 @@
+//! A mail server in memory, which gives set replies in pieces, and fails at a set call.
+ghost use Rattle.std.specs.Prelude.{refl};
+
+use dsn_outcome::OpaqueStream;
+use std::io;
+use std::io::{ErrorKind, Read, Write};
+
+/// A mail server in memory. No contract tells its bytes.
+#[derive(Drop)]
+pub(crate) struct Server<'a> {
+    /// The replies that it gives yet, each after a `|`; no read gives bytes of two.
+    pub(crate) script: &'a [u8],
+    /// How many bytes a call gives or takes at most, but at least one.
+    pub(crate) most: usize,
+    /// How many calls go well before one is interrupted; from then on they do again.
+    pub(crate) calls: usize,
+    /// What it was sent, with a `<` where it began a reply.
+    pub(crate) heard: Vec<u8>,
+}
+
+impl Server<'_> {
+    /// Counts a call, and fails where it is the one that is to.
+    fn count_call(&mut self) -> io::Result<()> {
+        if self.calls == 0 {
+            self.calls = usize::MAX;
+            return Err(io::Error::from(ErrorKind::Interrupted));
+        }
+        self.calls -= 1;
+        Ok(())
+    }
+}
+
+impl Read for Server<'_> {
+    fn read(&mut self, buffer: &mut [u8]) -> io::Result<usize> {
+        self.count_call()?;
+        if let [b'|', reply @ ..] = self.script {
+            self.script = reply;
+            self.heard.push(b'<')?;
+        }
+        let end = self.script.iter().position(|&byte| byte == b'|');
+        let size = end.unwrap_or(self.script.len()).min(self.most.max(1));
+        let room = buffer.len().min(size);
+        self.script.read(&mut buffer[..room])
+    }
+}
+
+impl Write for Server<'_> {
+    fn write(&mut self, text: &[u8]) -> io::Result<usize> {
+        self.count_call()?;
+        let taken = text.len().min(self.most.max(1));
+        self.heard.extend_from_slice(&text[..taken])?;
+        Ok(taken)
+    }
+
+    fn flush(&mut self) -> io::Result<()> {
+        self.count_call()
+    }
+}
+
+impl OpaqueStream for Server<'_> {
+    ghost untold_input = { λ _. refl };
+
+    ghost untold_output = { λ _. refl };
+}

@@ -1,0 +1,61 @@
+-- Worked examples of transactions: what is said and heard, and what comes of it.
+use Rattle.std.proofs.Common.{◌≡◌, ℕ, List, [], ◌∷◌, ◌++◌, Option, Some, None, false, true, refl}
+use Rattle.std.specs.Prelude.{codes}
+use Rattle.dsn_postfix_service.specs.hand_in.CommandLine.{hello_line, recipient_line}
+use Rattle.dsn_postfix_service.specs.hand_in.Dialogue.{Turn, Heard, HeardNone, Said, SaidPart}
+use Rattle.dsn_postfix_service.specs.hand_in.HandIn.{Leaves, Transacts, commands_of, may_be_taken}
+use Rattle.dsn_postfix_service.specs.declared.hand_in.hand_in_fault.HandInFault.TheVariants.{Refused, Unheard, Unsaid}
+use Rattle.dsn_postfix_service.specs.declared.hand_in.hand_in_step.HandInStep.TheVariants.{Recipient, Data, Message}
+use Rattle.dsn_postfix_service.specs.declared.hand_in.reply_fault.ReplyFault.TheVariants.{CutShort, Read}
+
+abbrev line : List ℕ → List ℕ
+line text = text ++ 13 ∷ 10 ∷ []
+
+hello : hello_line (codes "mail.example.net") ≡ line (codes "EHLO mail.example.net")
+hello = refl
+
+recipient : recipient_line (codes "ann@example.org") ≡ line (codes "RCPT TO:<ann@example.org>")
+recipient = refl
+
+abbrev message : List ℕ
+message = line (codes "Subject: no") ++ line (codes ".")
+
+abbrev heard : List ℕ → Turn
+heard code = Heard code (line code)
+
+abbrev to_recipient : List Turn
+to_recipient =
+    heard (codes "220") ∷ Said (line (codes "EHLO a.example")) ∷ heard (codes "250") ∷ Said (line (codes "MAIL FROM:<>")) ∷ heard (codes "250")
+    ∷ Said (line (codes "RCPT TO:<b@c.example>")) ∷ []
+
+-- all six replies as they are wanted
+taken : Transacts (commands_of (codes "a.example") (codes "b@c.example") message)
+    (to_recipient ++ heard (codes "250") ∷ Said (line (codes "DATA")) ∷ heard (codes "354") ∷ Said message ∷ heard (codes "250") ∷ []) None
+taken = (refl, (refl, (refl, (refl, (refl, (refl, refl))))))
+
+-- a recipient that is refused is the last turn
+refused : Transacts (commands_of (codes "a.example") (codes "b@c.example") message) (to_recipient ++ heard (codes "550") ∷ []) (Some (Refused Recipient (codes "550")))
+refused = (refl, (refl, (refl, (refl, refl))))
+
+-- DATA that is answered by 250 is refused too
+not_to_go_on : Transacts (commands_of (codes "a.example") (codes "b@c.example") message)
+    (to_recipient ++ heard (codes "250") ∷ Said (line (codes "DATA")) ∷ heard (codes "250") ∷ []) (Some (Refused Data (codes "250")))
+not_to_go_on = (refl, (refl, (refl, (refl, (refl, refl)))))
+
+-- the reply to the message is cut short: it may be taken
+unheard : Transacts (commands_of (codes "a.example") (codes "b@c.example") message)
+    (to_recipient ++ heard (codes "250") ∷ Said (line (codes "DATA")) ∷ heard (codes "354") ∷ Said message ∷ HeardNone CutShort ∷ []) (Some (Unheard Message CutShort))
+unheard = (refl, (refl, (refl, (refl, (refl, (refl, refl))))))
+
+may_be : may_be_taken (Unheard Message CutShort) ≡ true
+may_be = refl
+
+may_not : may_be_taken (Refused Message (codes "451")) ≡ false
+may_not = refl
+
+-- QUIT after a refusal, and nothing after a device that failed
+quit : Leaves (Some (Refused Recipient (codes "550"))) (Said (line (codes "QUIT")) ∷ heard (codes "221") ∷ [])
+quit = (refl, refl)
+
+nothing : Leaves (Some (Unheard Message Read)) []
+nothing = refl

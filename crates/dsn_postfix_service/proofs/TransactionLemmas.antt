@@ -1,0 +1,202 @@
+-- The turns of a transaction, put together from those of its steps.
+use Rattle.std.proofs.Common.{◌≡◌, ℕ, Bool, true, false, List, [], ◌∷◌, ◌++◌, Option, Some, None, Result, Ok, Err, refl, sym, ap, subst, ◌∙◌, append_assoc, append-nil, drop, drop-cons, get_or, length, suc, ◌<◌, ◌+◌, ◌≤◌, arith}
+use Rattle.std.proofs.lemmas.List.{drop_all}
+use Rattle.std.specs.Prelude.{MatchBool, IfOk, IfErr}
+use Rattle.dsn_device.specs.declared.drain.Drain
+use Rattle.dsn_device.specs.declared.source.Source
+use Rattle.dsn_postfix_service.specs.hand_in.Command.{Command}
+use Rattle.dsn_postfix_service.specs.hand_in.CommandLine.{quit_line}
+use Rattle.dsn_postfix_service.specs.hand_in.Dialogue.{TakesTurn, TakesTurns, Turn, Heard, HeardNone, Said, SaidPart}
+use Rattle.dsn_postfix_service.specs.hand_in.HandIn.{AsksCommand, AsksAll, HandsIn, Leaves, Listens, SaysGoodbye, Transacts, TurnsOver, is_wanted, last_heard_after}
+use Rattle.dsn_postfix_service.specs.hand_in.ReplyCode.{class_of}
+use Rattle.dsn_postfix_service.specs.declared.hand_in.hand_in_fault.HandInFault.{HandInFault}
+use Rattle.dsn_postfix_service.specs.declared.hand_in.hand_in_fault.HandInFault.TheVariants.{Refused, Unheard, Unsaid}
+use Rattle.dsn_postfix_service.specs.declared.hand_in.hand_in_step.HandInStep.{HandInStep}
+use Rattle.dsn_postfix_service.specs.declared.hand_in.reply_fault.ReplyFault.{ReplyFault}
+
+abbrev Goes : Type 1
+Goes = List Turn → Option HandInFault → Type 0
+
+never_none : (why : HandInFault) → Some why ≡ None → ⊥
+never_none why e = cc
+
+never_some : (why : HandInFault) → None ≡ Some why → ⊥
+never_some why e = cc
+
+-- ---- turns after others
+
+pub takes_more : {S : Type 0} → (source : Source.Ghosts S) (drain : Drain.Ghosts S) (old between new : S) (turns more : List Turn)
+    → TakesTurns source drain old between turns → TakesTurns source drain between new more → TakesTurns source drain old new (turns ++ more)
+takes_more source drain old between new [] more first second = subst (λ s. TakesTurns source drain s new more) first second
+takes_more source drain old between new (turn ∷ turns) more first second =
+    (first.0, first.1, takes_more source drain first.0 between new turns more first.2 second)
+
+takes_one : {S : Type 0} → (source : Source.Ghosts S) (drain : Drain.Ghosts S) (old new : S) (turn : Turn) → TakesTurn source drain old new turn → TakesTurns source drain old new (turn ∷ [])
+takes_one source drain old new turn takes = (new, takes, refl)
+
+pub last-append : (before : List ℕ) (turns more : List Turn) → last_heard_after before (turns ++ more) ≡ last_heard_after (last_heard_after before turns) more
+last-append before [] more = refl
+last-append before (Heard code bytes ∷ turns) more = last-append bytes turns more
+last-append before (HeardNone why ∷ turns) more = last-append before turns more
+last-append before (Said text ∷ turns) more = last-append before turns more
+last-append before (SaidPart text ∷ turns) more = last-append before turns more
+
+-- ---- a reply at a step
+
+pub listened : {S : Type 0} → (source : Source.Ghosts S) (drain : Drain.Ghosts S) (old new : S) (step : HandInStep) (code bytes : List ℕ)
+    → is_wanted step (class_of code) ≡ true → TakesTurn source drain old new (Heard code bytes) → TurnsOver source drain old new (Listens step (AsksAll [])) bytes None
+listened source drain old new step code bytes wanted takes = record {
+  turns = Heard code bytes ∷ [];
+  taken = takes_one source drain old new (Heard code bytes) takes;
+  go = rw wanted (refl, refl);
+  last = λ e before. refl;
+}
+
+pub refused : {S : Type 0} → (source : Source.Ghosts S) (drain : Drain.Ghosts S) (old new : S) (step : HandInStep) (code bytes : List ℕ)
+    → is_wanted step (class_of code) ≡ false → TakesTurn source drain old new (Heard code bytes) → TurnsOver source drain old new (Listens step (AsksAll [])) bytes (Some (Refused step code))
+refused source drain old new step code bytes unwanted takes = record {
+  turns = Heard code bytes ∷ [];
+  taken = takes_one source drain old new (Heard code bytes) takes;
+  go = rw unwanted (refl, refl);
+  last = λ e before. absurd (never_none (Refused step code) e);
+}
+
+pub unheard : {S : Type 0} → (source : Source.Ghosts S) (drain : Drain.Ghosts S) (old new : S) (step : HandInStep) (why : ReplyFault) (bytes : List ℕ)
+    → TakesTurn source drain old new (HeardNone why) → TurnsOver source drain old new (Listens step (AsksAll [])) bytes (Some (Unheard step why))
+unheard source drain old new step why bytes takes = record {
+  turns = HeardNone why ∷ [];
+  taken = takes_one source drain old new (HeardNone why) takes;
+  go = (refl, refl);
+  last = λ e before. absurd (never_none (Unheard step why) e);
+}
+
+-- ---- a command, and the reply to it
+
+pub unsaid : {S : Type 0} → (source : Source.Ghosts S) (drain : Drain.Ghosts S) (old new : S) (command : Command) (bytes : List ℕ)
+    → TakesTurn source drain old new (SaidPart command.text) → TurnsOver source drain old new (AsksAll (command ∷ [])) bytes (Some (Unsaid command.step))
+unsaid source drain old new command bytes takes = record {
+  turns = SaidPart command.text ∷ [];
+  taken = takes_one source drain old new (SaidPart command.text) takes;
+  go = (refl, (refl, refl));
+  last = λ e before. absurd (never_none (Unsaid command.step) e);
+}
+
+pub asked : {S : Type 0} → (source : Source.Ghosts S) (drain : Drain.Ghosts S) (old between new : S) (command : Command) (bytes : List ℕ) (outcome : Option HandInFault)
+    → TakesTurn source drain old between (Said command.text) → TurnsOver source drain between new (Listens command.step (AsksAll [])) bytes outcome
+    → TurnsOver source drain old new (AsksAll (command ∷ [])) bytes outcome
+asked source drain old between new command bytes outcome said heard = record {
+  turns = Said command.text ∷ heard.turns;
+  taken = (between, said, heard.taken);
+  go = (refl, heard.go);
+  last = λ e before. heard.last e before;
+}
+
+-- ---- commands after others
+
+-- nothing went wrong
+abbrev no_fault : Option HandInFault
+no_fault = None
+
+then_bool : (b : Bool) (P : Type 0) (rest : List Turn) (why : HandInFault) (Q : Type 0) → MatchBool b ((rest ≡ []) × (no_fault ≡ no_fault)) ((rest ≡ []) × (no_fault ≡ Some why)) → (rest ≡ [] → P) → MatchBool b P Q
+then_bool true P rest why Q h follow = follow h.0
+then_bool false P rest why Q h follow = absurd (never_some why h.1)
+
+pub listens_then : (step : HandInStep) (Follow : Goes) (turns after : List Turn) (outcome : Option HandInFault) → Listens step (AsksAll []) turns None → Follow after outcome → Listens step Follow (turns ++ after) outcome
+listens_then step Follow [] after outcome h follow = absurd h
+listens_then step Follow (Heard code bytes ∷ rest) after outcome h follow =
+    then_bool (is_wanted step (class_of code)) (Follow (rest ++ after) outcome) rest (Refused step code) ((rest ++ after ≡ []) × (outcome ≡ Some (Refused step code))) h
+    (λ none. subst (λ (r : List Turn). Follow (r ++ after) outcome) (sym none) follow)
+listens_then step Follow (HeardNone why ∷ rest) after outcome h follow = absurd (never_some (Unheard step why) h.1)
+listens_then step Follow (Said text ∷ rest) after outcome h follow = absurd h
+listens_then step Follow (SaidPart text ∷ rest) after outcome h follow = absurd h
+
+pub asks_then : (command : Command) (Follow : Goes) (turns after : List Turn) (outcome : Option HandInFault) → AsksAll (command ∷ []) turns None → Follow after outcome → AsksCommand command Follow (turns ++ after) outcome
+asks_then command Follow [] after outcome h follow = absurd h
+asks_then command Follow (Said text ∷ rest) after outcome h follow = (h.0, listens_then command.step Follow rest after outcome h.1 follow)
+asks_then command Follow (SaidPart text ∷ rest) after outcome h follow = absurd (never_some (Unsaid command.step) h.1.1)
+asks_then command Follow (Heard code bytes ∷ rest) after outcome h follow = absurd h
+asks_then command Follow (HeardNone why ∷ rest) after outcome h follow = absurd h
+
+fault_bool : (b : Bool) (P : Type 0) (rest : List Turn) (why : HandInFault) (Q : Type 0) → MatchBool b ((rest ≡ []) × (Some why ≡ None)) Q → MatchBool b P Q
+fault_bool true P rest why Q h = absurd (never_none why h.1)
+fault_bool false P rest why Q h = h
+
+pub listens_fault : (step : HandInStep) (Follow : Goes) (turns : List Turn) (why : HandInFault) → Listens step (AsksAll []) turns (Some why) → Listens step Follow turns (Some why)
+listens_fault step Follow [] why h = absurd h
+listens_fault step Follow (Heard code bytes ∷ rest) why h =
+    fault_bool (is_wanted step (class_of code)) (Follow rest (Some why)) rest why ((rest ≡ []) × (Some why ≡ Some (Refused step code))) h
+listens_fault step Follow (HeardNone other ∷ rest) why h = h
+listens_fault step Follow (Said text ∷ rest) why h = absurd h
+listens_fault step Follow (SaidPart text ∷ rest) why h = absurd h
+
+pub asks_fault : (command : Command) (Follow : Goes) (turns : List Turn) (why : HandInFault) → AsksAll (command ∷ []) turns (Some why) → AsksCommand command Follow turns (Some why)
+asks_fault command Follow [] why h = absurd h
+asks_fault command Follow (Said text ∷ rest) why h = (h.0, listens_fault command.step Follow rest why h.1)
+asks_fault command Follow (SaidPart text ∷ rest) why h = h
+asks_fault command Follow (Heard code bytes ∷ rest) why h = absurd h
+asks_fault command Follow (HeardNone other ∷ rest) why h = absurd h
+
+-- ---- one command more
+
+-- the commands that are left from a place
+pub left_from : (commands : List Command) (i : ℕ) (command : Command) → i < length commands → command ≡ get_or commands i command → drop i commands ≡ command ∷ drop (i + 1) commands
+left_from commands i command within is =
+    let next : suc i ≡ i + 1 = omega arith in
+    drop-cons commands i command within
+    ∙ ap (λ (x : Command). x ∷ drop (suc i) commands) (sym is)
+    ∙ ap (λ (n : ℕ). command ∷ drop n commands) next
+
+-- what is left goes on from these turns
+abbrev GoesOnFrom : List Command → List Command → List Turn → Type 0
+GoesOnFrom commands left turns = (after : List Turn) (outcome : Option HandInFault) → AsksAll left after outcome → Transacts commands (turns ++ after) outcome
+
+pub asked_on : (commands left rest : List Command) (command : Command) (turns more : List Turn) → left ≡ command ∷ rest → GoesOnFrom commands left turns → AsksAll (command ∷ []) more None → GoesOnFrom commands rest (turns ++ more)
+asked_on commands left rest command turns more is goes_on asks after outcome h =
+    subst (λ (all : List Turn). Transacts commands all outcome) (sym (append_assoc turns more after))
+    (goes_on (more ++ after) outcome (subst (λ (l : List Command). AsksAll l (more ++ after) outcome) (sym is) (asks_then command (AsksAll rest) more after outcome asks h)))
+
+pub stopped : {S : Type 0} → (source : Source.Ghosts S) (drain : Drain.Ghosts S) (old between new : S) (commands left rest : List Command) (command : Command) (turns : List Turn) (bytes : List ℕ) (why : HandInFault)
+    → left ≡ command ∷ rest → TakesTurns source drain old between turns → GoesOnFrom commands left turns → TurnsOver source drain between new (AsksAll (command ∷ [])) bytes (Some why)
+    → TurnsOver source drain old new (Transacts commands) bytes (Some why)
+stopped source drain old between new commands left rest command turns bytes why is taken goes_on over = record {
+  turns = turns ++ over.turns;
+  taken = takes_more source drain old between new turns over.turns taken over.taken;
+  go = goes_on over.turns (Some why) (subst (λ (l : List Command). AsksAll l over.turns (Some why)) (sym is) (asks_fault command (AsksAll rest) over.turns why over.go));
+  last = λ e before. absurd (never_none why e);
+}
+
+pub ended : {S : Type 0} → (source : Source.Ghosts S) (drain : Drain.Ghosts S) (old new : S) (commands : List Command) (i : ℕ) (turns : List Turn) (bytes : List ℕ)
+    → length commands ≤ i → TakesTurns source drain old new turns → GoesOnFrom commands (drop i commands) turns → ((before : List ℕ) → last_heard_after before turns ≡ bytes)
+    → TurnsOver source drain old new (Transacts commands) bytes None
+ended source drain old new commands i turns bytes all taken goes_on last = record {
+  turns = turns;
+  taken = taken;
+  go = subst (λ (ts : List Turn). Transacts commands ts None) (append-nil turns) (goes_on [] None (subst (λ (l : List Command). AsksAll l [] None) (sym (drop_all i commands all)) (refl, refl)));
+  last = λ e before. last before;
+}
+
+-- ---- QUIT
+
+pub said_goodbye : {S : Type 0} → (source : Source.Ghosts S) (drain : Drain.Ghosts S) (old between new : S) (bytes : List ℕ) (heard : Result (List ℕ) ReplyFault)
+    → TakesTurn source drain old between (Said quit_line) → IfOk heard (λ code. TakesTurn source drain between new (Heard code bytes)) → IfErr heard (λ why. TakesTurn source drain between new (HeardNone why))
+    → (turns : List Turn) × TakesTurns source drain old new turns × SaysGoodbye turns
+said_goodbye source drain old between new bytes (Ok code) said takes none = (Said quit_line ∷ Heard code bytes ∷ [], (between, said, (new, takes, refl)), (refl, refl))
+said_goodbye source drain old between new bytes (Err why) said none takes = (Said quit_line ∷ HeardNone why ∷ [], (between, said, (new, takes, refl)), (refl, refl))
+
+pub unsaid_goodbye : {S : Type 0} → (source : Source.Ghosts S) (drain : Drain.Ghosts S) (old new : S) → TakesTurn source drain old new (SaidPart quit_line)
+    → (turns : List Turn) × TakesTurns source drain old new turns × SaysGoodbye turns
+unsaid_goodbye source drain old new takes = (SaidPart quit_line ∷ [], (new, takes, refl), (refl, refl))
+
+-- ---- the whole
+
+pub hands_in : {S : Type 0} → (source : Source.Ghosts S) (drain : Drain.Ghosts S) (old between new : S) (commands : List Command) (bytes : List ℕ) (outcome : Option HandInFault)
+    → TurnsOver source drain old between (Transacts commands) bytes outcome → (left : (turns : List Turn) × TakesTurns source drain between new turns × Leaves outcome turns)
+    → HandsIn source drain old new commands bytes outcome
+hands_in source drain old between new commands bytes outcome over left = record {
+  turns = over.turns;
+  goodbye = left.0;
+  taken = takes_more source drain old between new over.turns left.0 over.taken left.1;
+  transaction = over.go;
+  leave = left.2;
+  last = λ e. over.last e [];
+}

@@ -1,0 +1,2 @@
+pub mod hand_in
+pub mod letters

@@ -1,0 +1,9 @@
+pub mod Command
+pub mod CommandLine
+pub mod Dialogue
+pub mod HandIn
+pub mod QueueIdIn
+pub mod Reply
+pub mod ReplyCode
+pub mod ReplyPlace
+pub mod ReplyReading

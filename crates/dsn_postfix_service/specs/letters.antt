@@ -1,0 +1,6 @@
+pub mod LetterFault
+pub mod NoticeDraft
+pub mod NoticeLetter
+pub mod PlainStatus
+pub mod ReportedMessage
+pub mod ToldOutcome

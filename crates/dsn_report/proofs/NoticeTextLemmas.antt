@@ -1,0 +1,20 @@
+-- The text of a notice in memory: as it is shown, and as mail data.
+use Rattle.std.proofs.Common.{◌≡◌, ℕ, List, [], ◌∷◌, ◌++◌, map, codes, true, false, sym, ◌∙◌, append-nil}
+use Rattle.dsn_outcome.specs.Letter.{Letter}
+use Rattle.dsn_report.proofs.LineWriterLemmas.{text_of_lines-append}
+use Rattle.dsn_report.specs.LineWriter.{lines_sent}
+use Rattle.dsn_report.specs.Lines.{dot_stuffed, text_of_lines}
+use Rattle.dsn_report.specs.Notice.{notice_lines, notice_of}
+use Rattle.dsn_report.specs.Outbox.{mail_data}
+
+-- without dots and without an end it is the notice
+pub plain_text : (host : List ℕ) (letter : Letter) (text : List ℕ)
+    → text ≡ text_of_lines (lines_sent false (notice_lines host letter)) ++ [] → text ≡ notice_of host letter
+unfolding notice_of
+plain_text host letter text written = written ∙ append-nil (text_of_lines (notice_lines host letter))
+
+-- with dots and the one that ends it, it is the mail data
+pub data_text : (host : List ℕ) (letter : Letter) (text : List ℕ)
+    → text ≡ text_of_lines (lines_sent true (notice_lines host letter)) ++ codes ".\r\n" → text ≡ mail_data host letter
+unfolding mail_data text_of_lines
+data_text host letter text written = written ∙ sym (text_of_lines-append (map dot_stuffed (notice_lines host letter)) (codes "." ∷ []))

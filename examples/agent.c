@@ -16,7 +16,7 @@
 #include <stdlib.h>
 #include <string.h>
 
-enum { LONGEST_BODY = 65536, LONGEST_TEXT = 65535, ANSWER_BODY = 10 };
+enum { LONGEST_BODY = 65536, LONGEST_TEXT = 65535, ANSWER_BODY = 10, SERIAL_BODY = 18, SEALED = 7 };
 enum kind { APPEND = 1, FLUSH = 2, DISCARD = 3, FORGET = 4 };
 
 /* ---- a request's frame */
@@ -176,7 +176,7 @@ static int fault_of(const unsigned char *body, size_t length)
         return 22;
     if (length < ANSWER_BODY)
         return 23;
-    if (length > ANSWER_BODY)
+    if (length > ANSWER_BODY && !(length == SERIAL_BODY && body[1] == SEALED))
         return 24;
     if (!REPLIES[body[1] - 1].valued && number_at(body + 6) != 0)
         return 34;

@@ -98,8 +98,9 @@ class Connection:
         """Writes the frame of the next number, and reads its answer: reply and value."""
         self.stream.sendall(frame_of(self.number))
         length, version, reply, number, value = struct.unpack(">IBBII", self.read(14))
-        if (length, version, number) != (10, 1, self.number) or not 1 <= reply <= len(WORDS):
+        if (version, number) != (1, self.number) or not 1 <= reply <= len(WORDS) or length not in (10, 18 if reply == SEALED else 10):
             raise Ended(f"no answer: reply {reply} to {number}")
+        self.read(length - 10)  # the notice's serial, to a flush of version 3
         self.number += 1
         return reply, value
 

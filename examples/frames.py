@@ -12,7 +12,7 @@ standard input, and each frame is written as soon as its line is there.
            [attempt=N] [retry=N] [type=T] [original-type=T] [diagnostic-type=T]
            [extension="X-Name: value"] ..
     flush NUMBER SERVICE ID [return=T] [moment=N] [arrival=N] [envelope=T] [header=T] [expects=N]
-          [returns=header|message] [wording=service|outcome]
+          [returns=header|message] [wording=service|outcome] [extension="X-Name: value"] ..
     discard NUMBER SERVICE ID
     forget NUMBER SERVICE ID
     hex DIGITS               these bytes as they are, for input that is not as it should be
@@ -76,12 +76,13 @@ def append(
 
 def flush(
     number, service, queue_id, return_path=b"ann@example.com", moment=1700000000, arrival=1699996400, envelope=b"", header=b"", expected=None,
-    returned=0, wording=0,
+    returned=0, wording=0, extensions=b"",
 ):  # fmt: skip
     """The frame of a request to close a log and to make its notice; it is of version 3 where it says how many outcomes the
-    log is to have, that the header is a message, or that the words go by the outcome."""
-    wishes = struct.pack(">IBB", ANY_COUNT if expected is None else expected, returned, wording)
-    usual = wishes == struct.pack(">IBB", ANY_COUNT, 0, 0)
+    log is to have, that the header is a message, or that the words go by the outcome, or has extension fields (each a line
+    that LF ends)."""
+    wishes = struct.pack(">IBB", ANY_COUNT if expected is None else expected, returned, wording) + text(extensions)
+    usual = wishes == struct.pack(">IBB", ANY_COUNT, 0, 0) + text(b"")
     body = start(FLUSH, number, service, queue_id, VERSION if usual else THIRD_VERSION) + struct.pack(">QQ", moment, arrival)
     return frame(body + text(return_path) + text(envelope) + text(header) + (b"" if usual else wishes))
 
@@ -144,9 +145,9 @@ def request_of_line(line: str) -> tuple:
     extensions = [value for it, value in given if it == "extension"]
     number = None if fixed[0] == "." else int(fixed[0])
     fields = {"service": SERVICES.get(fixed[1]) or int(fixed[1]), "queue_id": unescaped(fixed[2])}
+    fields |= {"extensions": b"".join(unescaped(it) + b"\n" for it in extensions)} if extensions else {}
     if kind == "append":
         fields |= {"recipient": unescaped(fixed[3]), "action": ACTIONS.get(fixed[4]) or int(fixed[4]), "status": unescaped(fixed[5])}
-        fields |= {"extensions": b"".join(unescaped(it) + b"\n" for it in extensions)} if extensions else {}
         fields |= {name: moment_of(options.pop(it)) for it, name in (("attempt", "last_attempt"), ("retry", "retry_until")) if it in options}
     elif kind == "flush":
         fields |= {it: moment_of(options.pop(it)) for it in ("moment", "arrival") if it in options}
@@ -155,7 +156,7 @@ def request_of_line(line: str) -> tuple:
             if name in options:
                 word = options.pop(name)
                 fields[field] = values[word] if word in values else int(word)
-    if extensions and kind != "append":
+    if extensions and kind not in ("append", "flush"):
         raise ValueError(f"a {kind} has no extension fields")
     if kind not in ("append", "flush") and options:
         raise ValueError(f"a {kind} has nothing after the queue id")

@@ -97,9 +97,11 @@ def check_answers(checks: Checks, program: Path):
         value = "00000005" if words.endswith("5") else "00000000"
         answer = bytes.fromhex(f"0000000a 01 {at:02x} 000f423f {value}")
         checks.equal(f"reply {at}", told(program, answer), (f"999999 {words}\n".encode(), 0))
+    serial = bytes.fromhex("00000012 01 07 000f423f 00000005 0000000000000102")
+    checks.equal("a notice with its serial", told(program, serial), (b"999999 sealed 5\n", 0))
     for digits, fault in [
         ("0000000a 0102000000000000 0005", 34), ("00000002 0101", 23), ("00000001 00", 21), ("00000002 010d", 23), ("00000002 010e", 22), ("0000000a 010b000000000000 0001", 34), ("00000002 0100", 22),
-        ("0000000b 0107000000000000 0000 00", 24), ("00000000", 12), ("00010001", 11), ("0000", 13), ("0000000a 01", 13), ("00000002 000b", 21),
+        ("0000000b 0107000000000000 0000 00", 24), ("00000012 0108000000000000 0005 0000000000000102", 24), ("00000013 0107000000000000 0005 0000000000000102 00", 24), ("00000000", 12), ("00010001", 11), ("0000", 13), ("0000000a 01", 13), ("00000002 000b", 21),
     ]:  # fmt: skip
         checks.equal(f"no answer: {digits}", told(program, bytes.fromhex(digits)), (f"fault {fault}\n".encode(), 1))
     checks.equal("no answers", told(program, b""), (b"", 0))

@@ -101,11 +101,11 @@ def served(given: bytes, broken: bool = False, room: Optional[int] = None):
     daemon's end."""
     logs, letters, heard, requests, faults = Logs(Limits()), [], [], 0, 0
     try:
-        for number, reply, value in sessions.answers(given, logs, letters, broken):
-            requests += reply != REFUSED
+        for answered in sessions.answers(given, logs, letters, broken):
+            requests += answered[1] != REFUSED
             if len(heard) == room:
                 raise sessions.Fault(35)
-            heard.append(sessions.answer(number, reply, value))
+            heard.append(sessions.answer(*answered))
     except sessions.Fault:
         faults = 1
     notes = line(0, requests, 1, faults) + b"".join(sessions.open_lines(logs))

@@ -30,9 +30,9 @@ def session(given: bytes, logs: Logs, letters: list):
     """The answers on a connection, how many requests it had accepted, and whether it ended with a fault."""
     answers, accepted, fault = [], 0, 0
     try:
-        for number, reply, value in sessions.answers(given, logs, letters):
-            answers.append(sessions.answer(number, reply, value))
-            accepted += reply != REFUSED
+        for answered in sessions.answers(given, logs, letters):
+            answers.append(sessions.answer(*answered))
+            accepted += answered[1] != REFUSED
     except sessions.Fault:
         fault = 1
     return b"".join(answers), accepted, fault

@@ -19,7 +19,7 @@ from pathlib import Path
 sys.path.insert(0, str(Path(__file__).parent / "support"))
 from daemon_and_clients import Daemon, heard  # noqa: E402
 from formats.bodies import Refused, decoded  # noqa: E402
-from formats.logs import REFUSED  # noqa: E402
+from formats.logs import REFUSED, SEALED  # noqa: E402
 from formats.notices import SERVICE_LETTERS  # noqa: E402
 from formats.sessions import OUT_OF_TURN, answer  # noqa: E402
 from histories import Asked  # noqa: E402
@@ -28,6 +28,7 @@ from hostile import Hostile  # noqa: E402
 from running import HOST, shown  # noqa: E402
 
 SECONDS = 5  # in make check
+SERIAL_FOLLOWS = b"\0\0\0\x12"  # the length of an answer with a serial
 LINE = re.compile(rb"agent (\d+) requests (\d+) connections (\d+) faults (\d+)")
 OPEN = re.compile(rb"open (.) (\S+) (\d+)")
 SERVICES = {letter: service for service, letter in SERVICE_LETTERS.items()}
@@ -95,14 +96,16 @@ class Client:
             self.asked += [] if refused else [Asked(request, begun)]
             return False
         found = heard(stream, 14)
+        found += heard(stream, 8) if found[:4] == SERIAL_FOLLOWS else b""
         if refused:
             goes_on = self.expect("a refusal", found, answer(position, REFUSED, refused)) and refused != OUT_OF_TURN
             if refused == OUT_OF_TURN:
                 self.end(stream, "a number out of turn")
             return goes_on
-        reply, value = found[5] if len(found) == 14 else 0, int.from_bytes(found[10:], "big")
-        self.asked.append(Asked(request, begun, (reply, value), time.monotonic_ns()))
-        return self.expect("an answer", found, answer(position, reply, value))
+        reply, value = found[5] if len(found) >= 14 else 0, int.from_bytes(found[10:14], "big")
+        serial = int.from_bytes(found[14:], "big") if reply == SEALED and frame[4] == 3 else None
+        self.asked.append(Asked(request, begun, (reply, value, serial), time.monotonic_ns(), frame[4] == 3))
+        return self.expect("an answer", found, answer(position, reply, value, serial))
 
     def converse(self, stream: socket.socket):
         """The whole connection."""

@@ -43,8 +43,8 @@ def longer_and_longer(checks: Checks, library: Path):
 
 # How often each public call grows its memory, at least; each growth is refused with 9, or 42 of a crew.
 CALLS = {
-    "address": 1, "mta-name": 1, "envelope-id": 1, "clean": 1, "raw-header": 1, "outcome": 2, "draft": 1, "book": 2, "open-lines": 1,
-    "read-frame": 1, "read-next": 1, "decode-append": 2, "decode-flush": 2, "encode-append": 1, "encode-flush": 1, "site": 1, "notice": 1,
+    "address": 1, "mta-name": 1, "envelope-id": 1, "clean": 1, "raw-header": 1, "outcome": 2, "draft": 2, "book": 2, "open-lines": 1,
+    "read-frame": 1, "read-next": 1, "decode-append": 2, "decode-flush": 2, "encode-append": 1, "encode-flush": 1, "site": 1, "notice": 1, "mail-data": 1,
     "open-lane": 2, "open-post": 2, "open-crew": 3,
 }  # fmt: skip
 # What the program is given beside the call's name, and the texts that are kept.

@@ -89,18 +89,18 @@ BOUNDS = [
     (discard(b"012345678901234567890123456789aBc"), 26),
 ]  # fmt: skip
 
-# A flush of version 3, which ends with how many outcomes it expects, any number of four bytes, with what is returned, and with
-# the wording.
+# A flush of version 3, which ends with how many outcomes it expects, any number of four bytes, with what is returned, with the
+# wording, and with extension fields.
 COUNTED = b"\x03" + FLUSH[1:]
 BAD_ENVELOPE_ID = COUNTED.replace(b"\0\x02Q1", b"\0\x02Q\n")
 COUNTS = [
-    (COUNTED + bytes(6), ACCEPTED), (COUNTED + b"\0\0\0\1\0\0", ACCEPTED), (COUNTED + b"\xff" * 4 + bytes(2), ACCEPTED),
-    (COUNTED + b"\xff\xff\xff\xfe\0\0", ACCEPTED), (COUNTED, 23), (COUNTED + bytes(1), 23), (COUNTED + bytes(3), 23), (COUNTED + bytes(4), 23),
-    (COUNTED + bytes(5), 23), (COUNTED + bytes(7), 24), (b"\x02" + FLUSH[1:] + bytes(6), 24),
-    (COUNTED[:11] + b"\1" + COUNTED[12:] + bytes(6), 27), (COUNTED[:9] + b"-" + COUNTED[10:] + bytes(6), 26),
-    (COUNTED + bytes(4) + b"\1\0", ACCEPTED), (COUNTED + bytes(4) + b"\0\1", ACCEPTED), (COUNTED + bytes(4) + b"\1\1", ACCEPTED),
-    (COUNTED + bytes(4) + b"\2\0", 18), (COUNTED + bytes(4) + b"\xff\2", 18), (COUNTED + bytes(4) + b"\0\2", 19), (COUNTED + bytes(4) + b"\1\xff", 19),
-    (BAD_ENVELOPE_ID + bytes(4) + b"\2\2", 30),
+    (COUNTED + bytes(8), ACCEPTED), (COUNTED + b"\0\0\0\1" + bytes(4), ACCEPTED), (COUNTED + b"\xff" * 4 + bytes(4), ACCEPTED),
+    (COUNTED + b"\xff\xff\xff\xfe" + bytes(4), ACCEPTED), (COUNTED, 23), (COUNTED + bytes(1), 23), (COUNTED + bytes(3), 23), (COUNTED + bytes(4), 23),
+    (COUNTED + bytes(5), 23), (COUNTED + bytes(6), 23), (COUNTED + bytes(7), 23), (COUNTED + bytes(9), 24), (b"\x02" + FLUSH[1:] + bytes(8), 24),
+    (COUNTED[:11] + b"\1" + COUNTED[12:] + bytes(8), 27), (COUNTED[:9] + b"-" + COUNTED[10:] + bytes(8), 26),
+    (COUNTED + bytes(4) + b"\1\0\0\0", ACCEPTED), (COUNTED + bytes(4) + b"\0\1\0\0", ACCEPTED), (COUNTED + bytes(4) + b"\1\1\0\0", ACCEPTED),
+    (COUNTED + bytes(4) + b"\2\0\0\0", 18), (COUNTED + bytes(4) + b"\xff\2\0\0", 18), (COUNTED + bytes(4) + b"\0\2\0\0", 19),
+    (COUNTED + bytes(4) + b"\1\xff\0\0", 19), (BAD_ENVELOPE_ID + bytes(4) + b"\2\2\0\0", 30),
 ]  # fmt: skip
 
 TYPED = {"original": b"o@p", "diagnostic": b"busy"}
@@ -140,6 +140,23 @@ EXTENSIONS = [
     (extended(b"X-A: b\n")[:-1], 23), (typed(b"", b"", b'"', extensions=b"A"), 17), (b"\x02" + extended(b"X-A: b\n")[1:], 24),
 ]  # fmt: skip
 
+
+
+def described(extensions: bytes, wishes=b"\xff" * 4 + bytes(2), after=b"") -> bytes:
+    """A flush of version 3 with these extension fields of its message."""
+    return COUNTED + wishes + text(extensions) + after
+
+
+MESSAGE_EXTENSIONS = [
+    (described(b"X-A: b\n"), ACCEPTED), (described(b"X-A: b\nX-A: : b \n"), ACCEPTED), (described(LONGEST_LINE * 8), ACCEPTED),
+    (described(LONGEST_LINE * 8, bytes(4) + b"\1\1"), ACCEPTED), (described(b"X-A: b\n" * 8), ACCEPTED), (described(b"X-A: b\n" * 9), 20),
+    (described(b"X-%s: b\n" % (b"a" * 63)), 20), (described(b"X-A: %s\n" % (b"b" * 256)), 20), (described(b"A: b\n"), 20),
+    (described(b"Reporting-MTA: b\n"), 20), (described(b"x-A: b\n"), 20), (described(b"X-A: b"), 20), (described(b"X-A: b\r\n"), 20),
+    (described(b"X-A: b\nX-C: d"), 20), (described(b"X-A: b\n\n"), 20), (described(b"\n"), 20), (described(b"X-A: \xe9\n"), 20),
+    (described(b"A", bytes(4) + b"\0\2"), 19), (described(b"A", bytes(4) + b"\2\0"), 18), (described(b"X-A: b\n", after=b"\0"), 24),
+    (described(b"X-A: b\n")[:-1], 23), (BAD_ENVELOPE_ID + b"\xff" * 4 + bytes(2) + text(b"A"), 30), (b"\x02" + described(b"X-A: b\n")[1:], 24),
+]  # fmt: skip
+
 DELAYED = {"service": DEFER, "recipient": b"bob@example.org", "action": 2, "status": b"4.4.1"}
 SPOILED = {**DELAYED, "recipient": b"<"}
 MOMENTS = [
@@ -174,7 +191,7 @@ def refusal(body: bytes) -> int:
 def main():
     checks = Checks("refused bodies: bodies near a legal one and at the bounds of each field")
     cases = changed(APPEND, CHANGED_APPEND) + changed(FLUSH, CHANGED_FLUSH) + changed(DISCARD, CHANGED_DISCARD)
-    cases += WHOLE + BOUNDS + COUNTS + TYPES + EXTENSIONS + MOMENTS + cut_and_longer()
+    cases += WHOLE + BOUNDS + COUNTS + TYPES + EXTENSIONS + MESSAGE_EXTENSIONS + MOMENTS + cut_and_longer()
     with ThreadPoolExecutor(os.cpu_count()) as pool:
         for (body, wanted), found in zip(cases, pool.map(refusal, [body for body, _ in cases])):
             checks.equal(f"{body[:80]!r} of {len(body)} bytes", found, wanted)

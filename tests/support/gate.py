@@ -1,8 +1,8 @@
 #!/usr/bin/env python3
 """The gate (`make check`), in three parts: `rt ci` proves every crate and its tests from nothing, builds and runs the tests
-and the programs; then the scripts of tests/ run on the programs. Beside both, with what they leave of the processors,
-tests/support/refused.py tries the wrong edits over the libraries that `rt ci` builds. The last line is 'N passed, M failed',
-and the status is 1 where anything failed.
+and the programs; the scripts of tests/ run on the programs, most of them as soon as these are built, and those that run alone once
+`rt ci` is over. Beside both, with what they leave of the processors, tests/support/refused.py tries the wrong edits over the
+libraries that `rt ci` builds. The last line is 'N passed, M failed', and the status is 1 where anything failed.
 
 It works in a copy of the repository, so that `rt ci` leaves alone the edits, which refused.py tries in fewer checks, and
 so that what was proved here before is neither used nor lost. What the repository's record has of the wrong edits isn't tried, but
@@ -37,7 +37,7 @@ ROWS = (
     ("stop.py", "idle.py"),
     ("daemon_limits.py", "changed_bytes.py", "limits.py", "refused_bodies.py"),
 )
-# Scripts that run with no other beside: they look at what a process keeps of memory or takes of time, try as much as they can in a
+# Scripts that run with nothing beside but wrong edits: they look at what a process keeps of memory or takes of time, try as much as they can in a
 # given time, or end daemons after some moments of work.
 ALONE = ("forgetting.py", "fuzz_batch.py", "fuzz_serve.py", "journal_kills.py", "journal_stops.py", "memory.py", "postfix_notices.py")
 COUNT = re.compile(r"^(\d+) (?:passed|refused), (\d+) failed$", re.M)
@@ -89,6 +89,17 @@ class Part:
         said = self.log.read_text(errors="replace")
         print(f"{said}== {self.log.name}: {(time.monotonic() - self.begun) / 60:.0f} minutes", flush=True)
         return status, said
+
+    def has_said(self, names) -> bool:
+        """Whether `rt ci` said of each of these crates that it is proved, or kept as it is."""
+        said = self.log.read_text(errors="replace")
+        return all(re.search(rf"^rt: {name} (?:proved$|is kept:)", said, re.M) for name in names)
+
+    def comes_to(self, names) -> bool:
+        """Waits until it said so of these crates, or ended: whether it said so."""
+        while not self.has_said(names) and self.running.poll() is None:
+            time.sleep(1)
+        return self.has_said(names)
 
     def stop(self):
         """Ends it, with all that it started."""
@@ -152,26 +163,29 @@ class Scripts:
             if it.poll() is None:
                 it.kill()
 
-    def all_said(self, names: list):
-        """Runs them, and gives what each said, in an order that doesn't change: first those that others may run beside."""
-        in_rows = [[it for it in row if it in names] for row in ROWS]
-        beside = in_rows + [[it] for it in names if it not in sum(ROWS, ALONE)]
-        alone = [[it] for it in names if it in ALONE]
-        for rows, most in ((beside, min(SIDE_BY_SIDE, processors())), (alone, 1)):
-            with ThreadPoolExecutor(most) as pool:
-                try:
-                    for it in [pool.submit(self.run, row) for row in rows]:
-                        yield from it.result()
-                except BaseException:
-                    self.stop()
-                    pool.shutdown(wait=False, cancel_futures=True)
-                    raise
+    def all_said(self, rows: list, most: int):
+        """Runs rows of scripts, so many at once, and gives what each script said, in an order that doesn't change."""
+        with ThreadPoolExecutor(most) as pool:
+            try:
+                for it in [pool.submit(self.run, row) for row in rows]:
+                    yield from it.result()
+            except BaseException:
+                self.stop()
+                pool.shutdown(wait=False, cancel_futures=True)
+                raise
 
 
-def run_scripts(verdict: Verdict):
-    """Runs the scripts of tests/, several at once, shows what each said, names those that failed, and counts them."""
+def rows_beside() -> list:
+    """The rows of scripts that others may run beside."""
+    names = sorted(it.name for it in (ROOT / "tests").glob("*.py"))
+    in_rows = [[it for it in row if it in names] for row in ROWS]
+    return in_rows + [[it] for it in names if it not in sum(ROWS, ALONE)]
+
+
+def run_scripts(rows: list, most: int, verdict: Verdict):
+    """Runs scripts, so many at once, shows what each said, names those that failed, and counts them."""
     begun, failed = time.monotonic(), []
-    for it in Scripts().all_said(sorted(it.name for it in (ROOT / "tests").glob("*.py"))):
+    for it in Scripts().all_said(rows, most):
         print(f"== tests/{it.name}: {it.seconds:.0f} seconds\n{it.text}", end="", flush=True)
         if it.status:
             failed.append(it.name)
@@ -180,7 +194,7 @@ def run_scripts(verdict: Verdict):
 
 
 def prove_run_and_refuse(place: Path, verdict: Verdict):
-    """Proves a copy of the repository, and runs the scripts on its programs where all was proved; tries the wrong edits beside both."""
+    """Proves a copy of the repository, and runs the scripts on its programs; tries the wrong edits beside both."""
     room, edits, log = place / "repository", place / "edits", ROOT / "out/gate.log"
     anew, record = ([it for it in sys.argv[1:] if it == flag] for flag in ("--anew", "--record"))
     copied(room)
@@ -189,11 +203,13 @@ def prove_run_and_refuse(place: Path, verdict: Verdict):
     words = ["nice", "-n", "19", sys.executable, "tests/support/refused.py", "--beside", room, log, *anew, *record]
     refusing = Part("trying the wrong edits beside it", words, ROOT, ROOT / "out/refused.log", TMPDIR=str(edits))
     try:
+        if proving.comes_to(PROGRAMS.values()):
+            keep_programs(room)
+            run_scripts(rows_beside(), min(SIDE_BY_SIDE, processors()), verdict)
         verdict.count(*proving.ends())
         if verdict.failed:
             return
-        keep_programs(room)
-        run_scripts(verdict)
+        run_scripts([[it] for it in ALONE], 1, verdict)
         verdict.count(*refusing.ends())
     finally:
         proving.stop()

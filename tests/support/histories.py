@@ -11,13 +11,15 @@ from formats.notices import mail
 
 @dataclass
 class Asked:
-    """A request that a client sent whole, when it began to, and its answer (reply and value) with the time when it was
-    there; no answer where the client left before: then nobody knows whether the request was taken."""
+    """A request that a client sent whole, when it began to, and its answer (reply and value, and the serial of a notice if
+    one was told) with the time when it was there; no answer where the client left before: then nobody knows whether the
+    request was taken. Whether its frame was of version 3, whose answer tells of a notice by its serial."""
 
     request: Request
     begun: int
     answer: Optional[tuple] = None
     ended: Optional[int] = None
+    is_third: bool = False
 
 
 class History:
@@ -68,7 +70,7 @@ class Daemon:
         logs = Logs(it.logs.limits)
         logs.held, logs.sealed = {key: log and list(log) for key, log in it.logs.held.items()}, it.logs.sealed
         reply, value, letter = logs.apply(asked.request)
-        if asked.answer and asked.answer != (reply, value):
+        if asked.answer and asked.answer != (reply, value, letter.serial if letter and asked.is_third else None):
             return None
         sent = self.sent(letter)
         if not self.outbox.startswith(sent, it.written):

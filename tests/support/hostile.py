@@ -114,9 +114,9 @@ class Hostile:
         return self.dice.choice([ANY_COUNT, ANY_COUNT - 1, 1000, 256, 0, 1, 1, 2, 2, 3, 4, self.dice.randint(0, 12)])
 
     def wishes(self) -> bytes:
-        """What a flush of version 3 asks for besides: a count, and two bytes that are 0 or 1, seldom others."""
+        """What a flush of version 3 asks for besides: a count, two bytes that are 0 or 1, seldom others, and extension fields."""
         two = [self.dice.choice([2, 3, 255] if self.chance(self.faulty) else [0, 1, 1]) for _ in range(2)]
-        return self.count().to_bytes(4, "big") + bytes(two)
+        return self.count().to_bytes(4, "big") + bytes(two) + text(self.extensions())
 
     def flush(self, version: int, service: int, queue_id: bytes) -> bytes:
         """What a flush has after its key."""

@@ -47,12 +47,39 @@ def applied(world: tuple, request: Request) -> tuple:
     return (reply, value), (after if after is None else tuple(after), letters + more)
 
 
+def answers_heard(stream: socket.socket, count: int) -> list:
+    """The frames of so many answers, or those that came whole."""
+    whole = []
+    for _ in range(count):
+        head = heard(stream, 4)
+        body = heard(stream, int.from_bytes(head, "big")) if len(head) == 4 else b""
+        if not body or len(body) < int.from_bytes(head, "big"):
+            break
+        whole.append(head + body)
+    return whole
+
+
+def whole_answers(got: bytes) -> list:
+    """The frames of answers that are whole in what was heard."""
+    whole, at = [], 0
+    while at + 4 <= len(got) and at + 4 + int.from_bytes(got[at : at + 4], "big") <= len(got):
+        end = at + 4 + int.from_bytes(got[at : at + 4], "big")
+        whole.append(got[at:end])
+        at = end
+    return whole
+
+
+def said(frame: bytes) -> tuple:
+    """What an answer's frame says, and how long its body is: its serial apart, which goes by what others do."""
+    return struct.unpack(">IBBII", frame[:14])
+
+
 class Model:
     """What was asked and answered, by key, and the letters that the outbox has had."""
 
     def __init__(self, checks: Checks):
         self.checks, self.lock = checks, threading.RLock()
-        self.worlds, self.found = {}, {}
+        self.worlds, self.found, self.told = {}, {}, set()
         self.sums, self.last, self.repeats, self.cut, self.asked = [], b"", 0, 0, 0
 
     def of(self, key: tuple) -> set:
@@ -73,6 +100,13 @@ class Model:
             self.asked += 1
             ends = [applied(it, request) for it in self.of(request.key)]
             self.narrow(f"{given} answered {request}", request.key, {after for said, after in ends if said == given})
+
+    def tell(self, frames: list):
+        """Takes in the serials that the frames of answers tell: none is told twice, in any run."""
+        with self.lock:
+            for serial in (int.from_bytes(it[14:], "big") for it in frames if len(it) > 14):
+                self.checks.true(f"serial {serial} is told once", serial not in self.told)
+                self.told.add(serial)
 
     def unanswered(self, requests: list):
         """These were sent one after another, and some of the first ones may have been carried out."""
@@ -105,6 +139,7 @@ class Model:
                     left.add((log, ()))
             self.narrow(f"{len(found)} letters", key, left)
         self.found.clear()
+        self.checks.true("each serial that was told is a letter's", all(it < len(self.sums) for it in self.told))
 
     def check_logs(self, about: str, held: dict, forgets: bool = False):
         """These logs are held, by their keys: those that may be. After a clean end closed keys may be forgotten."""
@@ -233,12 +268,12 @@ class Client:
                 with contextlib.suppress(OSError):
                     stream.sendall(frames[0][: self.dice.randrange(1, len(frames[0]))])
                 return
-            got = b""
+            whole = []
             with contextlib.suppress(OSError):
                 stream.sendall(b"".join(frames))
-                got = heard(stream, 14 * len(frames)) if end > 0.04 else b""
-            whole = [struct.unpack(">IBBII", got[at : at + 14]) for at in range(0, len(got) - 13, 14)]
-            for it, (_, _, reply, place, value) in zip(requests, whole):
+                whole = answers_heard(stream, len(frames)) if end > 0.04 else []
+            self.model.tell(whole)
+            for it, (_, _, reply, place, value) in zip(requests, map(said, whole)):
                 self.model.checks.equal("an answer's number", place, number)
                 self.note(it, (reply, value))
                 number += 1
@@ -296,11 +331,13 @@ class HostileClient:
                 stream.settimeout(0.2)  # it says nothing more, and stays for a while
                 while more := stream.recv(4096):
                     got += more
-        count = len(got) // 14
-        self.model.checks.equal("answers to a hostile session", got[: 14 * count], b"".join(it for it, _ in wanted[:count]))
+        whole = whole_answers(got)
+        count = len(whole)
+        self.model.tell(whole)
+        self.model.checks.equal("answers to a hostile session", [*map(said, whole)], [said(it) for it, _ in wanted[:count]])
         for it, request in wanted[:count]:
             if request:
-                self.model.answered(request, struct.unpack(">IBBII", it)[2::2])
+                self.model.answered(request, said(it)[2::2])
         self.model.unanswered([it for _, it in wanted[count:] if it])
 
     def let_go(self, ask):
@@ -362,9 +399,9 @@ class Load:
                     return
                 numbered = FRAMES.discard(place, *request.key) if request.kind == DISCARD else FRAMES.forget(place, *request.key)
                 stream.sendall(numbered)
-                got = heard(stream, 14)
-                if len(got) == 14:
-                    self.model.answered(request, struct.unpack(">IBBII", got)[2::2])
+                got = answers_heard(stream, 1)
+                if got:
+                    self.model.answered(request, said(got[0])[2::2])
                 else:
                     self.model.unanswered([request])
                 place += 1
@@ -425,9 +462,9 @@ class Load:
             for place, key in enumerate(keys):
                 frame = FRAMES.flush(place, *key)
                 stream.sendall(frame)
-                got = heard(stream, 14)
-                self.checks.equal("a flush is answered", len(got), 14)
-                self.model.answered(decoded(frame[4:]), struct.unpack(">IBBII", got)[2::2])
+                got = answers_heard(stream, 1)
+                self.checks.equal("a flush is answered", len(got), 1)
+                self.model.answered(decoded(frame[4:]), said(got[0])[2::2])
 
     def is_ended_by(self, ran: Ran, status: int) -> bool:
         """Whether a run was ended by this status, or by a journal that was full: counts these."""

@@ -67,6 +67,7 @@ class Draft:
     expected: Optional[int] = None
     returned: int = HEADER
     wording: int = BY_SERVICE
+    extensions: bytes = b""
 
 
 @dataclass(frozen=True)
@@ -154,6 +155,7 @@ def draft_of(draft: Draft) -> Draft:
     refuse_unless(empty_or(ENVELOPE_ID, draft.envelope_id), 30)
     refuse_unless(draft.returned in (HEADER, MESSAGE), 18)
     refuse_unless(draft.wording in (BY_SERVICE, BY_OUTCOME), 19)
+    refuse_unless(EXTENSIONS.fullmatch(draft.extensions), 20)
     return draft
 
 
@@ -171,7 +173,8 @@ def decoded(body: bytes) -> Request:
         parts |= {it: fields.text() if version == 3 else b"" for it in ("recipient_type", "original_type", "diagnostic_type", "extensions")}
     elif kind == FLUSH:
         draft = Draft(fields.number(8), fields.number(8), fields.text(), fields.text(), fields.text())
-        draft = replace(draft, expected=counted(fields.number(4)), returned=fields.number(1), wording=fields.number(1)) if version == 3 else draft
+        if version == 3:
+            draft = replace(draft, expected=counted(fields.number(4)), returned=fields.number(1), wording=fields.number(1), extensions=fields.text())
     refuse_unless(fields.at == len(body), 24)
     refuse_unless(service in ACTIONS, 25)
     refuse_unless(QUEUE_ID.fullmatch(queue_id), 26)

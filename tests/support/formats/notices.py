@@ -88,6 +88,7 @@ def second_part(host: bytes, letter: Letter) -> list:
     if letter.draft.envelope_id:
         lines.append(b"Original-Envelope-Id: " + letter.draft.envelope_id)
     lines += [b"Reporting-MTA: dns; " + host, b"Arrival-Date: " + date(letter.draft.arrival)]
+    lines += letter.draft.extensions.split(b"\n")[:-1]
     for it in letter.outcomes:
         lines.append(b"")
         if it.original:

@@ -27,13 +27,15 @@ class Fault(Exception):
         self.number = number
 
 
-def answer(number: int, reply: int, value: int) -> bytes:
-    """The frame of an answer."""
+def answer(number: int, reply: int, value: int, serial: Optional[int] = None) -> bytes:
+    """The frame of an answer, with the serial of a notice, if one is told."""
+    if serial is not None:
+        return struct.pack(">IBBIIQ", 18, 1, reply, number, value, serial)
     return struct.pack(">IBBII", 10, 1, reply, number, value)
 
 
-def line(number: int, reply: int, value: int) -> bytes:
-    """The line of an answer."""
+def line(number: int, reply: int, value: int, _serial: Optional[int] = None) -> bytes:
+    """The line of an answer: it says no serial."""
     words = WORDS[reply]
     return b"%d %s\n" % (number, words % value if b"%d" in words else words)
 
@@ -59,21 +61,22 @@ def frames(given: bytes, broken: bool):
 
 
 def answers(given: bytes, logs: Logs, letters: list, broken: bool = False):
-    """The answers of a session on these bytes, one after another: number, reply and value. Fault where it ends badly."""
+    """The answers of a session on these bytes, one after another: number, reply, value, and the serial where a frame of
+    version 3 made a notice. Fault where it ends badly."""
     for position, body in enumerate(frames(given, broken)):
         if position == logs.limits.requests:
             raise Fault(TOO_MANY)
         try:
             request = decoded(body)
         except Refused as refused:
-            yield position, REFUSED, refused.number
+            yield position, REFUSED, refused.number, None
             continue
         if request.number != position:
-            yield position, REFUSED, OUT_OF_TURN
+            yield position, REFUSED, OUT_OF_TURN, None
             raise Fault(OUT_OF_TURN)
         reply, value, letter = logs.apply(request)
         letters += [letter] if letter else []
-        yield position, reply, value
+        yield position, reply, value, letter.serial if letter and body[0] == 3 else None
 
 
 def open_lines(logs: Logs) -> list:

@@ -22,9 +22,39 @@ FILES = {
     "crates.txt": "base: thiserror\nlow: base\nhigh: low\naside: base\n",
     "crates/base/src/lib.rt": "",
     "crates/base/out/rlib/base.rlib/format": "base",
-    "crates/low/src/lib.rt": "",
+    "crates/low/src/lib.rt": """//! The low one.
+pub const MOST: u32 = 3;
+
+pub const fn most() -> u32 {
+    MOST
+}
+
+/// Three.
+pub fn three() -> u32
+    ensures { result ≡ 3 }
+{
+    3
+}
+
+impl Number {
+    fn four(
+        self,
+    ) -> u32 {
+        match self {
+            Number => 4,
+        }
+    }
+}
+
+impl Two for Number {
+    fn two(self) -> u32 {
+        2
+    }
+}
+""",
     "crates/low/specs/Low.antt": "",
     "crates/low/proofs/LowLemmas.antt": "",
+    "crates/low/proofs/three/Answers.antt": "",
     "crates/low/out/rlib/low.rlib/format": "low",
     "crates/aside/src/lib.rt": "pub fn one() -> u32\n{\n    1\n}\n",
     "crates/aside/must-fail/one.edit": "file: src/lib.rt\nold:     1\nnew:     11\n",

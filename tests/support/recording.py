@@ -3,10 +3,10 @@ all that it rests on is the same, and tries the others.
 
 A line of the record tells of one edit or control: its crate, its name, what came of it, what refuses it, and a sum. The sum is of
 what the checks of its group read and of what judges them, in such words as are the same on every machine: the kit's own line, the
-modules that judge, the group's edits, the texts of the crate and of each crate of the repository below it, with their lines of
-crates.txt; and of what came of each edit of the group. So nothing goes stale: what changed has another sum, and so has a line
-that was damaged. Of a group all lines count or none does. What isn't in the sum: the kit's files (its line stands for them), and
-the libraries as they were built (the texts stand for them).
+modules that judge, the group's edits, the texts of the crate, and of each crate of the repository below it what those above can read
+(stated.py), with their lines of crates.txt; and of what came of each edit of the group. So nothing goes stale: what changed has
+another sum, and so has a line that was damaged. Of a group all lines count or none does. What isn't in the sum: the kit's files (its
+line stands for them), and the libraries as they were built (the texts stand for them).
 
 A record can be false all the same, by a hand that wrote it or by a kit that isn't what its line says. So each run tries some of what
 is recorded once more: a sample, of one crate, which another state of the repository draws anew. Where one of it comes to another
@@ -20,13 +20,14 @@ from pathlib import Path
 
 import keeping
 import kit
+import stated
 from running import ROOT
 
 PLACE = ROOT / "tests/support/edits_tried.txt"
 HEAD = """# What came of the wrong edits (must-fail/) and of their controls (controls/), a line each. `make refused RECORD=1` writes it, and
 # nobody else: tests/support/recording.py says what a line rests on. A line whose sum isn't that of the texts counts for nothing.
 """
-PARTS = ("src", "specs", "proofs")
+PARTS = stated.PARTS
 # The texts that a sample is drawn by, and what stands among them and is none.
 STATE = ("crates", "docs", "examples", "tests", "README.md", "Makefile", "crates.txt")
 NO_TEXTS = ("out", "__pycache__")
@@ -92,11 +93,12 @@ def sum_of_texts(crate, own: Path) -> str:
     line of the kit."""
     if not kit.line():
         return ""
-    places = {it.name: Path(it.folder) for it in crate.below()} | {crate.name: own}
+    names = {crate.name, *(it.name for it in crate.below())}
     lines = (Path(crate.folder).parent.parent / "crates.txt").read_text().splitlines()
-    said = [it for it in lines if re.match(r"\w*", it)[0] in places]
-    texts = [(name, part, keeping.files_of(place / part)) for name, place in sorted(places.items()) for part in PARTS]
-    return keeping.sum_of(kit.line(), JUDGES, crate.name, sorted(said), texts)
+    said = [it for it in lines if re.match(r"\w*", it)[0] in names]
+    texts = [(part, keeping.files_of(own / part)) for part in stated.PARTS]
+    below = [(it.name, stated.stated_in(Path(it.folder))) for it in sorted(crate.below(), key=lambda it: it.name)]
+    return keeping.sum_of(kit.line(), JUDGES, crate.name, sorted(said), texts, below)
 
 
 def lines_of(crate: str, group: list, rests_on: tuple, found: list) -> list:

@@ -47,13 +47,19 @@ impl ShortText {
         self.len = past;
     }
 
-    /// Adds a number in decimal at the end; it takes at most 20 bytes.
+    /// Adds a number in decimal at the end; it takes at most 20 bytes. Most counts are one digit,
+    /// which is written as it is.
+    #[tactic(auto, using(std::proofs::lemmas::Fmt::decimal_digit))]
     pub fn push_number(&mut self, number: u64)
         requires { length self.old + most_digits ≤ SHORT_ROOM }
         ensures added { self.new ≡ self.old ++ decimal number }
         ensures short { length self.new ≤ length self.old + most_digits }
     {
-        self.push(Buffer::new().format(number).as_bytes());
+        if number < 10 {
+            self.push(&[b'0' + number as u8]);
+        } else {
+            self.push(Buffer::new().format(number).as_bytes());
+        }
     }
 
     /// The text.

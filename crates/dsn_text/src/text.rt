@@ -61,9 +61,21 @@ impl Alphabet {
         }
     }
 
+    /// Whether a text may hold each of these bytes. Those of a longer text are tested by eights: what
+    /// is left over is tested with others before it, which are tested twice.
+    fn allows_all(self, text: &[u8]) -> bool
+        ensures { result ≡ list_all (allows self) text.now }
+    {
+        if text.len() < 16 {
+            return self.allows_each(text);
+        }
+        let whole = text.len() / 8 * 8;
+        self.allows_each(&text[..whole]) & self.allows_each(&text[text.len() - 8..])
+    }
+
     /// Whether a text may hold each of these bytes. It looks at all of them, also after one that a
     /// text may not hold, so that many are tested at once.
-    fn allows_all(self, text: &[u8]) -> bool
+    fn allows_each(self, text: &[u8]) -> bool
         ensures { result ≡ list_all (allows self) text.now }
     {
         let mut all = true;

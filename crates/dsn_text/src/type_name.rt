@@ -9,6 +9,7 @@ pub const LONGEST_TYPE_NAME: usize = 32;
 
 /// Whether a text can be the name of a type (RFC 3464 sections 2.1.2 and 2.3.6): an atom (RFC 5322
 /// section 3.2.3) of 1 to 32 bytes. It takes no memory.
+#[inline(never)]
 pub fn is_type_name(text: &[u8]) -> bool
     ensures { IsTrue result ↔ IsTypeName text.now }
 {

@@ -1,0 +1,28 @@
+-- A text is tested whole where its front is, and its last eight bytes.
+use Rattle.std.specs.Prelude.{◌≡◌, ℕ, ◌-◌, ◌*◌, ◌/◌, ◌≤◌, Bool, ◌&&◌, List, length, take, drop}
+use Rattle.std.specs.List.{list_all}
+use Rattle.std.proofs.Common.{arith}
+use Rattle.std.proofs.Math.Seq.{take-add}
+use Rattle.std.proofs.lemmas.Grind.{common_steps}
+use Rattle.std.proofs.lemmas.List.{take_rest, take-append-drop}
+use Rattle.std.proofs.lemmas.List.Folds.{list_all-append}
+use Rattle.dsn_text.specs.Text.{allows}
+use Rattle.dsn_text.proofs.text.Alphabet.allows_all.Goals as goal
+
+-- all elements do where those before one place and those from another, earlier one on do
+all_by_overlap : {X : Type 0} (p : X → Bool) (xs : List X) (from to : ℕ) → from ≤ to → (list_all p (take to xs) && list_all p (drop from xs)) ≡ list_all p xs
+all_by_overlap p xs from to order =
+    grind (
+      arith,
+      common_steps,
+      take-add from (to - from) xs,
+      list_all-append p (take from xs) (take (to - from) (drop from xs)),
+      list_all-append p (take from xs) (drop from xs),
+      take-append-drop from xs,
+      list_all-append p (take (to - from) (drop from xs)) (drop (to - from) (drop from xs)),
+      take-append-drop (to - from) (drop from xs),
+    )
+
+pub returns : goal.returns
+returns c = rw c.allows_each-2.ensures (rw c.allows_each-3.ensures (rw (take_rest c.args.text.now (length c.args.text.now - 8))
+    (all_by_overlap (allows c.args.self) c.args.text.now (length c.args.text.now - 8) (length c.args.text.now / 8 * 8) (grind arith))))

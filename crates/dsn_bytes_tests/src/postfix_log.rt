@@ -1,7 +1,9 @@
 //! What a program of Postfix asks to log becomes a record of a log file, and a log file is read as its entries.
 use crate::assert_same::same;
-use dsn_postfix::{PostfixRequest, PostfixVersion, decode_postfix_request, logged_as};
-use dsn_postfix_files::{LogEntry, LogField, LogReader};
+use dsn_postfix::{
+    LogEntry, LogField, LogReader, PostfixRequest, PostfixVersion, decode_postfix_request,
+    logged_as,
+};
 use dsn_text::Service;
 use std::test::Fail;
 

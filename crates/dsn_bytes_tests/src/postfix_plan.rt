@@ -4,10 +4,9 @@ use crate::postfix_request::{
     FLUSH_BOUNCE, FLUSH_DEFER, FLUSH_NULL, FLUSH_UTF8, TRACE, VERP, WARN,
 };
 use dsn_postfix::{
-    CantSay, PlanFault, PlannedNotice, PostfixVersion, ReturnedPart, decode_postfix_request,
-    plan_notices,
+    CantSay, PlanFault, PlannedNotice, PostfixVersion, QueuedRecipient, RecipientState,
+    ReturnedPart, decode_postfix_request, plan_notices,
 };
-use dsn_postfix_files::{QueuedRecipient, RecipientState};
 use dsn_text::Service;
 use std::alloc::Global;
 use std::test::Fail;

@@ -5,10 +5,10 @@ use Rattle.std.specs.List.{AllByRecursion, flat_map, list_all, list_any}
 use Rattle.std.proofs.lemmas.Bool.{and_parts}
 use Rattle.std.proofs.lemmas.List.{length-drop, length-take, take-append-drop}
 use Rattle.dsn_text.specs.declared.service.Service.{Service}
-use Rattle.dsn_postfix_files.specs.LogRecord.{LoggedFields}
+use Rattle.dsn_postfix.specs.files.LogRecord.{LoggedFields}
 use Rattle.dsn_postfix.specs.NoticePlan.{NamesEachOnce, TellEachOnce, TellsOfSome, has_known_action, is_past, is_same_recipient, is_told, most_told, notice_about, notices_with, outcomes_of, portions, portions_within, told_as, told_of}
 use Rattle.dsn_postfix.specs.PlannedNotice.{NoticeFacts}
-use Rattle.dsn_postfix_files.specs.QueueRecipients.{RecipientFacts}
+use Rattle.dsn_postfix.specs.files.QueueRecipients.{RecipientFacts}
 use Rattle.dsn_postfix.specs.Wanted.{wants}
 use Rattle.dsn_postfix.specs.declared.cant_say.CantSay.{CantSay}
 use Rattle.dsn_postfix.specs.declared.cant_say.CantSay.TheVariants.{UnknownAction}

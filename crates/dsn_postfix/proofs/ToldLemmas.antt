@@ -4,11 +4,11 @@ use Rattle.std.specs.Prelude.{if◌then◌else◌}
 use Rattle.std.specs.BTreeSet.{BTreeSet}
 use Rattle.std.proofs.lemmas.List.{drop_more, map-append, reverse-append}
 use Rattle.dsn_text.specs.declared.service.Service.{Service}
-use Rattle.dsn_postfix_files.specs.LogRecord.{LoggedFields, logged_fields_in}
+use Rattle.dsn_postfix.specs.files.LogRecord.{LoggedFields, logged_fields_in}
 use Rattle.dsn_postfix.specs.NoticePlan.{is_told, told_as, told_of}
-use Rattle.dsn_postfix_files.specs.QueueRecipients.{RecipientFacts}
+use Rattle.dsn_postfix.specs.files.QueueRecipients.{RecipientFacts}
 use Rattle.dsn_postfix.specs.RecipientSet.{HasNamed, Named}
-use Rattle.dsn_postfix_files.specs.declared.log_record.LogRecord.{LogRecord}
+use Rattle.dsn_postfix.specs.declared.files.log_record.LogRecord.{LogRecord}
 use Rattle.dsn_postfix.specs.declared.postfix_request.PostfixRequest.{PostfixRequest}
 
 -- the last of the records that are left, and those after it

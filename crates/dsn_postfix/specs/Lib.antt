@@ -13,3 +13,4 @@ pub mod RecipientSet
 pub mod RequestReading
 pub mod VerpPath
 pub mod Wanted
+pub mod files

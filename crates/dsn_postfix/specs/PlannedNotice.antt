@@ -2,7 +2,7 @@
 use Rattle.std.specs.Prelude.{ℕ, List, map, Option}
 use Rattle.std.specs.Option.{option_map}
 use Rattle.dsn_text.specs.declared.service.Service.{Service}
-use Rattle.dsn_postfix_files.specs.LogRecord.{LoggedFields, logged_fields_in}
+use Rattle.dsn_postfix.specs.files.LogRecord.{LoggedFields, logged_fields_in}
 use Rattle.dsn_postfix.specs.declared.planned_notice.PlannedNotice.{PlannedNotice}
 use Rattle.dsn_postfix.specs.declared.returned_part.ReturnedPart.{ReturnedPart}
 

@@ -1,5 +1,5 @@
 //! Why no notice can be made of a log, so that Postfix's own service has to make it.
-use dsn_postfix_files::LogField;
+use crate::files::LogField;
 use thiserror::Error;
 
 /// Why the notices of a request can't be said.

@@ -1,6 +1,6 @@
 //! A notice that is to be made.
+use crate::files::LogRecord;
 use crate::returned_part::ReturnedPart;
-use dsn_postfix_files::LogRecord;
 use dsn_text::Service;
 
 /// A notice that is to be made: to whom it goes, what it gives back, and of whom it tells.

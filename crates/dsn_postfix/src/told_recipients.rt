@@ -1,14 +1,14 @@
 //! Of which records of a log the notices of a request tell.
 ghost use Rattle.std.specs.Prelude.{◌≡◌, ◌∷◌, List, map, IfOk, OnOk};
 ghost use Rattle.std.specs.List.{list_all};
-ghost use Rattle.dsn_postfix_files.specs.LogRecord.{LoggedFields, logged_fields_in};
+ghost use Rattle.dsn_postfix.specs.files.LogRecord.{LoggedFields, logged_fields_in};
 ghost use Rattle.dsn_postfix.specs.NoticePlan.{has_known_action, is_known_action, is_told, told_as, told_of};
-ghost use Rattle.dsn_postfix_files.specs.QueueRecipients.{RecipientFacts, recipient_facts_in};
+ghost use Rattle.dsn_postfix.specs.files.QueueRecipients.{RecipientFacts, recipient_facts_in};
 ghost use Rattle.dsn_postfix.specs.RecipientSet.{HasNamed, HasPast};
 
+use crate::files::{LogRecord, QueuedRecipient};
 use crate::postfix_request::PostfixRequest;
 use crate::recipient_set::{is_named_again, past_places};
-use dsn_postfix_files::{LogRecord, QueuedRecipient};
 use dsn_text::Service;
 use std::alloc::{AllocError, Global};
 use std::collections::BTreeSet;

@@ -6,7 +6,7 @@ use Rattle.dsn_outcome.specs.declared.outcome_fault.OutcomeFault.TheVariants.{Ba
 use Rattle.dsn_text.specs.Extension.{are_extension_lines, is_extension_line, is_extension_text}
 use Rattle.dsn_text.specs.declared.service.Service.TheVariants.{Bounce, Defer, Trace}
 use Rattle.dsn_postfix.specs.declared.returned_part.ReturnedPart.TheVariants.{Whole, Header}
-use Rattle.dsn_postfix_files.specs.LogRecord.{LoggedFields}
+use Rattle.dsn_postfix.specs.files.LogRecord.{LoggedFields}
 use Rattle.dsn_postfix_service.specs.declared.letters.letter_fault.LetterFault.TheVariants.{Outcome, RemoteType}
 use Rattle.dsn_postfix_service.specs.letters.NoticeDraft.{is_returned_whole, postfix_fields, returned_text, tried_until}
 use Rattle.dsn_postfix_service.specs.letters.PlainStatus.{plain_status}

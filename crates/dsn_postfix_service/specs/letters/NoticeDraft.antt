@@ -14,7 +14,7 @@ use Rattle.dsn_postfix.specs.QuotedAddress.{needs_no_quotes}
 use Rattle.dsn_postfix.specs.VerpPath.{notice_address}
 use Rattle.dsn_postfix.specs.declared.returned_part.ReturnedPart.{ReturnedPart}
 use Rattle.dsn_postfix.specs.declared.returned_part.ReturnedPart.TheVariants.{Whole, Header}
-use Rattle.dsn_postfix_files.specs.MessageHeader.{message_header}
+use Rattle.dsn_postfix.specs.files.MessageHeader.{message_header}
 use Rattle.dsn_postfix_service.specs.declared.letters.letter_fault.LetterFault.{LetterFault}
 use Rattle.dsn_postfix_service.specs.declared.letters.letter_fault.LetterFault.TheVariants.{Quotes}
 use Rattle.dsn_postfix_service.specs.letters.LetterFault.{of_draft}

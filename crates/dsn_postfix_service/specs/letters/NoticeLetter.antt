@@ -6,7 +6,7 @@ use Rattle.dsn_outcome.specs.Outcomes.{most_outcomes}
 use Rattle.dsn_text.specs.Stamp.{last_moment}
 use Rattle.dsn_text.specs.declared.service.Service.{Service}
 use Rattle.dsn_postfix.specs.PlannedNotice.{NoticeFacts}
-use Rattle.dsn_postfix_files.specs.LogRecord.{LoggedFields}
+use Rattle.dsn_postfix.specs.files.LogRecord.{LoggedFields}
 use Rattle.dsn_postfix_service.specs.declared.letters.letter_fault.LetterFault.{LetterFault}
 use Rattle.dsn_postfix_service.specs.declared.letters.letter_fault.LetterFault.TheVariants.{Count, Arrival}
 use Rattle.dsn_postfix_service.specs.letters.NoticeDraft.{IsDraftTold, first_draft_fault_told, tried_until}

@@ -10,7 +10,7 @@ use Rattle.dsn_text.specs.Optional.{unless_empty}
 use Rattle.dsn_text.specs.Text.{clean_text, longest_clean}
 use Rattle.dsn_text.specs.declared.action.Action.TheVariants.{Failed}
 use Rattle.dsn_text.specs.declared.service.Service.{Service}
-use Rattle.dsn_postfix_files.specs.LogRecord.{LoggedFields}
+use Rattle.dsn_postfix.specs.files.LogRecord.{LoggedFields}
 use Rattle.dsn_postfix_service.specs.declared.letters.letter_fault.LetterFault.{LetterFault}
 use Rattle.dsn_postfix_service.specs.declared.letters.letter_fault.LetterFault.TheVariants.{RemoteType}
 use Rattle.dsn_postfix_service.specs.letters.LetterFault.{of_outcome}

@@ -8,8 +8,7 @@ ghost use Rattle.dsn_postfix_service.specs.letters.ReportedMessage.{message_said
 use crate::letters::letter_fault::LetterFault;
 use crate::letters::reported_message::ReportedMessage;
 use dsn_outcome::{Address, Draft, DraftParts, LONGEST_HEADER, Service, Stamp};
-use dsn_postfix::{PlannedNotice, ReturnedPart, needs_no_quotes};
-use dsn_postfix_files::header_of_message;
+use dsn_postfix::{PlannedNotice, ReturnedPart, header_of_message, needs_no_quotes};
 use std::alloc::{AllocError, Global};
 
 /// The longest sender that an extension field says, in bytes: its value is at most 255 with `rfc822; `.

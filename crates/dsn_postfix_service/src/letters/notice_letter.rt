@@ -2,7 +2,7 @@
 ghost use Rattle.std.specs.Prelude.{◌≡◌, ◌≤◌, ℕ, IfErr, IfOk, None, OnOk, length, map};
 ghost use Rattle.dsn_outcome.specs.Outcomes.{most_outcomes};
 ghost use Rattle.dsn_postfix.specs.PlannedNotice.{notice_facts_in};
-ghost use Rattle.dsn_postfix_files.specs.LogRecord.{logged_fields_in};
+ghost use Rattle.dsn_postfix.specs.files.LogRecord.{logged_fields_in};
 ghost use Rattle.dsn_postfix_service.specs.letters.LetterFault.{IsLetterFault};
 ghost use Rattle.dsn_postfix_service.specs.letters.NoticeLetter.{IsLetterOf, first_fault_of_told, first_letter_fault};
 ghost use Rattle.dsn_postfix_service.specs.letters.ReportedMessage.{message_said_in};
@@ -13,8 +13,7 @@ use crate::letters::notice_draft::{draft_told, tried_until};
 use crate::letters::reported_message::ReportedMessage;
 use crate::letters::told_outcome::outcome_told;
 use dsn_outcome::{Chain, Key, Letter, MOST_OUTCOMES, Service, Stamp};
-use dsn_postfix::PlannedNotice;
-use dsn_postfix_files::LogRecord;
+use dsn_postfix::{LogRecord, PlannedNotice};
 use std::alloc::Global;
 
 /// The outcomes that a notice of a service tells of some records, in their order.

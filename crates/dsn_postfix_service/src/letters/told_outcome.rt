@@ -1,7 +1,7 @@
 //! The outcome that a notice tells of a log's record.
 ghost use Rattle.std.specs.Prelude.{◌≡◌, ◌≤◌, length, take, IfErr, IfOk, OnOk, None};
 ghost use Rattle.std.specs.List.{after_first, before_first, position_or_len};
-ghost use Rattle.dsn_postfix_files.specs.LogRecord.{logged_fields_in};
+ghost use Rattle.dsn_postfix.specs.files.LogRecord.{logged_fields_in};
 ghost use Rattle.dsn_postfix_service.specs.letters.LetterFault.{IsLetterFault};
 ghost use Rattle.dsn_postfix_service.specs.letters.ToldOutcome.{action_said, diagnostic_said, first_told_fault, is_remote_type, is_semicolon, original_said, outcome_told};
 ghost use Rattle.dsn_text.specs.Text.{longest_clean};
@@ -9,7 +9,7 @@ ghost use Rattle.dsn_text.specs.Text.{longest_clean};
 use crate::letters::letter_fault::LetterFault;
 use crate::letters::plain_status::plain_status;
 use dsn_outcome::{LONGEST_CLEAN, Node, Outcome, Parts, Service, Stamp, Types};
-use dsn_postfix_files::LogRecord;
+use dsn_postfix::LogRecord;
 use std::alloc::Global;
 
 /// A text with its type; an empty type is the usual one.

@@ -1,10 +1,8 @@
 //! The notices that a request has of a log and a queue file.
 use dsn_postfix::{
-    NoticeRequest, PlannedNotice, PostfixRequest, PostfixVersion, ReturnedPart,
-    decode_postfix_request, plan_notices,
-};
-use dsn_postfix_files::{
-    MessageFacts, QueueReader, QueuedRecipient, header_of_message, text_of_message,
+    MessageFacts, NoticeRequest, PlannedNotice, PostfixRequest, PostfixVersion, QueueReader,
+    QueuedRecipient, ReturnedPart, decode_postfix_request, header_of_message, plan_notices,
+    text_of_message,
 };
 use dsn_postfix_service::{LetterFault, ReportedMessage, letter_of_notice};
 use dsn_report::{Site, notice};

@@ -1,8 +1,8 @@
 -- Those who are told of the records so far, the last first, and whom these name.
 use Rattle.std.proofs.Common.{◌≡◌, ◌≤◌, drop, length, map, reverse}
-use Rattle.dsn_postfix_files.specs.LogRecord.{logged_fields_in}
+use Rattle.dsn_postfix.specs.files.LogRecord.{logged_fields_in}
 use Rattle.dsn_postfix.specs.NoticePlan.{told_of}
-use Rattle.dsn_postfix_files.specs.QueueRecipients.{recipient_facts_in}
+use Rattle.dsn_postfix.specs.files.QueueRecipients.{recipient_facts_in}
 use Rattle.dsn_postfix.specs.RecipientSet.{HasNamed}
 use Rattle.dsn_postfix.proofs.told_recipients.told_of.Given as goal
 

@@ -1,6 +1,6 @@
 -- The outcomes so far, with those of the rest, are all, and none so far is at fault.
 use Rattle.std.proofs.Common.{◌≡◌, ◌+◌, ◌++◌, length, map}
-use Rattle.dsn_postfix_files.specs.LogRecord.{logged_fields_in}
+use Rattle.dsn_postfix.specs.files.LogRecord.{logged_fields_in}
 use Rattle.dsn_postfix_service.specs.letters.NoticeLetter.{first_fault_of_told}
 use Rattle.dsn_postfix_service.specs.letters.ToldOutcome.{outcome_told}
 use Rattle.dsn_postfix_service.proofs.letters.notice_letter.outcomes_told.Given as goal

@@ -1,0 +1,42 @@
+-- The header of a message: the lines of its text that stand before its body.
+use Rattle.std.specs.Prelude.{ℕ, Bool, false, not, ◌&&◌, ◌||◌, ◌+◌, ◌==◌, List, [], ◌∷◌, take, drop, nat_lt, if◌then◌else◌}
+use Rattle.std.specs.List.{prefix_len}
+use Rattle.dsn_postfix.specs.files.LogLine.{all_lines}
+use Rattle.dsn_postfix.specs.files.LogParts.{with_its_feed}
+
+-- a space or a tab
+abbrev pub is_blank_byte : ℕ → Bool
+is_blank_byte byte = byte == 32 || byte == 9
+
+-- the name of a field is printable ASCII but the colon (RFC 5322 section 2.2)
+abbrev pub is_name_byte : ℕ → Bool
+is_name_byte byte = (nat_lt 32 byte && nat_lt byte 127) && not (byte == 58)
+
+-- what follows the bytes that pass a test at the front of a text
+abbrev pub after_all : (ℕ → Bool) → List ℕ → List ℕ
+after_all test text = drop (prefix_len test text) text
+
+abbrev pub begins_with : (ℕ → Bool) → List ℕ → Bool
+begins_with test [] = false
+begins_with test (byte ∷ text) = test byte
+
+abbrev pub is_colon : ℕ → Bool
+is_colon byte = byte == 58
+
+-- a name and a colon, with any blanks between: the older form of RFC 5322 section 4.5 has them
+abbrev pub names_field : List ℕ → Bool
+names_field line =
+    begins_with is_name_byte line && begins_with is_colon (after_all is_blank_byte (after_all is_name_byte line))
+
+-- a line of a header begins a field, or goes on with one (RFC 5322 section 2.2.3)
+abbrev pub is_header_line : List ℕ → Bool
+is_header_line line = begins_with is_blank_byte line || names_field line
+
+-- how many bytes the lines before the first other one have, with their line feeds: so a header ends before
+-- an empty line, and where none comes before the first line that is none of a header
+abbrev pub header_size : List (List ℕ) → ℕ
+header_size [] = 0
+header_size (line ∷ lines) = if is_header_line line then with_its_feed line lines + header_size lines else 0
+
+abbrev pub message_header : List ℕ → List ℕ
+message_header text = take (header_size (all_lines text)) text

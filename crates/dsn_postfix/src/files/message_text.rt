@@ -1,0 +1,65 @@
+//! The text of a queue file's message: its header, an empty line, its body.
+ghost use Rattle.std.specs.Prelude.{◌≡◌, ◌++◌, List, IfOk, OnOk};
+ghost use Rattle.dsn_postfix.specs.files.MessageText.{is_of_text, message_text, text_of_record};
+ghost use Rattle.dsn_postfix.specs.files.QueueListing.{QueueEnding, RecordsFrom};
+ghost use Rattle.dsn_postfix.specs.files.QueueRecord.{PlacedBytes, placed_bytes_in};
+ghost use Rattle.dsn_postfix.specs.files.QueueWalk.{first_place};
+
+use crate::files::placed_record::PlacedRecord;
+use crate::files::queue_reader::{MOST_JUMPS, next_step};
+use crate::files::queue_step::QueueStep;
+use std::alloc::{AllocError, Global};
+
+/// Whether a type is one of the message's text.
+fn is_of_text(kind: u8) -> bool
+    ensures { result ≡ is_of_text kind }
+{
+    kind == b'N' || kind == b'L' || kind == b'w'
+}
+
+/// Adds what a record has of the text.
+fn push_text(text: &mut Vec<u8>, found: PlacedRecord<'_>) -> Result<(), AllocError>
+    ensures { OnOk result (text.new.items
+        ≡ text.old.items ++ text_of_record (placed_bytes_in found.entry)) }
+{
+    if found.kind == b'N' {
+        text.extend_from_slice(found.bytes)?;
+        text.push(b'\n')?;
+    } else if found.kind == b'L' {
+        text.extend_from_slice(found.bytes)?;
+    }
+    Ok(())
+}
+
+/// The text of a queue file's message, from all bytes of the file: each line with a line feed. It
+/// begins after the first record of type `M`, and ends before the first one after it that has no text,
+/// or where the file can't be read on. There is an error only where memory was refused.
+pub fn text_of_message(alloc: Global, file: &[u8]) -> Result<Vec<u8>, AllocError>
+    ensures { (records : List PlacedBytes) (ending : QueueEnding)
+        → RecordsFrom file.now (first_place file.now) records ending
+        → IfOk result (λ text. text.items ≡ message_text records) }
+{
+    let mut text = Vec::new(alloc);
+    let mut here = file;
+    let mut left = MOST_JUMPS;
+    let mut within = false;
+    loop {
+        match next_step(file, here, left) {
+            QueueStep::Record(found, after, fewer) => {
+                if within {
+                    if !is_of_text(found.kind) {
+                        return Ok(text);
+                    }
+                    push_text(&mut text, found)?;
+                } else {
+                    within = found.kind == b'M';
+                }
+                here = after;
+                left = fewer;
+            }
+            QueueStep::End => return Ok(text),
+            QueueStep::Broken => return Ok(text),
+            QueueStep::Pointer(_, _) => unreachable!(),
+        }
+    }
+}

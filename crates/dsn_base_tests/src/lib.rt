@@ -1,5 +1,5 @@
-//! Tests of books and their limits, of the journal, of lanes and of the post, over what their crates
-//! make public: so they are proved without the proofs of these, and beside their wrong edits.
+//! Tests of books and their limits, of the journal, and of lanes, over what their crates make public:
+//! so they are proved without the proofs of these, and beside their wrong edits.
 #![tactic(auto)]
 
 #[cfg(test)]
@@ -10,5 +10,3 @@ mod book;
 mod journal;
 #[cfg(test)]
 mod lane;
-#[cfg(test)]
-mod post;

@@ -1,5 +1,5 @@
-//! Tests of whole runs over what `noticed_lib` makes public, in a crate of their own: so they are
-//! proved beside the wrong edits of `noticed_lib`, and without its proofs.
+//! Tests of whole runs over what `noticed_lib` makes public, and of a crew's post, in a crate of their
+//! own: so they are proved beside the wrong edits of these, and without their proofs.
 #![tactic(auto)]
 
 #[cfg(test)]
@@ -24,6 +24,8 @@ mod order;
 mod outboxes;
 #[cfg(test)]
 mod peer;
+#[cfg(test)]
+mod post;
 #[cfg(test)]
 mod runs;
 #[cfg(test)]

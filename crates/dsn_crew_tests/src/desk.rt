@@ -8,7 +8,5 @@ mod letters;
 mod limit;
 mod memory;
 mod opened;
-mod peer;
-mod serving;
 mod sixteen;
 mod unkept;

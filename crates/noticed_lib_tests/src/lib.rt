@@ -1,7 +1,10 @@
-//! Tests of whole runs over what `noticed_lib` makes public, and of a crew's post, in a crate of their
-//! own: so they are proved beside the wrong edits of these, and without their proofs.
+//! Tests of whole runs over what `noticed_lib` makes public, and of what a crew's agent serves and of
+//! its post, in a crate of their own: so they are proved beside the wrong edits of these, and without
+//! their proofs.
 #![tactic(auto)]
 
+#[cfg(test)]
+mod agents;
 #[cfg(test)]
 mod assert_same;
 #[cfg(test)]

@@ -9,8 +9,8 @@ use Rattle.std.proofs.Crossing.{crosses}
 use Rattle.std.specs.contracts.alloc.Global as Global
 use Rattle.dsn_crew.proofs.LaneSendLemmas.{closure_send}
 use Rattle.dsn_crew.proofs.SendLemmas.{agent_send}
-use Rattle.dsn_crew_tests.specs.contracts.desk.serving.Work as Work
-use Rattle.dsn_crew_tests.proofs.desk.serving.fn.served.scope.Goals as goal
+use Rattle.noticed_lib_tests.specs.contracts.agents.serving.Work as Work
+use Rattle.noticed_lib_tests.proofs.agents.serving.fn.served.scope.Goals as goal
 
 work_send : IsSend Work.the_row
 work_send = search (agent_send, crosses, sendable) depth 20

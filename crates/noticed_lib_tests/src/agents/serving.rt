@@ -1,10 +1,10 @@
 //! Connections that an agent serves one after another, while its collector answers it.
 ghost use Rattle.std.specs.Thread.{IsSync};
 
-use super::opened::opened;
 use super::peer::Peer;
 use crate::assert_same::same;
-use dsn_crew::{Agent, Desk, Gate, NoGate};
+use dsn_book::Limits;
+use dsn_crew::{Agent, Desk, Gate, NoGate, open_crew};
 use dsn_device::Plain;
 use std::alloc::Global;
 use std::process::Abort;
@@ -129,7 +129,8 @@ fn answer_each(rt: &impl Wait, desk: &mut Desk) {
 
 /// An agent that may make so many requests, and its collector.
 fn one_agent(rt: &impl Wait, alloc: Global, requests: u32) -> Option<(Agent, Desk)> {
-    let (mut agents, desk) = opened(rt, alloc, requests, 1)?.ok()?;
+    let limits = Limits::new(8, 8, requests)?;
+    let (mut agents, desk) = open_crew(rt, alloc, limits, 1).ok()?;
     agents.pop().map(|agent| (agent, desk))
 }
 

@@ -4,8 +4,6 @@ mod halves_gone;
 mod hands;
 mod item;
 mod long;
-mod moved;
 mod one_thread;
-mod requests;
 mod threads;
 mod waiting;

@@ -1,6 +1,6 @@
-//! Tests of whole runs over what `noticed_lib` makes public, and of what a crew's agent serves and of
-//! its post, in a crate of their own: so they are proved beside the wrong edits of these, and without
-//! their proofs.
+//! Tests of whole runs over what `noticed_lib` makes public, and of some parts of a crew: what goes over
+//! a lane to another thread, what an agent serves, and the post. They stand in a crate of their own, so
+//! that they are proved beside the wrong edits of these, and without their proofs.
 #![tactic(auto)]
 
 #[cfg(test)]
@@ -17,6 +17,8 @@ mod fake_devices;
 mod input;
 #[cfg(test)]
 mod journal_files;
+#[cfg(test)]
+mod lane;
 #[cfg(test)]
 mod listings;
 #[cfg(test)]

@@ -3,8 +3,8 @@ use Rattle.std.proofs.Common.{[], ◌∷◌}
 use denote.Exit.{no}
 use denote.Param.Send.{IsSend, param_send, arg_send, sendable}
 use Rattle.dsn_crew.proofs.LaneSendLemmas.{requests_in_send, answers_out_send, closure_send}
-use Rattle.dsn_base_tests.proofs.lane.moved.fn.agent_elsewhere.scope.Goals as goal
-use Rattle.dsn_base_tests.specs.contracts.lane.moved.AgentHalves as AgentHalves
+use Rattle.noticed_lib_tests.proofs.lane.moved.fn.agent_elsewhere.scope.Goals as goal
+use Rattle.noticed_lib_tests.specs.contracts.lane.moved.AgentHalves as AgentHalves
 
 ends_send : IsSend AgentHalves.the_row
 ends_send = search (requests_in_send, answers_out_send, sendable) depth 20

@@ -3,7 +3,7 @@ ghost use Rattle.std.specs.Prelude.{◌≡◌, ◌↔◌, IsTrue, IfOk, IsOk, Is
 ghost use Rattle.dsn_text.specs.Text.{IsAddress};
 
 use crate::no_memory::NoMemory;
-use crate::text::{Alphabet, TextFault, copied, has_form};
+use crate::text::{Alphabet, TextFault, copied, has_long_form};
 use std::alloc::Global;
 use std::marker::Model;
 
@@ -34,7 +34,7 @@ impl Address {
     pub fn is_valid(text: &[u8]) -> bool
         ensures { IsTrue result ↔ IsAddress text.now }
     {
-        has_form(text, 1, LONGEST_ADDRESS, Alphabet::AddressBytes)
+        has_long_form(text, 1, LONGEST_ADDRESS, Alphabet::AddressBytes)
     }
 
     /// Keeps a text that can be an address. `Bad` comes where it can't be one,

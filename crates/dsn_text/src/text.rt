@@ -61,21 +61,9 @@ impl Alphabet {
         }
     }
 
-    /// Whether a text may hold each of these bytes. Those of a longer text are tested by eights: what
-    /// is left over is tested with others before it, which are tested twice.
-    fn allows_all(self, text: &[u8]) -> bool
-        ensures { result ≡ list_all (allows self) text.now }
-    {
-        if text.len() < 16 {
-            return self.allows_each(text);
-        }
-        let whole = text.len() / 8 * 8;
-        self.allows_each(&text[..whole]) & self.allows_each(&text[text.len() - 8..])
-    }
-
     /// Whether a text may hold each of these bytes. It looks at all of them, also after one that a
     /// text may not hold, so that many are tested at once.
-    fn allows_each(self, text: &[u8]) -> bool
+    fn allows_all(self, text: &[u8]) -> bool
         ensures { result ≡ list_all (allows self) text.now }
     {
         let mut all = true;
@@ -83,6 +71,18 @@ impl Alphabet {
             all &= self.allows(*byte);
         }
         all
+    }
+
+    /// The same of a text that is mostly long. It is tested by eights: what is left over is tested
+    /// with others before it, which are tested twice.
+    fn allows_by_eights(self, text: &[u8]) -> bool
+        ensures { result ≡ list_all (allows self) text.now }
+    {
+        if text.len() < 8 {
+            return self.allows_all(text);
+        }
+        let whole = text.len() / 8 * 8;
+        self.allows_all(&text[..whole]) & self.allows_all(&text[text.len() - 8..])
     }
 }
 
@@ -101,6 +101,13 @@ pub(crate) fn has_form(text: &[u8], least: usize, most: usize, alphabet: Alphabe
     ensures { result ≡ is_text (allows alphabet) least most text.now }
 {
     least <= text.len() && text.len() <= most && alphabet.allows_all(text)
+}
+
+/// The same of a text that is mostly long.
+pub(crate) fn has_long_form(text: &[u8], least: usize, most: usize, alphabet: Alphabet) -> bool
+    ensures { result ≡ is_text (allows alphabet) least most text.now }
+{
+    least <= text.len() && text.len() <= most && alphabet.allows_by_eights(text)
 }
 
 /// The text in memory of its own.

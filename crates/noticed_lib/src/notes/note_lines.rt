@@ -10,6 +10,7 @@ use dsn_frame::Spoken;
 use dsn_outcome::{Key, Letter, Reply, ShortText};
 
 /// The line of an answer.
+#[inline(always)]
 pub fn answer_line(position: u32, answer: Spoken) -> ShortText
     ensures { result ≡ answer_line position answer }
 {

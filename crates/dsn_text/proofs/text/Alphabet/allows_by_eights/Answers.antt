@@ -7,7 +7,7 @@ use Rattle.std.proofs.lemmas.Grind.{common_steps}
 use Rattle.std.proofs.lemmas.List.{take_rest, take-append-drop}
 use Rattle.std.proofs.lemmas.List.Folds.{list_all-append}
 use Rattle.dsn_text.specs.Text.{allows}
-use Rattle.dsn_text.proofs.text.Alphabet.allows_all.Goals as goal
+use Rattle.dsn_text.proofs.text.Alphabet.allows_by_eights.Goals as goal
 
 -- all elements do where those before one place and those from another, earlier one on do
 all_by_overlap : {X : Type 0} (p : X → Bool) (xs : List X) (from to : ℕ) → from ≤ to → (list_all p (take to xs) && list_all p (drop from xs)) ≡ list_all p xs
@@ -24,5 +24,5 @@ all_by_overlap p xs from to order =
     )
 
 pub returns : goal.returns
-returns c = rw c.allows_each-2.ensures (rw c.allows_each-3.ensures (rw (take_rest c.args.text.now (length c.args.text.now - 8))
+returns c = rw c.allows_all-2.ensures (rw c.allows_all-3.ensures (rw (take_rest c.args.text.now (length c.args.text.now - 8))
     (all_by_overlap (allows c.args.self) c.args.text.now (length c.args.text.now - 8) (length c.args.text.now / 8 * 8) (grind arith))))

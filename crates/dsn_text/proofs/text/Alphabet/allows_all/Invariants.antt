@@ -2,7 +2,7 @@
 use Rattle.std.proofs.Common.{◌≡◌, take}
 use Rattle.std.specs.List.{list_all}
 use Rattle.dsn_text.specs.Text.{allows}
-use Rattle.dsn_text.proofs.text.Alphabet.allows_each.Given as goal
+use Rattle.dsn_text.proofs.text.Alphabet.allows_all.Given as goal
 
 abbrev pub invariant-loop-byte : goal.invariant-loop-byte
 invariant-loop-byte l = l.all ≡ list_all (allows l.self) (take l.byte-index l.text)

@@ -1,2 +1,3 @@
 pub mod hand_in
 pub mod letters
+pub mod requests

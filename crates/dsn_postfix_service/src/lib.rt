@@ -4,9 +4,11 @@
 
 mod hand_in;
 mod letters;
+mod requests;
 
 pub use hand_in::{
     HandInFault, HandInStep, LONGEST_REPLY, ReplyBuffer, ReplyClass, ReplyCode, ReplyFault,
     hand_in_notice, queue_id_in,
 };
 pub use letters::{LetterFault, ReportedMessage, letter_of_notice};
+pub use requests::{DeedFault, MailSystem, ServiceSettings, carry_out};

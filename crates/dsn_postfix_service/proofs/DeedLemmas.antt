@@ -1,0 +1,249 @@
+-- The deeds of a request, put together from those of its steps.
+use Rattle.std.proofs.Common.{◌≡◌, ℕ, Bool, List, [], ◌∷◌, ◌++◌, Option, Some, None, Ok, Err, refl, sym, ap, subst, ◌∙◌, append_assoc, append-nil, map, drop, drop-cons, get_or, length, suc, ◌<◌, ◌+◌, ◌≤◌, arith}
+use Rattle.std.proofs.lemmas.List.{drop_all}
+use Rattle.std.specs.Prelude.{unwrap_or}
+use Rattle.dsn_outcome.specs.Letter.{Letter}
+use Rattle.dsn_report.specs.Notice.{return_path_of}
+use Rattle.dsn_report.specs.Outbox.{mail_data}
+use Rattle.dsn_text.specs.declared.service.Service.{Service}
+use Rattle.dsn_postfix.specs.LoggedAppend.{unlogged_field}
+use Rattle.dsn_postfix.specs.declared.postfix_request.AppendRequest.{AppendRequest}
+use Rattle.dsn_postfix.specs.declared.postfix_request.NoticeRequest.{NoticeRequest}
+use Rattle.dsn_postfix.specs.declared.postfix_request.PostfixRequest.{PostfixRequest}
+use Rattle.dsn_postfix_service.specs.declared.hand_in.hand_in_fault.HandInFault.{HandInFault}
+use Rattle.dsn_postfix_service.specs.declared.requests.deed_fault.DeedFault.{DeedFault}
+use Rattle.dsn_postfix_service.specs.requests.AppendDeeds.{IsAppended, record_bytes, tried}
+use Rattle.dsn_postfix_service.specs.requests.Deed.{Answer, Appended, Deed, HandedIn, LogReleased, MessageRead}
+use Rattle.dsn_postfix_service.specs.requests.Finishing.{AreMarked, FailsToMark, StopsAtPlace, marking}
+use Rattle.dsn_postfix_service.specs.requests.Gains.{Gains}
+use Rattle.dsn_postfix_service.specs.requests.HandingIn.{AreAccepted, IsNotAccepted, StopsAtLetter, hand_in_of, refused}
+use Rattle.dsn_postfix_service.specs.requests.MailFound.{FailsToRead, ReadsLog, log_reading, log_unread, message_reading, message_unread}
+use Rattle.dsn_postfix_service.specs.requests.NoticeDeeds.{EndsTelling, IsNotified, Tells}
+use Rattle.dsn_postfix_service.specs.requests.RequestStatus.{status_after}
+use Rattle.dsn_postfix_service.specs.requests.ServiceSettings.{SettingsSaid}
+use Rattle.dsn_postfix_service.specs.declared.requests.telling.Telling.{Telling}
+
+suc_not_zero : (n : ℕ) → suc n ≡ 0 → ⊥
+suc_not_zero n e = cc
+
+abbrev Are : Type 1
+Are = List Deed → Type 0
+
+-- ---- steps
+
+pub gains_none : {S : Type 0} → (deeds : S → List Deed) (now : S) (P : Are) → P [] → Gains deeds now now P
+gains_none deeds now P are = record { gained = []; after = sym (append-nil (deeds now)); are = are }
+
+pub gains_one : {S : Type 0} → (deeds : S → List Deed) (old new : S) (deed : Deed) (P : Are) → deeds new ≡ deeds old ++ deed ∷ [] → P (deed ∷ []) → Gains deeds old new P
+gains_one deeds old new deed P after are = record { gained = deed ∷ []; after = after; are = are }
+
+pub gains_as : {S : Type 0} → (deeds : S → List Deed) (old new : S) (P Q : Are) → Gains deeds old new P → ((gained : List Deed) → P gained → Q gained) → Gains deeds old new Q
+gains_as deeds old new P Q gains follows = record { gained = gains.gained; after = gains.after; are = follows gains.gained gains.are }
+
+after_both : {S : Type 0} → (deeds : S → List Deed) (old between new : S) (one two : List Deed) → deeds between ≡ deeds old ++ one → deeds new ≡ deeds between ++ two → deeds new ≡ deeds old ++ (one ++ two)
+after_both deeds old between new one two first second =
+    second ∙ ap (λ (done : List Deed). done ++ two) first ∙ append_assoc (deeds old) one two
+
+pub gains_more : {S : Type 0} → (deeds : S → List Deed) (old between new : S) (P Q R : Are) → Gains deeds old between P → Gains deeds between new Q
+    → ((one two : List Deed) → P one → Q two → R (one ++ two)) → Gains deeds old new R
+gains_more deeds old between new P Q R first second both = record {
+  gained = first.gained ++ second.gained;
+  after = after_both deeds old between new first.gained second.gained first.after second.after;
+  are = both first.gained second.gained first.are second.are;
+}
+
+path_is : (letter : Letter) (path : List ℕ) → letter.draft.return_path ≡ Some path → return_path_of letter ≡ path
+path_is letter path e = ap (λ (p : Option (List ℕ)). unwrap_or p []) e
+
+-- what is left of a list from a place on
+pub left_from : {X : Type 0} → (xs : List X) (i : ℕ) (x : X) → i < length xs → x ≡ get_or xs i x → drop i xs ≡ x ∷ drop (i + 1) xs
+left_from xs i x within is =
+    let next : suc i ≡ i + 1 = omega arith in
+    drop-cons xs i x within
+    ∙ ap (λ (y : _). y ∷ drop (suc i) xs) (sym is)
+    ∙ ap (λ (n : ℕ). x ∷ drop n xs) next
+
+pub left_at : {X : Type 0} → (xs : List X) (i : ℕ) (other : X) → i < length xs → drop i xs ≡ get_or xs i other ∷ drop (i + 1) xs
+left_at xs i other within =
+    let next : suc i ≡ i + 1 = omega arith in
+    drop-cons xs i other within ∙ ap (λ (n : ℕ). get_or xs i other ∷ drop n xs) next
+
+pub none_left : {X : Type 0} → (xs : List X) (i : ℕ) → length xs ≤ i → drop i xs ≡ []
+none_left xs i all = drop_all i xs all
+
+pub empty_map : {X Y : Type 0} → (f : X → Y) (xs : List X) → length xs ≡ 0 → map f xs ≡ []
+empty_map f [] none = refl
+empty_map f (x ∷ xs) none = absurd (suc_not_zero (length xs) none)
+
+-- ---- an append
+
+pub appended : {S : Type 0} → (deeds : S → List Deed) (old new : S) (service : Service) (request : AppendRequest) (bytes : List ℕ) (status : ℕ) (written : List ℕ) (answer : Answer)
+    → unlogged_field service request ≡ None → written ≡ record_bytes service request → status ≡ status_after answer
+    → deeds new ≡ deeds old ++ Appended service request.queue_id written answer ∷ [] → Gains deeds old new (IsAppended service request bytes status)
+appended deeds old new service request bytes status written answer none is status_is after = record {
+  gained = Appended service request.queue_id (record_bytes service request) answer ∷ [];
+  after = after ∙ ap (λ (b : List ℕ). deeds old ++ Appended service request.queue_id b answer ∷ []) is;
+  are = tried none answer refl status_is;
+}
+
+-- ---- what is read
+
+pub unread_message : {S : Type 0} → (deeds : S → List Deed) (old between new : S) (service : Service) (request : PostfixRequest) (notice : NoticeRequest) (log : Option (List ℕ)) (why : DeedFault)
+    → Gains deeds old between (ReadsLog service request notice (Ok log)) → deeds new ≡ deeds between ++ MessageRead notice.queue_name notice.queue_id (Err why) ∷ []
+    → Gains deeds old new (FailsToRead service request notice)
+unread_message deeds old between new service request notice log why first second = record {
+  gained = first.gained ++ message_reading notice (Err why);
+  after = after_both deeds old between new first.gained (message_reading notice (Err why)) first.after second;
+  are = message_unread log why (ap (λ (read : List Deed). read ++ message_reading notice (Err why)) first.are.0);
+}
+
+pub unread_log : {S : Type 0} → (deeds : S → List Deed) (old new : S) (service : Service) (request : PostfixRequest) (notice : NoticeRequest) (why : DeedFault)
+    → Gains deeds old new (ReadsLog service request notice (Err why)) → Gains deeds old new (FailsToRead service request notice)
+unread_log deeds old new service request notice why first = record {
+  gained = first.gained;
+  after = first.after;
+  are = log_unread why (first.are.1 refl) (first.are.0 ∙ ap (λ (tells : Bool). log_reading tells service notice (Err why)) (first.are.1 refl));
+}
+
+-- ---- letters
+
+pub one_accepted : {S : Type 0} → (deeds : S → List Deed) (old new : S) (host : List ℕ) (letter : Letter) (path data' reply : List ℕ)
+    → letter.draft.return_path ≡ Some path → data' ≡ mail_data host letter → deeds new ≡ deeds old ++ HandedIn path data' (Ok reply) ∷ []
+    → Gains deeds old new (AreAccepted host (letter ∷ []))
+one_accepted deeds old new host letter path data' reply to is after = record {
+  gained = hand_in_of host letter (Ok reply) ∷ [];
+  after = after ∙ (λ i. deeds old ++ HandedIn (sym (path_is letter path to) i) (is i) (Ok reply) ∷ []);
+  are = (record { reply = reply; deed_is = refl }, refl);
+}
+
+pub one_refused : {S : Type 0} → (deeds : S → List Deed) (old new : S) (host : List ℕ) (letter : Letter) (path data' : List ℕ) (why : HandInFault)
+    → letter.draft.return_path ≡ Some path → data' ≡ mail_data host letter → deeds new ≡ deeds old ++ HandedIn path data' (Err why) ∷ []
+    → Gains deeds old new (IsNotAccepted host letter)
+one_refused deeds old new host letter path data' why to is after = record {
+  gained = hand_in_of host letter (Err why) ∷ [];
+  after = after ∙ (λ i. deeds old ++ HandedIn (sym (path_is letter path to) i) (is i) (Err why) ∷ []);
+  are = refused why refl;
+}
+
+pub accepted_more : (host : List ℕ) (front back : List Letter) (taken more : List Deed) → AreAccepted host front taken → AreAccepted host back more → AreAccepted host (front ++ back) (taken ++ more)
+accepted_more host [] back taken more first second = subst (λ (deeds : List Deed). AreAccepted host back (deeds ++ more)) (sym first) second
+accepted_more host (letter ∷ front) back [] more first second = absurd first
+accepted_more host (letter ∷ front) back (deed ∷ taken) more first second = (first.0, accepted_more host front back taken more first.1 second)
+
+-- letters up to one, and those after it
+pub past_one : {X : Type 0} → (xs front rest after : List X) (x : X) → xs ≡ front ++ rest → rest ≡ x ∷ after → xs ≡ (front ++ x ∷ []) ++ after
+past_one xs front rest after x split first =
+    split ∙ ap (λ (left : List _). front ++ left) first ∙ sym (append_assoc front (x ∷ []) after)
+
+pub at_one : {X : Type 0} → (xs front rest after : List X) (x : X) → xs ≡ front ++ rest → rest ≡ x ∷ after → xs ≡ front ++ x ∷ after
+at_one xs front rest after x split first = split ∙ ap (λ (left : List _). front ++ left) first
+
+pub at_end : {X : Type 0} → (xs front rest : List X) → xs ≡ front ++ rest → rest ≡ [] → xs ≡ front
+at_end xs front rest split none = split ∙ ap (λ (left : List _). front ++ left) none ∙ append-nil front
+
+-- the letters so far were accepted
+pub record AcceptedSoFar {S : Type 0} (deeds : S → List Deed) (old new : S) (host : List ℕ) (letters rest : List Letter) : Type 0 where
+  pub front : List Letter
+  pub taken : List Deed
+  pub split : letters ≡ front ++ rest
+  pub after : deeds new ≡ deeds old ++ taken
+  pub accepted : AreAccepted host front taken
+
+pub accepted_at_first : {S : Type 0} → (deeds : S → List Deed) (now : S) (host : List ℕ) (letters : List Letter) → AcceptedSoFar deeds now now host letters letters
+accepted_at_first deeds now host letters = record { front = []; taken = []; split = refl; after = sym (append-nil (deeds now)); accepted = refl }
+
+pub accepted_one_more : {S : Type 0} → (deeds : S → List Deed) (old between new : S) (host : List ℕ) (letters rest after : List Letter) (letter : Letter)
+    → AcceptedSoFar deeds old between host letters rest → rest ≡ letter ∷ after → Gains deeds between new (AreAccepted host (letter ∷ [])) → AcceptedSoFar deeds old new host letters after
+accepted_one_more deeds old between new host letters rest after letter so_far first one = record {
+  front = so_far.front ++ letter ∷ [];
+  taken = so_far.taken ++ one.gained;
+  split = past_one letters so_far.front rest after letter so_far.split first;
+  after = after_both deeds old between new so_far.taken one.gained so_far.after one.after;
+  accepted = accepted_more host so_far.front (letter ∷ []) so_far.taken one.gained so_far.accepted one.are;
+}
+
+pub all_accepted : {S : Type 0} → (deeds : S → List Deed) (old new : S) (host : List ℕ) (letters rest : List Letter)
+    → AcceptedSoFar deeds old new host letters rest → rest ≡ [] → Gains deeds old new (AreAccepted host letters)
+all_accepted deeds old new host letters rest so_far none = record {
+  gained = so_far.taken;
+  after = so_far.after;
+  are = subst (λ (xs : List Letter). AreAccepted host xs so_far.taken) (sym (at_end letters so_far.front rest so_far.split none)) so_far.accepted;
+}
+
+pub stopped_at : {S : Type 0} → (deeds : S → List Deed) (old between new : S) (host : List ℕ) (letters rest after : List Letter) (letter : Letter)
+    → AcceptedSoFar deeds old between host letters rest → rest ≡ letter ∷ after → Gains deeds between new (IsNotAccepted host letter) → Gains deeds old new (StopsAtLetter host letters)
+stopped_at deeds old between new host letters rest after letter so_far first one = record {
+  gained = so_far.taken ++ one.gained;
+  after = after_both deeds old between new so_far.taken one.gained so_far.after one.after;
+  are = record {
+    before = so_far.front;
+    stopped = letter;
+    after = after;
+    letters_are = at_one letters so_far.front rest after letter so_far.split first;
+    taken = so_far.taken;
+    last = one.gained;
+    gained_are = refl;
+    accepted = so_far.accepted;
+    not_accepted = one.are;
+  };
+}
+
+-- ---- recipients
+
+pub record MarkedSoFar {S : Type 0} (deeds : S → List Deed) (old new : S) (notice : NoticeRequest) (places rest : List ℕ) : Type 0 where
+  pub front : List ℕ
+  pub split : places ≡ front ++ rest
+  pub after : deeds new ≡ deeds old ++ map (marking notice) front
+
+pub marked_at_first : {S : Type 0} → (deeds : S → List Deed) (now : S) (notice : NoticeRequest) (places : List ℕ) → MarkedSoFar deeds now now notice places places
+marked_at_first deeds now notice places = record { front = []; split = refl; after = sym (append-nil (deeds now)) }
+
+pub map_append : {X Y : Type 0} → (f : X → Y) (xs ys : List X) → map f xs ++ map f ys ≡ map f (xs ++ ys)
+map_append f [] ys = refl
+map_append f (x ∷ xs) ys = ap (λ (rest : List _). f x ∷ rest) (map_append f xs ys)
+
+pub marked_one_more : {S : Type 0} → (deeds : S → List Deed) (old between new : S) (notice : NoticeRequest) (places rest after : List ℕ) (place : ℕ)
+    → MarkedSoFar deeds old between notice places rest → rest ≡ place ∷ after → Gains deeds between new (λ gained. gained ≡ marking notice place ∷ []) → MarkedSoFar deeds old new notice places after
+marked_one_more deeds old between new notice places rest after place so_far first one = record {
+  front = so_far.front ++ place ∷ [];
+  split = past_one places so_far.front rest after place so_far.split first;
+  after = after_both deeds old between new (map (marking notice) so_far.front) (marking notice place ∷ []) so_far.after (one.after ∙ ap (λ (more : List Deed). deeds between ++ more) one.are)
+      ∙ ap (λ (all : List Deed). deeds old ++ all) (map_append (marking notice) so_far.front (place ∷ []));
+}
+
+pub all_marked : {S : Type 0} → (deeds : S → List Deed) (old new : S) (notice : NoticeRequest) (places rest : List ℕ)
+    → MarkedSoFar deeds old new notice places rest → rest ≡ [] → Gains deeds old new (AreMarked notice places)
+all_marked deeds old new notice places rest so_far none = record {
+  gained = map (marking notice) so_far.front;
+  after = so_far.after;
+  are = ap (map (marking notice)) (sym (at_end places so_far.front rest so_far.split none));
+}
+
+pub stopped_marking : {S : Type 0} → (deeds : S → List Deed) (old between new : S) (notice : NoticeRequest) (places rest after : List ℕ) (place : ℕ)
+    → MarkedSoFar deeds old between notice places rest → rest ≡ place ∷ after → Gains deeds between new (FailsToMark notice place) → Gains deeds old new (StopsAtPlace notice places)
+stopped_marking deeds old between new notice places rest after place so_far first one = record {
+  gained = map (marking notice) so_far.front ++ one.gained;
+  after = after_both deeds old between new (map (marking notice) so_far.front) one.gained so_far.after one.after;
+  are = record {
+    before = so_far.front;
+    stopped = place;
+    after = after;
+    places_are = at_one places so_far.front rest after place so_far.split first;
+    marks = map (marking notice) so_far.front;
+    last = one.gained;
+    gained_are = refl;
+    marked = refl;
+    unmarked = one.are;
+  };
+}
+
+-- ---- a request for notices
+
+pub notified : {S : Type 0} → (deeds : S → List Deed) (old between released new : S) (settings : SettingsSaid) (service : Service) (request : PostfixRequest) (notice : NoticeRequest) (bytes : List ℕ) (moment serial status : ℕ) (telling : Telling)
+    → Gains deeds old between (Tells settings service request notice moment serial telling) → deeds released ≡ deeds between ++ LogReleased ∷ [] → Gains deeds released new (EndsTelling service bytes telling status)
+    → Gains deeds old new (IsNotified settings service request notice bytes moment serial status)
+notified deeds old between released new settings service request notice bytes moment serial status telling first release last = record {
+  gained = first.gained ++ LogReleased ∷ last.gained;
+  after = after_both deeds old between new first.gained (LogReleased ∷ last.gained) first.after (after_both deeds between released new (LogReleased ∷ []) last.gained release last.after);
+  are = record { telling = telling; told = first.gained; last = last.gained; gained_are = refl; tells = first.are; ends = last.are };
+}

@@ -1,0 +1,109 @@
+use Rattle.std.proofs.Common.{◌≡◌, ◌∙◌, List, ℕ, Result, Ok, Err, true, ap, map, subst, sym}
+use Rattle.std.specs.List.{list_any}
+use Rattle.std.specs.Option.{option_map}
+use Rattle.dsn_postfix.specs.NoticePlan.{IsPlanFault, notices_of}
+use Rattle.dsn_postfix.specs.PlannedNotice.{NoticeFacts, notice_facts_in}
+use Rattle.dsn_postfix.specs.declared.cant_say.CantSay.{CantSay}
+use Rattle.dsn_postfix.specs.declared.plan_fault.PlanFault.{PlanFault}
+use Rattle.dsn_postfix.specs.declared.planned_notice.PlannedNotice.{PlannedNotice}
+use Rattle.dsn_postfix.specs.files.MessageFacts.{said_of_message}
+use Rattle.dsn_postfix.specs.files.MessageText.{message_text}
+use Rattle.dsn_postfix.specs.files.QueueListing.{RecordsFrom}
+use Rattle.dsn_postfix.specs.files.QueueRecipients.{recipient_facts_in, recipients_of}
+use Rattle.dsn_postfix.specs.files.QueueWalk.{first_place}
+use Rattle.dsn_postfix_service.specs.letters.ReportedMessage.{MessageSaid}
+use Rattle.dsn_postfix_service.specs.requests.MailFound.{mail_read_in}
+use Rattle.dsn_postfix_service.specs.requests.RequestLetters.{AreLettersOf, IsUnsaid, has_fault, message_said}
+use Rattle.dsn_postfix_service.proofs.RequestLetterLemmas.{err_as, ok_as, reason_as}
+use Rattle.dsn_postfix_service.proofs.requests.request_letters.letters_asked.Goals as goal
+
+pub returns-in-Ok-plan_notices-clause-letters : goal.returns-in-Ok-plan_notices-clause-letters
+returns-in-Ok-plan_notices-clause-letters c =
+    let file : List ℕ = c.args.found.now.file.items in
+    let listing = c.queue_files_have_one_list.ensures file in
+    let records = listing.records in
+    let ending = listing.ending in
+    let come_from : (other : List ℕ) → other ≡ file → RecordsFrom other (first_place other) records ending =
+    λ other is. subst (λ (f : List ℕ). RecordsFrom f (first_place f) records ending) (sym is) listing.lists in
+    let queued : map recipient_facts_in c.deref-5.result.now ≡ recipients_of records =
+    ap (map recipient_facts_in) c.deref-5.ensures.value ∙ c.in-Ok.ensures records ending (come_from _ c.deref.ensures.value) in
+    let text : c.deref-4.result.now ≡ message_text records =
+    c.deref-4.ensures.value ∙ c.in-Ok-text_of_message.ensures records ending (come_from _ c.deref-2.ensures.value) in
+    let arrival : c.arrival_said.result ≡ (said_of_message records).arrival = c.arrival_said.ensures records ending (come_from _ c.deref-3.ensures.value) in
+    let notice = c.args.notice.now in
+    let notices : List PlannedNotice = c.in-Ok-plan_notices.notices.items in
+    let planned : notices_of c.args.settings.now.double_bounce.now c.args.service c.args.request.now (recipients_of records) (mail_read_in c.args.found.now).log ≡ Ok (map notice_facts_in notices) =
+    (λ i. notices_of c.args.settings.now.double_bounce.now c.args.service c.args.request.now (sym queued i) (sym c.log.ensures i)) ∙ c.in-Ok-plan_notices.ensures in
+    ok_as c.letters_of.result _ _ c.letters_of.ensures.letters (λ letters are. record {
+      records = records;
+      ending = ending;
+      listed = listing.lists;
+      notices = map notice_facts_in notices;
+      planned = planned;
+      each = subst (λ (ns : List PlannedNotice). AreLettersOf (message_said c.args.settings.now.lifetime notice records) c.args.moment c.args.first_serial (map notice_facts_in ns) letters.items) c.deref-in-Ok-plan_notices.ensures.value
+          (subst (λ (message : MessageSaid). AreLettersOf message c.args.moment c.args.first_serial (map notice_facts_in c.deref-in-Ok-plan_notices.result.now) letters.items)
+          (λ i. record {
+            queue_id = notice.queue_id;
+            arrival = arrival i;
+            sender = c.bytes.ensures.same i;
+            envelope_id = c.bytes-2.ensures.same i;
+            text = text i;
+            lifetime = c.args.settings.now.lifetime;
+          }) are);
+    })
+
+pub returns-in-Ok-plan_notices-clause-none : goal.returns-in-Ok-plan_notices-clause-none
+returns-in-Ok-plan_notices-clause-none c =
+    let file : List ℕ = c.args.found.now.file.items in
+    let listing = c.queue_files_have_one_list.ensures file in
+    let records = listing.records in
+    let ending = listing.ending in
+    let come_from : (other : List ℕ) → other ≡ file → RecordsFrom other (first_place other) records ending =
+    λ other is. subst (λ (f : List ℕ). RecordsFrom f (first_place f) records ending) (sym is) listing.lists in
+    let queued : map recipient_facts_in c.deref-5.result.now ≡ recipients_of records =
+    ap (map recipient_facts_in) c.deref-5.ensures.value ∙ c.in-Ok.ensures records ending (come_from _ c.deref.ensures.value) in
+    let text : c.deref-4.result.now ≡ message_text records =
+    c.deref-4.ensures.value ∙ c.in-Ok-text_of_message.ensures records ending (come_from _ c.deref-2.ensures.value) in
+    let arrival : c.arrival_said.result ≡ (said_of_message records).arrival = c.arrival_said.ensures records ending (come_from _ c.deref-3.ensures.value) in
+    let notice = c.args.notice.now in
+    let notices : List PlannedNotice = c.in-Ok-plan_notices.notices.items in
+    let said : MessageSaid = message_said c.args.settings.now.lifetime notice records in
+    let planned : notices_of c.args.settings.now.double_bounce.now c.args.service c.args.request.now (recipients_of records) (mail_read_in c.args.found.now).log ≡ Ok (map notice_facts_in notices) =
+    (λ i. notices_of c.args.settings.now.double_bounce.now c.args.service c.args.request.now (sym queued i) (sym c.log.ensures i)) ∙ c.in-Ok-plan_notices.ensures in
+    err_as c.letters_of.result _ _ c.letters_of.ensures.none (λ why reason.
+    reason_as _ _ why reason (λ fault. record {
+      records = records;
+      ending = ending;
+      listed = listing.lists;
+      unsaid = subst (λ (plan : Result (List NoticeFacts) CantSay). IsUnsaid said plan) (sym planned)
+          (subst (λ (ns : List PlannedNotice). list_any (has_fault said) (map notice_facts_in ns) ≡ true) c.deref-in-Ok-plan_notices.ensures.value
+          (subst (λ (message : MessageSaid). list_any (has_fault message) (map notice_facts_in c.deref-in-Ok-plan_notices.result.now) ≡ true)
+          (λ i. record {
+            queue_id = notice.queue_id;
+            arrival = arrival i;
+            sender = c.bytes.ensures.same i;
+            envelope_id = c.bytes-2.ensures.same i;
+            text = text i;
+            lifetime = c.args.settings.now.lifetime;
+          }) fault));
+    }))
+
+pub returns-clause-none : goal.returns-clause-none
+returns-clause-none c =
+    let file : List ℕ = c.args.found.now.file.items in
+    let listing = c.queue_files_have_one_list.ensures file in
+    let records = listing.records in
+    let ending = listing.ending in
+    let come_from : (other : List ℕ) → other ≡ file → RecordsFrom other (first_place other) records ending =
+    λ other is. subst (λ (f : List ℕ). RecordsFrom f (first_place f) records ending) (sym is) listing.lists in
+    let queued : map recipient_facts_in c.deref-5.result.now ≡ recipients_of records =
+    ap (map recipient_facts_in) c.deref-5.ensures.value ∙ c.in-Ok.ensures records ending (come_from _ c.deref.ensures.value) in
+    let planned : notices_of c.args.settings.now.double_bounce.now c.args.service c.args.request.now (recipients_of records) (mail_read_in c.args.found.now).log ≡ Err c.in-Err-Unsaid.field-0-0 =
+    (λ i. notices_of c.args.settings.now.double_bounce.now c.args.service c.args.request.now (sym queued i) (sym c.log.ensures i))
+    ∙ subst (λ (why : PlanFault). IsPlanFault (notices_of c.args.settings.now.double_bounce.now c.args.service c.args.request.now (map recipient_facts_in c.deref-5.result.now) (option_map (λ log. log.now) c.log.result)) why) c.in-Err-Unsaid.field-0-is c.in-Err-Unsaid.ensures in
+    record {
+      records = records;
+      ending = ending;
+      listed = listing.lists;
+      unsaid = subst (λ (plan : Result (List NoticeFacts) CantSay). IsUnsaid (message_said c.args.settings.now.lifetime c.args.notice.now records) plan) (sym planned) tt;
+    }

@@ -1,0 +1,11 @@
+pub mod AppendDeeds
+pub mod CarriedOut
+pub mod Deed
+pub mod Finishing
+pub mod Gains
+pub mod HandingIn
+pub mod MailFound
+pub mod NoticeDeeds
+pub mod RequestLetters
+pub mod RequestStatus
+pub mod ServiceSettings

@@ -1,0 +1,48 @@
+-- Letters that are handed in, one after another.
+use Rattle.std.specs.Prelude.{◌≡◌, ℕ, Bool, true, false, List, [], ◌∷◌, ◌++◌, Result, Ok, Err}
+use Rattle.dsn_outcome.specs.Letter.{Letter}
+use Rattle.dsn_report.specs.Notice.{return_path_of}
+use Rattle.dsn_report.specs.Outbox.{mail_data}
+use Rattle.dsn_postfix_service.specs.requests.Deed.{Deed, HandedIn}
+use Rattle.dsn_postfix_service.specs.declared.hand_in.hand_in_fault.HandInFault.{HandInFault}
+
+-- a letter is handed in as its notice's mail data, for its return path
+abbrev pub hand_in_of : List ℕ → Letter → Result (List ℕ) HandInFault → Deed
+hand_in_of host letter answer = HandedIn (return_path_of letter) (mail_data host letter) answer
+
+pub record IsAccepted (host : List ℕ) (letter : Letter) (deed : Deed) : Type 0 where
+  pub reply : List ℕ
+  pub deed_is : deed ≡ hand_in_of host letter (Ok reply)
+
+-- letters were handed in and accepted, each once, in their order, and nothing else was done
+abbrev pub AreAccepted : List ℕ → List Letter → List Deed → Type 0
+AreAccepted host [] gained = gained ≡ []
+AreAccepted host (letter ∷ letters) [] = ⊥
+AreAccepted host (letter ∷ letters) (deed ∷ gained) = IsAccepted host letter deed × AreAccepted host letters gained
+
+-- a letter wasn't accepted, or the memory for its text was refused
+pub data IsNotAccepted (host : List ℕ) (letter : Letter) (gained : List Deed) : Type 0 where
+  refused : (fault : HandInFault) → gained ≡ hand_in_of host letter (Err fault) ∷ [] → IsNotAccepted host letter gained
+  no_memory : gained ≡ [] → IsNotAccepted host letter gained
+
+-- those before it were, and nothing was done after it
+pub record StopsAtLetter (host : List ℕ) (letters : List Letter) (gained : List Deed) : Type 0 where
+  pub before : List Letter
+  pub stopped : Letter
+  pub after : List Letter
+  pub letters_are : letters ≡ before ++ stopped ∷ after
+  pub taken : List Deed
+  pub last : List Deed
+  pub gained_are : gained ≡ taken ++ last
+  pub accepted : AreAccepted host before taken
+  pub not_accepted : IsNotAccepted host stopped last
+
+-- one was accepted, or not
+abbrev pub HandsInOne : List ℕ → Letter → Bool → List Deed → Type 0
+HandsInOne host letter true gained = AreAccepted host (letter ∷ []) gained
+HandsInOne host letter false gained = IsNotAccepted host letter gained
+
+-- all were accepted, or not
+abbrev pub HandsInAll : List ℕ → List Letter → Bool → List Deed → Type 0
+HandsInAll host letters true gained = AreAccepted host letters gained
+HandsInAll host letters false gained = StopsAtLetter host letters gained

@@ -1,0 +1,20 @@
+//! What is done for one request of Postfix's programs, in which order, and what it is answered.
+mod append;
+mod carrying_out;
+mod deed_fault;
+mod finish;
+mod hand_in_letters;
+mod mail_found;
+mod mail_system;
+mod no_letters;
+mod notify;
+mod pass_on;
+mod places_done;
+mod request_letters;
+mod service_settings;
+mod telling;
+
+pub use carrying_out::carry_out;
+pub use deed_fault::DeedFault;
+pub use mail_system::MailSystem;
+pub use service_settings::ServiceSettings;

@@ -1,0 +1,132 @@
+//! Carrying out one request of Postfix's programs.
+ghost use Rattle.std.specs.Prelude.{◌≡◌};
+ghost use Rattle.dsn_postfix_service.specs.requests.CarriedOut.{Cleans, IsCarriedOut, IsDone, flags_of, must_clean, queue_id_of};
+ghost use Rattle.dsn_postfix_service.specs.requests.Gains.{Gains};
+ghost use Rattle.dsn_postfix_service.specs.requests.ServiceSettings.{settings_said_in};
+
+use crate::requests::append::append;
+use crate::requests::mail_system::MailSystem;
+use crate::requests::notify::notify;
+use crate::requests::service_settings::ServiceSettings;
+use dsn_postfix::PostfixRequest;
+use dsn_text::{QueueId, Service, Stamp};
+use std::alloc::Global;
+
+/// The flags of a request.
+fn flags_of(request: &PostfixRequest<'_>) -> u32
+    ensures { result ≡ flags_of request.now }
+{
+    match request {
+        PostfixRequest::Append(append) => append.flags,
+        PostfixRequest::Flush(notice)
+        | PostfixRequest::Warn(notice)
+        | PostfixRequest::Verp(notice, _)
+        | PostfixRequest::One(notice, _, _)
+        | PostfixRequest::Trace(notice) => notice.flags,
+    }
+}
+
+/// The queue id of a request's message.
+fn queue_id_of(request: &PostfixRequest<'_>) -> QueueId
+    ensures { result ≡ queue_id_of request.now }
+{
+    match request {
+        PostfixRequest::Append(append) => append.queue_id,
+        PostfixRequest::Flush(notice)
+        | PostfixRequest::Warn(notice)
+        | PostfixRequest::Verp(notice, _)
+        | PostfixRequest::One(notice, _, _)
+        | PostfixRequest::Trace(notice) => notice.queue_id,
+    }
+}
+
+/// Whether a request with this status asks that its log be removed.
+fn must_clean(request: &PostfixRequest<'_>, status: u32) -> bool
+    ensures { result ≡ must_clean request.now status }
+{
+    flags_of(request) % 2 == 1 && status != 0
+}
+
+/// Removes a request's log if that is due.
+fn clean<M: MailSystem>(service: Service, request: &PostfixRequest<'_>, due: bool, system: &mut M)
+    ensures { Gains M.deeds system.old system.new (Cleans service request.now due) }
+{
+    if due {
+        let _ = system.remove_log(service, queue_id_of(request));
+    }
+}
+
+/// Does what a request asks, and says the status.
+fn do_asked<M: MailSystem>(
+    alloc: Global,
+    settings: &ServiceSettings<'_>,
+    service: Service,
+    request: &PostfixRequest<'_>,
+    bytes: &[u8],
+    moment: Stamp,
+    first_serial: u64,
+    system: &mut M,
+) -> u32
+    ensures { Gains M.deeds system.old system.new
+        (IsDone (settings_said_in settings.now) service request.now bytes.now moment first_serial
+        result) }
+{
+    match request {
+        PostfixRequest::Append(asked) => append(alloc, service, asked, bytes, system),
+        PostfixRequest::Flush(notice)
+        | PostfixRequest::Warn(notice)
+        | PostfixRequest::Verp(notice, _)
+        | PostfixRequest::One(notice, _, _)
+        | PostfixRequest::Trace(notice) => notify(
+            alloc,
+            settings,
+            service,
+            request,
+            notice,
+            bytes,
+            moment,
+            first_serial,
+            system,
+        ),
+    }
+}
+
+/// Carries out one request to a service of Postfix's programs, and says the status that answers it:
+/// 0 where it was carried out, and 4,294,967,295 where it wasn't, or the one that Postfix's own
+/// service of that name answered, where the request was passed on to it.
+///
+/// An append puts its record at the end of the log. All others tell the message's sender: what they
+/// tell of is read, all letters are made, and only then is one handed in; once all are accepted,
+/// recipients are marked as done where the request asks for that, and the log is removed, unless
+/// the request is a warning. What can't be said is passed on. A request with CLEAN has its log
+/// removed where the status isn't 0.
+///
+/// `bytes` are those of the request, in which it is passed on. The letters are made at the moment,
+/// with serials from the first one on, which stand in their Message-IDs.
+pub fn carry_out<M: MailSystem>(
+    alloc: Global,
+    settings: &ServiceSettings<'_>,
+    service: Service,
+    request: &PostfixRequest<'_>,
+    bytes: &[u8],
+    moment: Stamp,
+    first_serial: u64,
+    system: &mut M,
+) -> u32
+    ensures { Gains M.deeds system.old system.new
+        (IsCarriedOut (settings_said_in settings.now) service request.now bytes.now moment
+        first_serial result) }
+{
+    let status = do_asked(
+        alloc,
+        settings,
+        service,
+        request,
+        bytes,
+        moment,
+        first_serial,
+        system,
+    );
+    clean(service, request, must_clean(request, status), system);
+    status
+}

@@ -1,0 +1,87 @@
+//! What is done once all notices of a request are accepted.
+ghost use Rattle.std.specs.Prelude.{◌≡◌};
+ghost use Rattle.std.specs.Option.{option_map};
+ghost use Rattle.dsn_postfix_service.specs.requests.Finishing.{FinishesAt, MarksAll, MarksOne, RemovesLog, is_removal_due, removes_log};
+ghost use Rattle.dsn_postfix_service.specs.requests.Gains.{Gains};
+
+use crate::requests::mail_system::MailSystem;
+use dsn_postfix::{NoticeRequest, PostfixRequest};
+use dsn_text::{QueueId, Service};
+
+/// Whether a request's log is removed once its sender was told.
+fn removes_log(request: &PostfixRequest<'_>) -> bool
+    ensures { result ≡ removes_log request.now }
+{
+    matches!(
+        request,
+        PostfixRequest::Flush(_) | PostfixRequest::Verp(..) | PostfixRequest::Trace(_)
+    )
+}
+
+/// Whether there is a log that is to be removed.
+fn is_removal_due(request: &PostfixRequest<'_>, log: Option<&[u8]>) -> bool
+    ensures { result ≡ is_removal_due request.now (option_map (λ log. log.now) log.entry) }
+{
+    removes_log(request) && log.is_some()
+}
+
+/// Marks the recipient at a place as done, and says whether it is.
+fn mark<M: MailSystem>(notice: &NoticeRequest<'_>, place: u64, system: &mut M) -> bool
+    ensures { Gains M.deeds system.old system.new (MarksOne notice.now place result) }
+{
+    match system.mark_done(&notice.queue_name, notice.queue_id, place) {
+        Ok(()) => true,
+        Err(_) => false,
+    }
+}
+
+/// Marks the recipients at these places as done, up to the first that can't be, and says whether
+/// all are.
+fn mark_all<M: MailSystem>(notice: &NoticeRequest<'_>, places: &[u64], system: &mut M) -> bool
+    ensures { Gains M.deeds system.old system.new (MarksAll notice.now places.now result) }
+{
+    for place in places {
+        if !mark(notice, *place, system) {
+            return false;
+        }
+    }
+    true
+}
+
+/// Removes a log that is due for removal, and says whether nothing is left to be removed.
+fn remove_if_due<M: MailSystem>(service: Service, id: QueueId, due: bool, system: &mut M) -> bool
+    ensures { Gains M.deeds system.old system.new (RemovesLog service id due result) }
+{
+    if !due {
+        return true;
+    }
+    match system.remove_log(service, id) {
+        Ok(()) => true,
+        Err(_) => false,
+    }
+}
+
+/// Marks the recipients at these places as done, and once all are, removes the request's log if it
+/// is to be removed. Says whether all of that was done.
+pub(super) fn finish<M: MailSystem>(
+    service: Service,
+    request: &PostfixRequest<'_>,
+    notice: &NoticeRequest<'_>,
+    log: Option<&[u8]>,
+    places: &[u64],
+    system: &mut M,
+) -> bool
+    ensures { Gains M.deeds system.old system.new
+        (FinishesAt service request.now notice.now (option_map (λ log. log.now) log.entry) places.now
+        result) }
+{
+    if !mark_all(notice, places, system) {
+        return false;
+    }
+    remove_if_due(
+        service,
+        notice.queue_id,
+        is_removal_due(request, log),
+        system,
+    )
+}

@@ -1,0 +1,77 @@
+//! The log and the message's file that a request for notices tells of.
+ghost use Rattle.std.specs.Prelude.{◌≡◌};
+ghost use Rattle.std.specs.Option.{option_map};
+ghost use Rattle.dsn_postfix_service.specs.requests.Deed.{answer_as};
+ghost use Rattle.dsn_postfix_service.specs.requests.Gains.{Gains};
+ghost use Rattle.dsn_postfix_service.specs.requests.MailFound.{Reads, ReadsLog, mail_read_in, tells_of_log};
+
+use crate::requests::deed_fault::DeedFault;
+use crate::requests::mail_system::MailSystem;
+use dsn_postfix::{NoticeRequest, PostfixRequest};
+use dsn_text::Service;
+use std::alloc::Global;
+
+/// What was read for a request for notices.
+#[derive(Drop)]
+pub(super) struct MailFound {
+    /// The log's bytes, if there is one.
+    pub(super) log: Option<Vec<u8>>,
+    /// The bytes of the message's file.
+    pub(super) file: Vec<u8>,
+}
+
+impl MailFound {
+    /// The log's bytes, if there is one.
+    pub(super) fn log(&self) -> Option<&[u8]>
+        ensures { option_map (λ log. log.now) result ≡ (mail_read_in self.now).log }
+    {
+        match &self.log {
+            Some(log) => Some(log.as_slice()),
+            None => None,
+        }
+    }
+}
+
+/// Whether a request tells of a log.
+fn tells_of_log(request: &PostfixRequest<'_>) -> bool
+    ensures { result ≡ tells_of_log request.now }
+{
+    !matches!(request, PostfixRequest::Append(_) | PostfixRequest::One(..))
+}
+
+/// Reads the log that a request tells of; a request about one recipient alone has none.
+fn read_log<M: MailSystem>(
+    alloc: Global,
+    service: Service,
+    request: &PostfixRequest<'_>,
+    notice: &NoticeRequest<'_>,
+    system: &mut M,
+) -> Result<Option<Vec<u8>>, DeedFault>
+    ensures { Gains M.deeds system.old system.new
+        (ReadsLog service request.now notice.now
+        (answer_as (option_map (λ log. log.items)) result)) }
+{
+    if !tells_of_log(request) {
+        return Ok(None);
+    }
+    system.read_log(alloc, service, notice.queue_id)
+}
+
+/// Reads the log that a request tells of, and then its message's file.
+pub(super) fn read_mail<M: MailSystem>(
+    alloc: Global,
+    service: Service,
+    request: &PostfixRequest<'_>,
+    notice: &NoticeRequest<'_>,
+    system: &mut M,
+) -> Result<MailFound, DeedFault>
+    ensures { Gains M.deeds system.old system.new (Reads service request.now notice.now result) }
+{
+    match read_log(alloc, service, request, notice, system) {
+        Ok(log) => match system.read_message(alloc, &notice.queue_name, notice.queue_id) {
+            Ok(file) => Ok(MailFound { log, file }),
+            Err(fault) => Err(fault),
+        },
+        Err(fault) => Err(fault),
+    }
+}

@@ -1,0 +1,173 @@
+//! The letters of a request for notices, made of what was read for it.
+ghost use Rattle.std.specs.Prelude.{◌≡◌, ◌<◌, [], List, length, map, true, IfOk, IfErr, IfSome, MatchOption, OnOk};
+ghost use Rattle.std.specs.List.{list_any};
+ghost use Rattle.dsn_postfix.specs.PlannedNotice.{notice_facts_in};
+ghost use Rattle.dsn_postfix.specs.files.MessageFacts.{said_of_message};
+ghost use Rattle.dsn_postfix.specs.files.QueueListing.{QueueEnding, RecordsFrom};
+ghost use Rattle.dsn_postfix.specs.files.QueueRecipients.{BeginsRecipients, RecipientFacts, RecipientsLeft, nothing_before, recipient_facts_in, recipients_of};
+ghost use Rattle.dsn_postfix.specs.files.QueueRecord.{PlacedBytes};
+ghost use Rattle.dsn_postfix.specs.files.QueueWalk.{first_place, steps_left};
+ghost use Rattle.dsn_postfix_service.specs.letters.ReportedMessage.{message_said_in};
+ghost use Rattle.dsn_postfix_service.specs.requests.MailFound.{mail_read_in};
+ghost use Rattle.dsn_postfix_service.specs.requests.RequestLetters.{AreLettersAsked, AreLettersOf, CantBeSaid, GainsLetter, IsReason, has_fault, reason_of};
+ghost use Rattle.dsn_postfix_service.specs.requests.ServiceSettings.{settings_said_in};
+
+use crate::letters::{LetterFault, ReportedMessage, letter_of_notice};
+use crate::requests::mail_found::MailFound;
+use crate::requests::no_letters::NoLetters;
+use crate::requests::service_settings::ServiceSettings;
+use dsn_outcome::Letter;
+use dsn_postfix::{
+    MessageFacts, NoticeRequest, PlanFault, PlannedNotice, PostfixRequest, QueueReader,
+    QueuedRecipient, plan_notices, queue_files_have_one_list, text_of_message,
+};
+use dsn_text::{Service, Stamp};
+use std::alloc::{AllocError, Global};
+
+/// The next recipient of a queue file, if there is one before its end or the place where it can't
+/// be read on.
+fn next_queued<'a>(reader: &mut QueueReader<'a>) -> Option<QueuedRecipient<'a>>
+    ensures listed { (recipients : List RecipientFacts) (ending : QueueEnding)
+        → RecipientsLeft reader.old nothing_before recipients ending
+        → MatchOption result (recipients ≡ [])
+        (λ found. BeginsRecipients (recipient_facts_in found) recipients ending reader.new) }
+    ensures fewer { IfSome result (λ _. steps_left (length reader.new.file) reader.new.place
+        < steps_left (length reader.old.file) reader.old.place) }
+{
+    match reader.next_recipient() {
+        Ok(found) => found,
+        Err(_) => None,
+    }
+}
+
+/// The recipients of a queue file, done or not, up to where it can't be read on.
+fn queued_recipients(alloc: Global, file: &[u8]) -> Result<Vec<QueuedRecipient<'_>>, AllocError>
+    ensures { (records : List PlacedBytes) (ending : QueueEnding)
+        → RecordsFrom file.now (first_place file.now) records ending
+        → IfOk result (λ queued. map recipient_facts_in queued.items ≡ recipients_of records) }
+{
+    let mut queued = Vec::new(alloc);
+    let mut reader = QueueReader::new(file);
+    while let Some(recipient) = next_queued(&mut reader) {
+        queued.push(recipient)?;
+    }
+    Ok(queued)
+}
+
+/// When a file says that its message came, also where it can't be read to its end.
+fn arrival_said(file: &[u8]) -> Option<u64>
+    ensures { (records : List PlacedBytes) (ending : QueueEnding)
+        → RecordsFrom file.now (first_place file.now) records ending
+        → result ≡ (said_of_message records).arrival }
+{
+    match MessageFacts::read(file) {
+        Ok(facts) => facts.arrival,
+        Err(broken) => broken.before.arrival,
+    }
+}
+
+/// What a notice that is no letter comes to.
+fn reason_of(fault: LetterFault) -> NoLetters
+    ensures { result ≡ reason_of fault }
+{
+    match fault {
+        LetterFault::NoMemory => NoLetters::NoMemory,
+        LetterFault::Count
+        | LetterFault::Arrival
+        | LetterFault::Quotes
+        | LetterFault::Draft(_)
+        | LetterFault::RemoteType
+        | LetterFault::Outcome(_) => NoLetters::Unsayable,
+    }
+}
+
+/// Adds the letter of a notice.
+fn push_letter(
+    alloc: Global,
+    letters: &mut Vec<Letter>,
+    message: &ReportedMessage<'_>,
+    notice: &PlannedNotice<'_>,
+    moment: Stamp,
+    serial: u64,
+) -> Result<(), NoLetters>
+    ensures gained { OnOk result (GainsLetter (message_said_in message.now) moment serial
+        (notice_facts_in notice.now) letters.old.items letters.new.items) }
+    ensures none { IfErr result (IsReason
+        (has_fault (message_said_in message.now) (notice_facts_in notice.now) ≡ true)) }
+{
+    match letter_of_notice(alloc, message, notice, moment, serial) {
+        Ok(letter) => match letters.push(letter) {
+            Ok(()) => Ok(()),
+            Err(_) => Err(NoLetters::NoMemory),
+        },
+        Err(fault) => Err(reason_of(fault)),
+    }
+}
+
+/// The letters of notices, one for each, in their order.
+fn letters_of(
+    alloc: Global,
+    message: &ReportedMessage<'_>,
+    notices: &[PlannedNotice<'_>],
+    moment: Stamp,
+    first_serial: u64,
+) -> Result<Vec<Letter>, NoLetters>
+    ensures letters { IfOk result (λ letters. AreLettersOf (message_said_in message.now) moment
+        first_serial (map notice_facts_in notices.now) letters.items) }
+    ensures none { IfErr result (IsReason
+        (list_any (has_fault (message_said_in message.now)) (map notice_facts_in notices.now)
+        ≡ true)) }
+{
+    let mut letters = Vec::new(alloc);
+    let mut serial = first_serial;
+    let mut rest = notices;
+    while let [notice, after @ ..] = rest {
+        match push_letter(alloc, &mut letters, message, notice, moment, serial) {
+            Ok(()) => {}
+            Err(why) => return Err(why),
+        }
+        serial = serial.wrapping_add(1);
+        rest = after;
+    }
+    Ok(letters)
+}
+
+/// The letters of all notices that a request has of what was read for it.
+pub(super) fn letters_asked(
+    alloc: Global,
+    settings: &ServiceSettings<'_>,
+    service: Service,
+    request: &PostfixRequest<'_>,
+    notice: &NoticeRequest<'_>,
+    found: &MailFound,
+    moment: Stamp,
+    first_serial: u64,
+) -> Result<Vec<Letter>, NoLetters>
+    ensures letters { IfOk result (λ letters. AreLettersAsked (settings_said_in settings.now)
+        service request.now notice.now moment first_serial (mail_read_in found.now)
+        letters.items) }
+    ensures none { IfErr result (IsReason (CantBeSaid (settings_said_in settings.now) service
+        request.now notice.now (mail_read_in found.now))) }
+{
+    queue_files_have_one_list();
+    let Ok(queued) = queued_recipients(alloc, &found.file) else {
+        return Err(NoLetters::NoMemory);
+    };
+    let Ok(text) = text_of_message(alloc, &found.file) else {
+        return Err(NoLetters::NoMemory);
+    };
+    let message = ReportedMessage {
+        queue_id: notice.queue_id,
+        arrival: arrival_said(&found.file),
+        sender: notice.sender.bytes(),
+        envelope_id: notice.envelope_id.bytes(),
+        text: &text,
+        lifetime: settings.lifetime,
+    };
+    let double_bounce = settings.double_bounce;
+    match plan_notices(alloc, double_bounce, service, request, &queued, found.log()) {
+        Ok(notices) => letters_of(alloc, &message, &notices, moment, first_serial),
+        Err(PlanFault::NoMemory) => Err(NoLetters::NoMemory),
+        Err(PlanFault::Unsaid(_)) => Err(NoLetters::Unsayable),
+    }
+}

@@ -1,0 +1,13 @@
+//! What notices say of the mail system that they come from.
+use dsn_report::Site;
+
+/// What a request's notices need to know of the mail system.
+#[derive(Clone, Copy, Debug)]
+pub struct ServiceSettings<'a> {
+    /// The mail system's name, from which its notices come.
+    pub site: &'a Site,
+    /// The sender of notices about notices (Postfix's `double_bounce_sender`, with its domain).
+    pub double_bounce: &'a [u8],
+    /// For how many seconds after a message came its delivery is tried (`maximal_queue_lifetime`).
+    pub lifetime: u32,
+}

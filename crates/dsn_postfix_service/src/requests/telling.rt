@@ -1,0 +1,12 @@
+//! How telling a sender ends.
+
+/// How telling a sender of a request's recipients ends.
+#[derive(Clone, Copy, Debug)]
+pub(super) enum Telling {
+    /// All notices were accepted, if there were any, and what follows them was done.
+    Told,
+    /// A notice can't be said, and none was handed in.
+    Unsayable,
+    /// Something failed.
+    Failed,
+}

@@ -15,7 +15,7 @@ use Rattle.dsn_postfix_service.specs.declared.requests.deed_fault.DeedFault.{Dee
 use Rattle.dsn_postfix_service.specs.requests.AppendDeeds.{IsAppended, record_bytes, tried}
 use Rattle.dsn_postfix_service.specs.requests.Deed.{Answer, Appended, Deed, HandedIn, LogReleased, MessageRead}
 use Rattle.dsn_postfix_service.specs.requests.Finishing.{AreMarked, FailsToMark, StopsAtPlace, marking}
-use Rattle.dsn_postfix_service.specs.requests.Gains.{Gains}
+use Rattle.dsn_postfix_service.specs.requests.Gains.{Gains, with_deeds}
 use Rattle.dsn_postfix_service.specs.requests.HandingIn.{AreAccepted, IsNotAccepted, StopsAtLetter, hand_in_of, refused}
 use Rattle.dsn_postfix_service.specs.requests.MailFound.{FailsToRead, ReadsLog, log_reading, log_unread, message_reading, message_unread}
 use Rattle.dsn_postfix_service.specs.requests.NoticeDeeds.{EndsTelling, IsNotified, Tells}
@@ -31,20 +31,28 @@ Are = List Deed → Type 0
 
 -- ---- steps
 
-pub gains_none : {S : Type 0} → (deeds : S → List Deed) (now : S) (P : Are) → P [] → Gains deeds now now P
-gains_none deeds now P are = record { gained = []; after = sym (append-nil (deeds now)); are = are }
+pub with_no_deeds : (done : Option (List Deed)) → with_deeds done [] ≡ done
+with_no_deeds None = refl
+with_no_deeds (Some done) = ap (λ (deeds : List Deed). Some deeds) (append-nil done)
 
-pub gains_one : {S : Type 0} → (deeds : S → List Deed) (old new : S) (deed : Deed) (P : Are) → deeds new ≡ deeds old ++ deed ∷ [] → P (deed ∷ []) → Gains deeds old new P
+with_both : (done : Option (List Deed)) (one two : List Deed) → with_deeds (with_deeds done one) two ≡ with_deeds done (one ++ two)
+with_both None one two = refl
+with_both (Some done) one two = ap (λ (deeds : List Deed). Some deeds) (append_assoc done one two)
+
+pub gains_none : {S : Type 0} → (deeds : S → Option (List Deed)) (now : S) (P : Are) → P [] → Gains deeds now now P
+gains_none deeds now P are = record { gained = []; after = sym (with_no_deeds (deeds now)); are = are }
+
+pub gains_one : {S : Type 0} → (deeds : S → Option (List Deed)) (old new : S) (deed : Deed) (P : Are) → deeds new ≡ with_deeds (deeds old) (deed ∷ []) → P (deed ∷ []) → Gains deeds old new P
 gains_one deeds old new deed P after are = record { gained = deed ∷ []; after = after; are = are }
 
-pub gains_as : {S : Type 0} → (deeds : S → List Deed) (old new : S) (P Q : Are) → Gains deeds old new P → ((gained : List Deed) → P gained → Q gained) → Gains deeds old new Q
+pub gains_as : {S : Type 0} → (deeds : S → Option (List Deed)) (old new : S) (P Q : Are) → Gains deeds old new P → ((gained : List Deed) → P gained → Q gained) → Gains deeds old new Q
 gains_as deeds old new P Q gains follows = record { gained = gains.gained; after = gains.after; are = follows gains.gained gains.are }
 
-after_both : {S : Type 0} → (deeds : S → List Deed) (old between new : S) (one two : List Deed) → deeds between ≡ deeds old ++ one → deeds new ≡ deeds between ++ two → deeds new ≡ deeds old ++ (one ++ two)
+after_both : {S : Type 0} → (deeds : S → Option (List Deed)) (old between new : S) (one two : List Deed) → deeds between ≡ with_deeds (deeds old) one → deeds new ≡ with_deeds (deeds between) two → deeds new ≡ with_deeds (deeds old) (one ++ two)
 after_both deeds old between new one two first second =
-    second ∙ ap (λ (done : List Deed). done ++ two) first ∙ append_assoc (deeds old) one two
+    second ∙ ap (λ (done : Option (List Deed)). with_deeds done two) first ∙ with_both (deeds old) one two
 
-pub gains_more : {S : Type 0} → (deeds : S → List Deed) (old between new : S) (P Q R : Are) → Gains deeds old between P → Gains deeds between new Q
+pub gains_more : {S : Type 0} → (deeds : S → Option (List Deed)) (old between new : S) (P Q R : Are) → Gains deeds old between P → Gains deeds between new Q
     → ((one two : List Deed) → P one → Q two → R (one ++ two)) → Gains deeds old new R
 gains_more deeds old between new P Q R first second both = record {
   gained = first.gained ++ second.gained;
@@ -77,19 +85,19 @@ empty_map f (x ∷ xs) none = absurd (suc_not_zero (length xs) none)
 
 -- ---- an append
 
-pub appended : {S : Type 0} → (deeds : S → List Deed) (old new : S) (service : Service) (request : AppendRequest) (bytes : List ℕ) (status : ℕ) (written : List ℕ) (answer : Answer)
+pub appended : {S : Type 0} → (deeds : S → Option (List Deed)) (old new : S) (service : Service) (request : AppendRequest) (bytes : List ℕ) (status : ℕ) (written : List ℕ) (answer : Answer)
     → unlogged_field service request ≡ None → written ≡ record_bytes service request → status ≡ status_after answer
-    → deeds new ≡ deeds old ++ Appended service request.queue_id written answer ∷ [] → Gains deeds old new (IsAppended service request bytes status)
+    → deeds new ≡ with_deeds (deeds old) (Appended service request.queue_id written answer ∷ []) → Gains deeds old new (IsAppended service request bytes status)
 appended deeds old new service request bytes status written answer none is status_is after = record {
   gained = Appended service request.queue_id (record_bytes service request) answer ∷ [];
-  after = after ∙ ap (λ (b : List ℕ). deeds old ++ Appended service request.queue_id b answer ∷ []) is;
+  after = after ∙ ap (λ (b : List ℕ). with_deeds (deeds old) (Appended service request.queue_id b answer ∷ [])) is;
   are = tried none answer refl status_is;
 }
 
 -- ---- what is read
 
-pub unread_message : {S : Type 0} → (deeds : S → List Deed) (old between new : S) (service : Service) (request : PostfixRequest) (notice : NoticeRequest) (log : Option (List ℕ)) (why : DeedFault)
-    → Gains deeds old between (ReadsLog service request notice (Ok log)) → deeds new ≡ deeds between ++ MessageRead notice.queue_name notice.queue_id (Err why) ∷ []
+pub unread_message : {S : Type 0} → (deeds : S → Option (List Deed)) (old between new : S) (service : Service) (request : PostfixRequest) (notice : NoticeRequest) (log : Option (List ℕ)) (why : DeedFault)
+    → Gains deeds old between (ReadsLog service request notice (Ok log)) → deeds new ≡ with_deeds (deeds between) (MessageRead notice.queue_name notice.queue_id (Err why) ∷ [])
     → Gains deeds old new (FailsToRead service request notice)
 unread_message deeds old between new service request notice log why first second = record {
   gained = first.gained ++ message_reading notice (Err why);
@@ -97,7 +105,7 @@ unread_message deeds old between new service request notice log why first second
   are = message_unread log why (ap (λ (read : List Deed). read ++ message_reading notice (Err why)) first.are.0);
 }
 
-pub unread_log : {S : Type 0} → (deeds : S → List Deed) (old new : S) (service : Service) (request : PostfixRequest) (notice : NoticeRequest) (why : DeedFault)
+pub unread_log : {S : Type 0} → (deeds : S → Option (List Deed)) (old new : S) (service : Service) (request : PostfixRequest) (notice : NoticeRequest) (why : DeedFault)
     → Gains deeds old new (ReadsLog service request notice (Err why)) → Gains deeds old new (FailsToRead service request notice)
 unread_log deeds old new service request notice why first = record {
   gained = first.gained;
@@ -107,21 +115,21 @@ unread_log deeds old new service request notice why first = record {
 
 -- ---- letters
 
-pub one_accepted : {S : Type 0} → (deeds : S → List Deed) (old new : S) (host : List ℕ) (letter : Letter) (path data' reply : List ℕ)
-    → letter.draft.return_path ≡ Some path → data' ≡ mail_data host letter → deeds new ≡ deeds old ++ HandedIn path data' (Ok reply) ∷ []
+pub one_accepted : {S : Type 0} → (deeds : S → Option (List Deed)) (old new : S) (host : List ℕ) (letter : Letter) (path data' reply : List ℕ)
+    → letter.draft.return_path ≡ Some path → data' ≡ mail_data host letter → deeds new ≡ with_deeds (deeds old) (HandedIn path data' (Ok reply) ∷ [])
     → Gains deeds old new (AreAccepted host (letter ∷ []))
 one_accepted deeds old new host letter path data' reply to is after = record {
   gained = hand_in_of host letter (Ok reply) ∷ [];
-  after = after ∙ (λ i. deeds old ++ HandedIn (sym (path_is letter path to) i) (is i) (Ok reply) ∷ []);
+  after = after ∙ (λ i. with_deeds (deeds old) (HandedIn (sym (path_is letter path to) i) (is i) (Ok reply) ∷ []));
   are = (record { reply = reply; deed_is = refl }, refl);
 }
 
-pub one_refused : {S : Type 0} → (deeds : S → List Deed) (old new : S) (host : List ℕ) (letter : Letter) (path data' : List ℕ) (why : HandInFault)
-    → letter.draft.return_path ≡ Some path → data' ≡ mail_data host letter → deeds new ≡ deeds old ++ HandedIn path data' (Err why) ∷ []
+pub one_refused : {S : Type 0} → (deeds : S → Option (List Deed)) (old new : S) (host : List ℕ) (letter : Letter) (path data' : List ℕ) (why : HandInFault)
+    → letter.draft.return_path ≡ Some path → data' ≡ mail_data host letter → deeds new ≡ with_deeds (deeds old) (HandedIn path data' (Err why) ∷ [])
     → Gains deeds old new (IsNotAccepted host letter)
 one_refused deeds old new host letter path data' why to is after = record {
   gained = hand_in_of host letter (Err why) ∷ [];
-  after = after ∙ (λ i. deeds old ++ HandedIn (sym (path_is letter path to) i) (is i) (Err why) ∷ []);
+  after = after ∙ (λ i. with_deeds (deeds old) (HandedIn (sym (path_is letter path to) i) (is i) (Err why) ∷ []));
   are = refused why refl;
 }
 
@@ -142,17 +150,17 @@ pub at_end : {X : Type 0} → (xs front rest : List X) → xs ≡ front ++ rest 
 at_end xs front rest split none = split ∙ ap (λ (left : List _). front ++ left) none ∙ append-nil front
 
 -- the letters so far were accepted
-pub record AcceptedSoFar {S : Type 0} (deeds : S → List Deed) (old new : S) (host : List ℕ) (letters rest : List Letter) : Type 0 where
+pub record AcceptedSoFar {S : Type 0} (deeds : S → Option (List Deed)) (old new : S) (host : List ℕ) (letters rest : List Letter) : Type 0 where
   pub front : List Letter
   pub taken : List Deed
   pub split : letters ≡ front ++ rest
-  pub after : deeds new ≡ deeds old ++ taken
+  pub after : deeds new ≡ with_deeds (deeds old) taken
   pub accepted : AreAccepted host front taken
 
-pub accepted_at_first : {S : Type 0} → (deeds : S → List Deed) (now : S) (host : List ℕ) (letters : List Letter) → AcceptedSoFar deeds now now host letters letters
-accepted_at_first deeds now host letters = record { front = []; taken = []; split = refl; after = sym (append-nil (deeds now)); accepted = refl }
+pub accepted_at_first : {S : Type 0} → (deeds : S → Option (List Deed)) (now : S) (host : List ℕ) (letters : List Letter) → AcceptedSoFar deeds now now host letters letters
+accepted_at_first deeds now host letters = record { front = []; taken = []; split = refl; after = sym (with_no_deeds (deeds now)); accepted = refl }
 
-pub accepted_one_more : {S : Type 0} → (deeds : S → List Deed) (old between new : S) (host : List ℕ) (letters rest after : List Letter) (letter : Letter)
+pub accepted_one_more : {S : Type 0} → (deeds : S → Option (List Deed)) (old between new : S) (host : List ℕ) (letters rest after : List Letter) (letter : Letter)
     → AcceptedSoFar deeds old between host letters rest → rest ≡ letter ∷ after → Gains deeds between new (AreAccepted host (letter ∷ [])) → AcceptedSoFar deeds old new host letters after
 accepted_one_more deeds old between new host letters rest after letter so_far first one = record {
   front = so_far.front ++ letter ∷ [];
@@ -162,7 +170,7 @@ accepted_one_more deeds old between new host letters rest after letter so_far fi
   accepted = accepted_more host so_far.front (letter ∷ []) so_far.taken one.gained so_far.accepted one.are;
 }
 
-pub all_accepted : {S : Type 0} → (deeds : S → List Deed) (old new : S) (host : List ℕ) (letters rest : List Letter)
+pub all_accepted : {S : Type 0} → (deeds : S → Option (List Deed)) (old new : S) (host : List ℕ) (letters rest : List Letter)
     → AcceptedSoFar deeds old new host letters rest → rest ≡ [] → Gains deeds old new (AreAccepted host letters)
 all_accepted deeds old new host letters rest so_far none = record {
   gained = so_far.taken;
@@ -170,7 +178,7 @@ all_accepted deeds old new host letters rest so_far none = record {
   are = subst (λ (xs : List Letter). AreAccepted host xs so_far.taken) (sym (at_end letters so_far.front rest so_far.split none)) so_far.accepted;
 }
 
-pub stopped_at : {S : Type 0} → (deeds : S → List Deed) (old between new : S) (host : List ℕ) (letters rest after : List Letter) (letter : Letter)
+pub stopped_at : {S : Type 0} → (deeds : S → Option (List Deed)) (old between new : S) (host : List ℕ) (letters rest after : List Letter) (letter : Letter)
     → AcceptedSoFar deeds old between host letters rest → rest ≡ letter ∷ after → Gains deeds between new (IsNotAccepted host letter) → Gains deeds old new (StopsAtLetter host letters)
 stopped_at deeds old between new host letters rest after letter so_far first one = record {
   gained = so_far.taken ++ one.gained;
@@ -190,28 +198,28 @@ stopped_at deeds old between new host letters rest after letter so_far first one
 
 -- ---- recipients
 
-pub record MarkedSoFar {S : Type 0} (deeds : S → List Deed) (old new : S) (notice : NoticeRequest) (places rest : List ℕ) : Type 0 where
+pub record MarkedSoFar {S : Type 0} (deeds : S → Option (List Deed)) (old new : S) (notice : NoticeRequest) (places rest : List ℕ) : Type 0 where
   pub front : List ℕ
   pub split : places ≡ front ++ rest
-  pub after : deeds new ≡ deeds old ++ map (marking notice) front
+  pub after : deeds new ≡ with_deeds (deeds old) (map (marking notice) front)
 
-pub marked_at_first : {S : Type 0} → (deeds : S → List Deed) (now : S) (notice : NoticeRequest) (places : List ℕ) → MarkedSoFar deeds now now notice places places
-marked_at_first deeds now notice places = record { front = []; split = refl; after = sym (append-nil (deeds now)) }
+pub marked_at_first : {S : Type 0} → (deeds : S → Option (List Deed)) (now : S) (notice : NoticeRequest) (places : List ℕ) → MarkedSoFar deeds now now notice places places
+marked_at_first deeds now notice places = record { front = []; split = refl; after = sym (with_no_deeds (deeds now)) }
 
 pub map_append : {X Y : Type 0} → (f : X → Y) (xs ys : List X) → map f xs ++ map f ys ≡ map f (xs ++ ys)
 map_append f [] ys = refl
 map_append f (x ∷ xs) ys = ap (λ (rest : List _). f x ∷ rest) (map_append f xs ys)
 
-pub marked_one_more : {S : Type 0} → (deeds : S → List Deed) (old between new : S) (notice : NoticeRequest) (places rest after : List ℕ) (place : ℕ)
+pub marked_one_more : {S : Type 0} → (deeds : S → Option (List Deed)) (old between new : S) (notice : NoticeRequest) (places rest after : List ℕ) (place : ℕ)
     → MarkedSoFar deeds old between notice places rest → rest ≡ place ∷ after → Gains deeds between new (λ gained. gained ≡ marking notice place ∷ []) → MarkedSoFar deeds old new notice places after
 marked_one_more deeds old between new notice places rest after place so_far first one = record {
   front = so_far.front ++ place ∷ [];
   split = past_one places so_far.front rest after place so_far.split first;
-  after = after_both deeds old between new (map (marking notice) so_far.front) (marking notice place ∷ []) so_far.after (one.after ∙ ap (λ (more : List Deed). deeds between ++ more) one.are)
-      ∙ ap (λ (all : List Deed). deeds old ++ all) (map_append (marking notice) so_far.front (place ∷ []));
+  after = after_both deeds old between new (map (marking notice) so_far.front) (marking notice place ∷ []) so_far.after (one.after ∙ ap (λ (more : List Deed). with_deeds (deeds between) more) one.are)
+      ∙ ap (λ (all : List Deed). with_deeds (deeds old) all) (map_append (marking notice) so_far.front (place ∷ []));
 }
 
-pub all_marked : {S : Type 0} → (deeds : S → List Deed) (old new : S) (notice : NoticeRequest) (places rest : List ℕ)
+pub all_marked : {S : Type 0} → (deeds : S → Option (List Deed)) (old new : S) (notice : NoticeRequest) (places rest : List ℕ)
     → MarkedSoFar deeds old new notice places rest → rest ≡ [] → Gains deeds old new (AreMarked notice places)
 all_marked deeds old new notice places rest so_far none = record {
   gained = map (marking notice) so_far.front;
@@ -219,7 +227,7 @@ all_marked deeds old new notice places rest so_far none = record {
   are = ap (map (marking notice)) (sym (at_end places so_far.front rest so_far.split none));
 }
 
-pub stopped_marking : {S : Type 0} → (deeds : S → List Deed) (old between new : S) (notice : NoticeRequest) (places rest after : List ℕ) (place : ℕ)
+pub stopped_marking : {S : Type 0} → (deeds : S → Option (List Deed)) (old between new : S) (notice : NoticeRequest) (places rest after : List ℕ) (place : ℕ)
     → MarkedSoFar deeds old between notice places rest → rest ≡ place ∷ after → Gains deeds between new (FailsToMark notice place) → Gains deeds old new (StopsAtPlace notice places)
 stopped_marking deeds old between new notice places rest after place so_far first one = record {
   gained = map (marking notice) so_far.front ++ one.gained;
@@ -239,8 +247,8 @@ stopped_marking deeds old between new notice places rest after place so_far firs
 
 -- ---- a request for notices
 
-pub notified : {S : Type 0} → (deeds : S → List Deed) (old between released new : S) (settings : SettingsSaid) (service : Service) (request : PostfixRequest) (notice : NoticeRequest) (bytes : List ℕ) (moment serial status : ℕ) (telling : Telling)
-    → Gains deeds old between (Tells settings service request notice moment serial telling) → deeds released ≡ deeds between ++ LogReleased ∷ [] → Gains deeds released new (EndsTelling service bytes telling status)
+pub notified : {S : Type 0} → (deeds : S → Option (List Deed)) (old between released new : S) (settings : SettingsSaid) (service : Service) (request : PostfixRequest) (notice : NoticeRequest) (bytes : List ℕ) (moment serial status : ℕ) (telling : Telling)
+    → Gains deeds old between (Tells settings service request notice moment serial telling) → deeds released ≡ with_deeds (deeds between) (LogReleased ∷ []) → Gains deeds released new (EndsTelling service bytes telling status)
     → Gains deeds old new (IsNotified settings service request notice bytes moment serial status)
 notified deeds old between released new settings service request notice bytes moment serial status telling first release last = record {
   gained = first.gained ++ LogReleased ∷ last.gained;

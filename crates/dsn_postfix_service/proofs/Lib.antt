@@ -1,11 +1,14 @@
 mod HandInExamples
 mod LetterExamples
 mod ReplyExamples
+pub mod CarriedOutLaws
 pub mod CommandLineLemmas
 pub mod DeedLemmas
 pub mod LetterLemmas
 pub mod QueueIdLemmas
+pub mod RequestLawLemmas
 pub mod RequestLetterLemmas
 pub mod ReplyLemmas
 pub mod ReplyReadingLemmas
+pub mod TellingParts
 pub mod TransactionLemmas

@@ -7,5 +7,6 @@ pub mod HandingIn
 pub mod MailFound
 pub mod NoticeDeeds
 pub mod RequestLetters
+pub mod RequestLaws
 pub mod RequestStatus
 pub mod ServiceSettings

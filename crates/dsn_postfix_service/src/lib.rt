@@ -1,5 +1,6 @@
 //! What serves Postfix's programs in place of its bounce(8), so far as it stands: the letters of the
-//! notices that its logs have, and a client that hands a notice to a mail server.
+//! notices that its logs have, a client that hands a notice to a mail server, and how one request is
+//! carried out, over a trait for all that lies outside.
 #![tactic(auto)]
 
 mod hand_in;
@@ -11,4 +12,7 @@ pub use hand_in::{
     hand_in_notice, queue_id_in,
 };
 pub use letters::{LetterFault, ReportedMessage, letter_of_notice};
-pub use requests::{DeedFault, MailSystem, ServiceSettings, carry_out};
+pub use requests::{
+    DeedFault, MailSystem, ServiceSettings, answered_appends_stand, carry_out,
+    logs_are_removed_after_acceptance, no_notice_causes_another, notices_are_handed_in_once,
+};

@@ -4,6 +4,7 @@ mod carrying_out;
 mod deed_fault;
 mod finish;
 mod hand_in_letters;
+mod laws;
 mod mail_found;
 mod mail_system;
 mod no_letters;
@@ -16,5 +17,9 @@ mod telling;
 
 pub use carrying_out::carry_out;
 pub use deed_fault::DeedFault;
+pub use laws::{
+    answered_appends_stand, logs_are_removed_after_acceptance, no_notice_causes_another,
+    notices_are_handed_in_once,
+};
 pub use mail_system::MailSystem;
 pub use service_settings::ServiceSettings;

@@ -72,8 +72,8 @@ pub(super) fn finish<M: MailSystem>(
     system: &mut M,
 ) -> bool
     ensures { Gains M.deeds system.old system.new
-        (FinishesAt service request.now notice.now (option_map (λ log. log.now) log.entry) places.now
-        result) }
+        (FinishesAt service request.now notice.now (option_map (λ log. log.now) log.entry)
+        places.now result) }
 {
     if !mark_all(notice, places, system) {
         return false;

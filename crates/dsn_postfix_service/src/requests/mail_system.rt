@@ -1,8 +1,9 @@
 //! All that lies outside of the service: Postfix's files, the mail server that notices are handed
 //! to, and Postfix's own services.
-ghost use Rattle.std.specs.Prelude.{◌≡◌, ◌++◌, [], ◌∷◌};
+ghost use Rattle.std.specs.Prelude.{◌≡◌, [], ◌∷◌};
 ghost use Rattle.std.specs.Option.{option_map};
 ghost use Rattle.dsn_postfix_service.specs.requests.Deed.{Appended, HandedIn, LogRead, LogReleased, LogRemoved, MarkedDone, MessageRead, PassedOn, answer_as, reply_as};
+ghost use Rattle.dsn_postfix_service.specs.requests.Gains.{with_deeds};
 
 use crate::hand_in::{HandInFault, ReplyBuffer};
 use crate::requests::deed_fault::DeedFault;
@@ -13,11 +14,12 @@ use std::alloc::Global;
 /// What a request reads, writes and asks outside of the service. Each call is one deed: it ends
 /// before the next one begins, and says what came of it.
 pub trait MailSystem {
-    ghost use Rattle.std.specs.Prelude.{List};
+    ghost use Rattle.std.specs.Prelude.{List, Option};
     ghost use Rattle.dsn_postfix_service.specs.requests.Deed.{Deed};
 
-    // What was done or tried so far, in its order, with what came of each.
-    ghost deeds: { Self → List Deed };
+    // What was done or tried so far, in its order, with what came of each, where that is told. A
+    // system over files and sockets tells nothing; one in memory may.
+    ghost deeds: { Self → Option (List Deed) };
 
     /// Reads the log of a service about a message: its bytes, or none where there is no log. A log
     /// that was read stays locked until it is removed or released.
@@ -27,8 +29,8 @@ pub trait MailSystem {
         service: Service,
         id: QueueId,
     ) -> Result<Option<Vec<u8>>, DeedFault>
-        ensures { deeds self.new ≡ deeds self.old
-            ++ LogRead service id (answer_as (option_map (λ file. file.items)) result) ∷ [] };
+        ensures { deeds self.new ≡ with_deeds (deeds self.old)
+            (LogRead service id (answer_as (option_map (λ file. file.items)) result) ∷ []) };
 
     /// Puts the bytes of a record at the end of a log, which is made where there is none, and syncs
     /// it, under the log's lock. After an error nothing of the record stands there: the log is cut
@@ -39,11 +41,13 @@ pub trait MailSystem {
         id: QueueId,
         bytes: &[u8],
     ) -> Result<(), DeedFault>
-        ensures { deeds self.new ≡ deeds self.old ++ Appended service id bytes.now result ∷ [] };
+        ensures { deeds self.new
+            ≡ with_deeds (deeds self.old) (Appended service id bytes.now result ∷ []) };
 
     /// Removes a log, and releases it. A log that isn't there counts as removed.
     fn remove_log(&mut self, service: Service, id: QueueId) -> Result<(), DeedFault>
-        ensures { deeds self.new ≡ deeds self.old ++ LogRemoved service id result ∷ [] };
+        ensures { deeds self.new
+            ≡ with_deeds (deeds self.old) (LogRemoved service id result ∷ []) };
 
     /// Reads the file of a message in a queue: all its bytes.
     fn read_message(
@@ -52,8 +56,8 @@ pub trait MailSystem {
         queue: &QueueName<'_>,
         id: QueueId,
     ) -> Result<Vec<u8>, DeedFault>
-        ensures { deeds self.new ≡ deeds self.old
-            ++ MessageRead queue.now id (answer_as (λ file. file.items) result) ∷ [] };
+        ensures { deeds self.new ≡ with_deeds (deeds self.old)
+            (MessageRead queue.now id (answer_as (λ file. file.items) result) ∷ []) };
 
     /// Hands one notice to the mail server, as [`hand_in_notice`](crate::hand_in_notice) does:
     /// there is no error only where the server took it, with the reply that the buffer then holds.
@@ -64,19 +68,22 @@ pub trait MailSystem {
         message: &[u8],
         reply: &mut ReplyBuffer,
     ) -> Result<(), HandInFault>
-        ensures { deeds self.new ≡ deeds self.old
-            ++ HandedIn path.now message.now (reply_as result reply.new) ∷ [] };
+        ensures { deeds self.new ≡ with_deeds (deeds self.old)
+            (HandedIn path.now message.now (reply_as result reply.new) ∷ []) };
 
     /// Marks the recipient whose record stands at a place of a message's file as done.
     fn mark_done(&mut self, queue: &QueueName<'_>, id: QueueId, place: u64) -> Result<(), DeedFault>
-        ensures { deeds self.new ≡ deeds self.old ++ MarkedDone queue.now id place result ∷ [] };
+        ensures { deeds self.new
+            ≡ with_deeds (deeds self.old) (MarkedDone queue.now id place result ∷ []) };
 
     /// Passes a request on to Postfix's own service of that name, and says the status that it
     /// answers.
     fn pass_on(&mut self, service: Service, request: &[u8]) -> Result<u32, DeedFault>
-        ensures { deeds self.new ≡ deeds self.old ++ PassedOn service request.now result ∷ [] };
+        ensures { deeds self.new
+            ≡ with_deeds (deeds self.old) (PassedOn service request.now result ∷ []) };
 
     /// Releases the log that is still locked, if one is.
     fn release_log(&mut self)
-        ensures { deeds self.new ≡ deeds self.old ++ LogReleased ∷ [] };
+        ensures { deeds self.new
+            ≡ with_deeds (deeds self.old) (LogReleased ∷ []) };
 }

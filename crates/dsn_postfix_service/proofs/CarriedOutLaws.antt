@@ -1,0 +1,291 @@
+-- The laws of requests that were carried out.
+use Rattle.std.proofs.Common.{◌≡◌, ℕ, Bool, true, false, List, [], ◌∷◌, ◌++◌, Option, Some, None, Result, Ok, Err, refl, sym, ap, subst, ◌∙◌, append_assoc, append-nil, inl, inr}
+use Rattle.std.specs.Prelude.{◌⊎◌, ◌&&◌, ◌==◌, not, unwrap_or, MatchBool}
+use Rattle.dsn_outcome.specs.Letter.{Letter}
+use Rattle.dsn_text.specs.declared.service.Service.{Service}
+use Rattle.dsn_postfix.specs.NoticePlan.{notice_asked, notices_of}
+use Rattle.dsn_postfix.specs.PlannedNotice.{NoticeFacts}
+use Rattle.dsn_postfix.specs.Wanted.{is_no_sender}
+use Rattle.dsn_postfix.specs.declared.cant_say.CantSay.{CantSay}
+use Rattle.dsn_postfix.specs.declared.postfix_request.AppendRequest.{AppendRequest}
+use Rattle.dsn_postfix.specs.declared.postfix_request.NoticeRequest.{NoticeRequest}
+use Rattle.dsn_postfix.specs.declared.postfix_request.PostfixRequest.{PostfixRequest}
+use Rattle.dsn_postfix.specs.declared.postfix_request.PostfixRequest.TheVariants.{Append, Flush, Warn, Verp, One, Trace}
+use Rattle.dsn_postfix.specs.files.QueueRecipients.{RecipientFacts}
+use Rattle.dsn_postfix_service.specs.declared.requests.deed_fault.DeedFault.{DeedFault}
+use Rattle.dsn_postfix_service.specs.letters.ReportedMessage.{MessageSaid}
+use Rattle.dsn_postfix_service.specs.requests.AppendDeeds.{IsAppended, record_bytes}
+use Rattle.dsn_postfix_service.specs.requests.AppendDeeds as append
+use Rattle.dsn_postfix_service.specs.requests.CarriedOut.{Cleans, IsCarriedOut, IsDone, flags_of, must_clean, queue_id_of}
+use Rattle.dsn_postfix_service.specs.requests.Deed.{Answer, Appended, Deed, HandedIn, LogRead, LogReleased, LogRemoved, MarkedDone, MessageRead, PassedOn}
+use Rattle.dsn_postfix_service.specs.requests.NoticeDeeds.{IsNotified}
+use Rattle.dsn_postfix_service.specs.requests.RequestLaws.{AreAllTold, AreHandedIn, HandsInOnce, IsRemovedAfter, IsTellingDone, StandsOrIsPassedOn, hand_ins}
+use Rattle.dsn_postfix_service.specs.requests.RequestLetters.{AreLettersAsked, AreLettersOf, message_said}
+use Rattle.dsn_postfix_service.specs.requests.RequestStatus.{PassesOn, carried_out, has_flag, not_carried_out, status_after, status_passed_on}
+use Rattle.dsn_postfix_service.specs.requests.ServiceSettings.{SettingsSaid}
+use Rattle.dsn_postfix_service.proofs.RequestLawLemmas.{Block, RemovesNone, hand_ins-append, is_removal}
+use Rattle.dsn_postfix_service.proofs.TellingParts.{IsRemovalPart, NotifiedParts, TellingParts, notified_parts, nothing_removed, removed_told}
+
+-- ---- which requests
+
+some_is : {X : Type 0} → (x y : X) → Some x ≡ Some y → x ≡ y
+some_is x y e = ap (λ (o : Option _). unwrap_or o x) e
+
+no_notice : (notice : NoticeRequest) → None ≡ Some notice → ⊥
+no_notice notice e = cc
+
+done_notified : (settings : SettingsSaid) (service : Service) (request : PostfixRequest) (notice : NoticeRequest) (bytes : List ℕ) (moment serial status : ℕ) (gained : List Deed)
+    → notice_asked request ≡ Some notice → IsDone settings service request bytes moment serial status gained → IsNotified settings service request notice bytes moment serial status gained
+done_notified settings service (Append append) notice bytes moment serial status gained e is = absurd (no_notice notice e)
+done_notified settings service (Flush own) notice bytes moment serial status gained e is = subst (λ (n : NoticeRequest). IsNotified settings service (Flush own) n bytes moment serial status gained) (some_is own notice e) is
+done_notified settings service (Warn own) notice bytes moment serial status gained e is = subst (λ (n : NoticeRequest). IsNotified settings service (Warn own) n bytes moment serial status gained) (some_is own notice e) is
+done_notified settings service (Verp own delimiters) notice bytes moment serial status gained e is = subst (λ (n : NoticeRequest). IsNotified settings service (Verp own delimiters) n bytes moment serial status gained) (some_is own notice e) is
+done_notified settings service (One own recipient report) notice bytes moment serial status gained e is = subst (λ (n : NoticeRequest). IsNotified settings service (One own recipient report) n bytes moment serial status gained) (some_is own notice e) is
+done_notified settings service (Trace own) notice bytes moment serial status gained e is = subst (λ (n : NoticeRequest). IsNotified settings service (Trace own) n bytes moment serial status gained) (some_is own notice e) is
+
+id_of : (request : PostfixRequest) (notice : NoticeRequest) → notice_asked request ≡ Some notice → queue_id_of request ≡ notice.queue_id
+id_of (Append append) notice e = absurd (no_notice notice e)
+id_of (Flush own) notice e = ap (λ (n : NoticeRequest). n.queue_id) (some_is own notice e)
+id_of (Warn own) notice e = ap (λ (n : NoticeRequest). n.queue_id) (some_is own notice e)
+id_of (Verp own delimiters) notice e = ap (λ (n : NoticeRequest). n.queue_id) (some_is own notice e)
+id_of (One own recipient report) notice e = ap (λ (n : NoticeRequest). n.queue_id) (some_is own notice e)
+id_of (Trace own) notice e = ap (λ (n : NoticeRequest). n.queue_id) (some_is own notice e)
+
+-- ---- places of deeds
+
+abbrev first_or : Deed → List Deed → Deed
+first_or other [] = other
+first_or other (deed ∷ deeds) = deed
+
+abbrev later : List Deed → List Deed
+later [] = []
+later (deed ∷ deeds) = deeds
+
+nothing_is_some : (deed : Deed) (deeds : List Deed) → [] ≡ deed ∷ deeds → ⊥
+nothing_is_some deed deeds e = cc
+
+false_is_true : false ≡ true → ⊥
+false_is_true e = cc
+
+-- a removal after deeds that remove none
+pub record AfterBlock (front rest before after : List Deed) (removal : Deed) : Type 0 where
+  pub more : List Deed
+  pub before_is : before ≡ front ++ more
+  pub rest_is : rest ≡ more ++ removal ∷ after
+
+past_block : (front rest before after : List Deed) (removal : Deed) → RemovesNone front → is_removal removal ≡ true → front ++ rest ≡ before ++ removal ∷ after → AfterBlock front rest before after removal
+past_block [] rest before after removal keeps removes e = record { more = before; before_is = refl; rest_is = e }
+past_block (deed ∷ front) rest [] after removal keeps removes e =
+    absurd (false_is_true (sym keeps.0 ∙ ap (λ (deeds : List Deed). is_removal (first_or deed deeds)) e ∙ removes))
+past_block (deed ∷ front) rest (other ∷ before) after removal keeps removes e =
+    let more = past_block front rest before after removal keeps.1 removes (ap later e) in
+    record {
+      more = more.more;
+      before_is = ap (λ (deeds : List Deed). first_or deed deeds ∷ before) (sym e) ∙ ap (λ (deeds : List Deed). deed ∷ deeds) more.before_is;
+      rest_is = more.rest_is;
+    }
+
+abbrev removed_service : Service → Deed → Service
+removed_service other (LogRemoved service id answer) = service
+removed_service other (LogRead service id answer) = other
+removed_service other (Appended service id bytes answer) = other
+removed_service other (MessageRead queue id answer) = other
+removed_service other (HandedIn path message answer) = other
+removed_service other (MarkedDone queue id place answer) = other
+removed_service other (PassedOn service bytes answer) = other
+removed_service other LogReleased = other
+
+abbrev removed_id : List ℕ → Deed → List ℕ
+removed_id other (LogRemoved service id answer) = id
+removed_id other (LogRead service id answer) = other
+removed_id other (Appended service id bytes answer) = other
+removed_id other (MessageRead queue id answer) = other
+removed_id other (HandedIn path message answer) = other
+removed_id other (MarkedDone queue id place answer) = other
+removed_id other (PassedOn service bytes answer) = other
+removed_id other LogReleased = other
+
+-- a removal that is the first of some deeds
+pub record SameRemoval (service other : Service) (id named : List ℕ) (rest after : List Deed) : Type 0 where
+  pub of_service : other ≡ service
+  pub of_message : named ≡ id
+  pub rest_is : rest ≡ after
+
+same_removal : (service other : Service) (id named : List ℕ) (answer given : Answer) (rest after : List Deed) → LogRemoved service id answer ∷ rest ≡ LogRemoved other named given ∷ after → SameRemoval service other id named rest after
+same_removal service other id named answer given rest after e = record {
+  of_service = sym (ap (λ (deeds : List Deed). removed_service service (first_or LogReleased deeds)) e);
+  of_message = sym (ap (λ (deeds : List Deed). removed_id id (first_or LogReleased deeds)) e);
+  rest_is = ap later e;
+}
+
+-- the removal that CLEAN asks for
+pub record CleansLast (service other : Service) (id named : List ℕ) (due : Bool) (after : List Deed) : Type 0 where
+  pub is_due : due ≡ true
+  pub of_service : other ≡ service
+  pub of_message : named ≡ id
+  pub none_after : after ≡ []
+
+nothing_after : (more after : List Deed) (removal : Deed) → [] ≡ more ++ removal ∷ after → ⊥
+nothing_after [] after removal e = nothing_is_some removal after e
+nothing_after (deed ∷ more) after removal e = nothing_is_some deed (more ++ removal ∷ after) e
+
+one_removal : (service other : Service) (id named : List ℕ) (answer given : Answer) (more after : List Deed) → LogRemoved service id answer ∷ [] ≡ more ++ LogRemoved other named given ∷ after → CleansLast service other id named true after
+one_removal service other id named answer given [] after e =
+    let same = same_removal service other id named answer given [] after e in
+    record { is_due = refl; of_service = same.of_service; of_message = same.of_message; none_after = sym same.rest_is }
+one_removal service other id named answer given (deed ∷ more) after e = absurd (nothing_after more after (LogRemoved other named given) (ap later e))
+
+cleaned_last : (service other : Service) (request : PostfixRequest) (named : List ℕ) (due : Bool) (cleaned more after : List Deed) (given : Answer) → Cleans service request due cleaned
+    → cleaned ≡ more ++ LogRemoved other named given ∷ after → CleansLast service other (queue_id_of request) named due after
+cleaned_last service other request named true cleaned more after given cleans e = one_removal service other (queue_id_of request) named cleans.answer given more after (sym cleans.removed ∙ e)
+cleaned_last service other request named false cleaned more after given cleans e = absurd (nothing_after more after (LogRemoved other named given) (sym cleans ∙ e))
+
+-- ---- a removal
+
+-- after the telling only CLEAN removes
+after_tail : (settings : SettingsSaid) (service other : Service) (request : PostfixRequest) (notice : NoticeRequest) (moment serial status : ℕ) (tail cleaned before more after : List Deed) (named : List ℕ) (given : Answer)
+    → notice_asked request ≡ Some notice → Block tail [] → Cleans service request (must_clean request status) cleaned
+    → tail ++ cleaned ≡ more ++ LogRemoved other named given ∷ after → IsRemovedAfter settings service request notice moment serial status before after other named
+after_tail settings service other request notice moment serial status tail cleaned before more after named given asked block cleans e =
+    let past = past_block tail cleaned more after (LogRemoved other named given) block.keeps refl e in
+    let last = cleaned_last service other request named (must_clean request status) cleaned past.more after given cleans past.rest_is in
+    record { of_service = last.of_service; of_message = last.of_message ∙ id_of request notice asked; told = inr (last.is_due, last.none_after) }
+
+at_removal : (settings : SettingsSaid) (service other : Service) (request : PostfixRequest) (notice : NoticeRequest) (moment serial status : ℕ) (front handed removal tail cleaned before more after : List Deed) (named : List ℕ) (given : Answer)
+    → notice_asked request ≡ Some notice → Block front handed → IsRemovalPart settings service request notice moment serial handed removal → Block tail [] → Cleans service request (must_clean request status) cleaned
+    → before ≡ front ++ more → removal ++ (tail ++ cleaned) ≡ more ++ LogRemoved other named given ∷ after → IsRemovedAfter settings service request notice moment serial status before after other named
+at_removal settings service other request notice moment serial status front handed removal tail cleaned before more after named given asked block (nothing_removed none) tail_block cleans before_is e =
+    after_tail settings service other request notice moment serial status tail cleaned before more after named given asked tail_block cleans
+    (ap (λ (deeds : List Deed). deeds ++ (tail ++ cleaned)) (sym none) ∙ e)
+at_removal settings service other request notice moment serial status front handed removal tail cleaned before [] after named given asked block (removed_told answer is told) tail_block cleans before_is e =
+    let same = same_removal service other notice.queue_id named answer given (tail ++ cleaned) after (ap (λ (deeds : List Deed). deeds ++ (tail ++ cleaned)) (sym is) ∙ e) in
+    record {
+      of_service = same.of_service;
+      of_message = same.of_message;
+      told = inl (subst (λ (deeds : List Deed). AreAllTold settings service request notice moment serial deeds) (sym (ap hand_ins (before_is ∙ append-nil front) ∙ block.handed_are)) told);
+    }
+at_removal settings service other request notice moment serial status front handed removal tail cleaned before (deed ∷ more) after named given asked block (removed_told answer is told) tail_block cleans before_is e =
+    after_tail settings service other request notice moment serial status tail cleaned before more after named given asked tail_block cleans
+    (ap later (ap (λ (deeds : List Deed). deeds ++ (tail ++ cleaned)) (sym is) ∙ e))
+
+-- the deeds of a telling, in one row
+one_row : (front removal tail cleaned told done gained : List Deed) → gained ≡ done ++ cleaned → done ≡ told ++ tail → told ≡ front ++ removal → gained ≡ front ++ (removal ++ (tail ++ cleaned))
+one_row front removal tail cleaned told done gained g d t =
+    g ∙ ap (λ (deeds : List Deed). deeds ++ cleaned) d ∙ append_assoc told tail cleaned
+    ∙ ap (λ (deeds : List Deed). deeds ++ (tail ++ cleaned)) t ∙ append_assoc front removal (tail ++ cleaned)
+
+pub removed_only_after : (settings : SettingsSaid) (service : Service) (request : PostfixRequest) (notice : NoticeRequest) (bytes : List ℕ) (moment serial status : ℕ) (gained before after : List Deed) (other : Service) (named : List ℕ) (given : Answer)
+    → IsTellingDone settings service request notice bytes moment serial status gained → gained ≡ before ++ LogRemoved other named given ∷ after
+    → IsRemovedAfter settings service request notice moment serial status before after other named
+removed_only_after settings service request notice bytes moment serial status gained before after other named given done e =
+    let out = done.carried_out in
+    let parts = notified_parts settings service request notice bytes moment serial status out.done (done_notified settings service request notice bytes moment serial status out.done done.asked out.is_done) in
+    let row = one_row parts.telling.front parts.telling.removal parts.tail out.cleaned parts.told out.done gained out.gained_are parts.all parts.telling.parts in
+    let past = past_block parts.telling.front (parts.telling.removal ++ (parts.tail ++ out.cleaned)) before after (LogRemoved other named given) parts.telling.block.keeps refl (sym row ∙ e) in
+    at_removal settings service other request notice moment serial status parts.telling.front parts.telling.handed parts.telling.removal parts.tail out.cleaned before past.more after named given done.asked
+    parts.telling.block parts.telling.removal_is parts.tail_block out.clean past.before_is past.rest_is
+
+-- ---- what is handed in
+
+removal_hands_in_none : (settings : SettingsSaid) (service : Service) (request : PostfixRequest) (notice : NoticeRequest) (moment serial : ℕ) (handed removal : List Deed) → IsRemovalPart settings service request notice moment serial handed removal → hand_ins removal ≡ []
+removal_hands_in_none settings service request notice moment serial handed removal (nothing_removed is) = ap hand_ins is
+removal_hands_in_none settings service request notice moment serial handed removal (removed_told answer is told) = ap hand_ins is
+
+cleaning_hands_in_none : (service : Service) (request : PostfixRequest) (due : Bool) (cleaned : List Deed) → Cleans service request due cleaned → hand_ins cleaned ≡ []
+cleaning_hands_in_none service request true cleaned cleans = ap hand_ins cleans.removed
+cleaning_hands_in_none service request false cleaned cleans = ap hand_ins cleans
+
+row_handed : (front removal tail cleaned handed : List Deed) → hand_ins front ≡ handed → hand_ins removal ≡ [] → hand_ins tail ≡ [] → hand_ins cleaned ≡ [] → hand_ins (front ++ (removal ++ (tail ++ cleaned))) ≡ handed
+row_handed front removal tail cleaned handed f r t c =
+    hand_ins-append front (removal ++ (tail ++ cleaned))
+    ∙ ap (λ (deeds : List Deed). hand_ins front ++ deeds) (hand_ins-append removal (tail ++ cleaned) ∙ ap (λ (deeds : List Deed). deeds ++ hand_ins (tail ++ cleaned)) r
+    ∙ hand_ins-append tail cleaned ∙ ap (λ (deeds : List Deed). deeds ++ hand_ins cleaned) t ∙ c)
+    ∙ append-nil (hand_ins front) ∙ f
+
+once_as : (settings : SettingsSaid) (service : Service) (request : PostfixRequest) (notice : NoticeRequest) (moment serial : ℕ) (handed all : List Deed) → all ≡ handed
+    → (handed ≡ []) ⊎ HandsInOnce settings service request notice moment serial handed → (all ≡ []) ⊎ HandsInOnce settings service request notice moment serial all
+once_as settings service request notice moment serial handed all is (inl none) = inl (is ∙ none)
+once_as settings service request notice moment serial handed all is (inr once) = inr (subst (λ (deeds : List Deed). HandsInOnce settings service request notice moment serial deeds) (sym is) once)
+
+pub handed_in_once : (settings : SettingsSaid) (service : Service) (request : PostfixRequest) (notice : NoticeRequest) (bytes : List ℕ) (moment serial status : ℕ) (gained : List Deed)
+    → IsTellingDone settings service request notice bytes moment serial status gained → (hand_ins gained ≡ []) ⊎ HandsInOnce settings service request notice moment serial (hand_ins gained)
+handed_in_once settings service request notice bytes moment serial status gained done =
+    let out = done.carried_out in
+    let parts = notified_parts settings service request notice bytes moment serial status out.done (done_notified settings service request notice bytes moment serial status out.done done.asked out.is_done) in
+    let telling = parts.telling in
+    let row = one_row telling.front telling.removal parts.tail out.cleaned parts.told out.done gained out.gained_are parts.all telling.parts in
+    once_as settings service request notice moment serial telling.handed (hand_ins gained)
+    (ap hand_ins row ∙ row_handed telling.front telling.removal parts.tail out.cleaned telling.handed telling.block.handed_are
+    (removal_hands_in_none settings service request notice moment serial telling.handed telling.removal telling.removal_is) parts.tail_block.handed_are
+    (cleaning_hands_in_none service request (must_clean request status) out.cleaned out.clean))
+    telling.once
+
+-- ---- nobody to be told
+
+no_sender_plan : (double_bounce : List ℕ) (service : Service) (request : PostfixRequest) (notice : NoticeRequest) (queued : List RecipientFacts) (log : Option (List ℕ))
+    → notice_asked request ≡ Some notice → is_no_sender double_bounce notice.sender ≡ true → notices_of double_bounce service request queued log ≡ Ok []
+unfolding notices_of
+no_sender_plan double_bounce service request notice queued log asked none = rw asked (rw none refl)
+
+abbrev notices_or : List NoticeFacts → Result (List NoticeFacts) CantSay → List NoticeFacts
+notices_or other (Ok notices) = notices
+notices_or other (Err reason) = other
+
+same_notices : (one two : List NoticeFacts) (plan : Result (List NoticeFacts) CantSay) → plan ≡ Ok one → plan ≡ Ok two → one ≡ two
+same_notices one two plan first second = sym (ap (notices_or one) first) ∙ ap (notices_or one) second
+
+no_letter_more : (letter : Letter) (letters : List Letter) → [] ≡ letter ∷ letters → ⊥
+no_letter_more letter letters e = cc
+
+empty_front : (front rest : List Letter) → [] ≡ front ++ rest → front ≡ []
+empty_front [] rest e = refl
+empty_front (letter ∷ front) rest e = absurd (no_letter_more letter (front ++ rest) e)
+
+none_once : (settings : SettingsSaid) (service : Service) (request : PostfixRequest) (notice : NoticeRequest) (moment serial : ℕ) (handed : List Deed) → notice_asked request ≡ Some notice → is_no_sender settings.double_bounce notice.sender ≡ true
+    → (handed ≡ []) ⊎ HandsInOnce settings service request notice moment serial handed → handed ≡ []
+none_once settings service request notice moment serial handed asked none (inl is) = is
+none_once settings service request notice moment serial handed asked none (inr once) =
+    let letters = once.asked in
+    let no_notices : letters.notices ≡ [] = sym (same_notices [] letters.notices _ (no_sender_plan settings.double_bounce service request notice _ once.found.log asked none) letters.planned) in
+    let no_letters : once.letters ≡ [] = subst (λ (ns : List NoticeFacts). AreLettersOf (message_said settings.lifetime notice letters.records) moment serial ns once.letters) no_notices letters.each in
+    let no_front : once.front ≡ [] = empty_front once.front once.rest (sym no_letters ∙ once.letters_are) in
+    subst (λ (ls : List Letter). AreHandedIn settings.host ls handed) no_front once.each
+
+pub nobody_is_told : (settings : SettingsSaid) (service : Service) (request : PostfixRequest) (notice : NoticeRequest) (bytes : List ℕ) (moment serial status : ℕ) (gained : List Deed)
+    → IsTellingDone settings service request notice bytes moment serial status gained → is_no_sender settings.double_bounce notice.sender ≡ true → hand_ins gained ≡ []
+nobody_is_told settings service request notice bytes moment serial status gained done none =
+    none_once settings service request notice moment serial (hand_ins gained) done.asked none (handed_in_once settings service request notice bytes moment serial status gained done)
+
+-- ---- appends
+
+and_false : (b : Bool) → (b && false) ≡ false
+and_false true = refl
+and_false false = refl
+
+not_zero : not_carried_out ≡ carried_out → ⊥
+not_zero e = cc
+
+stands_if_tried : (service : Service) (request : AppendRequest) (bytes : List ℕ) (gained : List Deed) (answer : Answer) → gained ≡ Appended service request.queue_id (record_bytes service request) answer ∷ [] → status_after answer ≡ 0 → StandsOrIsPassedOn service request bytes gained
+stands_if_tried service request bytes gained (Ok done) is zero = inl is
+stands_if_tried service request bytes gained (Err why) is zero = absurd (not_zero zero)
+
+passed_with_zero : (service : Service) (request : AppendRequest) (bytes : List ℕ) (gained : List Deed) (answer : Result ℕ DeedFault) → gained ≡ PassedOn service bytes answer ∷ [] → status_passed_on answer ≡ 0 → StandsOrIsPassedOn service request bytes gained
+passed_with_zero service request bytes gained (Ok status) is zero = inr (is ∙ ap (λ (n : ℕ). PassedOn service bytes (Ok n) ∷ []) zero)
+passed_with_zero service request bytes gained (Err why) is zero = absurd (not_zero zero)
+
+append_stands : (service : Service) (request : AppendRequest) (bytes : List ℕ) (status : ℕ) (gained : List Deed) → IsAppended service request bytes status gained → status ≡ 0 → StandsOrIsPassedOn service request bytes gained
+append_stands service request bytes status gained (append.tried none answer is status_is) zero = stands_if_tried service request bytes gained answer is (sym status_is ∙ zero)
+append_stands service request bytes status gained (append.unsayable field some passes) zero = passed_with_zero service request bytes gained passes.answer passes.passed (sym passes.status_is ∙ zero)
+append_stands service request bytes status gained (append.no_memory none status_is) zero = absurd (not_zero (sym status_is ∙ zero))
+
+nothing_to_clean : (service : Service) (request : PostfixRequest) (status : ℕ) (cleaned : List Deed) → status ≡ 0 → Cleans service request (must_clean request status) cleaned → cleaned ≡ []
+nothing_to_clean service request status cleaned zero cleans =
+    subst (λ (due : Bool). Cleans service request due cleaned)
+    (ap (λ (n : ℕ). has_flag 1 (flags_of request) && not (n == 0)) zero ∙ and_false (has_flag 1 (flags_of request))) cleans
+
+pub answered_append_stands : (settings : SettingsSaid) (service : Service) (request : AppendRequest) (bytes : List ℕ) (moment serial status : ℕ) (gained : List Deed)
+    → IsCarriedOut settings service (Append request) bytes moment serial status gained → status ≡ 0 → StandsOrIsPassedOn service request bytes gained
+answered_append_stands settings service request bytes moment serial status gained out zero =
+    subst (λ (deeds : List Deed). StandsOrIsPassedOn service request bytes deeds)
+    (sym (out.gained_are ∙ ap (λ (deeds : List Deed). out.done ++ deeds) (nothing_to_clean service (Append request) status out.cleaned zero out.clean) ∙ append-nil out.done))
+    (append_stands service request bytes status out.done out.is_done zero)

@@ -1,0 +1,163 @@
+-- What is true of each request that was carried out: the parts of its deeds, which of them remove a log, and which hand in.
+use Rattle.std.proofs.Common.{◌≡◌, ℕ, Bool, true, false, List, [], ◌∷◌, ◌++◌, Option, Some, None, Result, Ok, Err, refl, sym, ap, subst, ◌∙◌, append_assoc, append-nil, map, inl, inr}
+use Rattle.std.specs.Prelude.{◌⊎◌}
+use Rattle.dsn_outcome.specs.Letter.{Letter}
+use Rattle.dsn_text.specs.declared.service.Service.{Service}
+use Rattle.dsn_postfix.specs.declared.postfix_request.NoticeRequest.{NoticeRequest}
+use Rattle.dsn_postfix.specs.declared.postfix_request.PostfixRequest.{PostfixRequest}
+use Rattle.dsn_postfix_service.specs.declared.requests.deed_fault.DeedFault.{DeedFault}
+use Rattle.dsn_postfix_service.specs.declared.requests.telling.Telling.{Telling}
+use Rattle.dsn_postfix_service.specs.declared.requests.telling.Telling.TheVariants.{Told, Unsayable, Failed}
+use Rattle.dsn_postfix_service.specs.requests.Deed.{Answer, Appended, Deed, HandedIn, LogRead, LogReleased, LogRemoved, MarkedDone, MessageRead, PassedOn}
+use Rattle.dsn_postfix_service.specs.requests.Finishing.{AreMarked, FailsToMark, FinishesAt, RemovesLog, StopsAtPlace, is_removal_due, kept, marked, marking, removed, unmarked, unremoved}
+use Rattle.dsn_postfix_service.specs.requests.HandingIn.{AreAccepted, IsNotAccepted, StopsAtLetter, hand_in_of}
+use Rattle.dsn_postfix_service.specs.requests.HandingIn as handing
+use Rattle.dsn_postfix_service.specs.requests.MailFound.{FailsToRead, MailRead, log_reading, log_unread, message_reading, message_unread, readings, tells_of_log}
+use Rattle.dsn_postfix_service.specs.requests.NoticeDeeds.{EndsTelling, IsNotified, Tells, TellsLetters, TellsOfMail}
+use Rattle.dsn_postfix_service.specs.requests.NoticeDeeds as notices
+use Rattle.dsn_postfix_service.specs.requests.RequestLaws.{AreAllTold, AreHandedIn, HandsInOnce, hand_ins, is_hand_in, onto_if}
+use Rattle.dsn_postfix_service.specs.requests.RequestLetters.{AreLettersAsked, places_done}
+use Rattle.dsn_postfix_service.specs.requests.ServiceSettings.{SettingsSaid}
+
+-- ---- deeds that remove no log
+
+abbrev pub is_removal : Deed → Bool
+is_removal (LogRead service id answer) = false
+is_removal (Appended service id bytes answer) = false
+is_removal (LogRemoved service id answer) = true
+is_removal (MessageRead queue id answer) = false
+is_removal (HandedIn path message answer) = false
+is_removal (MarkedDone queue id place answer) = false
+is_removal (PassedOn service bytes answer) = false
+is_removal LogReleased = false
+
+abbrev pub RemovesNone : List Deed → Type 0
+RemovesNone [] = Unit {0}
+RemovesNone (deed ∷ deeds) = (is_removal deed ≡ false) × RemovesNone deeds
+
+-- deeds that remove no log, with those of them that hand in
+pub record Block (deeds handed : List Deed) : Type 0 where
+  pub keeps : RemovesNone deeds
+  pub handed_are : hand_ins deeds ≡ handed
+
+keeps_append : (one two : List Deed) → RemovesNone one → RemovesNone two → RemovesNone (one ++ two)
+keeps_append [] two first second = second
+keeps_append (deed ∷ one) two first second = (first.0, keeps_append one two first.1 second)
+
+onto_append : (b : Bool) (deed : Deed) (one two : List Deed) → onto_if b deed (one ++ two) ≡ onto_if b deed one ++ two
+onto_append true deed one two = refl
+onto_append false deed one two = refl
+
+pub hand_ins-append : (one two : List Deed) → hand_ins (one ++ two) ≡ hand_ins one ++ hand_ins two
+hand_ins-append [] two = refl
+hand_ins-append (deed ∷ one) two = ap (onto_if (is_hand_in deed) deed) (hand_ins-append one two) ∙ onto_append (is_hand_in deed) deed (hand_ins one) (hand_ins two)
+
+pub both : (one two h k : List Deed) → Block one h → Block two k → Block (one ++ two) (h ++ k)
+both one two h k first second = record {
+  keeps = keeps_append one two first.keeps second.keeps;
+  handed_are = hand_ins-append one two ∙ (λ i. first.handed_are i ++ second.handed_are i);
+}
+
+pub block_is : (one two h : List Deed) → one ≡ two → Block two h → Block one h
+block_is one two h is block = subst (λ (deeds : List Deed). Block deeds h) (sym is) block
+
+pub no_deeds : Block [] []
+no_deeds = record { keeps = tt; handed_are = refl }
+
+-- ---- what is read
+
+reading_block : (tells : Bool) (service : Service) (notice : NoticeRequest) (log : Result (Option (List ℕ)) DeedFault) (file : Result (List ℕ) DeedFault) → Block (log_reading tells service notice log ++ message_reading notice file) []
+reading_block true service notice log file = record { keeps = (refl, (refl, tt)); handed_are = refl }
+reading_block false service notice log file = record { keeps = (refl, tt); handed_are = refl }
+
+pub readings_block : (service : Service) (request : PostfixRequest) (notice : NoticeRequest) (found : MailRead) → Block (readings service request notice found) []
+readings_block service request notice found = reading_block (tells_of_log request) service notice (Ok found.log) (Ok found.file)
+
+log_alone : (service : Service) (notice : NoticeRequest) (why : DeedFault) → Block (log_reading true service notice (Err why)) []
+log_alone service notice why = record { keeps = (refl, tt); handed_are = refl }
+
+pub unread_block : (service : Service) (request : PostfixRequest) (notice : NoticeRequest) (gained : List Deed) → FailsToRead service request notice gained → Block gained []
+unread_block service request notice gained (log_unread why tells is) = block_is gained _ [] is (log_alone service notice why)
+unread_block service request notice gained (message_unread log why is) = block_is gained _ [] is (reading_block (tells_of_log request) service notice (Ok log) (Err why))
+
+-- ---- letters
+
+hand_in_alone : (deed : Deed) (host : List ℕ) (letter : Letter) (answer : Result (List ℕ) _) → deed ≡ hand_in_of host letter answer → (is_removal deed ≡ false) × (is_hand_in deed ≡ true)
+hand_in_alone deed host letter answer is = (ap is_removal is, ap is_hand_in is)
+
+pub accepted_block : (host : List ℕ) (letters : List Letter) (gained : List Deed) → AreAccepted host letters gained → Block gained gained
+accepted_block host [] gained are = subst (λ (deeds : List Deed). Block deeds deeds) (sym are) no_deeds
+accepted_block host (letter ∷ letters) [] are = absurd are
+accepted_block host (letter ∷ letters) (deed ∷ gained) are =
+    let alone = hand_in_alone deed host letter (Ok are.0.reply) are.0.deed_is in
+    let rest = accepted_block host letters gained are.1 in
+    record {
+      keeps = (alone.0, rest.keeps);
+      handed_are = ap (λ (b : Bool). onto_if b deed (hand_ins gained)) alone.1 ∙ ap (λ (deeds : List Deed). deed ∷ deeds) rest.handed_are;
+    }
+
+pub accepted_handed : (host : List ℕ) (letters : List Letter) (gained : List Deed) → AreAccepted host letters gained → AreHandedIn host letters gained
+accepted_handed host [] gained are = are
+accepted_handed host (letter ∷ letters) [] are = absurd are
+accepted_handed host (letter ∷ letters) (deed ∷ gained) are = (record { answer = Ok are.0.reply; deed_is = are.0.deed_is }, accepted_handed host letters gained are.1)
+
+handed_more : (host : List ℕ) (front back : List Letter) (one two : List Deed) → AreHandedIn host front one → AreHandedIn host back two → AreHandedIn host (front ++ back) (one ++ two)
+handed_more host [] back one two first second = subst (λ (deeds : List Deed). AreHandedIn host back (deeds ++ two)) (sym first) second
+handed_more host (letter ∷ front) back [] two first second = absurd first
+handed_more host (letter ∷ front) back (deed ∷ one) two first second = (first.0, handed_more host front back one two first.1 second)
+
+-- a front of some letters was handed in, and no log was removed
+pub record FrontHanded (host : List ℕ) (letters : List Letter) (gained : List Deed) : Type 0 where
+  pub front : List Letter
+  pub rest : List Letter
+  pub letters_are : letters ≡ front ++ rest
+  pub block : Block gained gained
+  pub each : AreHandedIn host front gained
+
+one_tried : (host : List ℕ) (letter : Letter) (why : _) → Block (hand_in_of host letter (Err why) ∷ []) (hand_in_of host letter (Err why) ∷ [])
+one_tried host letter why = record { keeps = (refl, tt); handed_are = refl }
+
+last_handed : (host : List ℕ) (before after : List Letter) (stopped : Letter) (taken last : List Deed) → AreAccepted host before taken → IsNotAccepted host stopped last
+    → FrontHanded host (before ++ stopped ∷ after) (taken ++ last)
+last_handed host before after stopped taken last accepted (handing.refused why is) =
+    let tried : List Deed = hand_in_of host stopped (Err why) ∷ [] in
+    subst (λ (deeds : List Deed). FrontHanded host (before ++ stopped ∷ after) (taken ++ deeds)) (sym is) (record {
+      front = before ++ stopped ∷ [];
+      rest = after;
+      letters_are = sym (append_assoc before (stopped ∷ []) after);
+      block = both taken tried taken tried (accepted_block host before taken accepted) (one_tried host stopped why);
+      each = handed_more host before (stopped ∷ []) taken tried (accepted_handed host before taken accepted) (record { answer = Err why; deed_is = refl }, refl);
+    })
+last_handed host before after stopped taken last accepted (handing.no_memory is) =
+    subst (λ (deeds : List Deed). FrontHanded host (before ++ stopped ∷ after) (taken ++ deeds)) (sym is)
+    (subst (λ (deeds : List Deed). FrontHanded host (before ++ stopped ∷ after) deeds) (sym (append-nil taken)) (record {
+      front = before;
+      rest = stopped ∷ after;
+      letters_are = refl;
+      block = accepted_block host before taken accepted;
+      each = accepted_handed host before taken accepted;
+    }))
+
+pub stopped_front : (host : List ℕ) (letters : List Letter) (gained : List Deed) → StopsAtLetter host letters gained → FrontHanded host letters gained
+stopped_front host letters gained stops =
+    subst (λ (deeds : List Deed). FrontHanded host letters deeds) (sym stops.gained_are)
+    (subst (λ (ls : List Letter). FrontHanded host ls (stops.taken ++ stops.last)) (sym stops.letters_are)
+    (last_handed host stops.before stops.after stops.stopped stops.taken stops.last stops.accepted stops.not_accepted))
+
+-- ---- recipients
+
+marks_block : (notice : NoticeRequest) (places : List ℕ) → Block (map (marking notice) places) []
+marks_block notice [] = no_deeds
+marks_block notice (place ∷ places) = record { keeps = (refl, (marks_block notice places).keeps); handed_are = (marks_block notice places).handed_are }
+
+pub marked_block : (notice : NoticeRequest) (places : List ℕ) (gained : List Deed) → AreMarked notice places gained → Block gained []
+marked_block notice places gained are = block_is gained _ [] are (marks_block notice places)
+
+mark_alone : (notice : NoticeRequest) (place : ℕ) (why : DeedFault) → Block (MarkedDone notice.queue_name notice.queue_id place (Err why) ∷ []) []
+mark_alone notice place why = record { keeps = (refl, tt); handed_are = refl }
+
+pub stopped_marks : (notice : NoticeRequest) (places : List ℕ) (gained : List Deed) → StopsAtPlace notice places gained → Block gained []
+stopped_marks notice places gained stops =
+    block_is gained (stops.marks ++ stops.last) [] stops.gained_are
+    (both stops.marks stops.last [] [] (marked_block notice stops.before stops.marks stops.marked)
+    (block_is stops.last _ [] stops.unmarked.tried (mark_alone notice stops.stopped stops.unmarked.fault)))

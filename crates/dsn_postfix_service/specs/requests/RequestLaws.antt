@@ -1,0 +1,93 @@
+-- What is true of each request that was carried out, at each moment of it.
+use Rattle.std.specs.Prelude.{◌≡◌, ◌⊎◌, ℕ, Bool, true, false, List, [], ◌∷◌, ◌++◌, Option, Some, Result, Ok}
+use Rattle.dsn_outcome.specs.Letter.{Letter}
+use Rattle.dsn_text.specs.declared.service.Service.{Service}
+use Rattle.dsn_postfix.specs.NoticePlan.{notice_asked}
+use Rattle.dsn_postfix.specs.Wanted.{is_no_sender}
+use Rattle.dsn_postfix.specs.declared.postfix_request.AppendRequest.{AppendRequest}
+use Rattle.dsn_postfix.specs.declared.postfix_request.NoticeRequest.{NoticeRequest}
+use Rattle.dsn_postfix.specs.declared.postfix_request.PostfixRequest.{PostfixRequest}
+use Rattle.dsn_postfix.specs.declared.postfix_request.PostfixRequest.TheVariants.{Append}
+use Rattle.dsn_postfix_service.specs.requests.AppendDeeds.{record_bytes}
+use Rattle.dsn_postfix_service.specs.requests.CarriedOut.{IsCarriedOut, must_clean}
+use Rattle.dsn_postfix_service.specs.requests.Deed.{Answer, Appended, Deed, HandedIn, LogRead, LogReleased, LogRemoved, MarkedDone, MessageRead, PassedOn}
+use Rattle.dsn_postfix_service.specs.requests.HandingIn.{AreAccepted, hand_in_of}
+use Rattle.dsn_postfix_service.specs.requests.MailFound.{MailRead}
+use Rattle.dsn_postfix_service.specs.requests.RequestLetters.{AreLettersAsked}
+use Rattle.dsn_postfix_service.specs.requests.ServiceSettings.{SettingsSaid}
+use Rattle.dsn_postfix_service.specs.declared.hand_in.hand_in_fault.HandInFault.{HandInFault}
+
+-- ---- what was handed in
+
+abbrev pub is_hand_in : Deed → Bool
+is_hand_in (LogRead service id answer) = false
+is_hand_in (Appended service id bytes answer) = false
+is_hand_in (LogRemoved service id answer) = false
+is_hand_in (MessageRead queue id answer) = false
+is_hand_in (HandedIn path message answer) = true
+is_hand_in (MarkedDone queue id place answer) = false
+is_hand_in (PassedOn service bytes answer) = false
+is_hand_in LogReleased = false
+
+abbrev pub onto_if : Bool → Deed → List Deed → List Deed
+onto_if true deed deeds = deed ∷ deeds
+onto_if false deed deeds = deeds
+
+-- those of some deeds that hand in a notice, in their order
+abbrev pub hand_ins : List Deed → List Deed
+hand_ins [] = []
+hand_ins (deed ∷ deeds) = onto_if (is_hand_in deed) deed (hand_ins deeds)
+
+pub record IsHandedIn (host : List ℕ) (letter : Letter) (deed : Deed) : Type 0 where
+  pub answer : Result (List ℕ) HandInFault
+  pub deed_is : deed ≡ hand_in_of host letter answer
+
+-- letters were handed in, each once, in their order, whatever came of each
+abbrev pub AreHandedIn : List ℕ → List Letter → List Deed → Type 0
+AreHandedIn host [] deeds = deeds ≡ []
+AreHandedIn host (letter ∷ letters) [] = ⊥
+AreHandedIn host (letter ∷ letters) (deed ∷ deeds) = IsHandedIn host letter deed × AreHandedIn host letters deeds
+
+-- ---- of which requests
+
+-- a request for notices was carried out, with these deeds
+pub record IsTellingDone (settings : SettingsSaid) (service : Service) (request : PostfixRequest) (notice : NoticeRequest)
+    (bytes : List ℕ) (moment serial status : ℕ) (gained : List Deed) : Type 0 where
+  pub asked : notice_asked request ≡ Some notice
+  pub carried_out : IsCarriedOut settings service request bytes moment serial status gained
+
+-- ---- the laws
+
+-- what was handed in is a front of the letters of the notices that the request has: each letter at most once, in order
+pub record HandsInOnce (settings : SettingsSaid) (service : Service) (request : PostfixRequest) (notice : NoticeRequest)
+    (moment serial : ℕ) (handed : List Deed) : Type 0 where
+  pub found : MailRead
+  pub letters : List Letter
+  pub asked : AreLettersAsked settings service request notice moment serial found letters
+  pub front : List Letter
+  pub rest : List Letter
+  pub letters_are : letters ≡ front ++ rest
+  pub each : AreHandedIn settings.host front handed
+
+-- all letters of the notices that the request has were accepted, and nothing else was handed in
+pub record AreAllTold (settings : SettingsSaid) (service : Service) (request : PostfixRequest) (notice : NoticeRequest)
+    (moment serial : ℕ) (handed : List Deed) : Type 0 where
+  pub found : MailRead
+  pub letters : List Letter
+  pub asked : AreLettersAsked settings service request notice moment serial found letters
+  pub accepted : AreAccepted settings.host letters handed
+
+-- a log that is removed is that of the request, and all was told before, unless the request asks by CLEAN that what failed
+-- leaves no log: then nothing is done after it, and the status isn't 0
+pub record IsRemovedAfter (settings : SettingsSaid) (service : Service) (request : PostfixRequest) (notice : NoticeRequest)
+    (moment serial status : ℕ) (before after : List Deed) (other : Service) (id : List ℕ) : Type 0 where
+  pub of_service : other ≡ service
+  pub of_message : id ≡ notice.queue_id
+  pub told : AreAllTold settings service request notice moment serial (hand_ins before)
+      ⊎ ((must_clean request status ≡ true) × (after ≡ []))
+
+-- an append that is answered 0 stands in its log, or Postfix's own service answered 0 to it
+abbrev pub StandsOrIsPassedOn : Service → AppendRequest → List ℕ → List Deed → Type 0
+StandsOrIsPassedOn service request bytes gained =
+    (gained ≡ Appended service request.queue_id (record_bytes service request) (Ok tt) ∷ [])
+    ⊎ (gained ≡ PassedOn service bytes (Ok 0) ∷ [])

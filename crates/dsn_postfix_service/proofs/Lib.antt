@@ -1,6 +1,7 @@
 mod HandInExamples
 mod LetterExamples
 mod ReplyExamples
+mod RequestExamples
 pub mod CarriedOutLaws
 pub mod CommandLineLemmas
 pub mod DeedLemmas

@@ -1,0 +1,148 @@
+-- Worked examples of requests that are carried out, each computed.
+use Rattle.std.proofs.Common.{◌≡◌, ℕ, true, false, List, [], ◌∷◌, ◌++◌, codes, refl, Result, Ok, Err, Some, None}
+use Rattle.dsn_text.specs.declared.service.Service.{Service}
+use Rattle.dsn_text.specs.declared.service.Service.TheVariants.{Bounce, Defer}
+use Rattle.dsn_postfix.specs.LoggedAppend.{logged_of, unlogged_field, unlogged_of}
+use Rattle.dsn_postfix.specs.QuotedAddress.{needs_no_quotes}
+use Rattle.dsn_postfix.specs.declared.postfix_request.AppendRequest.{AppendRequest}
+use Rattle.dsn_postfix.specs.declared.postfix_request.DeliveryReport.{DeliveryReport}
+use Rattle.dsn_postfix.specs.declared.postfix_request.NoticeRequest.{NoticeRequest}
+use Rattle.dsn_postfix.specs.declared.postfix_request.PostfixRequest.{PostfixRequest}
+use Rattle.dsn_postfix.specs.declared.postfix_request.PostfixRequest.TheVariants.{Append, Flush, One, Trace, Verp, Warn}
+use Rattle.dsn_postfix.specs.declared.postfix_request.ReportedRecipient.{ReportedRecipient}
+use Rattle.dsn_postfix.specs.files.LogRecord.{unsayable_field}
+use Rattle.dsn_postfix_service.specs.declared.requests.deed_fault.DeedFault.TheVariants as fault
+use Rattle.dsn_postfix_service.specs.requests.AppendDeeds.{IsAppended, record_bytes, tried}
+use Rattle.dsn_postfix_service.specs.requests.CarriedOut.{IsCarriedOut, must_clean}
+use Rattle.dsn_postfix_service.specs.requests.Deed.{Answer, Appended, Deed, HandedIn, LogRead, LogReleased, LogRemoved, MessageRead}
+use Rattle.dsn_postfix_service.specs.requests.Finishing.{is_removal_due}
+use Rattle.dsn_postfix_service.specs.requests.MailFound.{readings}
+use Rattle.dsn_postfix_service.specs.requests.RequestLaws.{hand_ins}
+use Rattle.dsn_postfix_service.specs.requests.RequestLetters.{next_serial, places_done}
+use Rattle.dsn_postfix_service.specs.requests.RequestStatus.{not_carried_out}
+use Rattle.dsn_postfix_service.specs.requests.ServiceSettings.{SettingsSaid}
+
+abbrev id : List ℕ
+id = codes "6BB87A7E6A1"
+
+abbrev asked : ℕ → NoticeRequest
+asked flags = record {
+  flags = flags;
+  queue_name = codes "active";
+  queue_id = id;
+  encoding = [];
+  send_options = 0;
+  sender = codes "ann@example.com";
+  envelope_id = [];
+  returns = 0;
+}
+
+abbrev bob : ReportedRecipient
+bob = record {
+  original = [];
+  address = codes "bob@example.org";
+  offset = 727;
+  dsn_original = [];
+  notify = 0;
+}
+
+abbrev refused : DeliveryReport
+refused = record {
+  status = codes "5.1.1";
+  diagnostic_type = [];
+  diagnostic = [];
+  mta_type = [];
+  mta = [];
+  action = codes "failed";
+  reason = codes "no";
+}
+
+abbrev append_with : ℕ → AppendRequest
+append_with flags = record {
+  flags = flags;
+  queue_id = id;
+  recipient = bob;
+  report = refused;
+}
+
+-- ---- whole requests
+
+abbrev settings : SettingsSaid
+settings = record { host = codes "mx.example.net"; double_bounce = codes "double-bounce@mx.example.net"; lifetime = 432000 }
+
+abbrev append_of_bob : Answer → Deed
+append_of_bob answer = Appended Bounce id (record_bytes Bounce (append_with 1)) answer
+
+sayable : unlogged_field Bounce (append_with 1) ≡ None
+unfolding logged_of unlogged_of needs_no_quotes unsayable_field
+sayable = refl
+
+-- an append that went well, of a request with CLEAN: one deed, and 0
+append_done : IsCarriedOut settings Bounce (Append (append_with 1)) [] 0 0 0 (append_of_bob (Ok tt) ∷ [])
+append_done = record {
+  done = append_of_bob (Ok tt) ∷ [];
+  cleaned = [];
+  gained_are = refl;
+  is_done = tried sayable (Ok tt) refl refl;
+  clean = refl;
+}
+
+-- one that failed: its log is removed after it
+append_failed : IsCarriedOut settings Bounce (Append (append_with 1)) [] 0 0 not_carried_out (append_of_bob (Err fault.Failed) ∷ LogRemoved Bounce id (Ok tt) ∷ [])
+append_failed = record {
+  done = append_of_bob (Err fault.Failed) ∷ [];
+  cleaned = LogRemoved Bounce id (Ok tt) ∷ [];
+  gained_are = refl;
+  is_done = tried sayable (Err fault.Failed) refl refl;
+  clean = record { answer = Ok tt; removed = refl };
+}
+
+-- ---- parts
+
+clean_after_failure : must_clean (Flush (asked 3)) not_carried_out ≡ true
+clean_after_failure = refl
+
+clean_not_after_0 : must_clean (Flush (asked 3)) 0 ≡ false
+clean_not_after_0 = refl
+
+no_clean : must_clean (Flush (asked 2)) not_carried_out ≡ false
+no_clean = refl
+
+flush_removes : is_removal_due (Flush (asked 0)) (Some []) ≡ true
+flush_removes = refl
+
+verp_removes : is_removal_due (Verp (asked 0) (codes "+=")) (Some []) ≡ true
+verp_removes = refl
+
+trace_removes : is_removal_due (Trace (asked 0)) (Some []) ≡ true
+trace_removes = refl
+
+warning_keeps : is_removal_due (Warn (asked 0)) (Some []) ≡ false
+warning_keeps = refl
+
+no_log_to_remove : is_removal_due (Trace (asked 0)) None ≡ false
+no_log_to_remove = refl
+
+-- DELRCPT, of a request about one recipient
+one_marked : places_done Bounce (One (asked 2) bob refused) (asked 2) None ≡ 727 ∷ []
+one_marked = refl
+
+one_unmarked : places_done Bounce (One (asked 1) bob refused) (asked 1) None ≡ []
+one_unmarked = refl
+
+log_read_first : readings Defer (Warn (asked 0)) (asked 0) (record { log = None; file = codes "E" })
+    ≡ LogRead Defer id (Ok None) ∷ MessageRead (codes "active") id (Ok (codes "E")) ∷ []
+log_read_first = refl
+
+no_log_read : readings Bounce (One (asked 0) bob refused) (asked 0) (record { log = None; file = codes "E" })
+    ≡ MessageRead (codes "active") id (Ok (codes "E")) ∷ []
+no_log_read = refl
+
+only_hand_ins : hand_ins (LogRead Bounce id (Ok None) ∷ HandedIn (codes "a@b") [] (Ok []) ∷ LogReleased ∷ []) ≡ HandedIn (codes "a@b") [] (Ok []) ∷ []
+only_hand_ins = refl
+
+serials_begin_again : next_serial 18446744073709551615 ≡ 0
+serials_begin_again = refl
+
+serials_follow : next_serial 7 ≡ 8
+serials_follow = refl

@@ -1,0 +1,285 @@
+//! Requests that are carried out over a mail system in memory: what is done for each, in which order, and what it is
+//! answered, with a failure at each deed.
+use crate::assert_same::same;
+use crate::postfix_service::memory_system::MemorySystem;
+use dsn_postfix::{PostfixVersion, decode_postfix_request};
+use dsn_postfix_service::{ServiceSettings, carry_out};
+use dsn_report::Site;
+use dsn_text::{Service, Stamp};
+use std::alloc::{AllocGlobal, Global};
+use std::process::Abort;
+use std::test::Fail;
+
+/// The status of a request that wasn't carried out.
+const NOT_DONE: u32 = 4_294_967_295;
+
+/// Deeds that all go well.
+const ALWAYS: usize = 1_000;
+
+/// A message from Ann to two recipients.
+const FILE: &[u8] =
+    b"T\x0c1699996400 0S\x0fann@example.comR\x0cno@a.exampleR\x0cno@b.exampleM\x00N\x05To: bN\x00N\x02HiX\x00E\x00";
+
+/// A log of the two.
+const LOG: &[u8] =
+    b"\n<no@a.example>: no\nrecipient=no@a.example\noffset=31\nstatus=5.1.1\naction=failed\nreason=no\n\n\n<no@b.example>: no\nrecipient=no@b.example\noffset=45\nstatus=5.1.1\naction=failed\nreason=no\n\n";
+
+/// A log of one whose delivery is tried again.
+const DELAYS: &[u8] =
+    b"\n<no@a.example>: later\nrecipient=no@a.example\noffset=31\nstatus=4.2.1\naction=delayed\nreason=later\n\n";
+
+/// A request for notices: its number, its flags, the message's sender, and attributes of its own.
+#[derive(Clone, Copy)]
+struct Asked<'a> {
+    kind: &'a [u8],
+    flags: &'a [u8],
+    sender: &'a [u8],
+    own: &'a [u8],
+}
+
+/// A request for a notice of a log, and its removal, from Ann.
+const FLUSH: Asked<'static> = Asked {
+    kind: b"1",
+    flags: b"0",
+    sender: b"ann@example.com",
+    own: b"",
+};
+
+/// Texts one after another.
+fn joined(alloc: Global, texts: &[&[u8]]) -> Result<Vec<u8>, Fail> {
+    let mut all = Vec::new(alloc);
+    for text in texts {
+        all.extend_from_slice(text)?;
+    }
+    Ok(all)
+}
+
+/// The bytes of a request for notices.
+fn notice_bytes(alloc: Global, asked: Asked<'_>) -> Result<Vec<u8>, Fail> {
+    joined(
+        alloc,
+        &[
+            b"nrequest\0".as_slice(),
+            asked.kind,
+            b"\0flags\0".as_slice(),
+            asked.flags,
+            b"\0queue_name\0active\0queue_id\06BB87A7E6A1\0encoding\0\0smtputf8\00\0sender\0".as_slice(),
+            asked.sender,
+            b"\0envelope_id\0\0ret_flags\00\0".as_slice(),
+            asked.own,
+            b"\0".as_slice(),
+        ],
+    )
+}
+
+/// The bytes of a request to log what became of a recipient.
+fn append_bytes(alloc: Global, flags: &[u8], recipient: &[u8]) -> Result<Vec<u8>, Fail> {
+    joined(
+        alloc,
+        &[
+            b"nrequest\00\0flags\0".as_slice(),
+            flags,
+            b"\0queue_id\06BB87A7E6A1\0original_recipient\0\0recipient\0".as_slice(),
+            recipient,
+            b"\0offset\031\0dsn_orig_rcpt\0\0notify_flags\00\0status\05.1.1\0diag_type\0\0diag_text\0\0mta_type\0\0mta_mname\0\0action\0failed\0reason\0no\0\0".as_slice(),
+        ],
+    )
+}
+
+/// What a request is given, and what must come of it.
+#[derive(Clone, Copy)]
+struct Case<'a> {
+    service: Service,
+    log: Option<&'a [u8]>,
+    well: usize,
+    status: u32,
+    lines: &'a [u8],
+}
+
+/// Carries a request out, and compares its status and the lines of its deeds.
+fn carried_out(rt: &(impl AllocGlobal + Abort), bytes: &[u8], case: Case<'_>) -> Result<(), Fail> {
+    let site = Site::new(rt.alloc(), b"mx.example.net")?;
+    let settings = ServiceSettings {
+        site: &site,
+        double_bounce: b"double-bounce@mx.example.net",
+        lifetime: 432_000,
+    };
+    let mut system = MemorySystem {
+        log: case.log,
+        file: FILE,
+        well: case.well,
+        status: 7,
+        asked: Vec::new(rt.alloc()),
+    };
+    let request = decode_postfix_request(PostfixVersion::V3_7, bytes)?;
+    let moment = Stamp::new(1_700_000_000).ok_or("the moment")?;
+    let status = carry_out(
+        rt.alloc(),
+        &settings,
+        case.service,
+        &request,
+        bytes,
+        moment,
+        0,
+        &mut system,
+    );
+    same(rt, system.asked.as_slice(), case.lines);
+    same(rt, status, case.status);
+    Ok(())
+}
+
+/// A case of the bounce log in which all goes well.
+fn told<'a>(log: Option<&'a [u8]>, lines: &'a [u8]) -> Case<'a> {
+    Case {
+        service: Service::Bounce,
+        log,
+        well: ALWAYS,
+        status: 0,
+        lines,
+    }
+}
+
+/// A case of the bounce log in which a deed fails.
+fn failed<'a>(well: usize, lines: &'a [u8]) -> Case<'a> {
+    Case {
+        well,
+        status: NOT_DONE,
+        ..told(Some(LOG), lines)
+    }
+}
+
+/// The line of a record that is appended.
+const RECORD: &[u8] =
+    b"append \n<no@a.example>: no\nrecipient=no@a.example\noffset=31\nstatus=5.1.1\naction=failed\nreason=no\n\n\n";
+
+#[test]
+fn an_append_is_answered_0_once_it_stands(rt: HostRuntime) -> Result<(), Fail> {
+    let bytes = append_bytes(rt.alloc(), b"0", b"no@a.example")?;
+    carried_out(&rt, &bytes, told(None, RECORD))?;
+    carried_out(&rt, &bytes, failed(0, RECORD))
+}
+
+#[test]
+fn an_append_with_clean_leaves_no_log_where_it_fails(rt: HostRuntime) -> Result<(), Fail> {
+    let bytes = append_bytes(rt.alloc(), b"1", b"no@a.example")?;
+    carried_out(&rt, &bytes, told(None, RECORD))?;
+    let lines = joined(rt.alloc(), &[RECORD, b"remove B\n".as_slice()])?;
+    carried_out(&rt, &bytes, failed(0, &lines))
+}
+
+#[test]
+fn an_append_that_no_line_says_is_passed_on(rt: HostRuntime) -> Result<(), Fail> {
+    let bytes = append_bytes(rt.alloc(), b"0", b"no a@a.example")?;
+    let passed = Case {
+        status: 7,
+        ..told(None, b"pass-on B\n")
+    };
+    carried_out(&rt, &bytes, passed)?;
+    carried_out(&rt, &bytes, failed(0, b"pass-on B\n"))
+}
+
+#[test]
+fn a_flush_tells_of_two_and_removes_the_log(rt: HostRuntime) -> Result<(), Fail> {
+    let bytes = notice_bytes(rt.alloc(), FLUSH)?;
+    let all = b"log B\nmessage active\nhand-in ann@example.com\nremove B\nrelease \n";
+    carried_out(&rt, &bytes, told(Some(LOG), all))?;
+    carried_out(&rt, &bytes, failed(0, b"log B\nrelease \n"))?;
+    carried_out(&rt, &bytes, failed(1, b"log B\nmessage active\nrelease \n"))?;
+    let refused = b"log B\nmessage active\nhand-in ann@example.com\nrelease \n";
+    carried_out(&rt, &bytes, failed(2, refused))?;
+    carried_out(&rt, &bytes, failed(3, all))
+}
+
+#[test]
+fn recipients_are_marked_before_the_log_is_removed(rt: HostRuntime) -> Result<(), Fail> {
+    let bytes = notice_bytes(
+        rt.alloc(),
+        Asked {
+            flags: b"3",
+            ..FLUSH
+        },
+    )?;
+    let all =
+        b"log B\nmessage active\nhand-in ann@example.com\nmark 031\nmark 045\nremove B\nrelease \n";
+    carried_out(&rt, &bytes, told(Some(LOG), all))?;
+    let unmarked =
+        b"log B\nmessage active\nhand-in ann@example.com\nmark 031\nmark 045\nrelease \nremove B\n";
+    carried_out(&rt, &bytes, failed(4, unmarked))
+}
+
+#[test]
+fn nobody_is_told_of_a_message_from_nobody(rt: HostRuntime) -> Result<(), Fail> {
+    for sender in [b"".as_slice(), b"Double-Bounce@mx.example.net"] {
+        let bytes = notice_bytes(rt.alloc(), Asked { sender, ..FLUSH })?;
+        let lines = b"log B\nmessage active\nremove B\nrelease \n";
+        carried_out(&rt, &bytes, told(Some(LOG), lines))?;
+    }
+    Ok(())
+}
+
+#[test]
+fn what_is_no_letter_is_passed_on_and_nothing_is_handed_in(rt: HostRuntime) -> Result<(), Fail> {
+    let quoted = Asked {
+        sender: b"a b@example.com",
+        ..FLUSH
+    };
+    let lines = b"log B\nmessage active\nrelease \npass-on B\n";
+    for (asked, log) in [(quoted, Some(LOG)), (FLUSH, None)] {
+        let bytes = notice_bytes(rt.alloc(), asked)?;
+        let passed = Case {
+            status: 7,
+            ..told(log, lines)
+        };
+        carried_out(&rt, &bytes, passed)?;
+    }
+    Ok(())
+}
+
+#[test]
+fn each_recipient_has_a_path_of_its_own(rt: HostRuntime) -> Result<(), Fail> {
+    let verp = Asked {
+        kind: b"3",
+        own: b"verp_delimiters\0+=\0",
+        ..FLUSH
+    };
+    let bytes = notice_bytes(rt.alloc(), verp)?;
+    let all =
+        b"log B\nmessage active\nhand-in ann+no=a.example@example.com\nhand-in ann+no=b.example@example.com\nremove B\nrelease \n";
+    carried_out(&rt, &bytes, told(Some(LOG), all))?;
+    let second =
+        b"log B\nmessage active\nhand-in ann+no=a.example@example.com\nhand-in ann+no=b.example@example.com\nrelease \n";
+    carried_out(&rt, &bytes, failed(3, second))
+}
+
+#[test]
+fn a_warning_keeps_the_log(rt: HostRuntime) -> Result<(), Fail> {
+    let bytes = notice_bytes(
+        rt.alloc(),
+        Asked {
+            kind: b"2",
+            ..FLUSH
+        },
+    )?;
+    let lines = b"log D\nmessage active\nhand-in ann@example.com\nrelease \n";
+    let case = Case {
+        service: Service::Defer,
+        ..told(Some(DELAYS), lines)
+    };
+    carried_out(&rt, &bytes, case)
+}
+
+#[test]
+fn a_trace_without_a_log_tells_nobody(rt: HostRuntime) -> Result<(), Fail> {
+    let bytes = notice_bytes(
+        rt.alloc(),
+        Asked {
+            kind: b"5",
+            ..FLUSH
+        },
+    )?;
+    let case = Case {
+        service: Service::Trace,
+        ..told(None, b"log T\nmessage active\nrelease \n")
+    };
+    carried_out(&rt, &bytes, case)
+}

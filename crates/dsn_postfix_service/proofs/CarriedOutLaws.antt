@@ -1,6 +1,6 @@
 -- The laws of requests that were carried out.
 use Rattle.std.proofs.Common.{◌≡◌, ℕ, Bool, true, false, List, [], ◌∷◌, ◌++◌, Option, Some, None, Result, Ok, Err, refl, sym, ap, subst, ◌∙◌, append_assoc, append-nil, inl, inr}
-use Rattle.std.specs.Prelude.{◌⊎◌, ◌&&◌, ◌==◌, not, unwrap_or, MatchBool}
+use Rattle.std.specs.Prelude.{◌⊎◌, ◌&&◌, ◌==◌, not, unwrap_or}
 use Rattle.dsn_outcome.specs.Letter.{Letter}
 use Rattle.dsn_text.specs.declared.service.Service.{Service}
 use Rattle.dsn_postfix.specs.NoticePlan.{notice_asked, notices_of}
@@ -13,18 +13,17 @@ use Rattle.dsn_postfix.specs.declared.postfix_request.PostfixRequest.{PostfixReq
 use Rattle.dsn_postfix.specs.declared.postfix_request.PostfixRequest.TheVariants.{Append, Flush, Warn, Verp, One, Trace}
 use Rattle.dsn_postfix.specs.files.QueueRecipients.{RecipientFacts}
 use Rattle.dsn_postfix_service.specs.declared.requests.deed_fault.DeedFault.{DeedFault}
-use Rattle.dsn_postfix_service.specs.letters.ReportedMessage.{MessageSaid}
 use Rattle.dsn_postfix_service.specs.requests.AppendDeeds.{IsAppended, record_bytes}
 use Rattle.dsn_postfix_service.specs.requests.AppendDeeds as append
 use Rattle.dsn_postfix_service.specs.requests.CarriedOut.{Cleans, IsCarriedOut, IsDone, flags_of, must_clean, queue_id_of}
 use Rattle.dsn_postfix_service.specs.requests.Deed.{Answer, Appended, Deed, HandedIn, LogRead, LogReleased, LogRemoved, MarkedDone, MessageRead, PassedOn}
 use Rattle.dsn_postfix_service.specs.requests.NoticeDeeds.{IsNotified}
 use Rattle.dsn_postfix_service.specs.requests.RequestLaws.{AreAllTold, AreHandedIn, HandsInOnce, IsRemovedAfter, IsTellingDone, StandsOrIsPassedOn, hand_ins}
-use Rattle.dsn_postfix_service.specs.requests.RequestLetters.{AreLettersAsked, AreLettersOf, message_said}
-use Rattle.dsn_postfix_service.specs.requests.RequestStatus.{PassesOn, carried_out, has_flag, not_carried_out, status_after, status_passed_on}
+use Rattle.dsn_postfix_service.specs.requests.RequestLetters.{AreLettersOf, message_said}
+use Rattle.dsn_postfix_service.specs.requests.RequestStatus.{carried_out, has_flag, not_carried_out, status_after, status_passed_on}
 use Rattle.dsn_postfix_service.specs.requests.ServiceSettings.{SettingsSaid}
 use Rattle.dsn_postfix_service.proofs.RequestLawLemmas.{Block, RemovesNone, hand_ins-append, is_removal}
-use Rattle.dsn_postfix_service.proofs.TellingParts.{IsRemovalPart, NotifiedParts, TellingParts, notified_parts, nothing_removed, removed_told}
+use Rattle.dsn_postfix_service.proofs.TellingParts.{IsRemovalPart, notified_parts, nothing_removed, removed_told}
 
 -- ---- which requests
 

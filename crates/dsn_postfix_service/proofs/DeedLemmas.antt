@@ -31,16 +31,9 @@ Are = List Deed → Type 0
 
 -- ---- steps
 
-pub with_no_deeds : (done : Option (List Deed)) → with_deeds done [] ≡ done
-with_no_deeds None = refl
-with_no_deeds (Some done) = ap (λ (deeds : List Deed). Some deeds) (append-nil done)
-
 with_both : (done : Option (List Deed)) (one two : List Deed) → with_deeds (with_deeds done one) two ≡ with_deeds done (one ++ two)
 with_both None one two = refl
 with_both (Some done) one two = ap (λ (deeds : List Deed). Some deeds) (append_assoc done one two)
-
-pub gains_none : {S : Type 0} → (deeds : S → Option (List Deed)) (now : S) (P : Are) → P [] → Gains deeds now now P
-gains_none deeds now P are = record { gained = []; after = sym (with_no_deeds (deeds now)); are = are }
 
 pub gains_one : {S : Type 0} → (deeds : S → Option (List Deed)) (old new : S) (deed : Deed) (P : Are) → deeds new ≡ with_deeds (deeds old) (deed ∷ []) → P (deed ∷ []) → Gains deeds old new P
 gains_one deeds old new deed P after are = record { gained = deed ∷ []; after = after; are = are }
@@ -157,9 +150,6 @@ pub record AcceptedSoFar {S : Type 0} (deeds : S → Option (List Deed)) (old ne
   pub after : deeds new ≡ with_deeds (deeds old) taken
   pub accepted : AreAccepted host front taken
 
-pub accepted_at_first : {S : Type 0} → (deeds : S → Option (List Deed)) (now : S) (host : List ℕ) (letters : List Letter) → AcceptedSoFar deeds now now host letters letters
-accepted_at_first deeds now host letters = record { front = []; taken = []; split = refl; after = sym (with_no_deeds (deeds now)); accepted = refl }
-
 pub accepted_one_more : {S : Type 0} → (deeds : S → Option (List Deed)) (old between new : S) (host : List ℕ) (letters rest after : List Letter) (letter : Letter)
     → AcceptedSoFar deeds old between host letters rest → rest ≡ letter ∷ after → Gains deeds between new (AreAccepted host (letter ∷ [])) → AcceptedSoFar deeds old new host letters after
 accepted_one_more deeds old between new host letters rest after letter so_far first one = record {
@@ -202,9 +192,6 @@ pub record MarkedSoFar {S : Type 0} (deeds : S → Option (List Deed)) (old new 
   pub front : List ℕ
   pub split : places ≡ front ++ rest
   pub after : deeds new ≡ with_deeds (deeds old) (map (marking notice) front)
-
-pub marked_at_first : {S : Type 0} → (deeds : S → Option (List Deed)) (now : S) (notice : NoticeRequest) (places : List ℕ) → MarkedSoFar deeds now now notice places places
-marked_at_first deeds now notice places = record { front = []; split = refl; after = sym (with_no_deeds (deeds now)) }
 
 pub map_append : {X Y : Type 0} → (f : X → Y) (xs ys : List X) → map f xs ++ map f ys ≡ map f (xs ++ ys)
 map_append f [] ys = refl

@@ -1,18 +1,16 @@
 -- Worked examples of requests that are carried out, each computed.
-use Rattle.std.proofs.Common.{◌≡◌, ℕ, true, false, List, [], ◌∷◌, ◌++◌, codes, refl, Result, Ok, Err, Some, None}
-use Rattle.dsn_text.specs.declared.service.Service.{Service}
+use Rattle.std.proofs.Common.{◌≡◌, ℕ, true, false, List, [], ◌∷◌, codes, refl, Ok, Err, Some, None}
 use Rattle.dsn_text.specs.declared.service.Service.TheVariants.{Bounce, Defer}
 use Rattle.dsn_postfix.specs.LoggedAppend.{logged_of, unlogged_field, unlogged_of}
 use Rattle.dsn_postfix.specs.QuotedAddress.{needs_no_quotes}
 use Rattle.dsn_postfix.specs.declared.postfix_request.AppendRequest.{AppendRequest}
 use Rattle.dsn_postfix.specs.declared.postfix_request.DeliveryReport.{DeliveryReport}
 use Rattle.dsn_postfix.specs.declared.postfix_request.NoticeRequest.{NoticeRequest}
-use Rattle.dsn_postfix.specs.declared.postfix_request.PostfixRequest.{PostfixRequest}
 use Rattle.dsn_postfix.specs.declared.postfix_request.PostfixRequest.TheVariants.{Append, Flush, One, Trace, Verp, Warn}
 use Rattle.dsn_postfix.specs.declared.postfix_request.ReportedRecipient.{ReportedRecipient}
 use Rattle.dsn_postfix.specs.files.LogRecord.{unsayable_field}
 use Rattle.dsn_postfix_service.specs.declared.requests.deed_fault.DeedFault.TheVariants as fault
-use Rattle.dsn_postfix_service.specs.requests.AppendDeeds.{IsAppended, record_bytes, tried}
+use Rattle.dsn_postfix_service.specs.requests.AppendDeeds.{record_bytes, tried}
 use Rattle.dsn_postfix_service.specs.requests.CarriedOut.{IsCarriedOut, must_clean}
 use Rattle.dsn_postfix_service.specs.requests.Deed.{Answer, Appended, Deed, HandedIn, LogRead, LogReleased, LogRemoved, MessageRead}
 use Rattle.dsn_postfix_service.specs.requests.Finishing.{is_removal_due}

@@ -1,5 +1,5 @@
 -- The parts of the deeds of a request for notices: a front that removes no log, then the removal, then what removes none.
-use Rattle.std.proofs.Common.{◌≡◌, ℕ, Bool, true, false, List, [], ◌∷◌, ◌++◌, Option, Some, None, Result, Ok, Err, refl, sym, ap, subst, ◌∙◌, append_assoc, append-nil, inl, inr}
+use Rattle.std.proofs.Common.{◌≡◌, ℕ, Bool, List, [], ◌∷◌, ◌++◌, Option, Result, Ok, Err, refl, sym, ap, subst, ◌∙◌, append_assoc, append-nil, inl, inr}
 use Rattle.std.specs.Prelude.{◌⊎◌}
 use Rattle.dsn_outcome.specs.Letter.{Letter}
 use Rattle.dsn_text.specs.declared.service.Service.{Service}
@@ -11,14 +11,13 @@ use Rattle.dsn_postfix_service.specs.declared.requests.telling.Telling.TheVarian
 use Rattle.dsn_postfix_service.specs.requests.Deed.{Answer, Deed, LogReleased, LogRemoved, PassedOn}
 use Rattle.dsn_postfix_service.specs.requests.Finishing.{FinishesAt, RemovesLog}
 use Rattle.dsn_postfix_service.specs.requests.Finishing as finishing
-use Rattle.dsn_postfix_service.specs.requests.HandingIn.{AreAccepted}
 use Rattle.dsn_postfix_service.specs.requests.MailFound.{MailRead, readings}
 use Rattle.dsn_postfix_service.specs.requests.NoticeDeeds.{EndsTelling, IsNotified, Tells, TellsLetters, TellsOfMail}
 use Rattle.dsn_postfix_service.specs.requests.NoticeDeeds as notices
 use Rattle.dsn_postfix_service.specs.requests.RequestLaws.{AreAllTold, HandsInOnce}
 use Rattle.dsn_postfix_service.specs.requests.RequestLetters.{AreLettersAsked}
 use Rattle.dsn_postfix_service.specs.requests.ServiceSettings.{SettingsSaid}
-use Rattle.dsn_postfix_service.proofs.RequestLawLemmas.{Block, FrontHanded, accepted_block, accepted_handed, block_is, both, marked_block, no_deeds, readings_block, stopped_front, stopped_marks, unread_block}
+use Rattle.dsn_postfix_service.proofs.RequestLawLemmas.{Block, accepted_block, accepted_handed, block_is, both, marked_block, no_deeds, readings_block, stopped_front, stopped_marks, unread_block}
 
 -- ---- what is done after all are accepted
 

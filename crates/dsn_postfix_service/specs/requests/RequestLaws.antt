@@ -1,16 +1,14 @@
 -- What is true of each request that was carried out, at each moment of it.
-use Rattle.std.specs.Prelude.{◌≡◌, ◌⊎◌, ℕ, Bool, true, false, List, [], ◌∷◌, ◌++◌, Option, Some, Result, Ok}
+use Rattle.std.specs.Prelude.{◌≡◌, ◌⊎◌, ℕ, Bool, true, false, List, [], ◌∷◌, ◌++◌, Some, Result, Ok}
 use Rattle.dsn_outcome.specs.Letter.{Letter}
 use Rattle.dsn_text.specs.declared.service.Service.{Service}
 use Rattle.dsn_postfix.specs.NoticePlan.{notice_asked}
-use Rattle.dsn_postfix.specs.Wanted.{is_no_sender}
 use Rattle.dsn_postfix.specs.declared.postfix_request.AppendRequest.{AppendRequest}
 use Rattle.dsn_postfix.specs.declared.postfix_request.NoticeRequest.{NoticeRequest}
 use Rattle.dsn_postfix.specs.declared.postfix_request.PostfixRequest.{PostfixRequest}
-use Rattle.dsn_postfix.specs.declared.postfix_request.PostfixRequest.TheVariants.{Append}
 use Rattle.dsn_postfix_service.specs.requests.AppendDeeds.{record_bytes}
 use Rattle.dsn_postfix_service.specs.requests.CarriedOut.{IsCarriedOut, must_clean}
-use Rattle.dsn_postfix_service.specs.requests.Deed.{Answer, Appended, Deed, HandedIn, LogRead, LogReleased, LogRemoved, MarkedDone, MessageRead, PassedOn}
+use Rattle.dsn_postfix_service.specs.requests.Deed.{Appended, Deed, HandedIn, LogRead, LogReleased, LogRemoved, MarkedDone, MessageRead, PassedOn}
 use Rattle.dsn_postfix_service.specs.requests.HandingIn.{AreAccepted, hand_in_of}
 use Rattle.dsn_postfix_service.specs.requests.MailFound.{MailRead}
 use Rattle.dsn_postfix_service.specs.requests.RequestLetters.{AreLettersAsked}

@@ -50,6 +50,8 @@ def check_what_stands(checks: Checks, place: Place):
         ("crates/low/src/lib.rt", "    fn two(self", "    fn two(&self", 5, 5),
         ("crates/low/src/lib.rt", "pub fn three", "fn three", 5, 5),
         ("crates/low/src/lib.rt", "        self,\n", "        &self,\n", 0, 0),
+        ("crates/low/src/lib.rt", "use base::{Two, one}", "use aside::{Two, one}", 5, 5),
+        ("crates/low/src/lib.rt", "{Two, one}", "{Two, other}", 0, 0),
         ("crates/low/src/lib.rt", "    3\n", "    MOST\n", 0, 0),
         ("crates/low/src/lib.rt", "            Number => 4,\n", "            _ => {\n                4\n            }\n", 0, 0),
         ("crates/low/src/lib.rt", "/// Three", "/// The number 3", 0, 0),

@@ -23,6 +23,8 @@ FILES = {
     "crates/base/src/lib.rt": "",
     "crates/base/out/rlib/base.rlib/format": "base",
     "crates/low/src/lib.rt": """//! The low one.
+use base::{Two, one};
+
 pub const MOST: u32 = 3;
 
 pub const fn most() -> u32 {

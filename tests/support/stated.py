@@ -1,7 +1,7 @@
 """What the crates above can read of a crate: its types, its constants, the signatures and the contracts of its public functions, its
 specs, and its lemmas. What they can't is left out, so that a change of it alone changes nothing for them: a function that isn't
-public, the body of one that is, how it is proved, comments, and hints on how it is compiled. It goes by the form that `rt fmt` gives a
-source, which the gate asks for."""
+public, the body of one that is, how it is proved, what is imported for these alone, comments, and hints on how it is compiled. It goes
+by the form that `rt fmt` gives a source, which the gate asks for."""
 import hashlib
 import re
 from pathlib import Path
@@ -9,6 +9,7 @@ from pathlib import Path
 FUNCTION = re.compile(r"^( *)(pub |pub\([a-z ]+\) )?(?:unsafe )?fn ")
 BLOCK = re.compile(r"^(?:pub |unsafe )*(?:impl|trait)\b")
 UNREAD = re.compile(r"^ *(?://|#\[(?:inline\b.*|cold|tactic\(.*\))\]$)")
+IMPORT = re.compile(r"^ *use ([\w:]+)(?:::\{([^;]*)\})?;\n?", re.M)
 # A function's own proof, which no other one can name, and the answers and invariants that make one.
 OWN = ("Proof.antt", "Answers.antt", "Invariants.antt")
 PARTS = ("src", "specs", "proofs")
@@ -38,8 +39,19 @@ def is_private(function, block: str) -> bool:
     return function[2] != "pub " and not of_trait
 
 
+def without_imports(text: str) -> str:
+    """A text without the imports of names that it doesn't have, and with each other one on a line of its own, in front."""
+    rest, found = IMPORT.sub("", text), []
+    words = set(re.findall(r"\w+", rest))
+    for it in IMPORT.finditer(text):
+        path, _, name = it[1].rpartition("::")
+        path, names = (it[1], re.findall(r"[^\s,][^,]*", it[2])) if it[2] else (path, [name])
+        found += [f"use {path}::{one};" for one in map(str.strip, names) if one.split()[-1] in words]
+    return "\n".join([*sorted(found), rest])
+
+
 def stated_source(text: str) -> str:
-    """A source without its private functions, its bodies, its comments and its hints."""
+    """A source without its private functions, its bodies, its comments and its hints, and what is imported for them alone."""
     lines, kept, block, at = text.splitlines(), [], "", 0
     while at < len(lines):
         block = lines[at] if BLOCK.match(lines[at]) else block
@@ -52,7 +64,7 @@ def stated_source(text: str) -> str:
         elif not UNREAD.match(lines[at]) and lines[at]:
             kept.append(lines[at])
         at += 1
-    return "\n".join(kept)
+    return without_imports("\n".join(kept))
 
 
 def stated_in(place: Path) -> list:

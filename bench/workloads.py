@@ -98,7 +98,7 @@ def short_messages() -> Workload:
     for number in range(MESSAGES):
         stream.append(long_id(number), b"user%05d@example.org" % number)
         stream.flush(long_id(number), return_path=b"sender%05d@example.com" % number)
-    return Workload("short messages", "message", MESSAGES, 7_600, stream.bytes(), len(stream.parts))
+    return Workload("short messages", "message", MESSAGES, 7_300, stream.bytes(), len(stream.parts))
 
 
 def scattered_messages() -> Workload:
@@ -110,7 +110,7 @@ def scattered_messages() -> Workload:
         stream.append(long_id(number), b"user%05d@example.org" % number)
     for number in order:
         stream.flush(long_id(number), return_path=b"sender%05d@example.com" % number)
-    return Workload("scattered messages", "message", MESSAGES, 8_800, stream.bytes(), len(stream.parts))
+    return Workload("scattered messages", "message", MESSAGES, 8_400, stream.bytes(), len(stream.parts))
 
 
 def long_messages() -> Workload:
@@ -120,7 +120,7 @@ def long_messages() -> Workload:
         for at in range(10):
             stream.append(long_id(number), b"user%02d-%05d@example.org" % (at, number), **texts_of(source))
         stream.flush(long_id(number), return_path=b"sender%05d@example.com" % number, envelope=b"envelope-%024d" % number, header=header_of(source, 2048))
-    return Workload("long messages", "message", MESSAGES, 55_500, stream.bytes(), len(stream.parts))
+    return Workload("long messages", "message", MESSAGES, 54_500, stream.bytes(), len(stream.parts))
 
 
 def full_logs() -> Workload:
@@ -130,7 +130,7 @@ def full_logs() -> Workload:
         for at in range(ENTRIES):
             stream.append(long_id(number), b"user%04d@example.org" % at, **texts_of(source))
         stream.flush(long_id(number))
-    return Workload("full logs", "outcome", 4 * ENTRIES, 3_850, stream.bytes(), len(stream.parts))
+    return Workload("full logs", "outcome", 4 * ENTRIES, 3_720, stream.bytes(), len(stream.parts))
 
 
 def full_table() -> Workload:
@@ -159,7 +159,7 @@ def full_table() -> Workload:
             stream.append(long_id(source.choice(full)), b"somebody.else@mail.example.org")
         else:
             stream.broken()
-    return Workload("full table", "frame", FRAMES, 2_300, stream.bytes(), len(stream.parts))
+    return Workload("full table", "frame", FRAMES, 2_160, stream.bytes(), len(stream.parts))
 
 
 def touched_table() -> Workload:
@@ -169,7 +169,7 @@ def touched_table() -> Workload:
         stream.flush(long_id(number))
     while len(stream.parts) < FRAMES:
         stream.discard(long_id(source.randrange(LOGS)))
-    return Workload("touched table", "frame", FRAMES, 1_200, stream.bytes(), len(stream.parts))
+    return Workload("touched table", "frame", FRAMES, 1_150, stream.bytes(), len(stream.parts))
 
 
 def new_keys(name: str, limit: int, order) -> Workload:
@@ -202,7 +202,7 @@ def all_workloads():
     yield full_logs()
     yield full_table()
     yield touched_table()
-    yield new_keys("ascending keys", 1_400, range(LOGS))
-    yield new_keys("descending keys", 2_000, reversed(range(LOGS)))
+    yield new_keys("ascending keys", 1_275, range(LOGS))
+    yield new_keys("descending keys", 1_305, reversed(range(LOGS)))
     yield headers("headers of delimiters", 1_050_000, ruled_out)
     yield headers("headers of dots", 2_000_000, lambda _: b".\n" * (HEADER // 2))

@@ -1,7 +1,8 @@
 -- The laws of requests that were carried out.
 use Rattle.std.proofs.Common.{◌≡◌, ℕ, Bool, true, false, List, [], ◌∷◌, ◌++◌, Option, Some, None, Result, Ok, Err, refl, sym, ap, subst, ◌∙◌, append_assoc, append-nil, inl, inr}
-use Rattle.std.specs.Prelude.{◌⊎◌, ◌&&◌, ◌==◌, not, unwrap_or}
+use Rattle.std.specs.Prelude.{◌⊎◌, ◌&&◌, not, unwrap_or}
 use Rattle.dsn_outcome.specs.Letter.{Letter}
+use Rattle.dsn_text.specs.declared.no_memory.NoMemory.{NoMemory}
 use Rattle.dsn_text.specs.declared.service.Service.{Service}
 use Rattle.dsn_postfix.specs.NoticePlan.{notice_asked, notices_of}
 use Rattle.dsn_postfix.specs.PlannedNotice.{NoticeFacts}
@@ -13,14 +14,14 @@ use Rattle.dsn_postfix.specs.declared.postfix_request.PostfixRequest.{PostfixReq
 use Rattle.dsn_postfix.specs.declared.postfix_request.PostfixRequest.TheVariants.{Append, Flush, Warn, Verp, One, Trace}
 use Rattle.dsn_postfix.specs.files.QueueRecipients.{RecipientFacts}
 use Rattle.dsn_postfix_service.specs.declared.requests.deed_fault.DeedFault.{DeedFault}
-use Rattle.dsn_postfix_service.specs.requests.AppendDeeds.{IsAppended, record_bytes}
+use Rattle.dsn_postfix_service.specs.requests.AppendDeeds.{IsAppended, IsLogged, record_bytes}
 use Rattle.dsn_postfix_service.specs.requests.AppendDeeds as append
 use Rattle.dsn_postfix_service.specs.requests.CarriedOut.{Cleans, IsCarriedOut, IsDone, flags_of, must_clean, queue_id_of}
 use Rattle.dsn_postfix_service.specs.requests.Deed.{Answer, Appended, Deed, HandedIn, LogRead, LogReleased, LogRemoved, MarkedDone, MessageRead, PassedOn}
 use Rattle.dsn_postfix_service.specs.requests.NoticeDeeds.{IsNotified}
 use Rattle.dsn_postfix_service.specs.requests.RequestLaws.{AreAllTold, AreHandedIn, HandsInOnce, IsRemovedAfter, IsTellingDone, StandsOrIsPassedOn, hand_ins}
 use Rattle.dsn_postfix_service.specs.requests.RequestLetters.{AreLettersOf, message_said}
-use Rattle.dsn_postfix_service.specs.requests.RequestStatus.{carried_out, has_flag, not_carried_out, status_after, status_passed_on}
+use Rattle.dsn_postfix_service.specs.requests.RequestStatus.{RequestAnswer, carried_out, has_flag, is_carried_out, not_carried_out, status_after, status_passed_on}
 use Rattle.dsn_postfix_service.specs.requests.ServiceSettings.{SettingsSaid}
 use Rattle.dsn_postfix_service.proofs.RequestLawLemmas.{Block, RemovesNone, hand_ins-append, is_removal}
 use Rattle.dsn_postfix_service.proofs.TellingParts.{IsRemovalPart, notified_parts, nothing_removed, removed_told}
@@ -33,14 +34,14 @@ some_is x y e = ap (λ (o : Option _). unwrap_or o x) e
 no_notice : (notice : NoticeRequest) → None ≡ Some notice → ⊥
 no_notice notice e = cc
 
-done_notified : (settings : SettingsSaid) (service : Service) (request : PostfixRequest) (notice : NoticeRequest) (bytes : List ℕ) (moment serial status : ℕ) (gained : List Deed)
-    → notice_asked request ≡ Some notice → IsDone settings service request bytes moment serial status gained → IsNotified settings service request notice bytes moment serial status gained
-done_notified settings service (Append append) notice bytes moment serial status gained e is = absurd (no_notice notice e)
-done_notified settings service (Flush own) notice bytes moment serial status gained e is = subst (λ (n : NoticeRequest). IsNotified settings service (Flush own) n bytes moment serial status gained) (some_is own notice e) is
-done_notified settings service (Warn own) notice bytes moment serial status gained e is = subst (λ (n : NoticeRequest). IsNotified settings service (Warn own) n bytes moment serial status gained) (some_is own notice e) is
-done_notified settings service (Verp own delimiters) notice bytes moment serial status gained e is = subst (λ (n : NoticeRequest). IsNotified settings service (Verp own delimiters) n bytes moment serial status gained) (some_is own notice e) is
-done_notified settings service (One own recipient report) notice bytes moment serial status gained e is = subst (λ (n : NoticeRequest). IsNotified settings service (One own recipient report) n bytes moment serial status gained) (some_is own notice e) is
-done_notified settings service (Trace own) notice bytes moment serial status gained e is = subst (λ (n : NoticeRequest). IsNotified settings service (Trace own) n bytes moment serial status gained) (some_is own notice e) is
+done_notified : (settings : SettingsSaid) (service : Service) (request : PostfixRequest) (notice : NoticeRequest) (bytes : List ℕ) (moment serial : ℕ) (answer : RequestAnswer) (gained : List Deed)
+    → notice_asked request ≡ Some notice → IsDone settings service request bytes moment serial answer gained → IsNotified settings service request notice bytes moment serial answer gained
+done_notified settings service (Append append) notice bytes moment serial answer gained e is = absurd (no_notice notice e)
+done_notified settings service (Flush own) notice bytes moment serial answer gained e is = subst (λ (n : NoticeRequest). IsNotified settings service (Flush own) n bytes moment serial answer gained) (some_is own notice e) is
+done_notified settings service (Warn own) notice bytes moment serial answer gained e is = subst (λ (n : NoticeRequest). IsNotified settings service (Warn own) n bytes moment serial answer gained) (some_is own notice e) is
+done_notified settings service (Verp own delimiters) notice bytes moment serial answer gained e is = subst (λ (n : NoticeRequest). IsNotified settings service (Verp own delimiters) n bytes moment serial answer gained) (some_is own notice e) is
+done_notified settings service (One own recipient report) notice bytes moment serial answer gained e is = subst (λ (n : NoticeRequest). IsNotified settings service (One own recipient report) n bytes moment serial answer gained) (some_is own notice e) is
+done_notified settings service (Trace own) notice bytes moment serial answer gained e is = subst (λ (n : NoticeRequest). IsNotified settings service (Trace own) n bytes moment serial answer gained) (some_is own notice e) is
 
 id_of : (request : PostfixRequest) (notice : NoticeRequest) → notice_asked request ≡ Some notice → queue_id_of request ≡ notice.queue_id
 id_of (Append append) notice e = absurd (no_notice notice e)
@@ -136,35 +137,35 @@ one_removal service other id named answer given (deed ∷ more) after e = absurd
 
 cleaned_last : (service other : Service) (request : PostfixRequest) (named : List ℕ) (due : Bool) (cleaned more after : List Deed) (given : Answer) → Cleans service request due cleaned
     → cleaned ≡ more ++ LogRemoved other named given ∷ after → CleansLast service other (queue_id_of request) named due after
-cleaned_last service other request named true cleaned more after given cleans e = one_removal service other (queue_id_of request) named cleans.answer given more after (sym cleans.removed ∙ e)
+cleaned_last service other request named true cleaned more after given cleans e = one_removal service other (queue_id_of request) named cleans.given given more after (sym cleans.removed ∙ e)
 cleaned_last service other request named false cleaned more after given cleans e = absurd (nothing_after more after (LogRemoved other named given) (sym cleans ∙ e))
 
 -- ---- a removal
 
 -- after the telling only CLEAN removes
-after_tail : (settings : SettingsSaid) (service other : Service) (request : PostfixRequest) (notice : NoticeRequest) (moment serial status : ℕ) (tail cleaned before more after : List Deed) (named : List ℕ) (given : Answer)
-    → notice_asked request ≡ Some notice → Block tail [] → Cleans service request (must_clean request status) cleaned
-    → tail ++ cleaned ≡ more ++ LogRemoved other named given ∷ after → IsRemovedAfter settings service request notice moment serial status before after other named
-after_tail settings service other request notice moment serial status tail cleaned before more after named given asked block cleans e =
+after_tail : (settings : SettingsSaid) (service other : Service) (request : PostfixRequest) (notice : NoticeRequest) (moment serial : ℕ) (answer : RequestAnswer) (tail cleaned before more after : List Deed) (named : List ℕ) (given : Answer)
+    → notice_asked request ≡ Some notice → Block tail [] → Cleans service request (must_clean request answer) cleaned
+    → tail ++ cleaned ≡ more ++ LogRemoved other named given ∷ after → IsRemovedAfter settings service request notice moment serial answer before after other named
+after_tail settings service other request notice moment serial answer tail cleaned before more after named given asked block cleans e =
     let past = past_block tail cleaned more after (LogRemoved other named given) block.keeps refl e in
-    let last = cleaned_last service other request named (must_clean request status) cleaned past.more after given cleans past.rest_is in
+    let last = cleaned_last service other request named (must_clean request answer) cleaned past.more after given cleans past.rest_is in
     record { of_service = last.of_service; of_message = last.of_message ∙ id_of request notice asked; told = inr (last.is_due, last.none_after) }
 
-at_removal : (settings : SettingsSaid) (service other : Service) (request : PostfixRequest) (notice : NoticeRequest) (moment serial status : ℕ) (front handed removal tail cleaned before more after : List Deed) (named : List ℕ) (given : Answer)
-    → notice_asked request ≡ Some notice → Block front handed → IsRemovalPart settings service request notice moment serial handed removal → Block tail [] → Cleans service request (must_clean request status) cleaned
-    → before ≡ front ++ more → removal ++ (tail ++ cleaned) ≡ more ++ LogRemoved other named given ∷ after → IsRemovedAfter settings service request notice moment serial status before after other named
-at_removal settings service other request notice moment serial status front handed removal tail cleaned before more after named given asked block (nothing_removed none) tail_block cleans before_is e =
-    after_tail settings service other request notice moment serial status tail cleaned before more after named given asked tail_block cleans
+at_removal : (settings : SettingsSaid) (service other : Service) (request : PostfixRequest) (notice : NoticeRequest) (moment serial : ℕ) (answer : RequestAnswer) (front handed removal tail cleaned before more after : List Deed) (named : List ℕ) (given : Answer)
+    → notice_asked request ≡ Some notice → Block front handed → IsRemovalPart settings service request notice moment serial handed removal → Block tail [] → Cleans service request (must_clean request answer) cleaned
+    → before ≡ front ++ more → removal ++ (tail ++ cleaned) ≡ more ++ LogRemoved other named given ∷ after → IsRemovedAfter settings service request notice moment serial answer before after other named
+at_removal settings service other request notice moment serial answer front handed removal tail cleaned before more after named given asked block (nothing_removed none) tail_block cleans before_is e =
+    after_tail settings service other request notice moment serial answer tail cleaned before more after named given asked tail_block cleans
     (ap (λ (deeds : List Deed). deeds ++ (tail ++ cleaned)) (sym none) ∙ e)
-at_removal settings service other request notice moment serial status front handed removal tail cleaned before [] after named given asked block (removed_told answer is told) tail_block cleans before_is e =
-    let same = same_removal service other notice.queue_id named answer given (tail ++ cleaned) after (ap (λ (deeds : List Deed). deeds ++ (tail ++ cleaned)) (sym is) ∙ e) in
+at_removal settings service other request notice moment serial answer front handed removal tail cleaned before [] after named given asked block (removed_told came is told) tail_block cleans before_is e =
+    let same = same_removal service other notice.queue_id named came given (tail ++ cleaned) after (ap (λ (deeds : List Deed). deeds ++ (tail ++ cleaned)) (sym is) ∙ e) in
     record {
       of_service = same.of_service;
       of_message = same.of_message;
       told = inl (subst (λ (deeds : List Deed). AreAllTold settings service request notice moment serial deeds) (sym (ap hand_ins (before_is ∙ append-nil front) ∙ block.handed_are)) told);
     }
-at_removal settings service other request notice moment serial status front handed removal tail cleaned before (deed ∷ more) after named given asked block (removed_told answer is told) tail_block cleans before_is e =
-    after_tail settings service other request notice moment serial status tail cleaned before more after named given asked tail_block cleans
+at_removal settings service other request notice moment serial answer front handed removal tail cleaned before (deed ∷ more) after named given asked block (removed_told came is told) tail_block cleans before_is e =
+    after_tail settings service other request notice moment serial answer tail cleaned before more after named given asked tail_block cleans
     (ap later (ap (λ (deeds : List Deed). deeds ++ (tail ++ cleaned)) (sym is) ∙ e))
 
 -- the deeds of a telling, in one row
@@ -173,15 +174,15 @@ one_row front removal tail cleaned told done gained g d t =
     g ∙ ap (λ (deeds : List Deed). deeds ++ cleaned) d ∙ append_assoc told tail cleaned
     ∙ ap (λ (deeds : List Deed). deeds ++ (tail ++ cleaned)) t ∙ append_assoc front removal (tail ++ cleaned)
 
-pub removed_only_after : (settings : SettingsSaid) (service : Service) (request : PostfixRequest) (notice : NoticeRequest) (bytes : List ℕ) (moment serial status : ℕ) (gained before after : List Deed) (other : Service) (named : List ℕ) (given : Answer)
-    → IsTellingDone settings service request notice bytes moment serial status gained → gained ≡ before ++ LogRemoved other named given ∷ after
-    → IsRemovedAfter settings service request notice moment serial status before after other named
-removed_only_after settings service request notice bytes moment serial status gained before after other named given done e =
+pub removed_only_after : (settings : SettingsSaid) (service : Service) (request : PostfixRequest) (notice : NoticeRequest) (bytes : List ℕ) (moment serial : ℕ) (answer : RequestAnswer) (gained before after : List Deed) (other : Service) (named : List ℕ) (given : Answer)
+    → IsTellingDone settings service request notice bytes moment serial answer gained → gained ≡ before ++ LogRemoved other named given ∷ after
+    → IsRemovedAfter settings service request notice moment serial answer before after other named
+removed_only_after settings service request notice bytes moment serial answer gained before after other named given done e =
     let out = done.carried_out in
-    let parts = notified_parts settings service request notice bytes moment serial status out.done (done_notified settings service request notice bytes moment serial status out.done done.asked out.is_done) in
+    let parts = notified_parts settings service request notice bytes moment serial answer out.done (done_notified settings service request notice bytes moment serial answer out.done done.asked out.is_done) in
     let row = one_row parts.telling.front parts.telling.removal parts.tail out.cleaned parts.told out.done gained out.gained_are parts.all parts.telling.parts in
     let past = past_block parts.telling.front (parts.telling.removal ++ (parts.tail ++ out.cleaned)) before after (LogRemoved other named given) parts.telling.block.keeps refl (sym row ∙ e) in
-    at_removal settings service other request notice moment serial status parts.telling.front parts.telling.handed parts.telling.removal parts.tail out.cleaned before past.more after named given done.asked
+    at_removal settings service other request notice moment serial answer parts.telling.front parts.telling.handed parts.telling.removal parts.tail out.cleaned before past.more after named given done.asked
     parts.telling.block parts.telling.removal_is parts.tail_block out.clean past.before_is past.rest_is
 
 -- ---- what is handed in
@@ -206,17 +207,17 @@ once_as : (settings : SettingsSaid) (service : Service) (request : PostfixReques
 once_as settings service request notice moment serial handed all is (inl none) = inl (is ∙ none)
 once_as settings service request notice moment serial handed all is (inr once) = inr (subst (λ (deeds : List Deed). HandsInOnce settings service request notice moment serial deeds) (sym is) once)
 
-pub handed_in_once : (settings : SettingsSaid) (service : Service) (request : PostfixRequest) (notice : NoticeRequest) (bytes : List ℕ) (moment serial status : ℕ) (gained : List Deed)
-    → IsTellingDone settings service request notice bytes moment serial status gained → (hand_ins gained ≡ []) ⊎ HandsInOnce settings service request notice moment serial (hand_ins gained)
-handed_in_once settings service request notice bytes moment serial status gained done =
+pub handed_in_once : (settings : SettingsSaid) (service : Service) (request : PostfixRequest) (notice : NoticeRequest) (bytes : List ℕ) (moment serial : ℕ) (answer : RequestAnswer) (gained : List Deed)
+    → IsTellingDone settings service request notice bytes moment serial answer gained → (hand_ins gained ≡ []) ⊎ HandsInOnce settings service request notice moment serial (hand_ins gained)
+handed_in_once settings service request notice bytes moment serial answer gained done =
     let out = done.carried_out in
-    let parts = notified_parts settings service request notice bytes moment serial status out.done (done_notified settings service request notice bytes moment serial status out.done done.asked out.is_done) in
+    let parts = notified_parts settings service request notice bytes moment serial answer out.done (done_notified settings service request notice bytes moment serial answer out.done done.asked out.is_done) in
     let telling = parts.telling in
     let row = one_row telling.front telling.removal parts.tail out.cleaned parts.told out.done gained out.gained_are parts.all telling.parts in
     once_as settings service request notice moment serial telling.handed (hand_ins gained)
     (ap hand_ins row ∙ row_handed telling.front telling.removal parts.tail out.cleaned telling.handed telling.block.handed_are
     (removal_hands_in_none settings service request notice moment serial telling.handed telling.removal telling.removal_is) parts.tail_block.handed_are
-    (cleaning_hands_in_none service request (must_clean request status) out.cleaned out.clean))
+    (cleaning_hands_in_none service request (must_clean request answer) out.cleaned out.clean))
     telling.once
 
 -- ---- nobody to be told
@@ -250,41 +251,56 @@ none_once settings service request notice moment serial handed asked none (inr o
     let no_front : once.front ≡ [] = empty_front once.front once.rest (sym no_letters ∙ once.letters_are) in
     subst (λ (ls : List Letter). AreHandedIn settings.host ls handed) no_front once.each
 
-pub nobody_is_told : (settings : SettingsSaid) (service : Service) (request : PostfixRequest) (notice : NoticeRequest) (bytes : List ℕ) (moment serial status : ℕ) (gained : List Deed)
-    → IsTellingDone settings service request notice bytes moment serial status gained → is_no_sender settings.double_bounce notice.sender ≡ true → hand_ins gained ≡ []
-nobody_is_told settings service request notice bytes moment serial status gained done none =
-    none_once settings service request notice moment serial (hand_ins gained) done.asked none (handed_in_once settings service request notice bytes moment serial status gained done)
+pub nobody_is_told : (settings : SettingsSaid) (service : Service) (request : PostfixRequest) (notice : NoticeRequest) (bytes : List ℕ) (moment serial : ℕ) (answer : RequestAnswer) (gained : List Deed)
+    → IsTellingDone settings service request notice bytes moment serial answer gained → is_no_sender settings.double_bounce notice.sender ≡ true → hand_ins gained ≡ []
+nobody_is_told settings service request notice bytes moment serial answer gained done none =
+    none_once settings service request notice moment serial (hand_ins gained) done.asked none (handed_in_once settings service request notice bytes moment serial answer gained done)
 
 -- ---- appends
+
+abbrev status_or : ℕ → RequestAnswer → ℕ
+status_or other (Ok status) = status
+status_or other (Err refused) = other
+
+not_zero : not_carried_out ≡ carried_out → ⊥
+not_zero e = cc
+
+no_status : (refused : NoMemory) (status : ℕ) → Err refused ≡ Ok status → ⊥
+no_status refused status e = cc
+
+status_is : (one : ℕ) (answer : RequestAnswer) → answer ≡ Ok one → status_or one answer ≡ one
+status_is one answer e = ap (status_or one) e
+
+stands_if_tried : (service : Service) (request : AppendRequest) (bytes : List ℕ) (gained : List Deed) (given : Answer) → gained ≡ Appended service request.queue_id (record_bytes service request) given ∷ [] → status_after given ≡ 0 → StandsOrIsPassedOn service request bytes gained
+stands_if_tried service request bytes gained (Ok done) is zero = inl is
+stands_if_tried service request bytes gained (Err why) is zero = absurd (not_zero zero)
+
+-- what Postfix's own service answered 0 to
+pub passed_with_zero : (service : Service) (bytes : List ℕ) (gained : List Deed) (given : Result ℕ DeedFault) → gained ≡ PassedOn service bytes given ∷ [] → status_passed_on given ≡ 0 → gained ≡ PassedOn service bytes (Ok 0) ∷ []
+passed_with_zero service bytes gained (Ok status) is zero = is ∙ ap (λ (n : ℕ). PassedOn service bytes (Ok n) ∷ []) zero
+passed_with_zero service bytes gained (Err why) is zero = absurd (not_zero zero)
+
+logged_stands : (service : Service) (request : AppendRequest) (bytes : List ℕ) (status : ℕ) (gained : List Deed) → IsLogged service request bytes status gained → status ≡ 0 → StandsOrIsPassedOn service request bytes gained
+logged_stands service request bytes status gained (append.tried none given is comes) zero = stands_if_tried service request bytes gained given is (sym comes ∙ zero)
+logged_stands service request bytes status gained (append.unsayable field some passes) zero =
+    inr (passed_with_zero service bytes gained passes.given passes.passed (sym (status_is (status_passed_on passes.given) (Ok status) passes.answer_is) ∙ zero))
+
+append_stands : (service : Service) (request : AppendRequest) (bytes : List ℕ) (answer : RequestAnswer) (gained : List Deed) → IsAppended service request bytes answer gained → answer ≡ Ok 0 → StandsOrIsPassedOn service request bytes gained
+append_stands service request bytes (Ok status) gained is zero = logged_stands service request bytes status gained is (status_is 0 (Ok status) zero)
+append_stands service request bytes (Err refused) gained is zero = absurd (no_status refused 0 zero)
 
 and_false : (b : Bool) → (b && false) ≡ false
 and_false true = refl
 and_false false = refl
 
-not_zero : not_carried_out ≡ carried_out → ⊥
-not_zero e = cc
-
-stands_if_tried : (service : Service) (request : AppendRequest) (bytes : List ℕ) (gained : List Deed) (answer : Answer) → gained ≡ Appended service request.queue_id (record_bytes service request) answer ∷ [] → status_after answer ≡ 0 → StandsOrIsPassedOn service request bytes gained
-stands_if_tried service request bytes gained (Ok done) is zero = inl is
-stands_if_tried service request bytes gained (Err why) is zero = absurd (not_zero zero)
-
-passed_with_zero : (service : Service) (request : AppendRequest) (bytes : List ℕ) (gained : List Deed) (answer : Result ℕ DeedFault) → gained ≡ PassedOn service bytes answer ∷ [] → status_passed_on answer ≡ 0 → StandsOrIsPassedOn service request bytes gained
-passed_with_zero service request bytes gained (Ok status) is zero = inr (is ∙ ap (λ (n : ℕ). PassedOn service bytes (Ok n) ∷ []) zero)
-passed_with_zero service request bytes gained (Err why) is zero = absurd (not_zero zero)
-
-append_stands : (service : Service) (request : AppendRequest) (bytes : List ℕ) (status : ℕ) (gained : List Deed) → IsAppended service request bytes status gained → status ≡ 0 → StandsOrIsPassedOn service request bytes gained
-append_stands service request bytes status gained (append.tried none answer is status_is) zero = stands_if_tried service request bytes gained answer is (sym status_is ∙ zero)
-append_stands service request bytes status gained (append.unsayable field some passes) zero = passed_with_zero service request bytes gained passes.answer passes.passed (sym passes.status_is ∙ zero)
-append_stands service request bytes status gained (append.no_memory none status_is) zero = absurd (not_zero (sym status_is ∙ zero))
-
-nothing_to_clean : (service : Service) (request : PostfixRequest) (status : ℕ) (cleaned : List Deed) → status ≡ 0 → Cleans service request (must_clean request status) cleaned → cleaned ≡ []
-nothing_to_clean service request status cleaned zero cleans =
+pub nothing_to_clean : (service : Service) (request : PostfixRequest) (answer : RequestAnswer) (cleaned : List Deed) → answer ≡ Ok 0 → Cleans service request (must_clean request answer) cleaned → cleaned ≡ []
+nothing_to_clean service request answer cleaned zero cleans =
     subst (λ (due : Bool). Cleans service request due cleaned)
-    (ap (λ (n : ℕ). has_flag 1 (flags_of request) && not (n == 0)) zero ∙ and_false (has_flag 1 (flags_of request))) cleans
+    (ap (λ (a : RequestAnswer). has_flag 1 (flags_of request) && not (is_carried_out a)) zero ∙ and_false (has_flag 1 (flags_of request))) cleans
 
-pub answered_append_stands : (settings : SettingsSaid) (service : Service) (request : AppendRequest) (bytes : List ℕ) (moment serial status : ℕ) (gained : List Deed)
-    → IsCarriedOut settings service (Append request) bytes moment serial status gained → status ≡ 0 → StandsOrIsPassedOn service request bytes gained
-answered_append_stands settings service request bytes moment serial status gained out zero =
+pub answered_append_stands : (settings : SettingsSaid) (service : Service) (request : AppendRequest) (bytes : List ℕ) (moment serial : ℕ) (answer : RequestAnswer) (gained : List Deed)
+    → IsCarriedOut settings service (Append request) bytes moment serial answer gained → answer ≡ Ok 0 → StandsOrIsPassedOn service request bytes gained
+answered_append_stands settings service request bytes moment serial answer gained out zero =
     subst (λ (deeds : List Deed). StandsOrIsPassedOn service request bytes deeds)
-    (sym (out.gained_are ∙ ap (λ (deeds : List Deed). out.done ++ deeds) (nothing_to_clean service (Append request) status out.cleaned zero out.clean) ∙ append-nil out.done))
-    (append_stands service request bytes status out.done out.is_done zero)
+    (sym (out.gained_are ∙ ap (λ (deeds : List Deed). out.done ++ deeds) (nothing_to_clean service (Append request) answer out.cleaned zero out.clean) ∙ append-nil out.done))
+    (append_stands service request bytes answer out.done out.is_done zero)

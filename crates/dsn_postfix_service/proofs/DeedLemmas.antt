@@ -16,11 +16,12 @@ use Rattle.dsn_postfix_service.specs.requests.AppendDeeds.{IsAppended, record_by
 use Rattle.dsn_postfix_service.specs.requests.Deed.{Answer, Appended, Deed, HandedIn, LogReleased, MessageRead}
 use Rattle.dsn_postfix_service.specs.requests.Finishing.{AreMarked, FailsToMark, StopsAtPlace, marking}
 use Rattle.dsn_postfix_service.specs.requests.Gains.{Gains, with_deeds}
-use Rattle.dsn_postfix_service.specs.requests.HandingIn.{AreAccepted, IsNotAccepted, StopsAtLetter, hand_in_of, refused}
+use Rattle.dsn_postfix_service.specs.requests.HandingIn.{AreAccepted, IsNotAccepted, IsRefused, StopsAtLetter, hand_in_of}
 use Rattle.dsn_postfix_service.specs.requests.MailFound.{FailsToRead, ReadsLog, log_reading, log_unread, message_reading, message_unread}
 use Rattle.dsn_postfix_service.specs.requests.NoticeDeeds.{EndsTelling, IsNotified, Tells}
-use Rattle.dsn_postfix_service.specs.requests.RequestStatus.{status_after}
+use Rattle.dsn_postfix_service.specs.requests.RequestStatus.{RequestAnswer, status_after}
 use Rattle.dsn_postfix_service.specs.requests.ServiceSettings.{SettingsSaid}
+use Rattle.dsn_postfix_service.specs.declared.requests.not_accepted.NotAccepted.{NotAccepted}
 use Rattle.dsn_postfix_service.specs.declared.requests.telling.Telling.{Telling}
 
 suc_not_zero : (n : ℕ) → suc n ≡ 0 → ⊥
@@ -78,13 +79,13 @@ empty_map f (x ∷ xs) none = absurd (suc_not_zero (length xs) none)
 
 -- ---- an append
 
-pub appended : {S : Type 0} → (deeds : S → Option (List Deed)) (old new : S) (service : Service) (request : AppendRequest) (bytes : List ℕ) (status : ℕ) (written : List ℕ) (answer : Answer)
-    → unlogged_field service request ≡ None → written ≡ record_bytes service request → status ≡ status_after answer
-    → deeds new ≡ with_deeds (deeds old) (Appended service request.queue_id written answer ∷ []) → Gains deeds old new (IsAppended service request bytes status)
-appended deeds old new service request bytes status written answer none is status_is after = record {
-  gained = Appended service request.queue_id (record_bytes service request) answer ∷ [];
-  after = after ∙ ap (λ (b : List ℕ). with_deeds (deeds old) (Appended service request.queue_id b answer ∷ [])) is;
-  are = tried none answer refl status_is;
+pub appended : {S : Type 0} → (deeds : S → Option (List Deed)) (old new : S) (service : Service) (request : AppendRequest) (bytes : List ℕ) (status : ℕ) (written : List ℕ) (given : Answer)
+    → unlogged_field service request ≡ None → written ≡ record_bytes service request → status ≡ status_after given
+    → deeds new ≡ with_deeds (deeds old) (Appended service request.queue_id written given ∷ []) → Gains deeds old new (IsAppended service request bytes (Ok status))
+appended deeds old new service request bytes status written given none is status_is after = record {
+  gained = Appended service request.queue_id (record_bytes service request) given ∷ [];
+  after = after ∙ ap (λ (b : List ℕ). with_deeds (deeds old) (Appended service request.queue_id b given ∷ [])) is;
+  are = tried none given refl status_is;
 }
 
 -- ---- what is read
@@ -119,11 +120,11 @@ one_accepted deeds old new host letter path data' reply to is after = record {
 
 pub one_refused : {S : Type 0} → (deeds : S → Option (List Deed)) (old new : S) (host : List ℕ) (letter : Letter) (path data' : List ℕ) (why : HandInFault)
     → letter.draft.return_path ≡ Some path → data' ≡ mail_data host letter → deeds new ≡ with_deeds (deeds old) (HandedIn path data' (Err why) ∷ [])
-    → Gains deeds old new (IsNotAccepted host letter)
+    → Gains deeds old new (IsRefused host letter)
 one_refused deeds old new host letter path data' why to is after = record {
   gained = hand_in_of host letter (Err why) ∷ [];
   after = after ∙ (λ i. with_deeds (deeds old) (HandedIn (sym (path_is letter path to) i) (is i) (Err why) ∷ []));
-  are = refused why refl;
+  are = record { fault = why; tried = refl };
 }
 
 pub accepted_more : (host : List ℕ) (front back : List Letter) (taken more : List Deed) → AreAccepted host front taken → AreAccepted host back more → AreAccepted host (front ++ back) (taken ++ more)
@@ -168,9 +169,9 @@ all_accepted deeds old new host letters rest so_far none = record {
   are = subst (λ (xs : List Letter). AreAccepted host xs so_far.taken) (sym (at_end letters so_far.front rest so_far.split none)) so_far.accepted;
 }
 
-pub stopped_at : {S : Type 0} → (deeds : S → Option (List Deed)) (old between new : S) (host : List ℕ) (letters rest after : List Letter) (letter : Letter)
-    → AcceptedSoFar deeds old between host letters rest → rest ≡ letter ∷ after → Gains deeds between new (IsNotAccepted host letter) → Gains deeds old new (StopsAtLetter host letters)
-stopped_at deeds old between new host letters rest after letter so_far first one = record {
+pub stopped_at : {S : Type 0} → (deeds : S → Option (List Deed)) (old between new : S) (host : List ℕ) (letters rest after : List Letter) (letter : Letter) (why : NotAccepted)
+    → AcceptedSoFar deeds old between host letters rest → rest ≡ letter ∷ after → Gains deeds between new (IsNotAccepted host letter why) → Gains deeds old new (StopsAtLetter host letters why)
+stopped_at deeds old between new host letters rest after letter why so_far first one = record {
   gained = so_far.taken ++ one.gained;
   after = after_both deeds old between new so_far.taken one.gained so_far.after one.after;
   are = record {
@@ -234,10 +235,10 @@ stopped_marking deeds old between new notice places rest after place so_far firs
 
 -- ---- a request for notices
 
-pub notified : {S : Type 0} → (deeds : S → Option (List Deed)) (old between released new : S) (settings : SettingsSaid) (service : Service) (request : PostfixRequest) (notice : NoticeRequest) (bytes : List ℕ) (moment serial status : ℕ) (telling : Telling)
-    → Gains deeds old between (Tells settings service request notice moment serial telling) → deeds released ≡ with_deeds (deeds between) (LogReleased ∷ []) → Gains deeds released new (EndsTelling service bytes telling status)
-    → Gains deeds old new (IsNotified settings service request notice bytes moment serial status)
-notified deeds old between released new settings service request notice bytes moment serial status telling first release last = record {
+pub notified : {S : Type 0} → (deeds : S → Option (List Deed)) (old between released new : S) (settings : SettingsSaid) (service : Service) (request : PostfixRequest) (notice : NoticeRequest) (bytes : List ℕ) (moment serial : ℕ) (answer : RequestAnswer) (telling : Telling)
+    → Gains deeds old between (Tells settings service request notice moment serial telling) → deeds released ≡ with_deeds (deeds between) (LogReleased ∷ []) → Gains deeds released new (EndsTelling service bytes telling answer)
+    → Gains deeds old new (IsNotified settings service request notice bytes moment serial answer)
+notified deeds old between released new settings service request notice bytes moment serial answer telling first release last = record {
   gained = first.gained ++ LogReleased ∷ last.gained;
   after = after_both deeds old between new first.gained (LogReleased ∷ last.gained) first.after (after_both deeds between released new (LogReleased ∷ []) last.gained release last.after);
   are = record { telling = telling; told = first.gained; last = last.gained; gained_are = refl; tells = first.are; ends = last.are };

@@ -1,5 +1,6 @@
 -- Worked examples of requests that are carried out, each computed.
 use Rattle.std.proofs.Common.{◌≡◌, ℕ, true, false, List, [], ◌∷◌, codes, refl, Ok, Err, Some, None}
+use Rattle.dsn_text.specs.declared.no_memory.NoMemory.{NoMemory}
 use Rattle.dsn_text.specs.declared.service.Service.TheVariants.{Bounce, Defer}
 use Rattle.dsn_postfix.specs.LoggedAppend.{logged_of, unlogged_field, unlogged_of}
 use Rattle.dsn_postfix.specs.QuotedAddress.{needs_no_quotes}
@@ -10,14 +11,16 @@ use Rattle.dsn_postfix.specs.declared.postfix_request.PostfixRequest.TheVariants
 use Rattle.dsn_postfix.specs.declared.postfix_request.ReportedRecipient.{ReportedRecipient}
 use Rattle.dsn_postfix.specs.files.LogRecord.{unsayable_field}
 use Rattle.dsn_postfix_service.specs.declared.requests.deed_fault.DeedFault.TheVariants as fault
-use Rattle.dsn_postfix_service.specs.requests.AppendDeeds.{record_bytes, tried}
+use Rattle.dsn_postfix_service.specs.declared.requests.telling.Telling.TheVariants as telling
+use Rattle.dsn_postfix_service.specs.requests.AppendDeeds.{IsAppended, record_bytes, tried, unsayable}
 use Rattle.dsn_postfix_service.specs.requests.CarriedOut.{IsCarriedOut, must_clean}
-use Rattle.dsn_postfix_service.specs.requests.Deed.{Answer, Appended, Deed, HandedIn, LogRead, LogReleased, LogRemoved, MessageRead}
+use Rattle.dsn_postfix_service.specs.requests.Deed.{Answer, Appended, Deed, HandedIn, LogRead, LogReleased, LogRemoved, MessageRead, PassedOn}
 use Rattle.dsn_postfix_service.specs.requests.Finishing.{is_removal_due}
 use Rattle.dsn_postfix_service.specs.requests.MailFound.{readings}
+use Rattle.dsn_postfix_service.specs.requests.NoticeDeeds.{EndsTelling}
 use Rattle.dsn_postfix_service.specs.requests.RequestLaws.{hand_ins}
 use Rattle.dsn_postfix_service.specs.requests.RequestLetters.{next_serial, places_done}
-use Rattle.dsn_postfix_service.specs.requests.RequestStatus.{not_carried_out}
+use Rattle.dsn_postfix_service.specs.requests.RequestStatus.{RequestAnswer, not_carried_out}
 use Rattle.dsn_postfix_service.specs.requests.ServiceSettings.{SettingsSaid}
 
 abbrev id : List ℕ
@@ -75,8 +78,11 @@ sayable : unlogged_field Bounce (append_with 1) ≡ None
 unfolding logged_of unlogged_of needs_no_quotes unsayable_field
 sayable = refl
 
+no_deed : (deed : Deed) → [] ≡ deed ∷ [] → ⊥
+no_deed deed e = cc
+
 -- an append that went well, of a request with CLEAN: one deed, and 0
-append_done : IsCarriedOut settings Bounce (Append (append_with 1)) [] 0 0 0 (append_of_bob (Ok tt) ∷ [])
+append_done : IsCarriedOut settings Bounce (Append (append_with 1)) [] 0 0 (Ok 0) (append_of_bob (Ok tt) ∷ [])
 append_done = record {
   done = append_of_bob (Ok tt) ∷ [];
   cleaned = [];
@@ -86,24 +92,46 @@ append_done = record {
 }
 
 -- one that failed: its log is removed after it
-append_failed : IsCarriedOut settings Bounce (Append (append_with 1)) [] 0 0 not_carried_out (append_of_bob (Err fault.Failed) ∷ LogRemoved Bounce id (Ok tt) ∷ [])
+append_failed : IsCarriedOut settings Bounce (Append (append_with 1)) [] 0 0 (Ok not_carried_out) (append_of_bob (Err fault.Failed) ∷ LogRemoved Bounce id (Ok tt) ∷ [])
 append_failed = record {
   done = append_of_bob (Err fault.Failed) ∷ [];
   cleaned = LogRemoved Bounce id (Ok tt) ∷ [];
   gained_are = refl;
   is_done = tried sayable (Err fault.Failed) refl refl;
-  clean = record { answer = Ok tt; removed = refl };
+  clean = record { given = Ok tt; removed = refl };
 }
+
+-- one for whose record there was no memory: nothing was done but what CLEAN asks
+append_without_memory : (refused : NoMemory) → IsCarriedOut settings Bounce (Append (append_with 1)) [] 0 0 (Err refused) (LogRemoved Bounce id (Ok tt) ∷ [])
+append_without_memory why = record {
+  done = [];
+  cleaned = LogRemoved Bounce id (Ok tt) ∷ [];
+  gained_are = refl;
+  is_done = (sayable, refl);
+  clean = record { given = Ok tt; removed = refl };
+}
+
+-- a status is answered to no append without a deed
+status_needs_a_deed : (status : ℕ) → IsAppended Bounce (append_with 1) [] (Ok status) [] → ⊥
+status_needs_a_deed status (tried none given is comes) = absurd (no_deed (append_of_bob given) is)
+status_needs_a_deed status (unsayable field some passes) = absurd (no_deed (PassedOn Bounce [] passes.given) passes.passed)
+
+-- nor to a request for notices that ends with nobody told, unless what can't be said is passed on
+unsayable_needs_a_deed : (answer : RequestAnswer) → EndsTelling Bounce [] telling.Unsayable answer [] → ⊥
+unsayable_needs_a_deed answer passes = no_deed (PassedOn Bounce [] passes.given) passes.passed
 
 -- ---- parts
 
-clean_after_failure : must_clean (Flush (asked 3)) not_carried_out ≡ true
+clean_after_failure : must_clean (Flush (asked 3)) (Ok not_carried_out) ≡ true
 clean_after_failure = refl
 
-clean_not_after_0 : must_clean (Flush (asked 3)) 0 ≡ false
+clean_without_memory : (refused : NoMemory) → must_clean (Flush (asked 3)) (Err refused) ≡ true
+clean_without_memory why = refl
+
+clean_not_after_0 : must_clean (Flush (asked 3)) (Ok 0) ≡ false
 clean_not_after_0 = refl
 
-no_clean : must_clean (Flush (asked 2)) not_carried_out ≡ false
+no_clean : must_clean (Flush (asked 2)) (Ok not_carried_out) ≡ false
 no_clean = refl
 
 flush_removes : is_removal_due (Flush (asked 0)) (Some []) ≡ true

@@ -5,10 +5,11 @@ use Rattle.dsn_text.specs.declared.service.Service.{Service}
 use Rattle.dsn_postfix.specs.declared.postfix_request.NoticeRequest.{NoticeRequest}
 use Rattle.dsn_postfix.specs.declared.postfix_request.PostfixRequest.{PostfixRequest}
 use Rattle.dsn_postfix_service.specs.declared.requests.deed_fault.DeedFault.{DeedFault}
+use Rattle.dsn_postfix_service.specs.declared.requests.not_accepted.NotAccepted.{NotAccepted}
+use Rattle.dsn_postfix_service.specs.declared.requests.not_accepted.NotAccepted.TheVariants.{Refused, NoMemory}
 use Rattle.dsn_postfix_service.specs.requests.Deed.{Appended, Deed, HandedIn, LogRead, LogReleased, LogRemoved, MarkedDone, MessageRead, PassedOn}
 use Rattle.dsn_postfix_service.specs.requests.Finishing.{AreMarked, StopsAtPlace, marking}
 use Rattle.dsn_postfix_service.specs.requests.HandingIn.{AreAccepted, IsNotAccepted, StopsAtLetter, hand_in_of}
-use Rattle.dsn_postfix_service.specs.requests.HandingIn as handing
 use Rattle.dsn_postfix_service.specs.requests.MailFound.{FailsToRead, MailRead, log_reading, log_unread, message_reading, message_unread, readings, tells_of_log}
 use Rattle.dsn_postfix_service.specs.requests.RequestLaws.{AreHandedIn, hand_ins, is_hand_in, onto_if}
 
@@ -110,18 +111,18 @@ pub record FrontHanded (host : List ℕ) (letters : List Letter) (gained : List 
 one_tried : (host : List ℕ) (letter : Letter) (why : _) → Block (hand_in_of host letter (Err why) ∷ []) (hand_in_of host letter (Err why) ∷ [])
 one_tried host letter why = record { keeps = (refl, tt); handed_are = refl }
 
-last_handed : (host : List ℕ) (before after : List Letter) (stopped : Letter) (taken last : List Deed) → AreAccepted host before taken → IsNotAccepted host stopped last
+last_handed : (host : List ℕ) (before after : List Letter) (stopped : Letter) (why : NotAccepted) (taken last : List Deed) → AreAccepted host before taken → IsNotAccepted host stopped why last
     → FrontHanded host (before ++ stopped ∷ after) (taken ++ last)
-last_handed host before after stopped taken last accepted (handing.refused why is) =
-    let tried : List Deed = hand_in_of host stopped (Err why) ∷ [] in
-    subst (λ (deeds : List Deed). FrontHanded host (before ++ stopped ∷ after) (taken ++ deeds)) (sym is) (record {
+last_handed host before after stopped Refused taken last accepted is =
+    let tried : List Deed = hand_in_of host stopped (Err is.fault) ∷ [] in
+    subst (λ (deeds : List Deed). FrontHanded host (before ++ stopped ∷ after) (taken ++ deeds)) (sym is.tried) (record {
       front = before ++ stopped ∷ [];
       rest = after;
       letters_are = sym (append_assoc before (stopped ∷ []) after);
-      block = both taken tried taken tried (accepted_block host before taken accepted) (one_tried host stopped why);
-      each = handed_more host before (stopped ∷ []) taken tried (accepted_handed host before taken accepted) (record { answer = Err why; deed_is = refl }, refl);
+      block = both taken tried taken tried (accepted_block host before taken accepted) (one_tried host stopped is.fault);
+      each = handed_more host before (stopped ∷ []) taken tried (accepted_handed host before taken accepted) (record { answer = Err is.fault; deed_is = refl }, refl);
     })
-last_handed host before after stopped taken last accepted (handing.no_memory is) =
+last_handed host before after stopped NoMemory taken last accepted is =
     subst (λ (deeds : List Deed). FrontHanded host (before ++ stopped ∷ after) (taken ++ deeds)) (sym is)
     (subst (λ (deeds : List Deed). FrontHanded host (before ++ stopped ∷ after) deeds) (sym (append-nil taken)) (record {
       front = before;
@@ -131,11 +132,11 @@ last_handed host before after stopped taken last accepted (handing.no_memory is)
       each = accepted_handed host before taken accepted;
     }))
 
-pub stopped_front : (host : List ℕ) (letters : List Letter) (gained : List Deed) → StopsAtLetter host letters gained → FrontHanded host letters gained
-stopped_front host letters gained stops =
+pub stopped_front : (host : List ℕ) (letters : List Letter) (why : NotAccepted) (gained : List Deed) → StopsAtLetter host letters why gained → FrontHanded host letters gained
+stopped_front host letters why gained stops =
     subst (λ (deeds : List Deed). FrontHanded host letters deeds) (sym stops.gained_are)
     (subst (λ (ls : List Letter). FrontHanded host ls (stops.taken ++ stops.last)) (sym stops.letters_are)
-    (last_handed host stops.before stops.after stops.stopped stops.taken stops.last stops.accepted stops.not_accepted))
+    (last_handed host stops.before stops.after stops.stopped why stops.taken stops.last stops.accepted stops.not_accepted))
 
 -- ---- recipients
 

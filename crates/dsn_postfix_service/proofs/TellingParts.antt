@@ -7,7 +7,7 @@ use Rattle.dsn_postfix.specs.declared.postfix_request.NoticeRequest.{NoticeReque
 use Rattle.dsn_postfix.specs.declared.postfix_request.PostfixRequest.{PostfixRequest}
 use Rattle.dsn_postfix_service.specs.declared.requests.deed_fault.DeedFault.{DeedFault}
 use Rattle.dsn_postfix_service.specs.declared.requests.telling.Telling.{Telling}
-use Rattle.dsn_postfix_service.specs.declared.requests.telling.Telling.TheVariants.{Told, Unsayable, Failed}
+use Rattle.dsn_postfix_service.specs.declared.requests.telling.Telling.TheVariants.{Told, Unsayable, Failed, NoMemory}
 use Rattle.dsn_postfix_service.specs.requests.Deed.{Answer, Deed, LogReleased, LogRemoved, PassedOn}
 use Rattle.dsn_postfix_service.specs.requests.Finishing.{FinishesAt, RemovesLog}
 use Rattle.dsn_postfix_service.specs.requests.Finishing as finishing
@@ -16,6 +16,7 @@ use Rattle.dsn_postfix_service.specs.requests.NoticeDeeds.{EndsTelling, IsNotifi
 use Rattle.dsn_postfix_service.specs.requests.NoticeDeeds as notices
 use Rattle.dsn_postfix_service.specs.requests.RequestLaws.{AreAllTold, HandsInOnce}
 use Rattle.dsn_postfix_service.specs.requests.RequestLetters.{AreLettersAsked}
+use Rattle.dsn_postfix_service.specs.requests.RequestStatus.{RequestAnswer}
 use Rattle.dsn_postfix_service.specs.requests.ServiceSettings.{SettingsSaid}
 use Rattle.dsn_postfix_service.proofs.RequestLawLemmas.{Block, accepted_block, accepted_handed, block_is, both, marked_block, no_deeds, readings_block, stopped_front, stopped_marks, unread_block}
 
@@ -84,11 +85,11 @@ removal_told : (settings : SettingsSaid) (service : Service) (request : PostfixR
 removal_told settings service request notice moment serial handed removal told (inl none) = nothing_removed none
 removal_told settings service request notice moment serial handed removal told (inr some) = removed_told some.0 some.1 told
 
-letters_parts : (settings : SettingsSaid) (service : Service) (request : PostfixRequest) (notice : NoticeRequest) (moment serial : ℕ) (found : MailRead) (made : List Letter) (places : List ℕ) (done : Bool) (gained : List Deed)
-    → AreLettersAsked settings service request notice moment serial found made → TellsLetters settings service request notice found made places done gained
+letters_parts : (settings : SettingsSaid) (service : Service) (request : PostfixRequest) (notice : NoticeRequest) (moment serial : ℕ) (found : MailRead) (made : List Letter) (places : List ℕ) (telling : Telling) (gained : List Deed)
+    → AreLettersAsked settings service request notice moment serial found made → TellsLetters settings service request notice found made places telling gained
     → TellingParts settings service request notice moment serial (readings service request notice found ++ gained)
-letters_parts settings service request notice moment serial found made places done gained asked (notices.refused d stops) =
-    let front = stopped_front settings.host made gained stops in
+letters_parts settings service request notice moment serial found made places telling gained asked (notices.stopped why t stops) =
+    let front = stopped_front settings.host made why gained stops in
     let read = readings service request notice found in
     record {
       front = read ++ gained;
@@ -99,7 +100,7 @@ letters_parts settings service request notice moment serial found made places do
       once = inr (record { found = found; letters = made; asked = asked; front = front.front; rest = front.rest; letters_are = front.letters_are; each = front.each });
       removal_is = nothing_removed refl;
     }
-letters_parts settings service request notice moment serial found made places done gained asked (notices.accepted taken rest is accepted finishes) =
+letters_parts settings service request notice moment serial found made places telling gained asked (notices.accepted done taken rest t is accepted finishes) =
     let finish = finish_parts service request notice found.log places done rest finishes in
     let read = readings service request notice found in
     record {
@@ -122,8 +123,8 @@ mail_parts settings service request notice moment serial found telling gained (n
     quiet_parts settings service request notice moment serial _ (both (readings service request notice found) gained [] [] (readings_block service request notice found) (block_is gained [] [] is no_deeds))
 mail_parts settings service request notice moment serial found telling gained (notices.unsayable t is unsaid) =
     quiet_parts settings service request notice moment serial _ (both (readings service request notice found) gained [] [] (readings_block service request notice found) (block_is gained [] [] is no_deeds))
-mail_parts settings service request notice moment serial found telling gained (notices.letters made done t asked tells) =
-    letters_parts settings service request notice moment serial found made _ done gained asked tells
+mail_parts settings service request notice moment serial found telling gained (notices.letters made asked tells) =
+    letters_parts settings service request notice moment serial found made _ telling gained asked tells
 
 pub telling_parts : (settings : SettingsSaid) (service : Service) (request : PostfixRequest) (notice : NoticeRequest) (moment serial : ℕ) (telling : Telling) (gained : List Deed)
     → Tells settings service request notice moment serial telling gained → TellingParts settings service request notice moment serial gained
@@ -137,10 +138,11 @@ telling_parts settings service request notice moment serial telling gained (noti
 passed_alone : (service : Service) (bytes : List ℕ) (answer : Result ℕ DeedFault) → Block (PassedOn service bytes answer ∷ []) []
 passed_alone service bytes answer = record { keeps = (refl, tt); handed_are = refl }
 
-ends_block : (service : Service) (bytes : List ℕ) (telling : Telling) (status : ℕ) (last : List Deed) → EndsTelling service bytes telling status last → Block last []
-ends_block service bytes Told status last ends = block_is last [] [] ends.0 no_deeds
-ends_block service bytes Failed status last ends = block_is last [] [] ends.0 no_deeds
-ends_block service bytes Unsayable status last ends = block_is last _ [] ends.passed (passed_alone service bytes ends.answer)
+ends_block : (service : Service) (bytes : List ℕ) (telling : Telling) (answer : RequestAnswer) (last : List Deed) → EndsTelling service bytes telling answer last → Block last []
+ends_block service bytes Told answer last ends = block_is last [] [] ends.0 no_deeds
+ends_block service bytes Failed answer last ends = block_is last [] [] ends.0 no_deeds
+ends_block service bytes NoMemory answer last ends = block_is last [] [] ends.0 no_deeds
+ends_block service bytes Unsayable answer last ends = block_is last _ [] ends.passed (passed_alone service bytes ends.given)
 
 released_block : (last : List Deed) → Block last [] → Block (LogReleased ∷ last) []
 released_block last block = record { keeps = (refl, block.keeps); handed_are = block.handed_are }
@@ -152,12 +154,12 @@ pub record NotifiedParts (settings : SettingsSaid) (service : Service) (request 
   pub telling : TellingParts settings service request notice moment serial told
   pub tail_block : Block tail []
 
-pub notified_parts : (settings : SettingsSaid) (service : Service) (request : PostfixRequest) (notice : NoticeRequest) (bytes : List ℕ) (moment serial status : ℕ) (gained : List Deed)
-    → IsNotified settings service request notice bytes moment serial status gained → NotifiedParts settings service request notice moment serial gained
-notified_parts settings service request notice bytes moment serial status gained is = record {
+pub notified_parts : (settings : SettingsSaid) (service : Service) (request : PostfixRequest) (notice : NoticeRequest) (bytes : List ℕ) (moment serial : ℕ) (answer : RequestAnswer) (gained : List Deed)
+    → IsNotified settings service request notice bytes moment serial answer gained → NotifiedParts settings service request notice moment serial gained
+notified_parts settings service request notice bytes moment serial answer gained is = record {
   told = is.told;
   tail = LogReleased ∷ is.last;
   all = is.gained_are;
   telling = telling_parts settings service request notice moment serial is.telling is.told is.tells;
-  tail_block = released_block is.last (ends_block service bytes is.telling status is.last is.ends);
+  tail_block = released_block is.last (ends_block service bytes is.telling answer is.last is.ends);
 }

@@ -8,6 +8,7 @@ mod laws;
 mod mail_found;
 mod mail_system;
 mod no_letters;
+mod not_accepted;
 mod notify;
 mod pass_on;
 mod places_done;

@@ -17,6 +17,8 @@ pub(crate) struct MemorySystem<'a> {
     pub(crate) file: &'a [u8],
     /// How many deeds go well before one fails; those after it go well again.
     pub(crate) well: usize,
+    /// What comes of the deed that fails, where it hands in nothing.
+    pub(crate) fault: DeedFault,
     /// What Postfix's own service answers.
     pub(crate) status: u32,
     /// A line of each deed, in their order.
@@ -40,7 +42,7 @@ impl MemorySystem<'_> {
         if self.goes_well(word, text) {
             Ok(())
         } else {
-            Err(DeedFault::Failed)
+            Err(self.fault)
         }
     }
 }

@@ -3,7 +3,7 @@
 use crate::assert_same::same;
 use crate::postfix_service::memory_system::MemorySystem;
 use dsn_postfix::{PostfixVersion, decode_postfix_request};
-use dsn_postfix_service::{ServiceSettings, carry_out};
+use dsn_postfix_service::{DeedFault, ServiceSettings, carry_out};
 use dsn_report::Site;
 use dsn_text::{Service, Stamp};
 use std::alloc::{AllocGlobal, Global};
@@ -92,11 +92,13 @@ struct Case<'a> {
     service: Service,
     log: Option<&'a [u8]>,
     well: usize,
+    fault: DeedFault,
     status: u32,
     lines: &'a [u8],
 }
 
-/// Carries a request out, and compares its status and the lines of its deeds.
+/// Carries a request out, and compares its status and the lines of its deeds. Memory is ample, so
+/// there is a status.
 fn carried_out(rt: &(impl AllocGlobal + Abort), bytes: &[u8], case: Case<'_>) -> Result<(), Fail> {
     let site = Site::new(rt.alloc(), b"mx.example.net")?;
     let settings = ServiceSettings {
@@ -108,6 +110,7 @@ fn carried_out(rt: &(impl AllocGlobal + Abort), bytes: &[u8], case: Case<'_>) ->
         log: case.log,
         file: FILE,
         well: case.well,
+        fault: case.fault,
         status: 7,
         asked: Vec::new(rt.alloc()),
     };
@@ -122,7 +125,7 @@ fn carried_out(rt: &(impl AllocGlobal + Abort), bytes: &[u8], case: Case<'_>) ->
         moment,
         0,
         &mut system,
-    );
+    )?;
     same(rt, system.asked.as_slice(), case.lines);
     same(rt, status, case.status);
     Ok(())
@@ -134,6 +137,7 @@ fn told<'a>(log: Option<&'a [u8]>, lines: &'a [u8]) -> Case<'a> {
         service: Service::Bounce,
         log,
         well: ALWAYS,
+        fault: DeedFault::Failed,
         status: 0,
         lines,
     }
@@ -157,6 +161,16 @@ fn an_append_is_answered_0_once_it_stands(rt: HostRuntime) -> Result<(), Fail> {
     let bytes = append_bytes(rt.alloc(), b"0", b"no@a.example")?;
     carried_out(&rt, &bytes, told(None, RECORD))?;
     carried_out(&rt, &bytes, failed(0, RECORD))
+}
+
+#[test]
+fn memory_that_a_deed_lacks_is_answered_by_a_status(rt: HostRuntime) -> Result<(), Fail> {
+    let bytes = append_bytes(rt.alloc(), b"0", b"no@a.example")?;
+    let refused = Case {
+        fault: DeedFault::NoMemory,
+        ..failed(0, RECORD)
+    };
+    carried_out(&rt, &bytes, refused)
 }
 
 #[test]

@@ -1,10 +1,12 @@
 -- Letters that are handed in, one after another.
-use Rattle.std.specs.Prelude.{◌≡◌, ℕ, Bool, true, false, List, [], ◌∷◌, ◌++◌, Result, Ok, Err}
+use Rattle.std.specs.Prelude.{◌≡◌, ℕ, List, [], ◌∷◌, ◌++◌, Result, Ok, Err}
 use Rattle.dsn_outcome.specs.Letter.{Letter}
 use Rattle.dsn_report.specs.Notice.{return_path_of}
 use Rattle.dsn_report.specs.Outbox.{mail_data}
 use Rattle.dsn_postfix_service.specs.requests.Deed.{Deed, HandedIn}
 use Rattle.dsn_postfix_service.specs.declared.hand_in.hand_in_fault.HandInFault.{HandInFault}
+use Rattle.dsn_postfix_service.specs.declared.requests.not_accepted.NotAccepted.{NotAccepted}
+use Rattle.dsn_postfix_service.specs.declared.requests.not_accepted.NotAccepted.TheVariants.{Refused, NoMemory}
 
 -- a letter is handed in as its notice's mail data, for its return path
 abbrev pub hand_in_of : List ℕ → Letter → Result (List ℕ) HandInFault → Deed
@@ -20,13 +22,18 @@ AreAccepted host [] gained = gained ≡ []
 AreAccepted host (letter ∷ letters) [] = ⊥
 AreAccepted host (letter ∷ letters) (deed ∷ gained) = IsAccepted host letter deed × AreAccepted host letters gained
 
--- a letter wasn't accepted, or the memory for its text was refused
-pub data IsNotAccepted (host : List ℕ) (letter : Letter) (gained : List Deed) : Type 0 where
-  refused : (fault : HandInFault) → gained ≡ hand_in_of host letter (Err fault) ∷ [] → IsNotAccepted host letter gained
-  no_memory : gained ≡ [] → IsNotAccepted host letter gained
+-- a letter was handed in, and not accepted
+pub record IsRefused (host : List ℕ) (letter : Letter) (gained : List Deed) : Type 0 where
+  pub fault : HandInFault
+  pub tried : gained ≡ hand_in_of host letter (Err fault) ∷ []
+
+-- a letter wasn't accepted: it was handed in all the same, unless the memory for its text was refused
+abbrev pub IsNotAccepted : List ℕ → Letter → NotAccepted → List Deed → Type 0
+IsNotAccepted host letter Refused gained = IsRefused host letter gained
+IsNotAccepted host letter NoMemory gained = gained ≡ []
 
 -- those before it were, and nothing was done after it
-pub record StopsAtLetter (host : List ℕ) (letters : List Letter) (gained : List Deed) : Type 0 where
+pub record StopsAtLetter (host : List ℕ) (letters : List Letter) (why : NotAccepted) (gained : List Deed) : Type 0 where
   pub before : List Letter
   pub stopped : Letter
   pub after : List Letter
@@ -35,14 +42,14 @@ pub record StopsAtLetter (host : List ℕ) (letters : List Letter) (gained : Lis
   pub last : List Deed
   pub gained_are : gained ≡ taken ++ last
   pub accepted : AreAccepted host before taken
-  pub not_accepted : IsNotAccepted host stopped last
+  pub not_accepted : IsNotAccepted host stopped why last
 
 -- one was accepted, or not
-abbrev pub HandsInOne : List ℕ → Letter → Bool → List Deed → Type 0
-HandsInOne host letter true gained = AreAccepted host (letter ∷ []) gained
-HandsInOne host letter false gained = IsNotAccepted host letter gained
+abbrev pub HandsInOne : List ℕ → Letter → Result (Unit {0}) NotAccepted → List Deed → Type 0
+HandsInOne host letter (Ok done) gained = AreAccepted host (letter ∷ []) gained
+HandsInOne host letter (Err why) gained = IsNotAccepted host letter why gained
 
 -- all were accepted, or not
-abbrev pub HandsInAll : List ℕ → List Letter → Bool → List Deed → Type 0
-HandsInAll host letters true gained = AreAccepted host letters gained
-HandsInAll host letters false gained = StopsAtLetter host letters gained
+abbrev pub HandsInAll : List ℕ → List Letter → Result (Unit {0}) NotAccepted → List Deed → Type 0
+HandsInAll host letters (Ok done) gained = AreAccepted host letters gained
+HandsInAll host letters (Err why) gained = StopsAtLetter host letters why gained

@@ -1,5 +1,5 @@
 -- What is done for a request for notices: what is read, what is handed in, what is done after that, and what is answered.
-use Rattle.std.specs.Prelude.{◌≡◌, ℕ, Bool, true, false, List, [], ◌∷◌, ◌++◌}
+use Rattle.std.specs.Prelude.{◌≡◌, ℕ, Bool, true, false, List, [], ◌∷◌, ◌++◌, Ok, IsErr}
 use Rattle.dsn_outcome.specs.Letter.{Letter}
 use Rattle.dsn_text.specs.declared.service.Service.{Service}
 use Rattle.dsn_postfix.specs.declared.postfix_request.NoticeRequest.{NoticeRequest}
@@ -9,34 +9,41 @@ use Rattle.dsn_postfix_service.specs.requests.Finishing.{FinishesAt}
 use Rattle.dsn_postfix_service.specs.requests.HandingIn.{AreAccepted, StopsAtLetter}
 use Rattle.dsn_postfix_service.specs.requests.MailFound.{FailsToRead, MailRead, readings}
 use Rattle.dsn_postfix_service.specs.requests.RequestLetters.{AreLettersAsked, CantBeSaid, places_done}
-use Rattle.dsn_postfix_service.specs.requests.RequestStatus.{PassesOn, carried_out, not_carried_out}
+use Rattle.dsn_postfix_service.specs.requests.RequestStatus.{PassesOn, RequestAnswer, carried_out, not_carried_out}
 use Rattle.dsn_postfix_service.specs.requests.ServiceSettings.{SettingsSaid}
+use Rattle.dsn_postfix_service.specs.declared.requests.not_accepted.NotAccepted.{NotAccepted}
+use Rattle.dsn_postfix_service.specs.declared.requests.not_accepted.NotAccepted.TheVariants as not_accepted
 use Rattle.dsn_postfix_service.specs.declared.requests.telling.Telling.{Telling}
-use Rattle.dsn_postfix_service.specs.declared.requests.telling.Telling.TheVariants.{Told, Unsayable, Failed}
+use Rattle.dsn_postfix_service.specs.declared.requests.telling.Telling.TheVariants.{Told, Unsayable, Failed, NoMemory}
 
 abbrev pub end_of_telling : Bool → Telling
 end_of_telling true = Told
 end_of_telling false = Failed
 
+abbrev pub end_at_letter : NotAccepted → Telling
+end_at_letter not_accepted.Refused = Failed
+end_at_letter not_accepted.NoMemory = NoMemory
+
 -- letters are handed in; once all are accepted, the rest follows
 pub data TellsLetters (settings : SettingsSaid) (service : Service) (request : PostfixRequest) (notice : NoticeRequest)
-    (found : MailRead) (letters : List Letter) (places : List ℕ) (done : Bool) (gained : List Deed) : Type 0 where
-  refused : done ≡ false → StopsAtLetter settings.host letters gained
-      → TellsLetters settings service request notice found letters places done gained
-  accepted : (taken rest : List Deed) → gained ≡ taken ++ rest → AreAccepted settings.host letters taken
+    (found : MailRead) (letters : List Letter) (places : List ℕ) (telling : Telling) (gained : List Deed) : Type 0 where
+  stopped : (why : NotAccepted) → telling ≡ end_at_letter why → StopsAtLetter settings.host letters why gained
+      → TellsLetters settings service request notice found letters places telling gained
+  accepted : (done : Bool) (taken rest : List Deed) → telling ≡ end_of_telling done
+      → gained ≡ taken ++ rest → AreAccepted settings.host letters taken
       → FinishesAt service request notice found.log places done rest
-      → TellsLetters settings service request notice found letters places done gained
+      → TellsLetters settings service request notice found letters places telling gained
 
--- Nothing is handed in before each notice is a letter; where one can't be said, nothing is at all.
+-- Nothing is handed in before each notice is a letter; where one can't be said, or there is no memory for one, nothing is at
+-- all.
 pub data TellsOfMail (settings : SettingsSaid) (service : Service) (request : PostfixRequest) (notice : NoticeRequest)
     (moment serial : ℕ) (found : MailRead) (telling : Telling) (gained : List Deed) : Type 0 where
-  no_memory : telling ≡ Failed → gained ≡ []
+  no_memory : telling ≡ NoMemory → gained ≡ []
       → TellsOfMail settings service request notice moment serial found telling gained
   unsayable : telling ≡ Unsayable → gained ≡ [] → CantBeSaid settings service request notice found
       → TellsOfMail settings service request notice moment serial found telling gained
-  letters : (made : List Letter) (done : Bool) → telling ≡ end_of_telling done
-      → AreLettersAsked settings service request notice moment serial found made
-      → TellsLetters settings service request notice found made (places_done service request notice found.log) done gained
+  letters : (made : List Letter) → AreLettersAsked settings service request notice moment serial found made
+      → TellsLetters settings service request notice found made (places_done service request notice found.log) telling gained
       → TellsOfMail settings service request notice moment serial found telling gained
 
 -- the log and the message are read, and then their sender is told
@@ -49,17 +56,18 @@ pub data Tells (settings : SettingsSaid) (service : Service) (request : PostfixR
       → Tells settings service request notice moment serial telling gained
 
 -- a request whose notices can't be said is passed on whole
-abbrev pub EndsTelling : Service → List ℕ → Telling → ℕ → List Deed → Type 0
-EndsTelling service bytes Told status gained = (gained ≡ []) × (status ≡ carried_out)
-EndsTelling service bytes Failed status gained = (gained ≡ []) × (status ≡ not_carried_out)
-EndsTelling service bytes Unsayable status gained = PassesOn service bytes status gained
+abbrev pub EndsTelling : Service → List ℕ → Telling → RequestAnswer → List Deed → Type 0
+EndsTelling service bytes Told answer gained = (gained ≡ []) × (answer ≡ Ok carried_out)
+EndsTelling service bytes Failed answer gained = (gained ≡ []) × (answer ≡ Ok not_carried_out)
+EndsTelling service bytes Unsayable answer gained = PassesOn service bytes answer gained
+EndsTelling service bytes NoMemory answer gained = (gained ≡ []) × IsErr answer
 
 -- the log is released before Postfix's own service may want it
 pub record IsNotified (settings : SettingsSaid) (service : Service) (request : PostfixRequest) (notice : NoticeRequest)
-    (bytes : List ℕ) (moment serial status : ℕ) (gained : List Deed) : Type 0 where
+    (bytes : List ℕ) (moment serial : ℕ) (answer : RequestAnswer) (gained : List Deed) : Type 0 where
   pub telling : Telling
   pub told : List Deed
   pub last : List Deed
   pub gained_are : gained ≡ told ++ LogReleased ∷ last
   pub tells : Tells settings service request notice moment serial telling told
-  pub ends : EndsTelling service bytes telling status last
+  pub ends : EndsTelling service bytes telling answer last

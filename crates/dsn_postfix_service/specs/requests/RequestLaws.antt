@@ -12,6 +12,7 @@ use Rattle.dsn_postfix_service.specs.requests.Deed.{Appended, Deed, HandedIn, Lo
 use Rattle.dsn_postfix_service.specs.requests.HandingIn.{AreAccepted, hand_in_of}
 use Rattle.dsn_postfix_service.specs.requests.MailFound.{MailRead}
 use Rattle.dsn_postfix_service.specs.requests.RequestLetters.{AreLettersAsked}
+use Rattle.dsn_postfix_service.specs.requests.RequestStatus.{RequestAnswer}
 use Rattle.dsn_postfix_service.specs.requests.ServiceSettings.{SettingsSaid}
 use Rattle.dsn_postfix_service.specs.declared.hand_in.hand_in_fault.HandInFault.{HandInFault}
 
@@ -50,9 +51,9 @@ AreHandedIn host (letter ∷ letters) (deed ∷ deeds) = IsHandedIn host letter 
 
 -- a request for notices was carried out, with these deeds
 pub record IsTellingDone (settings : SettingsSaid) (service : Service) (request : PostfixRequest) (notice : NoticeRequest)
-    (bytes : List ℕ) (moment serial status : ℕ) (gained : List Deed) : Type 0 where
+    (bytes : List ℕ) (moment serial : ℕ) (answer : RequestAnswer) (gained : List Deed) : Type 0 where
   pub asked : notice_asked request ≡ Some notice
-  pub carried_out : IsCarriedOut settings service request bytes moment serial status gained
+  pub carried_out : IsCarriedOut settings service request bytes moment serial answer gained
 
 -- ---- the laws
 
@@ -76,13 +77,13 @@ pub record AreAllTold (settings : SettingsSaid) (service : Service) (request : P
   pub accepted : AreAccepted settings.host letters handed
 
 -- a log that is removed is that of the request, and all was told before, unless the request asks by CLEAN that what failed
--- leaves no log: then nothing is done after it, and the status isn't 0
+-- leaves no log: then nothing is done after it, and the answer isn't status 0
 pub record IsRemovedAfter (settings : SettingsSaid) (service : Service) (request : PostfixRequest) (notice : NoticeRequest)
-    (moment serial status : ℕ) (before after : List Deed) (other : Service) (id : List ℕ) : Type 0 where
+    (moment serial : ℕ) (answer : RequestAnswer) (before after : List Deed) (other : Service) (id : List ℕ) : Type 0 where
   pub of_service : other ≡ service
   pub of_message : id ≡ notice.queue_id
   pub told : AreAllTold settings service request notice moment serial (hand_ins before)
-      ⊎ ((must_clean request status ≡ true) × (after ≡ []))
+      ⊎ ((must_clean request answer ≡ true) × (after ≡ []))
 
 -- an append that is answered 0 stands in its log, or Postfix's own service answered 0 to it
 abbrev pub StandsOrIsPassedOn : Service → AppendRequest → List ℕ → List Deed → Type 0

@@ -1,8 +1,13 @@
--- The status that answers a request: 0 where it was carried out.
-use Rattle.std.specs.Prelude.{◌≡◌, ◌==◌, ◌/◌, ◌%◌, ℕ, Bool, List, [], ◌∷◌, Result, Ok, Err}
+-- What answers a request: a status, 0 where it was carried out, or want of memory.
+use Rattle.std.specs.Prelude.{◌≡◌, ◌==◌, ◌/◌, ◌%◌, ℕ, Bool, false, List, [], ◌∷◌, Result, Ok, Err}
+use Rattle.dsn_text.specs.declared.no_memory.NoMemory.{NoMemory}
 use Rattle.dsn_text.specs.declared.service.Service.{Service}
 use Rattle.dsn_postfix_service.specs.declared.requests.deed_fault.DeedFault.{DeedFault}
 use Rattle.dsn_postfix_service.specs.requests.Deed.{Answer, Deed, PassedOn}
+
+-- a request is answered by a status, or that the memory for it was refused
+abbrev pub RequestAnswer : Type 0
+RequestAnswer = Result ℕ NoMemory
 
 abbrev pub carried_out : ℕ
 carried_out = 0
@@ -10,6 +15,10 @@ carried_out = 0
 -- bounce(8) says -1, which a client reads so
 abbrev pub not_carried_out : ℕ
 not_carried_out = 4294967295
+
+abbrev pub is_carried_out : RequestAnswer → Bool
+is_carried_out (Ok status) = status == carried_out
+is_carried_out (Err refused) = false
 
 -- the status after one deed that decides
 abbrev pub status_after : Answer → ℕ
@@ -21,11 +30,11 @@ abbrev pub status_passed_on : Result ℕ DeedFault → ℕ
 status_passed_on (Ok status) = status
 status_passed_on (Err fault) = not_carried_out
 
--- the request was passed on to Postfix's own service, whose status is its status
-pub record PassesOn (service : Service) (bytes : List ℕ) (status : ℕ) (gained : List Deed) : Type 0 where
-  pub answer : Result ℕ DeedFault
-  pub passed : gained ≡ PassedOn service bytes answer ∷ []
-  pub status_is : status ≡ status_passed_on answer
+-- the request was passed on to Postfix's own service, whose status is its answer
+pub record PassesOn (service : Service) (bytes : List ℕ) (answer : RequestAnswer) (gained : List Deed) : Type 0 where
+  pub given : Result ℕ DeedFault
+  pub passed : gained ≡ PassedOn service bytes given ∷ []
+  pub answer_is : answer ≡ Ok (status_passed_on given)
 
 -- of a request's flags 1 is CLEAN, and 2 is DELRCPT
 abbrev pub has_flag : ℕ → ℕ → Bool

@@ -6,29 +6,30 @@ ghost use Rattle.dsn_postfix_service.specs.requests.Gains.{Gains};
 use crate::requests::mail_system::MailSystem;
 use crate::requests::pass_on::{CARRIED_OUT, NOT_CARRIED_OUT, pass_on};
 use dsn_postfix::{AppendRequest, logged_as};
-use dsn_text::Service;
+use dsn_text::{NoMemory, Service};
 use std::alloc::Global;
 
 /// Puts the record that an append becomes at the end of the service's log, and says the status. A
-/// record that no line can say is passed on to Postfix's own service.
+/// record that no line can say is passed on to Postfix's own service. Nothing is done only where
+/// the memory for the record was refused.
 pub(super) fn append<M: MailSystem>(
     alloc: Global,
     service: Service,
     request: &AppendRequest<'_>,
     bytes: &[u8],
     system: &mut M,
-) -> u32
+) -> Result<u32, NoMemory>
     ensures { Gains M.deeds system.old system.new
         (IsAppended service request.now bytes.now result) }
 {
     let Ok(found) = logged_as(service, request) else {
-        return pass_on(system, service, bytes);
+        return Ok(pass_on(system, service, bytes));
     };
     let Ok(record) = found.log_bytes(alloc) else {
-        return NOT_CARRIED_OUT;
+        return Err(NoMemory);
     };
     match system.append_to_log(service, request.queue_id, &record) {
-        Ok(()) => CARRIED_OUT,
-        Err(_) => NOT_CARRIED_OUT,
+        Ok(()) => Ok(CARRIED_OUT),
+        Err(_) => Ok(NOT_CARRIED_OUT),
     }
 }

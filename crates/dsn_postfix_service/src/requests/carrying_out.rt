@@ -2,14 +2,16 @@
 ghost use Rattle.std.specs.Prelude.{◌≡◌};
 ghost use Rattle.dsn_postfix_service.specs.requests.CarriedOut.{Cleans, IsCarriedOut, IsDone, flags_of, must_clean, queue_id_of};
 ghost use Rattle.dsn_postfix_service.specs.requests.Gains.{Gains};
+ghost use Rattle.dsn_postfix_service.specs.requests.RequestStatus.{is_carried_out};
 ghost use Rattle.dsn_postfix_service.specs.requests.ServiceSettings.{settings_said_in};
 
 use crate::requests::append::append;
 use crate::requests::mail_system::MailSystem;
 use crate::requests::notify::notify;
+use crate::requests::pass_on::CARRIED_OUT;
 use crate::requests::service_settings::ServiceSettings;
 use dsn_postfix::PostfixRequest;
-use dsn_text::{QueueId, Service, Stamp};
+use dsn_text::{NoMemory, QueueId, Service, Stamp};
 use std::alloc::Global;
 
 /// The flags of a request.
@@ -40,11 +42,21 @@ fn queue_id_of(request: &PostfixRequest<'_>) -> QueueId
     }
 }
 
-/// Whether a request with this status asks that its log be removed.
-fn must_clean(request: &PostfixRequest<'_>, status: u32) -> bool
-    ensures { result ≡ must_clean request.now status }
+/// Whether this answers a request that was carried out.
+fn is_carried_out(answer: &Result<u32, NoMemory>) -> bool
+    ensures { result ≡ is_carried_out answer.now }
 {
-    flags_of(request) % 2 == 1 && status != 0
+    match answer {
+        Ok(status) => *status == CARRIED_OUT,
+        Err(_) => false,
+    }
+}
+
+/// Whether a request that is answered so asks that its log be removed.
+fn must_clean(request: &PostfixRequest<'_>, answer: &Result<u32, NoMemory>) -> bool
+    ensures { result ≡ must_clean request.now answer.now }
+{
+    flags_of(request) % 2 == 1 && !is_carried_out(answer)
 }
 
 /// Removes a request's log if that is due.
@@ -56,7 +68,7 @@ fn clean<M: MailSystem>(service: Service, request: &PostfixRequest<'_>, due: boo
     }
 }
 
-/// Does what a request asks, and says the status.
+/// Does what a request asks, and says the status, or that memory was refused.
 fn do_asked<M: MailSystem>(
     alloc: Global,
     settings: &ServiceSettings<'_>,
@@ -66,7 +78,7 @@ fn do_asked<M: MailSystem>(
     moment: Stamp,
     first_serial: u64,
     system: &mut M,
-) -> u32
+) -> Result<u32, NoMemory>
     ensures { Gains M.deeds system.old system.new
         (IsDone (settings_said_in settings.now) service request.now bytes.now moment first_serial
         result) }
@@ -93,13 +105,15 @@ fn do_asked<M: MailSystem>(
 
 /// Carries out one request to a service of Postfix's programs, and says the status that answers it:
 /// 0 where it was carried out, and 4,294,967,295 where it wasn't, or the one that Postfix's own
-/// service of that name answered, where the request was passed on to it.
+/// service of that name answered, where the request was passed on to it. There is no status only
+/// where the memory for a record, a letter, its text or for who is marked was refused. Where the
+/// system has no memory for what it gives, that is a failure like others.
 ///
 /// An append puts its record at the end of the log. All others tell the message's sender: what they
 /// tell of is read, all letters are made, and only then is one handed in; once all are accepted,
 /// recipients are marked as done where the request asks for that, and the log is removed, unless
 /// the request is a warning. What can't be said is passed on. A request with CLEAN has its log
-/// removed where the status isn't 0.
+/// removed unless the status is 0, also where there is none.
 ///
 /// `bytes` are those of the request, in which it is passed on. The letters are made at the moment,
 /// with serials from the first one on, which stand in their Message-IDs.
@@ -112,12 +126,12 @@ pub fn carry_out<M: MailSystem>(
     moment: Stamp,
     first_serial: u64,
     system: &mut M,
-) -> u32
+) -> Result<u32, NoMemory>
     ensures { Gains M.deeds system.old system.new
         (IsCarriedOut (settings_said_in settings.now) service request.now bytes.now moment
         first_serial result) }
 {
-    let status = do_asked(
+    let answer = do_asked(
         alloc,
         settings,
         service,
@@ -127,6 +141,7 @@ pub fn carry_out<M: MailSystem>(
         first_serial,
         system,
     );
-    clean(service, request, must_clean(request, status), system);
-    status
+    let due = must_clean(request, &answer);
+    clean(service, request, due, system);
+    answer
 }

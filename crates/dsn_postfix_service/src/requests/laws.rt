@@ -1,6 +1,6 @@
 //! What is true of each request that was carried out, at each moment of it, whatever the code does: each law is the contract
 //! of a function that changes nothing.
-ghost use Rattle.std.specs.Prelude.{◌≡◌, ◌⊎◌, ◌++◌, [], ◌∷◌, ℕ, List, true};
+ghost use Rattle.std.specs.Prelude.{◌≡◌, ◌⊎◌, ◌++◌, [], ◌∷◌, ℕ, List, Ok, true};
 ghost use Rattle.dsn_postfix.specs.Wanted.{is_no_sender};
 ghost use Rattle.dsn_postfix.specs.declared.postfix_request.AppendRequest.{AppendRequest};
 ghost use Rattle.dsn_postfix.specs.declared.postfix_request.NoticeRequest.{NoticeRequest};
@@ -9,28 +9,30 @@ ghost use Rattle.dsn_postfix.specs.declared.postfix_request.PostfixRequest.TheVa
 ghost use Rattle.dsn_postfix_service.specs.requests.CarriedOut.{IsCarriedOut};
 ghost use Rattle.dsn_postfix_service.specs.requests.Deed.{Answer, Deed, LogRemoved};
 ghost use Rattle.dsn_postfix_service.specs.requests.RequestLaws.{HandsInOnce, IsRemovedAfter, IsTellingDone, StandsOrIsPassedOn, hand_ins};
+ghost use Rattle.dsn_postfix_service.specs.requests.RequestStatus.{RequestAnswer};
 ghost use Rattle.dsn_postfix_service.specs.requests.ServiceSettings.{SettingsSaid};
 ghost use Rattle.dsn_text.specs.declared.service.Service.{Service};
 
 /// At each moment of a request for notices at which a log is removed, the log is that of the request, and before it each
 /// letter of each notice that the request has was accepted, and nothing else was handed in. So a crash at any moment leaves
 /// the log, or the mail server has all notices. The only other removal is the one that CLEAN asks for: it is the last deed
-/// of a request whose status isn't 0.
+/// of a request that isn't answered status 0.
 pub fn logs_are_removed_after_acceptance()
     ensures { (settings : SettingsSaid) (service : Service) (request : PostfixRequest)
-        (notice : NoticeRequest) (bytes : List ℕ) (moment serial status : ℕ)
+        (notice : NoticeRequest) (bytes : List ℕ) (moment serial : ℕ) (answer : RequestAnswer)
         (gained before after : List Deed) (other : Service) (named : List ℕ) (given : Answer)
-        → IsTellingDone settings service request notice bytes moment serial status gained
+        → IsTellingDone settings service request notice bytes moment serial answer gained
         → gained ≡ before ++ LogRemoved other named given ∷ after
-        → IsRemovedAfter settings service request notice moment serial status before after
+        → IsRemovedAfter settings service request notice moment serial answer before after
         other named }
 {}
 
 /// What a request for notices hands in are the first letters of the notices that it has, each at most once, in their order.
 pub fn notices_are_handed_in_once()
     ensures { (settings : SettingsSaid) (service : Service) (request : PostfixRequest)
-        (notice : NoticeRequest) (bytes : List ℕ) (moment serial status : ℕ) (gained : List Deed)
-        → IsTellingDone settings service request notice bytes moment serial status gained
+        (notice : NoticeRequest) (bytes : List ℕ) (moment serial : ℕ) (answer : RequestAnswer)
+        (gained : List Deed)
+        → IsTellingDone settings service request notice bytes moment serial answer gained
         → (hand_ins gained ≡ [])
         ⊎ HandsInOnce settings service request notice moment serial (hand_ins gained) }
 {}
@@ -38,8 +40,9 @@ pub fn notices_are_handed_in_once()
 /// Nothing is handed in for a message from nobody, or from the sender of notices about notices.
 pub fn no_notice_causes_another()
     ensures { (settings : SettingsSaid) (service : Service) (request : PostfixRequest)
-        (notice : NoticeRequest) (bytes : List ℕ) (moment serial status : ℕ) (gained : List Deed)
-        → IsTellingDone settings service request notice bytes moment serial status gained
+        (notice : NoticeRequest) (bytes : List ℕ) (moment serial : ℕ) (answer : RequestAnswer)
+        (gained : List Deed)
+        → IsTellingDone settings service request notice bytes moment serial answer gained
         → is_no_sender settings.double_bounce notice.sender ≡ true
         → hand_ins gained ≡ [] }
 {}
@@ -48,8 +51,8 @@ pub fn no_notice_causes_another()
 #[tactic(auto, using(crate::proofs::CarriedOutLaws::answered_append_stands))]
 pub fn answered_appends_stand()
     ensures { (settings : SettingsSaid) (service : Service) (request : AppendRequest)
-        (bytes : List ℕ) (moment serial status : ℕ) (gained : List Deed)
-        → IsCarriedOut settings service (Append request) bytes moment serial status gained
-        → status ≡ 0
+        (bytes : List ℕ) (moment serial : ℕ) (answer : RequestAnswer) (gained : List Deed)
+        → IsCarriedOut settings service (Append request) bytes moment serial answer gained
+        → answer ≡ Ok 0
         → StandsOrIsPassedOn service request bytes gained }
 {}

@@ -2,7 +2,7 @@
 ghost use Rattle.std.specs.Prelude.{◌≡◌};
 ghost use Rattle.dsn_postfix_service.specs.requests.Gains.{Gains};
 ghost use Rattle.dsn_postfix_service.specs.requests.MailFound.{mail_read_in};
-ghost use Rattle.dsn_postfix_service.specs.requests.NoticeDeeds.{EndsTelling, IsNotified, Tells, TellsLetters, TellsOfMail, end_of_telling};
+ghost use Rattle.dsn_postfix_service.specs.requests.NoticeDeeds.{EndsTelling, IsNotified, Tells, TellsLetters, TellsOfMail, end_at_letter, end_of_telling};
 ghost use Rattle.dsn_postfix_service.specs.requests.ServiceSettings.{settings_said_in};
 
 use crate::requests::finish::finish;
@@ -10,6 +10,7 @@ use crate::requests::hand_in_letters::hand_in_letters;
 use crate::requests::mail_found::{MailFound, read_mail};
 use crate::requests::mail_system::MailSystem;
 use crate::requests::no_letters::NoLetters;
+use crate::requests::not_accepted::NotAccepted;
 use crate::requests::pass_on::{CARRIED_OUT, NOT_CARRIED_OUT, pass_on};
 use crate::requests::places_done::places_done;
 use crate::requests::request_letters::letters_asked;
@@ -17,7 +18,7 @@ use crate::requests::service_settings::ServiceSettings;
 use crate::requests::telling::Telling;
 use dsn_outcome::Letter;
 use dsn_postfix::{NoticeRequest, PostfixRequest};
-use dsn_text::{Service, Stamp};
+use dsn_text::{NoMemory, Service, Stamp};
 use std::alloc::Global;
 
 /// How telling ends where all was done, or not.
@@ -27,8 +28,18 @@ fn end_of_telling(done: bool) -> Telling
     if done { Telling::Told } else { Telling::Failed }
 }
 
+/// How telling ends at a letter that wasn't accepted.
+fn end_at_letter(why: NotAccepted) -> Telling
+    ensures { result ≡ end_at_letter why }
+{
+    match why {
+        NotAccepted::Refused => Telling::Failed,
+        NotAccepted::NoMemory => Telling::NoMemory,
+    }
+}
+
 /// Hands in the letters of what was read; once all are accepted, marks the recipients at these
-/// places, and removes the log. Says whether all of that was done.
+/// places, and removes the log.
 fn tell_letters<M: MailSystem>(
     alloc: Global,
     settings: &ServiceSettings<'_>,
@@ -39,15 +50,15 @@ fn tell_letters<M: MailSystem>(
     letters: &[Letter],
     places: &[u64],
     system: &mut M,
-) -> bool
+) -> Telling
     ensures { Gains M.deeds system.old system.new
         (TellsLetters (settings_said_in settings.now) service request.now notice.now
         (mail_read_in found.now) letters.now places.now result) }
 {
-    if !hand_in_letters(alloc, settings.site, letters, system) {
-        return false;
+    match hand_in_letters(alloc, settings.site, letters, system) {
+        Ok(()) => end_of_telling(finish(service, request, notice, found.log(), places, system)),
+        Err(why) => end_at_letter(why),
     }
-    finish(service, request, notice, found.log(), places, system)
 }
 
 /// Makes all letters of what was read, and only then hands in the first.
@@ -78,13 +89,13 @@ fn tell_of_mail<M: MailSystem>(
     );
     match made {
         Ok(letters) => match places_done(alloc, service, request, notice, found.log()) {
-            Ok(places) => end_of_telling(tell_letters(
+            Ok(places) => tell_letters(
                 alloc, settings, service, request, notice, found, &letters, &places, system,
-            )),
-            Err(_) => Telling::Failed,
+            ),
+            Err(_) => Telling::NoMemory,
         },
         Err(NoLetters::Unsayable) => Telling::Unsayable,
-        Err(NoLetters::NoMemory) => Telling::Failed,
+        Err(NoLetters::NoMemory) => Telling::NoMemory,
     }
 }
 
@@ -119,19 +130,20 @@ fn tell<M: MailSystem>(
     }
 }
 
-/// What is left to be done after telling, and the status.
+/// Does what is left to be done after telling, and says the status.
 fn end_telling<M: MailSystem>(
     service: Service,
     bytes: &[u8],
     telling: Telling,
     system: &mut M,
-) -> u32
+) -> Result<u32, NoMemory>
     ensures { Gains M.deeds system.old system.new (EndsTelling service bytes.now telling result) }
 {
     match telling {
-        Telling::Told => CARRIED_OUT,
-        Telling::Failed => NOT_CARRIED_OUT,
-        Telling::Unsayable => pass_on(system, service, bytes),
+        Telling::Told => Ok(CARRIED_OUT),
+        Telling::Failed => Ok(NOT_CARRIED_OUT),
+        Telling::Unsayable => Ok(pass_on(system, service, bytes)),
+        Telling::NoMemory => Err(NoMemory),
     }
 }
 
@@ -147,7 +159,7 @@ pub(super) fn notify<M: MailSystem>(
     moment: Stamp,
     first_serial: u64,
     system: &mut M,
-) -> u32
+) -> Result<u32, NoMemory>
     ensures { Gains M.deeds system.old system.new
         (IsNotified (settings_said_in settings.now) service request.now notice.now bytes.now
         moment first_serial result) }

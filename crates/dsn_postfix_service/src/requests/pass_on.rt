@@ -1,5 +1,5 @@
 //! The statuses that answer requests, and passing one on to Postfix's own service.
-ghost use Rattle.std.specs.Prelude.{◌≡◌, ◌&&◌, ◌==◌, ◌/◌, ◌%◌, not, Bool};
+ghost use Rattle.std.specs.Prelude.{◌≡◌, Ok};
 ghost use Rattle.dsn_postfix_service.specs.requests.Gains.{Gains};
 ghost use Rattle.dsn_postfix_service.specs.requests.RequestStatus.{PassesOn};
 
@@ -14,7 +14,7 @@ pub(super) const NOT_CARRIED_OUT: u32 = 4_294_967_295;
 
 /// Passes a request on to Postfix's own service, and says the status that answers it.
 pub(super) fn pass_on<M: MailSystem>(system: &mut M, service: Service, bytes: &[u8]) -> u32
-    ensures { Gains M.deeds system.old system.new (PassesOn service bytes.now result) }
+    ensures { Gains M.deeds system.old system.new (PassesOn service bytes.now (Ok result)) }
 {
     match system.pass_on(service, bytes) {
         Ok(status) => status,

@@ -9,4 +9,6 @@ pub(super) enum Telling {
     Unsayable,
     /// Something failed.
     Failed,
+    /// The memory for a letter, for its text, or for who is marked was refused.
+    NoMemory,
 }

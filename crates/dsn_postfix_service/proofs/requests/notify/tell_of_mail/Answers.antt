@@ -15,10 +15,10 @@ returns-in-Ok-places_done g c =
     let request = c.args.request.now in
     let notice = c.args.notice.now in
     let found = mail_read_in c.args.found.now in
-    let done = c.tell_letters.result in
+    let telling = c.tell_letters.result in
     let places : c.deref-in-Ok-places_done.result.now ≡ places_done service request notice found.log =
     c.deref-in-Ok-places_done.ensures.value ∙ c.in-Ok-places_done.ensures ∙ ap (places_done service request notice) c.log.ensures in
     gains_as g.M.MailSystem.deeds _ _ _ _ c.tell_letters.ensures (λ gained tells.
-    letters c.in-Ok.letters.items done c.end_of_telling.ensures c.in-Ok.ensures.letters
-    (subst (λ (made : List Letter). TellsLetters settings service request notice found made (places_done service request notice found.log) done gained) c.deref.ensures.value
-    (subst (λ (ps : List ℕ). TellsLetters settings service request notice found c.deref.result.now ps done gained) places tells)))
+    letters c.in-Ok.letters.items c.in-Ok.ensures.letters
+    (subst (λ (made : List Letter). TellsLetters settings service request notice found made (places_done service request notice found.log) telling gained) c.deref.ensures.value
+    (subst (λ (ps : List ℕ). TellsLetters settings service request notice found c.deref.result.now ps telling gained) places tells)))

@@ -1,6 +1,6 @@
 -- The laws of requests that were carried out.
 use Rattle.std.proofs.Common.{◌≡◌, ℕ, Bool, true, false, List, [], ◌∷◌, ◌++◌, Option, Some, None, Result, Ok, Err, refl, sym, ap, subst, ◌∙◌, append_assoc, append-nil, inl, inr}
-use Rattle.std.specs.Prelude.{◌⊎◌, ◌&&◌, not, unwrap_or}
+use Rattle.std.specs.Prelude.{◌⊎◌, ◌&&◌, is_err, not, unwrap_or}
 use Rattle.dsn_outcome.specs.Letter.{Letter}
 use Rattle.dsn_text.specs.declared.no_memory.NoMemory.{NoMemory}
 use Rattle.dsn_text.specs.declared.service.Service.{Service}
@@ -14,17 +14,19 @@ use Rattle.dsn_postfix.specs.declared.postfix_request.PostfixRequest.{PostfixReq
 use Rattle.dsn_postfix.specs.declared.postfix_request.PostfixRequest.TheVariants.{Append, Flush, Warn, Verp, One, Trace}
 use Rattle.dsn_postfix.specs.files.QueueRecipients.{RecipientFacts}
 use Rattle.dsn_postfix_service.specs.declared.requests.deed_fault.DeedFault.{DeedFault}
+use Rattle.dsn_postfix_service.specs.declared.requests.telling.Telling.{Telling}
+use Rattle.dsn_postfix_service.specs.declared.requests.telling.Telling.TheVariants.{Told, Unsayable, Failed, NoMemory as TellingNoMemory}
 use Rattle.dsn_postfix_service.specs.requests.AppendDeeds.{IsAppended, IsLogged, record_bytes}
 use Rattle.dsn_postfix_service.specs.requests.AppendDeeds as append
 use Rattle.dsn_postfix_service.specs.requests.CarriedOut.{Cleans, IsCarriedOut, IsDone, flags_of, must_clean, queue_id_of}
-use Rattle.dsn_postfix_service.specs.requests.Deed.{Answer, Appended, Deed, HandedIn, LogRead, LogReleased, LogRemoved, MarkedDone, MessageRead, PassedOn}
-use Rattle.dsn_postfix_service.specs.requests.NoticeDeeds.{IsNotified}
-use Rattle.dsn_postfix_service.specs.requests.RequestLaws.{AreAllTold, AreHandedIn, HandsInOnce, IsRemovedAfter, IsTellingDone, StandsOrIsPassedOn, hand_ins}
+use Rattle.dsn_postfix_service.specs.requests.Deed.{Answer, Appended, Deed, HandedIn, LogRead, LogReleased, LogRemoved, LogSought, MarkedDone, MessageRead, PassedOn}
+use Rattle.dsn_postfix_service.specs.requests.NoticeDeeds.{EndsTelling, IsNotified}
+use Rattle.dsn_postfix_service.specs.requests.RequestLaws.{AreAllTold, AreHandedIn, HandsInOnce, IsLeftToPostfix, IsRemovedAfter, IsTellingDone, StandsOrIsPassedOn, hand_ins}
 use Rattle.dsn_postfix_service.specs.requests.RequestLetters.{AreLettersOf, message_said}
 use Rattle.dsn_postfix_service.specs.requests.RequestStatus.{RequestAnswer, carried_out, has_flag, is_carried_out, not_carried_out, status_after, status_passed_on}
 use Rattle.dsn_postfix_service.specs.requests.ServiceSettings.{SettingsSaid}
 use Rattle.dsn_postfix_service.proofs.RequestLawLemmas.{Block, RemovesNone, hand_ins-append, is_removal}
-use Rattle.dsn_postfix_service.proofs.TellingParts.{IsRemovalPart, notified_parts, nothing_removed, removed_told}
+use Rattle.dsn_postfix_service.proofs.TellingParts.{HandedSo, IsRemovalPart, notified_parts, nothing_removed, removed_told}
 
 -- ---- which requests
 
@@ -53,18 +55,18 @@ id_of (Trace own) notice e = ap (λ (n : NoticeRequest). n.queue_id) (some_is ow
 
 -- ---- places of deeds
 
-abbrev first_or : Deed → List Deed → Deed
+abbrev pub first_or : Deed → List Deed → Deed
 first_or other [] = other
 first_or other (deed ∷ deeds) = deed
 
-abbrev later : List Deed → List Deed
+abbrev pub later : List Deed → List Deed
 later [] = []
 later (deed ∷ deeds) = deeds
 
 nothing_is_some : (deed : Deed) (deeds : List Deed) → [] ≡ deed ∷ deeds → ⊥
 nothing_is_some deed deeds e = cc
 
-false_is_true : false ≡ true → ⊥
+pub false_is_true : false ≡ true → ⊥
 false_is_true e = cc
 
 -- a removal after deeds that remove none
@@ -87,6 +89,7 @@ past_block (deed ∷ front) rest (other ∷ before) after removal keeps removes 
 
 abbrev removed_service : Service → Deed → Service
 removed_service other (LogRemoved service id answer) = service
+removed_service other (LogSought service id answer) = other
 removed_service other (LogRead service id answer) = other
 removed_service other (Appended service id bytes answer) = other
 removed_service other (MessageRead queue id answer) = other
@@ -97,6 +100,7 @@ removed_service other LogReleased = other
 
 abbrev removed_id : List ℕ → Deed → List ℕ
 removed_id other (LogRemoved service id answer) = id
+removed_id other (LogSought service id answer) = other
 removed_id other (LogRead service id answer) = other
 removed_id other (Appended service id bytes answer) = other
 removed_id other (MessageRead queue id answer) = other
@@ -258,17 +262,17 @@ nobody_is_told settings service request notice bytes moment serial answer gained
 
 -- ---- appends
 
-abbrev status_or : ℕ → RequestAnswer → ℕ
+abbrev pub status_or : ℕ → RequestAnswer → ℕ
 status_or other (Ok status) = status
 status_or other (Err refused) = other
 
-not_zero : not_carried_out ≡ carried_out → ⊥
+pub not_zero : not_carried_out ≡ carried_out → ⊥
 not_zero e = cc
 
 no_status : (refused : NoMemory) (status : ℕ) → Err refused ≡ Ok status → ⊥
 no_status refused status e = cc
 
-status_is : (one : ℕ) (answer : RequestAnswer) → answer ≡ Ok one → status_or one answer ≡ one
+pub status_is : (one : ℕ) (answer : RequestAnswer) → answer ≡ Ok one → status_or one answer ≡ one
 status_is one answer e = ap (status_or one) e
 
 stands_if_tried : (service : Service) (request : AppendRequest) (bytes : List ℕ) (gained : List Deed) (given : Answer) → gained ≡ Appended service request.queue_id (record_bytes service request) given ∷ [] → status_after given ≡ 0 → StandsOrIsPassedOn service request bytes gained
@@ -304,3 +308,40 @@ answered_append_stands settings service request bytes moment serial answer gaine
     subst (λ (deeds : List Deed). StandsOrIsPassedOn service request bytes deeds)
     (sym (out.gained_are ∙ ap (λ (deeds : List Deed). out.done ++ deeds) (nothing_to_clean service (Append request) answer out.cleaned zero out.clean) ∙ append-nil out.done))
     (append_stands service request bytes answer out.done out.is_done zero)
+
+-- ---- requests for notices that are answered 0
+
+end_told : (settings : SettingsSaid) (service : Service) (request : PostfixRequest) (notice : NoticeRequest) (bytes : List ℕ) (moment serial : ℕ) (answer : RequestAnswer) (telling : Telling) (handed last : List Deed)
+    → HandedSo settings service request notice moment serial telling handed → EndsTelling service bytes telling answer last → answer ≡ Ok 0
+    → AreAllTold settings service request notice moment serial handed ⊎ ((handed ≡ []) × (last ≡ PassedOn service bytes (Ok 0) ∷ []))
+end_told settings service request notice bytes moment serial answer Told handed last so ends zero = inl so
+end_told settings service request notice bytes moment serial answer Unsayable handed last so passes zero =
+    inr (so, passed_with_zero service bytes last passes.given passes.passed (status_is 0 (Ok (status_passed_on passes.given)) (sym passes.answer_is ∙ zero)))
+end_told settings service request notice bytes moment serial answer Failed handed last so ends zero = absurd (not_zero (status_is 0 (Ok not_carried_out) (sym ends.1 ∙ zero)))
+end_told settings service request notice bytes moment serial answer TellingNoMemory handed last so ends zero = absurd (false_is_true (ap is_err (sym zero) ∙ ends.1))
+
+told_or_passed : (settings : SettingsSaid) (service : Service) (request : PostfixRequest) (notice : NoticeRequest) (bytes : List ℕ) (moment serial : ℕ) (told last handed gained : List Deed) → gained ≡ told ++ LogReleased ∷ last → hand_ins gained ≡ handed
+    → AreAllTold settings service request notice moment serial handed ⊎ ((handed ≡ []) × (last ≡ PassedOn service bytes (Ok 0) ∷ []))
+    → AreAllTold settings service request notice moment serial (hand_ins gained) ⊎ IsLeftToPostfix service bytes gained
+told_or_passed settings service request notice bytes moment serial told last handed gained is handed_is (inl all) = inl (subst (λ (deeds : List Deed). AreAllTold settings service request notice moment serial deeds) (sym handed_is) all)
+told_or_passed settings service request notice bytes moment serial told last handed gained is handed_is (inr passed) = inr (record {
+  before = told ++ LogReleased ∷ [];
+  passed_last = is ∙ ap (λ (deeds : List Deed). told ++ LogReleased ∷ deeds) passed.1 ∙ sym (append_assoc told (LogReleased ∷ []) (PassedOn service bytes (Ok 0) ∷ []));
+  none_handed = handed_is ∙ passed.0;
+})
+
+pub told_or_left : (settings : SettingsSaid) (service : Service) (request : PostfixRequest) (notice : NoticeRequest) (bytes : List ℕ) (moment serial : ℕ) (answer : RequestAnswer) (gained : List Deed)
+    → IsTellingDone settings service request notice bytes moment serial answer gained → answer ≡ Ok 0
+    → AreAllTold settings service request notice moment serial (hand_ins gained) ⊎ IsLeftToPostfix service bytes gained
+told_or_left settings service request notice bytes moment serial answer gained done zero =
+    let out = done.carried_out in
+    let parts = notified_parts settings service request notice bytes moment serial answer out.done (done_notified settings service request notice bytes moment serial answer out.done done.asked out.is_done) in
+    let telling = parts.telling in
+    let row = one_row telling.front telling.removal parts.tail out.cleaned parts.told out.done gained out.gained_are parts.all telling.parts in
+    let none_cleaned = nothing_to_clean service request answer out.cleaned zero out.clean in
+    told_or_passed settings service request notice bytes moment serial parts.told parts.last telling.handed gained
+    (out.gained_are ∙ ap (λ (deeds : List Deed). out.done ++ deeds) none_cleaned ∙ append-nil out.done ∙ parts.all ∙ ap (λ (deeds : List Deed). parts.told ++ deeds) parts.tail_is)
+    (ap hand_ins row ∙ row_handed telling.front telling.removal parts.tail out.cleaned telling.handed telling.block.handed_are
+    (removal_hands_in_none settings service request notice moment serial telling.handed telling.removal telling.removal_is) parts.tail_block.handed_are
+    (cleaning_hands_in_none service request (must_clean request answer) out.cleaned out.clean))
+    (end_told settings service request notice bytes moment serial answer parts.ended telling.handed parts.last telling.so parts.ends zero)

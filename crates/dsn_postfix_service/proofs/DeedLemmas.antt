@@ -1,28 +1,34 @@
 -- The deeds of a request, put together from those of its steps.
-use Rattle.std.proofs.Common.{◌≡◌, ℕ, Bool, List, [], ◌∷◌, ◌++◌, Option, Some, None, Ok, Err, refl, sym, ap, subst, ◌∙◌, append_assoc, append-nil, map, drop, drop-cons, get_or, length, suc, ◌<◌, ◌+◌, ◌≤◌, arith}
+use Rattle.std.proofs.Common.{◌≡◌, ℕ, Bool, true, false, List, [], ◌∷◌, ◌++◌, Option, Some, None, Ok, Err, refl, sym, ap, subst, ◌∙◌, append_assoc, append-nil, map, drop, drop-cons, get_or, length, suc, ◌<◌, ◌+◌, ◌≤◌, arith}
 use Rattle.std.proofs.lemmas.List.{drop_all}
-use Rattle.std.specs.Prelude.{unwrap_or}
+use Rattle.std.specs.Prelude.{◌==◌, unwrap_or}
 use Rattle.dsn_outcome.specs.Letter.{Letter}
 use Rattle.dsn_report.specs.Notice.{return_path_of}
 use Rattle.dsn_report.specs.Outbox.{mail_data}
 use Rattle.dsn_text.specs.declared.service.Service.{Service}
+use Rattle.dsn_text.specs.declared.service.Service.TheVariants.{Bounce}
 use Rattle.dsn_postfix.specs.LoggedAppend.{unlogged_field}
 use Rattle.dsn_postfix.specs.declared.postfix_request.AppendRequest.{AppendRequest}
 use Rattle.dsn_postfix.specs.declared.postfix_request.NoticeRequest.{NoticeRequest}
 use Rattle.dsn_postfix.specs.declared.postfix_request.PostfixRequest.{PostfixRequest}
 use Rattle.dsn_postfix_service.specs.declared.hand_in.hand_in_fault.HandInFault.{HandInFault}
 use Rattle.dsn_postfix_service.specs.declared.requests.deed_fault.DeedFault.{DeedFault}
+use Rattle.dsn_postfix_service.specs.requests.AnsweredRequest.{IsBounceLogTold, IsFlushedInTurn, in_turn, told}
 use Rattle.dsn_postfix_service.specs.requests.AppendDeeds.{IsAppended, record_bytes, tried}
-use Rattle.dsn_postfix_service.specs.requests.Deed.{Answer, Appended, Deed, HandedIn, LogReleased, MessageRead}
+use Rattle.dsn_postfix_service.specs.requests.CarriedOut.{IsCarriedOut, queue_id_of}
+use Rattle.dsn_postfix_service.specs.requests.Deed.{Answer, Appended, Deed, HandedIn, LogReleased, LogSought, MessageRead}
 use Rattle.dsn_postfix_service.specs.requests.Finishing.{AreMarked, FailsToMark, StopsAtPlace, marking}
 use Rattle.dsn_postfix_service.specs.requests.Gains.{Gains, with_deeds}
 use Rattle.dsn_postfix_service.specs.requests.HandingIn.{AreAccepted, IsNotAccepted, IsRefused, StopsAtLetter, hand_in_of}
 use Rattle.dsn_postfix_service.specs.requests.MailFound.{FailsToRead, ReadsLog, log_reading, log_unread, message_reading, message_unread}
 use Rattle.dsn_postfix_service.specs.requests.NoticeDeeds.{EndsTelling, IsNotified, Tells}
-use Rattle.dsn_postfix_service.specs.requests.RequestStatus.{RequestAnswer, status_after}
+use Rattle.dsn_postfix_service.specs.requests.RequestStatus.{RequestAnswer, carried_out, is_carried_out, status_after}
 use Rattle.dsn_postfix_service.specs.requests.ServiceSettings.{SettingsSaid}
 use Rattle.dsn_postfix_service.specs.declared.requests.not_accepted.NotAccepted.{NotAccepted}
 use Rattle.dsn_postfix_service.specs.declared.requests.telling.Telling.{Telling}
+
+false_not_true : false ≡ true → ⊥
+false_not_true e = cc
 
 suc_not_zero : (n : ℕ) → suc n ≡ 0 → ⊥
 suc_not_zero n e = cc
@@ -243,3 +249,29 @@ notified deeds old between released new settings service request notice bytes mo
   after = after_both deeds old between new first.gained (LogReleased ∷ last.gained) first.after (after_both deeds between released new (LogReleased ∷ []) last.gained release last.after);
   are = record { telling = telling; told = first.gained; last = last.gained; gained_are = refl; tells = first.are; ends = last.are };
 }
+
+-- ---- the bounce log, and then another
+
+pub bounce_log_told : {S : Type 0} → (deeds : S → Option (List Deed)) (old between new : S) (settings : SettingsSaid) (request : PostfixRequest) (bytes : List ℕ) (moment serial : ℕ) (answer : RequestAnswer) (id : List ℕ) (found : Bool)
+    → id ≡ queue_id_of request → found ≡ true → deeds between ≡ with_deeds (deeds old) (LogSought Bounce id (Ok found) ∷ []) → Gains deeds between new (IsCarriedOut settings Bounce request bytes moment serial answer)
+    → Gains deeds old new (IsBounceLogTold settings request bytes moment serial answer)
+bounce_log_told deeds old between new settings request bytes moment serial answer id found named is first last = record {
+  gained = LogSought Bounce (queue_id_of request) (Ok true) ∷ last.gained;
+  after = after_both deeds old between new (LogSought Bounce (queue_id_of request) (Ok true) ∷ []) last.gained
+      (first ∙ (λ i. with_deeds (deeds old) (LogSought Bounce (named i) (Ok (is i)) ∷ []))) last.after;
+  are = told last.gained refl last.are;
+}
+
+zero_is : (n : ℕ) → (n == 0) ≡ true → n ≡ 0
+zero_is n e = grind (arith, e)
+
+pub carried_out_is : (answer : RequestAnswer) → is_carried_out answer ≡ true → answer ≡ Ok carried_out
+carried_out_is (Ok status) e = ap (λ (n : ℕ). Ok n) (zero_is status e)
+carried_out_is (Err why) e = absurd (false_not_true e)
+
+pub flushed_in_turn : {S : Type 0} → (deeds : S → Option (List Deed)) (old between new : S) (settings : SettingsSaid) (service : Service) (request : PostfixRequest) (bytes : List ℕ) (moment serial : ℕ) (before answer : RequestAnswer)
+    → is_carried_out before ≡ true → Gains deeds old between (IsBounceLogTold settings request bytes moment serial before) → Gains deeds between new (IsCarriedOut settings service request bytes moment serial answer)
+    → Gains deeds old new (IsFlushedInTurn settings service request bytes moment serial answer)
+flushed_in_turn deeds old between new settings service request bytes moment serial before answer done first last =
+    gains_more deeds old between new _ _ _ first last
+    (λ one two told out. in_turn one two refl (subst (λ (a : RequestAnswer). IsBounceLogTold settings request bytes moment serial a one) (carried_out_is before done) told) out)

@@ -2,6 +2,7 @@ mod HandInExamples
 mod LetterExamples
 mod ReplyExamples
 mod RequestExamples
+pub mod AnsweredLaws
 pub mod CarriedOutLaws
 pub mod CommandLineLemmas
 pub mod DeedLemmas

@@ -1,6 +1,7 @@
 -- Worked examples of requests that are carried out, each computed.
 use Rattle.std.proofs.Common.{◌≡◌, ℕ, true, false, List, [], ◌∷◌, codes, refl, Ok, Err, Some, None}
 use Rattle.dsn_text.specs.declared.no_memory.NoMemory.{NoMemory}
+use Rattle.dsn_text.specs.declared.service.Service.{Service}
 use Rattle.dsn_text.specs.declared.service.Service.TheVariants.{Bounce, Defer}
 use Rattle.dsn_postfix.specs.LoggedAppend.{logged_of, unlogged_field, unlogged_of}
 use Rattle.dsn_postfix.specs.QuotedAddress.{needs_no_quotes}
@@ -12,12 +13,14 @@ use Rattle.dsn_postfix.specs.declared.postfix_request.ReportedRecipient.{Reporte
 use Rattle.dsn_postfix.specs.files.LogRecord.{unsayable_field}
 use Rattle.dsn_postfix_service.specs.declared.requests.deed_fault.DeedFault.TheVariants as fault
 use Rattle.dsn_postfix_service.specs.declared.requests.telling.Telling.TheVariants as telling
+use Rattle.dsn_postfix_service.specs.requests.AnsweredRequest.{IsAnswered, ends_message}
+use Rattle.dsn_postfix_service.specs.requests.AnsweredRequest as answered
 use Rattle.dsn_postfix_service.specs.requests.AppendDeeds.{IsAppended, record_bytes, tried, unsayable}
 use Rattle.dsn_postfix_service.specs.requests.CarriedOut.{IsCarriedOut, must_clean}
-use Rattle.dsn_postfix_service.specs.requests.Deed.{Answer, Appended, Deed, HandedIn, LogRead, LogReleased, LogRemoved, MessageRead, PassedOn}
+use Rattle.dsn_postfix_service.specs.requests.Deed.{Answer, Appended, Deed, HandedIn, LogRead, LogReleased, LogRemoved, LogSought, MessageRead, PassedOn}
 use Rattle.dsn_postfix_service.specs.requests.Finishing.{is_removal_due}
-use Rattle.dsn_postfix_service.specs.requests.MailFound.{readings}
-use Rattle.dsn_postfix_service.specs.requests.NoticeDeeds.{EndsTelling}
+use Rattle.dsn_postfix_service.specs.requests.MailFound.{log_unread, readings}
+use Rattle.dsn_postfix_service.specs.requests.NoticeDeeds.{EndsTelling, unread}
 use Rattle.dsn_postfix_service.specs.requests.RequestLaws.{hand_ins}
 use Rattle.dsn_postfix_service.specs.requests.RequestLetters.{next_serial, places_done}
 use Rattle.dsn_postfix_service.specs.requests.RequestStatus.{RequestAnswer, not_carried_out}
@@ -119,6 +122,53 @@ status_needs_a_deed status (unsayable field some passes) = absurd (no_deed (Pass
 -- nor to a request for notices that ends with nobody told, unless what can't be said is passed on
 unsayable_needs_a_deed : (answer : RequestAnswer) → EndsTelling Bounce [] telling.Unsayable answer [] → ⊥
 unsayable_needs_a_deed answer passes = no_deed (PassedOn Bounce [] passes.given) passes.passed
+
+-- ---- the bounce log first
+
+flush_of_deferred_is_last : ends_message Defer (Flush (asked 0)) ≡ true
+flush_of_deferred_is_last = refl
+
+verp_of_deferred_is_last : ends_message Defer (Verp (asked 0) (codes "+=")) ≡ true
+verp_of_deferred_is_last = refl
+
+flush_of_bounced_is_not_last : ends_message Bounce (Flush (asked 0)) ≡ false
+flush_of_bounced_is_not_last = refl
+
+warning_is_not_last : ends_message Defer (Warn (asked 0)) ≡ false
+warning_is_not_last = refl
+
+-- a flush of a log that can't be read
+unread_at : (service : Service) → IsCarriedOut settings service (Flush (asked 0)) [] 0 0 (Ok not_carried_out) (LogRead service id (Err fault.Failed) ∷ LogReleased ∷ [])
+unread_at service = record {
+  done = LogRead service id (Err fault.Failed) ∷ LogReleased ∷ [];
+  cleaned = [];
+  gained_are = refl;
+  is_done = record {
+    telling = telling.Failed;
+    told = LogRead service id (Err fault.Failed) ∷ [];
+    last = [];
+    gained_are = refl;
+    tells = unread refl (log_unread fault.Failed refl refl);
+    ends = (refl, refl);
+  };
+  clean = refl;
+}
+
+-- it can't be known whether there is a bounce log: nothing else is done, also with CLEAN
+bounce_log_unknown : IsAnswered settings Defer (Flush (asked 1)) [] 0 0 (Ok not_carried_out) (LogSought Bounce id (Err fault.Failed) ∷ [])
+bounce_log_unknown = answered.put_off refl (answered.unsought fault.Failed refl refl)
+
+-- there is one, which can't be read: the defer log isn't touched
+bounce_log_unread : IsAnswered settings Defer (Flush (asked 0)) [] 0 0 (Ok not_carried_out) (LogSought Bounce id (Ok true) ∷ LogRead Bounce id (Err fault.Failed) ∷ LogReleased ∷ [])
+bounce_log_unread = answered.put_off refl (answered.told (LogRead Bounce id (Err fault.Failed) ∷ LogReleased ∷ []) refl (unread_at Bounce))
+
+-- there is none: the defer log is read
+defer_log_unread : IsAnswered settings Defer (Flush (asked 0)) [] 0 0 (Ok not_carried_out) (LogSought Bounce id (Ok false) ∷ LogRead Defer id (Err fault.Failed) ∷ LogReleased ∷ [])
+defer_log_unread = answered.in_turn (LogSought Bounce id (Ok false) ∷ []) (LogRead Defer id (Err fault.Failed) ∷ LogReleased ∷ []) refl (answered.no_log refl refl) (unread_at Defer)
+
+-- a flush of the bounce log asks for no other
+bounce_log_alone : IsAnswered settings Bounce (Flush (asked 0)) [] 0 0 (Ok not_carried_out) (LogRead Bounce id (Err fault.Failed) ∷ LogReleased ∷ [])
+bounce_log_alone = unread_at Bounce
 
 -- ---- parts
 

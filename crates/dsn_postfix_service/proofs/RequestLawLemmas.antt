@@ -7,7 +7,7 @@ use Rattle.dsn_postfix.specs.declared.postfix_request.PostfixRequest.{PostfixReq
 use Rattle.dsn_postfix_service.specs.declared.requests.deed_fault.DeedFault.{DeedFault}
 use Rattle.dsn_postfix_service.specs.declared.requests.not_accepted.NotAccepted.{NotAccepted}
 use Rattle.dsn_postfix_service.specs.declared.requests.not_accepted.NotAccepted.TheVariants.{Refused, NoMemory}
-use Rattle.dsn_postfix_service.specs.requests.Deed.{Appended, Deed, HandedIn, LogRead, LogReleased, LogRemoved, MarkedDone, MessageRead, PassedOn}
+use Rattle.dsn_postfix_service.specs.requests.Deed.{Appended, Deed, HandedIn, LogRead, LogReleased, LogRemoved, LogSought, MarkedDone, MessageRead, PassedOn}
 use Rattle.dsn_postfix_service.specs.requests.Finishing.{AreMarked, StopsAtPlace, marking}
 use Rattle.dsn_postfix_service.specs.requests.HandingIn.{AreAccepted, IsNotAccepted, StopsAtLetter, hand_in_of}
 use Rattle.dsn_postfix_service.specs.requests.MailFound.{FailsToRead, MailRead, log_reading, log_unread, message_reading, message_unread, readings, tells_of_log}
@@ -16,6 +16,7 @@ use Rattle.dsn_postfix_service.specs.requests.RequestLaws.{AreHandedIn, hand_ins
 -- ---- deeds that remove no log
 
 abbrev pub is_removal : Deed → Bool
+is_removal (LogSought service id answer) = false
 is_removal (LogRead service id answer) = false
 is_removal (Appended service id bytes answer) = false
 is_removal (LogRemoved service id answer) = true

@@ -1,3 +1,4 @@
+pub mod AnsweredRequest
 pub mod AppendDeeds
 pub mod CarriedOut
 pub mod Deed

@@ -13,6 +13,7 @@ pub use hand_in::{
 };
 pub use letters::{LetterFault, ReportedMessage, letter_of_notice};
 pub use requests::{
-    DeedFault, MailSystem, ServiceSettings, answered_appends_stand, carry_out,
-    logs_are_removed_after_acceptance, no_notice_causes_another, notices_are_handed_in_once,
+    DeedFault, MailSystem, ServiceSettings, answer_request, answered_appends_stand,
+    bounce_logs_are_told_first, logs_are_removed_after_acceptance, no_notice_causes_another,
+    notices_are_handed_in_once,
 };

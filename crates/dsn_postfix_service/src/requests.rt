@@ -1,4 +1,5 @@
 //! What is done for one request of Postfix's programs, in which order, and what it is answered.
+mod answering;
 mod append;
 mod carrying_out;
 mod deed_fault;
@@ -16,11 +17,11 @@ mod request_letters;
 mod service_settings;
 mod telling;
 
-pub use carrying_out::carry_out;
+pub use answering::answer_request;
 pub use deed_fault::DeedFault;
 pub use laws::{
-    answered_appends_stand, logs_are_removed_after_acceptance, no_notice_causes_another,
-    notices_are_handed_in_once,
+    answered_appends_stand, bounce_logs_are_told_first, logs_are_removed_after_acceptance,
+    no_notice_causes_another, notices_are_handed_in_once,
 };
 pub use mail_system::MailSystem;
 pub use service_settings::ServiceSettings;

@@ -11,7 +11,9 @@ use std::alloc::Global;
 /// A mail system in memory. It tells no deeds to contracts.
 #[derive(Drop)]
 pub(crate) struct MemorySystem<'a> {
-    /// The log, if there is one.
+    /// The bounce log, if there is one.
+    pub(crate) bounce_log: Option<&'a [u8]>,
+    /// The log of each other service, if there is one.
     pub(crate) log: Option<&'a [u8]>,
     /// The message's file.
     pub(crate) file: &'a [u8],
@@ -25,7 +27,15 @@ pub(crate) struct MemorySystem<'a> {
     pub(crate) asked: Vec<u8>,
 }
 
-impl MemorySystem<'_> {
+impl<'a> MemorySystem<'a> {
+    /// The log of a service, if there is one.
+    fn log_of(&self, service: Service) -> Option<&'a [u8]> {
+        match service {
+            Service::Bounce => self.bounce_log,
+            Service::Defer | Service::Trace => self.log,
+        }
+    }
+
     /// Writes a line of a deed, and says whether the deed goes well.
     fn goes_well(&mut self, word: &[u8], text: &[u8]) -> bool {
         let written = self.asked.extend_from_slice(word).is_ok()
@@ -68,6 +78,14 @@ fn digits(number: u64) -> [u8; 3] {
 impl MailSystem for MemorySystem<'_> {
     ghost deeds = { λ _. None };
 
+    fn has_log(&mut self, service: Service, _id: QueueId) -> Result<bool, DeedFault> {
+        self.done(b"seek", &[service.letter()])?;
+        match self.log_of(service) {
+            Some(log) => Ok(!log.is_empty()),
+            None => Ok(false),
+        }
+    }
+
     fn read_log(
         &mut self,
         alloc: Global,
@@ -75,7 +93,7 @@ impl MailSystem for MemorySystem<'_> {
         _id: QueueId,
     ) -> Result<Option<Vec<u8>>, DeedFault> {
         self.done(b"log", &[service.letter()])?;
-        match self.log {
+        match self.log_of(service) {
             Some(log) => Ok(Some(copied(alloc, log)?)),
             None => Ok(None),
         }

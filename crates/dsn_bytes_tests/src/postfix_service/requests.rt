@@ -1,9 +1,9 @@
-//! Requests that are carried out over a mail system in memory: what is done for each, in which order, and what it is
+//! Requests that are answered over a mail system in memory: what is done for each, in which order, and what it is
 //! answered, with a failure at each deed.
 use crate::assert_same::same;
 use crate::postfix_service::memory_system::MemorySystem;
 use dsn_postfix::{PostfixVersion, decode_postfix_request};
-use dsn_postfix_service::{DeedFault, ServiceSettings, carry_out};
+use dsn_postfix_service::{DeedFault, ServiceSettings, answer_request};
 use dsn_report::Site;
 use dsn_text::{Service, Stamp};
 use std::alloc::{AllocGlobal, Global};
@@ -90,14 +90,16 @@ fn append_bytes(alloc: Global, flags: &[u8], recipient: &[u8]) -> Result<Vec<u8>
 #[derive(Clone, Copy)]
 struct Case<'a> {
     service: Service,
+    bounce_log: Option<&'a [u8]>,
     log: Option<&'a [u8]>,
     well: usize,
     fault: DeedFault,
+    postfix: u32,
     status: u32,
     lines: &'a [u8],
 }
 
-/// Carries a request out, and compares its status and the lines of its deeds. Memory is ample, so
+/// Answers a request, and compares its status and the lines of its deeds. Memory is ample, so
 /// there is a status.
 fn carried_out(rt: &(impl AllocGlobal + Abort), bytes: &[u8], case: Case<'_>) -> Result<(), Fail> {
     let site = Site::new(rt.alloc(), b"mx.example.net")?;
@@ -107,16 +109,17 @@ fn carried_out(rt: &(impl AllocGlobal + Abort), bytes: &[u8], case: Case<'_>) ->
         lifetime: 432_000,
     };
     let mut system = MemorySystem {
+        bounce_log: case.bounce_log,
         log: case.log,
         file: FILE,
         well: case.well,
         fault: case.fault,
-        status: 7,
+        status: case.postfix,
         asked: Vec::new(rt.alloc()),
     };
     let request = decode_postfix_request(PostfixVersion::V3_7, bytes)?;
     let moment = Stamp::new(1_700_000_000).ok_or("the moment")?;
-    let status = carry_out(
+    let status = answer_request(
         rt.alloc(),
         &settings,
         case.service,
@@ -135,9 +138,11 @@ fn carried_out(rt: &(impl AllocGlobal + Abort), bytes: &[u8], case: Case<'_>) ->
 fn told<'a>(log: Option<&'a [u8]>, lines: &'a [u8]) -> Case<'a> {
     Case {
         service: Service::Bounce,
-        log,
+        bounce_log: log,
+        log: None,
         well: ALWAYS,
         fault: DeedFault::Failed,
+        postfix: 7,
         status: 0,
         lines,
     }
@@ -277,7 +282,9 @@ fn a_warning_keeps_the_log(rt: HostRuntime) -> Result<(), Fail> {
     let lines = b"log D\nmessage active\nhand-in ann@example.com\nrelease \n";
     let case = Case {
         service: Service::Defer,
-        ..told(Some(DELAYS), lines)
+        bounce_log: Some(LOG),
+        log: Some(DELAYS),
+        ..told(None, lines)
     };
     carried_out(&rt, &bytes, case)
 }
@@ -296,4 +303,116 @@ fn a_trace_without_a_log_tells_nobody(rt: HostRuntime) -> Result<(), Fail> {
         ..told(None, b"log T\nmessage active\nrelease \n")
     };
     carried_out(&rt, &bytes, case)
+}
+
+/// A case of the defer log, of a message with this bounce log, in which all goes well.
+fn flushed<'a>(bounce_log: Option<&'a [u8]>, lines: &'a [u8]) -> Case<'a> {
+    Case {
+        service: Service::Defer,
+        bounce_log,
+        log: Some(DELAYS),
+        ..told(None, lines)
+    }
+}
+
+/// A case of the defer log, of a message with a bounce log, in which a deed fails.
+fn stopped<'a>(well: usize, lines: &'a [u8]) -> Case<'a> {
+    Case {
+        well,
+        status: NOT_DONE,
+        ..flushed(Some(LOG), lines)
+    }
+}
+
+/// The lines of a flush of the defer log alone.
+const DEFER: &[u8] = b"log D\nmessage active\nhand-in ann@example.com\nremove D\nrelease \n";
+
+/// The lines of a flush of the bounce log that is asked before it.
+const BOUNCE: &[u8] =
+    b"seek B\nlog B\nmessage active\nhand-in ann@example.com\nremove B\nrelease \n";
+
+#[test]
+fn a_flush_of_the_defer_log_tells_the_bounce_log_first(rt: HostRuntime) -> Result<(), Fail> {
+    let both = joined(rt.alloc(), &[BOUNCE, DEFER])?;
+    let alone = joined(rt.alloc(), &[b"seek B\n".as_slice(), DEFER])?;
+    let bytes = notice_bytes(rt.alloc(), FLUSH)?;
+    carried_out(&rt, &bytes, flushed(Some(LOG), &both))?;
+    for none in [None, Some(b"".as_slice())] {
+        carried_out(&rt, &bytes, flushed(none, &alone))?;
+    }
+    Ok(())
+}
+
+#[test]
+fn a_defer_log_stays_where_the_bounce_log_fails(rt: HostRuntime) -> Result<(), Fail> {
+    let bytes = notice_bytes(rt.alloc(), FLUSH)?;
+    carried_out(&rt, &bytes, stopped(0, b"seek B\n"))?;
+    carried_out(&rt, &bytes, stopped(1, b"seek B\nlog B\nrelease \n"))?;
+    let unread = b"seek B\nlog B\nmessage active\nrelease \n";
+    carried_out(&rt, &bytes, stopped(2, unread))?;
+    let refused = b"seek B\nlog B\nmessage active\nhand-in ann@example.com\nrelease \n";
+    carried_out(&rt, &bytes, stopped(3, refused))?;
+    carried_out(&rt, &bytes, stopped(4, BOUNCE))
+}
+
+#[test]
+fn a_bounce_log_is_told_where_the_defer_log_fails(rt: HostRuntime) -> Result<(), Fail> {
+    let bytes = notice_bytes(rt.alloc(), FLUSH)?;
+    let unread = joined(rt.alloc(), &[BOUNCE, b"log D\nrelease \n".as_slice()])?;
+    carried_out(&rt, &bytes, stopped(6, &unread))?;
+    let no_file = b"log D\nmessage active\nrelease \n".as_slice();
+    let no_file = joined(rt.alloc(), &[BOUNCE, no_file])?;
+    carried_out(&rt, &bytes, stopped(7, &no_file))?;
+    let refused = b"log D\nmessage active\nhand-in ann@example.com\nrelease \n".as_slice();
+    let refused = joined(rt.alloc(), &[BOUNCE, refused])?;
+    carried_out(&rt, &bytes, stopped(8, &refused))?;
+    let both = joined(rt.alloc(), &[BOUNCE, DEFER])?;
+    carried_out(&rt, &bytes, stopped(9, &both))
+}
+
+#[test]
+fn clean_removes_no_defer_log_before_its_turn(rt: HostRuntime) -> Result<(), Fail> {
+    let clean = Asked {
+        flags: b"1",
+        ..FLUSH
+    };
+    let bytes = notice_bytes(rt.alloc(), clean)?;
+    carried_out(&rt, &bytes, stopped(0, b"seek B\n"))?;
+    let unread = b"seek B\nlog B\nrelease \nremove B\n";
+    carried_out(&rt, &bytes, stopped(1, unread))
+}
+
+#[test]
+fn a_bounce_log_that_postfix_tells_comes_first(rt: HostRuntime) -> Result<(), Fail> {
+    let quoted = Asked {
+        sender: b"a b@example.com",
+        ..FLUSH
+    };
+    let bytes = notice_bytes(rt.alloc(), quoted)?;
+    let first = b"seek B\nlog B\nmessage active\nrelease \npass-on B\n".as_slice();
+    let second = b"log D\nmessage active\nrelease \npass-on D\n".as_slice();
+    let refused = Case {
+        status: 7,
+        ..flushed(Some(LOG), first)
+    };
+    carried_out(&rt, &bytes, refused)?;
+    let both = joined(rt.alloc(), &[first, second])?;
+    let passed = Case {
+        postfix: 0,
+        ..flushed(Some(LOG), &both)
+    };
+    carried_out(&rt, &bytes, passed)
+}
+
+#[test]
+fn a_flush_with_a_path_for_each_tells_the_bounce_log_first(rt: HostRuntime) -> Result<(), Fail> {
+    let verp = Asked {
+        kind: b"3",
+        own: b"verp_delimiters\0+=\0",
+        ..FLUSH
+    };
+    let bytes = notice_bytes(rt.alloc(), verp)?;
+    let both =
+        b"seek B\nlog B\nmessage active\nhand-in ann+no=a.example@example.com\nhand-in ann+no=b.example@example.com\nremove B\nrelease \nlog D\nmessage active\nhand-in ann+no=a.example@example.com\nremove D\nrelease \n";
+    carried_out(&rt, &bytes, flushed(Some(LOG), both))
 }

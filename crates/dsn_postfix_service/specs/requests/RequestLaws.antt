@@ -2,23 +2,25 @@
 use Rattle.std.specs.Prelude.{◌≡◌, ◌⊎◌, ℕ, Bool, true, false, List, [], ◌∷◌, ◌++◌, Some, Result, Ok}
 use Rattle.dsn_outcome.specs.Letter.{Letter}
 use Rattle.dsn_text.specs.declared.service.Service.{Service}
+use Rattle.dsn_text.specs.declared.service.Service.TheVariants.{Bounce, Defer}
 use Rattle.dsn_postfix.specs.NoticePlan.{notice_asked}
 use Rattle.dsn_postfix.specs.declared.postfix_request.AppendRequest.{AppendRequest}
 use Rattle.dsn_postfix.specs.declared.postfix_request.NoticeRequest.{NoticeRequest}
 use Rattle.dsn_postfix.specs.declared.postfix_request.PostfixRequest.{PostfixRequest}
 use Rattle.dsn_postfix_service.specs.requests.AppendDeeds.{record_bytes}
 use Rattle.dsn_postfix_service.specs.requests.CarriedOut.{IsCarriedOut, must_clean}
-use Rattle.dsn_postfix_service.specs.requests.Deed.{Appended, Deed, HandedIn, LogRead, LogReleased, LogRemoved, MarkedDone, MessageRead, PassedOn}
+use Rattle.dsn_postfix_service.specs.requests.Deed.{Appended, Deed, HandedIn, LogRead, LogReleased, LogRemoved, LogSought, MarkedDone, MessageRead, PassedOn}
 use Rattle.dsn_postfix_service.specs.requests.HandingIn.{AreAccepted, hand_in_of}
 use Rattle.dsn_postfix_service.specs.requests.MailFound.{MailRead}
 use Rattle.dsn_postfix_service.specs.requests.RequestLetters.{AreLettersAsked}
-use Rattle.dsn_postfix_service.specs.requests.RequestStatus.{RequestAnswer}
+use Rattle.dsn_postfix_service.specs.requests.RequestStatus.{RequestAnswer, carried_out}
 use Rattle.dsn_postfix_service.specs.requests.ServiceSettings.{SettingsSaid}
 use Rattle.dsn_postfix_service.specs.declared.hand_in.hand_in_fault.HandInFault.{HandInFault}
 
 -- ---- what was handed in
 
 abbrev pub is_hand_in : Deed → Bool
+is_hand_in (LogSought service id answer) = false
 is_hand_in (LogRead service id answer) = false
 is_hand_in (Appended service id bytes answer) = false
 is_hand_in (LogRemoved service id answer) = false
@@ -84,6 +86,23 @@ pub record IsRemovedAfter (settings : SettingsSaid) (service : Service) (request
   pub of_message : id ≡ notice.queue_id
   pub told : AreAllTold settings service request notice moment serial (hand_ins before)
       ⊎ ((must_clean request answer ≡ true) × (after ≡ []))
+
+-- nothing was handed in, and Postfix's own service answered 0 to the whole request
+pub record IsLeftToPostfix (service : Service) (bytes : List ℕ) (gained : List Deed) : Type 0 where
+  pub before : List Deed
+  pub passed_last : gained ≡ before ++ PassedOn service bytes (Ok 0) ∷ []
+  pub none_handed : hand_ins gained ≡ []
+
+-- First the request was carried out on the bounce log alone: all of its notices were accepted, or Postfix's own service
+-- answered 0. Only then was anything done on the defer log.
+pub record IsToldFirst (settings : SettingsSaid) (request : PostfixRequest) (notice : NoticeRequest) (bytes : List ℕ)
+    (moment serial : ℕ) (deeds : List Deed) : Type 0 where
+  pub first : List Deed
+  pub rest : List Deed
+  pub deeds_are : deeds ≡ first ++ rest
+  pub bounce_log : IsCarriedOut settings Bounce request bytes moment serial (Ok carried_out) first
+  pub told : AreAllTold settings Bounce request notice moment serial (hand_ins first) ⊎ IsLeftToPostfix Bounce bytes first
+  pub defer_log : IsCarriedOut settings Defer request bytes moment serial (Ok carried_out) rest
 
 -- an append that is answered 0 stands in its log, or Postfix's own service answered 0 to it
 abbrev pub StandsOrIsPassedOn : Service → AppendRequest → List ℕ → List Deed → Type 0

@@ -1,4 +1,4 @@
-//! Carrying out one request of Postfix's programs.
+//! Carrying out one request of Postfix's programs on the log of its service.
 ghost use Rattle.std.specs.Prelude.{◌≡◌};
 ghost use Rattle.dsn_postfix_service.specs.requests.CarriedOut.{Cleans, IsCarriedOut, IsDone, flags_of, must_clean, queue_id_of};
 ghost use Rattle.dsn_postfix_service.specs.requests.Gains.{Gains};
@@ -29,7 +29,7 @@ fn flags_of(request: &PostfixRequest<'_>) -> u32
 }
 
 /// The queue id of a request's message.
-fn queue_id_of(request: &PostfixRequest<'_>) -> QueueId
+pub(super) fn queue_id_of(request: &PostfixRequest<'_>) -> QueueId
     ensures { result ≡ queue_id_of request.now }
 {
     match request {
@@ -43,7 +43,7 @@ fn queue_id_of(request: &PostfixRequest<'_>) -> QueueId
 }
 
 /// Whether this answers a request that was carried out.
-fn is_carried_out(answer: &Result<u32, NoMemory>) -> bool
+pub(super) fn is_carried_out(answer: &Result<u32, NoMemory>) -> bool
     ensures { result ≡ is_carried_out answer.now }
 {
     match answer {
@@ -103,21 +103,9 @@ fn do_asked<M: MailSystem>(
     }
 }
 
-/// Carries out one request to a service of Postfix's programs, and says the status that answers it:
-/// 0 where it was carried out, and 4,294,967,295 where it wasn't, or the one that Postfix's own
-/// service of that name answered, where the request was passed on to it. There is no status only
-/// where the memory for a record, a letter, its text or for who is marked was refused. Where the
-/// system has no memory for what it gives, that is a failure like others.
-///
-/// An append puts its record at the end of the log. All others tell the message's sender: what they
-/// tell of is read, all letters are made, and only then is one handed in; once all are accepted,
-/// recipients are marked as done where the request asks for that, and the log is removed, unless
-/// the request is a warning. What can't be said is passed on. A request with CLEAN has its log
-/// removed unless the status is 0, also where there is none.
-///
-/// `bytes` are those of the request, in which it is passed on. The letters are made at the moment,
-/// with serials from the first one on, which stand in their Message-IDs.
-pub fn carry_out<M: MailSystem>(
+/// Does what a request asks, and then what CLEAN asks, on the log of one service. Says the status
+/// that answers it, or that memory was refused.
+pub(super) fn carry_out<M: MailSystem>(
     alloc: Global,
     settings: &ServiceSettings<'_>,
     service: Service,

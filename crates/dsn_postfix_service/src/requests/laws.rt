@@ -1,17 +1,20 @@
 //! What is true of each request that was carried out, at each moment of it, whatever the code does: each law is the contract
 //! of a function that changes nothing.
-ghost use Rattle.std.specs.Prelude.{◌≡◌, ◌⊎◌, ◌++◌, [], ◌∷◌, ℕ, List, Ok, true};
+ghost use Rattle.std.specs.Prelude.{◌≡◌, ◌⊎◌, ◌++◌, [], ◌∷◌, ℕ, List, Ok, Some, true};
+ghost use Rattle.dsn_postfix.specs.NoticePlan.{notice_asked};
 ghost use Rattle.dsn_postfix.specs.Wanted.{is_no_sender};
 ghost use Rattle.dsn_postfix.specs.declared.postfix_request.AppendRequest.{AppendRequest};
 ghost use Rattle.dsn_postfix.specs.declared.postfix_request.NoticeRequest.{NoticeRequest};
 ghost use Rattle.dsn_postfix.specs.declared.postfix_request.PostfixRequest.{PostfixRequest};
 ghost use Rattle.dsn_postfix.specs.declared.postfix_request.PostfixRequest.TheVariants.{Append};
+ghost use Rattle.dsn_postfix_service.specs.requests.AnsweredRequest.{IsAnswered, is_flush};
 ghost use Rattle.dsn_postfix_service.specs.requests.CarriedOut.{IsCarriedOut};
-ghost use Rattle.dsn_postfix_service.specs.requests.Deed.{Answer, Deed, LogRemoved};
-ghost use Rattle.dsn_postfix_service.specs.requests.RequestLaws.{HandsInOnce, IsRemovedAfter, IsTellingDone, StandsOrIsPassedOn, hand_ins};
+ghost use Rattle.dsn_postfix_service.specs.requests.Deed.{Answer, Deed, LogRemoved, LogSought};
+ghost use Rattle.dsn_postfix_service.specs.requests.RequestLaws.{HandsInOnce, IsRemovedAfter, IsTellingDone, IsToldFirst, StandsOrIsPassedOn, hand_ins};
 ghost use Rattle.dsn_postfix_service.specs.requests.RequestStatus.{RequestAnswer};
 ghost use Rattle.dsn_postfix_service.specs.requests.ServiceSettings.{SettingsSaid};
 ghost use Rattle.dsn_text.specs.declared.service.Service.{Service};
+ghost use Rattle.dsn_text.specs.declared.service.Service.TheVariants.{Bounce, Defer};
 
 /// At each moment of a request for notices at which a log is removed, the log is that of the request, and before it each
 /// letter of each notice that the request has was accepted, and nothing else was handed in. So a crash at any moment leaves
@@ -55,4 +58,18 @@ pub fn answered_appends_stand()
         → IsCarriedOut settings service (Append request) bytes moment serial answer gained
         → answer ≡ Ok 0
         → StandsOrIsPassedOn service request bytes gained }
+{}
+
+/// Where a flush of the defer log is answered 0, and its message has a bounce log, each letter of each notice of that log was
+/// accepted before the first deed on the defer log, or Postfix's own service answered 0 to the flush of the bounce log.
+pub fn bounce_logs_are_told_first()
+    ensures { (settings : SettingsSaid) (request : PostfixRequest) (notice : NoticeRequest)
+        (bytes : List ℕ) (moment serial : ℕ) (answer : RequestAnswer) (gained deeds : List Deed)
+        (named : List ℕ)
+        → is_flush request ≡ true
+        → notice_asked request ≡ Some notice
+        → IsAnswered settings Defer request bytes moment serial answer gained
+        → answer ≡ Ok 0
+        → gained ≡ LogSought Bounce named (Ok true) ∷ deeds
+        → IsToldFirst settings request notice bytes moment serial deeds }
 {}

@@ -2,7 +2,7 @@
 //! to, and Postfix's own services.
 ghost use Rattle.std.specs.Prelude.{◌≡◌, [], ◌∷◌};
 ghost use Rattle.std.specs.Option.{option_map};
-ghost use Rattle.dsn_postfix_service.specs.requests.Deed.{Appended, HandedIn, LogRead, LogReleased, LogRemoved, MarkedDone, MessageRead, PassedOn, answer_as, reply_as};
+ghost use Rattle.dsn_postfix_service.specs.requests.Deed.{Appended, HandedIn, LogRead, LogReleased, LogRemoved, LogSought, MarkedDone, MessageRead, PassedOn, answer_as, reply_as};
 ghost use Rattle.dsn_postfix_service.specs.requests.Gains.{with_deeds};
 
 use crate::hand_in::{HandInFault, ReplyBuffer};
@@ -20,6 +20,12 @@ pub trait MailSystem {
     // What was done or tried so far, in its order, with what came of each, where that is told. A
     // system over files and sockets tells nothing; one in memory may.
     ghost deeds: { Self → Option (List Deed) };
+
+    /// Says whether a service has a log about a message: a file that isn't empty. It isn't locked by
+    /// that.
+    fn has_log(&mut self, service: Service, id: QueueId) -> Result<bool, DeedFault>
+        ensures { deeds self.new
+            ≡ with_deeds (deeds self.old) (LogSought service id result ∷ []) };
 
     /// Reads the log of a service about a message: its bytes, or none where there is no log. A log
     /// that was read stays locked until it is removed or released.

@@ -1,0 +1,17 @@
+use Rattle.std.proofs.Common.{◌∙◌, subst, sym}
+use Rattle.std.specs.Prelude.{MatchBool}
+use Rattle.dsn_postfix_service.specs.requests.AnsweredRequest.{IsFlushedInTurn}
+use Rattle.dsn_postfix_service.specs.requests.CarriedOut.{IsCarriedOut}
+use Rattle.dsn_postfix_service.specs.requests.ServiceSettings.{settings_said_in}
+use Rattle.dsn_postfix_service.proofs.DeedLemmas.{gains_as}
+use Rattle.dsn_postfix_service.proofs.requests.answering.answer_request.Goals as goal
+
+-- a flush of the defer log
+pub returns-then-ends_message : goal.returns-then-ends_message
+returns-then-ends_message g c =
+    let settings = settings_said_in c.args.settings.now in
+    let request = c.args.request.now in
+    gains_as g.M.MailSystem.deeds _ _ _ _ c.flush_in_turn.ensures (λ gained is.
+    subst (λ ends. MatchBool ends (IsFlushedInTurn settings c.args.service request c.args.bytes.now c.args.moment c.args.first_serial c.flush_in_turn.result gained)
+    (IsCarriedOut settings c.args.service request c.args.bytes.now c.args.moment c.args.first_serial c.flush_in_turn.result gained))
+    (sym c.if-ends_message.true ∙ c.ends_message.ensures) is)

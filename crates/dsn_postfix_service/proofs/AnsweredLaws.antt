@@ -2,19 +2,23 @@
 use Rattle.std.proofs.Common.{◌≡◌, ℕ, Bool, true, false, List, [], ◌∷◌, ◌++◌, Some, Result, Ok, Err, refl, sym, ap, subst, ◌∙◌, append_assoc, append-nil, inl, inr}
 use Rattle.std.specs.Prelude.{◌⊎◌, MatchBool}
 use Rattle.dsn_text.specs.declared.service.Service.{Service}
-use Rattle.dsn_text.specs.declared.service.Service.TheVariants.{Bounce, Defer}
+use Rattle.dsn_text.specs.declared.service.Service.TheVariants.{Bounce, Defer, Trace as TraceLog}
 use Rattle.dsn_postfix.specs.NoticePlan.{notice_asked}
+use Rattle.dsn_postfix.specs.Wanted.{is_no_sender}
+use Rattle.dsn_postfix.specs.declared.postfix_request.AppendRequest.{AppendRequest}
 use Rattle.dsn_postfix.specs.declared.postfix_request.NoticeRequest.{NoticeRequest}
 use Rattle.dsn_postfix.specs.declared.postfix_request.PostfixRequest.{PostfixRequest}
+use Rattle.dsn_postfix.specs.declared.postfix_request.PostfixRequest.TheVariants.{Append}
 use Rattle.dsn_postfix_service.specs.declared.requests.deed_fault.DeedFault.{DeedFault}
 use Rattle.dsn_postfix_service.specs.requests.AnsweredRequest.{IsAnswered, IsBounceLogTold, IsFlushedInTurn, ends_message, is_flush}
 use Rattle.dsn_postfix_service.specs.requests.AnsweredRequest as answered
 use Rattle.dsn_postfix_service.specs.requests.CarriedOut.{IsCarriedOut, queue_id_of}
-use Rattle.dsn_postfix_service.specs.requests.Deed.{Appended, Deed, HandedIn, LogRead, LogReleased, LogRemoved, LogSought, MarkedDone, MessageRead, PassedOn}
-use Rattle.dsn_postfix_service.specs.requests.RequestLaws.{IsToldFirst, IsTellingDone}
+use Rattle.dsn_postfix_service.specs.requests.Deed.{Answer, Appended, Deed, HandedIn, LogRead, LogReleased, LogRemoved, LogSought, MarkedDone, MessageRead, PassedOn}
+use Rattle.dsn_postfix_service.specs.requests.RequestLaws.{HandsInInTurn, HandsInOnce, IsRemovedAfter, IsRemovedInTurn, IsToldFirst, StandsOrIsPassedOn, hand_ins}
 use Rattle.dsn_postfix_service.specs.requests.RequestStatus.{RequestAnswer, carried_out, is_carried_out, not_carried_out}
 use Rattle.dsn_postfix_service.specs.requests.ServiceSettings.{SettingsSaid}
-use Rattle.dsn_postfix_service.proofs.CarriedOutLaws.{first_or, later, not_zero, status_is, told_or_left}
+use Rattle.dsn_postfix_service.proofs.CarriedOutLaws.{answered_append_stands, first_or, handed_in_once, later, none_once, not_zero, nothing_after, past_block, removed_only_after, status_is, told_or_left}
+use Rattle.dsn_postfix_service.proofs.RequestLawLemmas.{hand_ins-append}
 
 true_is_false : true ≡ false → ⊥
 true_is_false e = cc
@@ -78,3 +82,177 @@ pub told_first : (settings : SettingsSaid) (request : PostfixRequest) (notice : 
 told_first settings request notice bytes moment serial answer gained deeds named flushes asked is zero e =
     told_in_turn settings request notice bytes moment serial answer gained deeds named asked
     (subst (λ (b : Bool). MatchBool b (IsFlushedInTurn settings Defer request bytes moment serial answer gained) (IsCarriedOut settings Defer request bytes moment serial answer gained)) flushes is) zero e
+
+-- ---- logs that are removed
+
+-- a deed of one of two parts
+pub data InPart (first rest before after : List Deed) (deed : Deed) : Type 0 where
+  in_first : (more : List Deed) → first ≡ before ++ deed ∷ more → after ≡ more ++ rest → InPart first rest before after deed
+  in_rest : (more : List Deed) → before ≡ first ++ more → rest ≡ more ++ deed ∷ after → InPart first rest before after deed
+
+part_more : (one other : Deed) (first rest before after : List Deed) (deed : Deed) → one ≡ other → InPart first rest before after deed → InPart (one ∷ first) rest (other ∷ before) after deed
+part_more one other first rest before after deed same (in_first more is after_is) = in_first more (λ i. same i ∷ is i) after_is
+part_more one other first rest before after deed same (in_rest more is rest_is) = in_rest more (λ i. sym same i ∷ is i) rest_is
+
+part_of : (first rest before after : List Deed) (deed : Deed) → first ++ rest ≡ before ++ deed ∷ after → InPart first rest before after deed
+part_of [] rest before after deed e = in_rest before refl e
+part_of (one ∷ first) rest [] after deed e =
+    in_first first (ap (λ (deeds : List Deed). first_or one deeds ∷ first) e) (sym (ap later e))
+part_of (one ∷ first) rest (other ∷ before) after deed e =
+    part_more one other first rest before after deed (ap (first_or one) e) (part_of first rest before after deed (ap later e))
+
+-- removed by a request on that log, after some deeds and before others
+removed_in_turn : (settings : SettingsSaid) (service : Service) (request : PostfixRequest) (notice : NoticeRequest) (moment serial : ℕ) (answer : RequestAnswer) (earlier own_before own_after before after later : List Deed) (log : Service) (id : List ℕ)
+    → before ≡ earlier ++ own_before → after ≡ own_after ++ later → IsRemovedAfter settings service request notice moment serial answer own_before own_after log id
+    → IsRemovedInTurn settings request notice moment serial before after log id
+removed_in_turn settings service request notice moment serial answer earlier own_before own_after before after later log id before_is after_is removed = record {
+  answer = answer;
+  earlier = earlier;
+  own_before = own_before;
+  own_after = own_after;
+  later = later;
+  before_is = before_is;
+  after_is = after_is;
+  removed = subst (λ (own : Service). IsRemovedAfter settings own request notice moment serial answer own_before own_after log id) (sym removed.of_service) removed;
+}
+
+later_too : (settings : SettingsSaid) (request : PostfixRequest) (notice : NoticeRequest) (moment serial : ℕ) (before more rest after : List Deed) (log : Service) (id : List ℕ)
+    → after ≡ more ++ rest → IsRemovedInTurn settings request notice moment serial before more log id → IsRemovedInTurn settings request notice moment serial before after log id
+later_too settings request notice moment serial before more rest after log id is removed = record {
+  answer = removed.answer;
+  earlier = removed.earlier;
+  own_before = removed.own_before;
+  own_after = removed.own_after;
+  later = removed.later ++ rest;
+  before_is = removed.before_is;
+  after_is = is ∙ ap (λ (deeds : List Deed). deeds ++ rest) removed.after_is ∙ append_assoc removed.own_after removed.later rest;
+  removed = removed.removed;
+}
+
+removed_by_one : (settings : SettingsSaid) (service : Service) (request : PostfixRequest) (notice : NoticeRequest) (bytes : List ℕ) (moment serial : ℕ) (answer : RequestAnswer) (own earlier own_before before after : List Deed) (log : Service) (id : List ℕ) (given : Answer)
+    → notice_asked request ≡ Some notice → IsCarriedOut settings service request bytes moment serial answer own → before ≡ earlier ++ own_before → own ≡ own_before ++ LogRemoved log id given ∷ after
+    → IsRemovedInTurn settings request notice moment serial before after log id
+removed_by_one settings service request notice bytes moment serial answer own earlier own_before before after log id given asked out before_is e =
+    removed_in_turn settings service request notice moment serial answer earlier own_before after before after [] log id before_is (sym (append-nil after))
+    (removed_only_after settings service request notice bytes moment serial answer own own_before after log id given (record { asked = asked; carried_out = out }) e)
+
+removed_from_bounce_log : (settings : SettingsSaid) (request : PostfixRequest) (notice : NoticeRequest) (bytes : List ℕ) (moment serial : ℕ) (answer : RequestAnswer) (gained before after : List Deed) (log : Service) (id : List ℕ) (given : Answer)
+    → notice_asked request ≡ Some notice → IsBounceLogTold settings request bytes moment serial answer gained → gained ≡ before ++ LogRemoved log id given ∷ after
+    → IsRemovedInTurn settings request notice moment serial before after log id
+removed_from_bounce_log settings request notice bytes moment serial answer gained before after log id given asked (answered.unsought why is a) e =
+    let past = past_block (LogSought Bounce (queue_id_of request) (Err why) ∷ []) [] before after (LogRemoved log id given) (refl, tt) refl (sym is ∙ e) in
+    absurd (nothing_after past.more after (LogRemoved log id given) past.rest_is)
+removed_from_bounce_log settings request notice bytes moment serial answer gained before after log id given asked (answered.no_log is a) e =
+    let past = past_block (LogSought Bounce (queue_id_of request) (Ok false) ∷ []) [] before after (LogRemoved log id given) (refl, tt) refl (sym is ∙ e) in
+    absurd (nothing_after past.more after (LogRemoved log id given) past.rest_is)
+removed_from_bounce_log settings request notice bytes moment serial answer gained before after log id given asked (answered.told own is out) e =
+    let sought = LogSought Bounce (queue_id_of request) (Ok true) ∷ [] in
+    let past = past_block sought own before after (LogRemoved log id given) (refl, tt) refl (sym is ∙ e) in
+    removed_by_one settings Bounce request notice bytes moment serial answer own sought past.more before after log id given asked out past.before_is past.rest_is
+
+removed_from_part : (settings : SettingsSaid) (service : Service) (request : PostfixRequest) (notice : NoticeRequest) (bytes : List ℕ) (moment serial : ℕ) (answer : RequestAnswer) (first rest before after : List Deed) (log : Service) (id : List ℕ) (given : Answer)
+    → notice_asked request ≡ Some notice → IsBounceLogTold settings request bytes moment serial (Ok carried_out) first → IsCarriedOut settings service request bytes moment serial answer rest
+    → InPart first rest before after (LogRemoved log id given) → IsRemovedInTurn settings request notice moment serial before after log id
+removed_from_part settings service request notice bytes moment serial answer first rest before after log id given asked first_told out (in_first more is after_is) =
+    later_too settings request notice moment serial before more rest after log id after_is
+    (removed_from_bounce_log settings request notice bytes moment serial (Ok carried_out) first before more log id given asked first_told is)
+removed_from_part settings service request notice bytes moment serial answer first rest before after log id given asked first_told out (in_rest more is rest_is) =
+    removed_by_one settings service request notice bytes moment serial answer rest first more before after log id given asked out is rest_is
+
+removed_in_flush : (settings : SettingsSaid) (service : Service) (request : PostfixRequest) (notice : NoticeRequest) (bytes : List ℕ) (moment serial : ℕ) (answer : RequestAnswer) (gained before after : List Deed) (log : Service) (id : List ℕ) (given : Answer)
+    → notice_asked request ≡ Some notice → IsFlushedInTurn settings service request bytes moment serial answer gained → gained ≡ before ++ LogRemoved log id given ∷ after
+    → IsRemovedInTurn settings request notice moment serial before after log id
+removed_in_flush settings service request notice bytes moment serial answer gained before after log id given asked (answered.put_off not_done first_told) e =
+    removed_from_bounce_log settings request notice bytes moment serial answer gained before after log id given asked first_told e
+removed_in_flush settings service request notice bytes moment serial answer gained before after log id given asked (answered.in_turn first rest is first_told out) e =
+    removed_from_part settings service request notice bytes moment serial answer first rest before after log id given asked first_told out
+    (part_of first rest before after (LogRemoved log id given) (sym is ∙ e))
+
+removed_if : (ends : Bool) (settings : SettingsSaid) (service : Service) (request : PostfixRequest) (notice : NoticeRequest) (bytes : List ℕ) (moment serial : ℕ) (answer : RequestAnswer) (gained before after : List Deed) (log : Service) (id : List ℕ) (given : Answer)
+    → notice_asked request ≡ Some notice
+    → MatchBool ends (IsFlushedInTurn settings service request bytes moment serial answer gained) (IsCarriedOut settings service request bytes moment serial answer gained)
+    → gained ≡ before ++ LogRemoved log id given ∷ after → IsRemovedInTurn settings request notice moment serial before after log id
+removed_if true settings service request notice bytes moment serial answer gained before after log id given asked is e =
+    removed_in_flush settings service request notice bytes moment serial answer gained before after log id given asked is e
+removed_if false settings service request notice bytes moment serial answer gained before after log id given asked is e =
+    removed_by_one settings service request notice bytes moment serial answer gained [] before before after log id given asked is refl e
+
+pub answered_removal : (settings : SettingsSaid) (service : Service) (request : PostfixRequest) (notice : NoticeRequest) (bytes : List ℕ) (moment serial : ℕ) (answer : RequestAnswer) (gained before after : List Deed) (log : Service) (id : List ℕ) (given : Answer)
+    → notice_asked request ≡ Some notice → IsAnswered settings service request bytes moment serial answer gained → gained ≡ before ++ LogRemoved log id given ∷ after
+    → IsRemovedInTurn settings request notice moment serial before after log id
+answered_removal settings service request notice bytes moment serial answer gained before after log id given asked is e =
+    removed_if (ends_message service request) settings service request notice bytes moment serial answer gained before after log id given asked is e
+
+-- ---- what is handed in
+
+hands_in_own : (settings : SettingsSaid) (service : Service) (request : PostfixRequest) (notice : NoticeRequest) (bytes : List ℕ) (moment serial : ℕ) (answer : RequestAnswer) (gained : List Deed)
+    → notice_asked request ≡ Some notice → IsCarriedOut settings service request bytes moment serial answer gained → (hand_ins gained ≡ []) ⊎ HandsInOnce settings service request notice moment serial (hand_ins gained)
+hands_in_own settings service request notice bytes moment serial answer gained asked out = handed_in_once settings service request notice bytes moment serial answer gained (record { asked = asked; carried_out = out })
+
+handed_as : (settings : SettingsSaid) (service : Service) (request : PostfixRequest) (notice : NoticeRequest) (moment serial : ℕ) (one two : List Deed) → one ≡ two
+    → (two ≡ []) ⊎ HandsInOnce settings service request notice moment serial two → (one ≡ []) ⊎ HandsInOnce settings service request notice moment serial one
+handed_as settings service request notice moment serial one two is either =
+    subst (λ (deeds : List Deed). (deeds ≡ []) ⊎ HandsInOnce settings service request notice moment serial deeds) (sym is) either
+
+bounce_log_hands_in : (settings : SettingsSaid) (request : PostfixRequest) (notice : NoticeRequest) (bytes : List ℕ) (moment serial : ℕ) (answer : RequestAnswer) (gained : List Deed)
+    → notice_asked request ≡ Some notice → IsBounceLogTold settings request bytes moment serial answer gained → (hand_ins gained ≡ []) ⊎ HandsInOnce settings Bounce request notice moment serial (hand_ins gained)
+bounce_log_hands_in settings request notice bytes moment serial answer gained asked (answered.unsought why is a) = inl (ap hand_ins is)
+bounce_log_hands_in settings request notice bytes moment serial answer gained asked (answered.no_log is a) = inl (ap hand_ins is)
+bounce_log_hands_in settings request notice bytes moment serial answer gained asked (answered.told own is out) =
+    handed_as settings Bounce request notice moment serial (hand_ins gained) (hand_ins own) (ap hand_ins is) (hands_in_own settings Bounce request notice bytes moment serial answer own asked out)
+
+flush_hands_in : (settings : SettingsSaid) (service : Service) (request : PostfixRequest) (notice : NoticeRequest) (bytes : List ℕ) (moment serial : ℕ) (answer : RequestAnswer) (gained : List Deed)
+    → notice_asked request ≡ Some notice → IsFlushedInTurn settings service request bytes moment serial answer gained → HandsInInTurn settings service request notice moment serial (hand_ins gained)
+flush_hands_in settings service request notice bytes moment serial answer gained asked (answered.put_off not_done first_told) = record {
+  first = hand_ins gained;
+  rest = [];
+  handed_are = sym (append-nil (hand_ins gained));
+  of_bounce_log = bounce_log_hands_in settings request notice bytes moment serial answer gained asked first_told;
+  of_own_log = inl refl;
+}
+flush_hands_in settings service request notice bytes moment serial answer gained asked (answered.in_turn first rest is first_told out) = record {
+  first = hand_ins first;
+  rest = hand_ins rest;
+  handed_are = ap hand_ins is ∙ hand_ins-append first rest;
+  of_bounce_log = bounce_log_hands_in settings request notice bytes moment serial (Ok carried_out) first asked first_told;
+  of_own_log = hands_in_own settings service request notice bytes moment serial answer rest asked out;
+}
+
+hands_in_if : (ends : Bool) (settings : SettingsSaid) (service : Service) (request : PostfixRequest) (notice : NoticeRequest) (bytes : List ℕ) (moment serial : ℕ) (answer : RequestAnswer) (gained : List Deed)
+    → notice_asked request ≡ Some notice
+    → MatchBool ends (IsFlushedInTurn settings service request bytes moment serial answer gained) (IsCarriedOut settings service request bytes moment serial answer gained)
+    → HandsInInTurn settings service request notice moment serial (hand_ins gained)
+hands_in_if true settings service request notice bytes moment serial answer gained asked is = flush_hands_in settings service request notice bytes moment serial answer gained asked is
+hands_in_if false settings service request notice bytes moment serial answer gained asked is = record {
+  first = [];
+  rest = hand_ins gained;
+  handed_are = refl;
+  of_bounce_log = inl refl;
+  of_own_log = hands_in_own settings service request notice bytes moment serial answer gained asked is;
+}
+
+pub answered_hand_ins : (settings : SettingsSaid) (service : Service) (request : PostfixRequest) (notice : NoticeRequest) (bytes : List ℕ) (moment serial : ℕ) (answer : RequestAnswer) (gained : List Deed)
+    → notice_asked request ≡ Some notice → IsAnswered settings service request bytes moment serial answer gained → HandsInInTurn settings service request notice moment serial (hand_ins gained)
+answered_hand_ins settings service request notice bytes moment serial answer gained asked is =
+    hands_in_if (ends_message service request) settings service request notice bytes moment serial answer gained asked is
+
+pub answered_to_nobody : (settings : SettingsSaid) (service : Service) (request : PostfixRequest) (notice : NoticeRequest) (bytes : List ℕ) (moment serial : ℕ) (answer : RequestAnswer) (gained : List Deed)
+    → notice_asked request ≡ Some notice → IsAnswered settings service request bytes moment serial answer gained → is_no_sender settings.double_bounce notice.sender ≡ true → hand_ins gained ≡ []
+answered_to_nobody settings service request notice bytes moment serial answer gained asked is none =
+    let handed = answered_hand_ins settings service request notice bytes moment serial answer gained asked is in
+    handed.handed_are
+    ∙ (λ i. none_once settings Bounce request notice moment serial handed.first asked none handed.of_bounce_log i ++ none_once settings service request notice moment serial handed.rest asked none handed.of_own_log i)
+
+-- ---- appends
+
+-- an append is carried out on the log of its service alone
+append_alone : (settings : SettingsSaid) (service : Service) (request : AppendRequest) (bytes : List ℕ) (moment serial : ℕ) (answer : RequestAnswer) (gained : List Deed)
+    → IsAnswered settings service (Append request) bytes moment serial answer gained → IsCarriedOut settings service (Append request) bytes moment serial answer gained
+append_alone settings Bounce request bytes moment serial answer gained is = is
+append_alone settings Defer request bytes moment serial answer gained is = is
+append_alone settings TraceLog request bytes moment serial answer gained is = is
+
+pub answered_append : (settings : SettingsSaid) (service : Service) (request : AppendRequest) (bytes : List ℕ) (moment serial : ℕ) (answer : RequestAnswer) (gained : List Deed)
+    → IsAnswered settings service (Append request) bytes moment serial answer gained → answer ≡ Ok 0 → StandsOrIsPassedOn service request bytes gained
+answered_append settings service request bytes moment serial answer gained is zero =
+    answered_append_stands settings service request bytes moment serial answer gained (append_alone settings service request bytes moment serial answer gained is) zero

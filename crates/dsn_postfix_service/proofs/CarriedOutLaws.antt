@@ -75,7 +75,7 @@ pub record AfterBlock (front rest before after : List Deed) (removal : Deed) : T
   pub before_is : before ≡ front ++ more
   pub rest_is : rest ≡ more ++ removal ∷ after
 
-past_block : (front rest before after : List Deed) (removal : Deed) → RemovesNone front → is_removal removal ≡ true → front ++ rest ≡ before ++ removal ∷ after → AfterBlock front rest before after removal
+pub past_block : (front rest before after : List Deed) (removal : Deed) → RemovesNone front → is_removal removal ≡ true → front ++ rest ≡ before ++ removal ∷ after → AfterBlock front rest before after removal
 past_block [] rest before after removal keeps removes e = record { more = before; before_is = refl; rest_is = e }
 past_block (deed ∷ front) rest [] after removal keeps removes e =
     absurd (false_is_true (sym keeps.0 ∙ ap (λ (deeds : List Deed). is_removal (first_or deed deeds)) e ∙ removes))
@@ -129,7 +129,7 @@ pub record CleansLast (service other : Service) (id named : List ℕ) (due : Boo
   pub of_message : named ≡ id
   pub none_after : after ≡ []
 
-nothing_after : (more after : List Deed) (removal : Deed) → [] ≡ more ++ removal ∷ after → ⊥
+pub nothing_after : (more after : List Deed) (removal : Deed) → [] ≡ more ++ removal ∷ after → ⊥
 nothing_after [] after removal e = nothing_is_some removal after e
 nothing_after (deed ∷ more) after removal e = nothing_is_some deed (more ++ removal ∷ after) e
 
@@ -245,7 +245,7 @@ empty_front : (front rest : List Letter) → [] ≡ front ++ rest → front ≡ 
 empty_front [] rest e = refl
 empty_front (letter ∷ front) rest e = absurd (no_letter_more letter (front ++ rest) e)
 
-none_once : (settings : SettingsSaid) (service : Service) (request : PostfixRequest) (notice : NoticeRequest) (moment serial : ℕ) (handed : List Deed) → notice_asked request ≡ Some notice → is_no_sender settings.double_bounce notice.sender ≡ true
+pub none_once : (settings : SettingsSaid) (service : Service) (request : PostfixRequest) (notice : NoticeRequest) (moment serial : ℕ) (handed : List Deed) → notice_asked request ≡ Some notice → is_no_sender settings.double_bounce notice.sender ≡ true
     → (handed ≡ []) ⊎ HandsInOnce settings service request notice moment serial handed → handed ≡ []
 none_once settings service request notice moment serial handed asked none (inl is) = is
 none_once settings service request notice moment serial handed asked none (inr once) =

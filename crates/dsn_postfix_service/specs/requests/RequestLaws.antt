@@ -93,6 +93,28 @@ pub record IsLeftToPostfix (service : Service) (bytes : List ℕ) (gained : List
   pub passed_last : gained ≡ before ++ PassedOn service bytes (Ok 0) ∷ []
   pub none_handed : hand_ins gained ≡ []
 
+-- Of the deeds of a request that is answered, those about the log that is removed are one request carried out on it, and it
+-- is removed as one such request removes it.
+pub record IsRemovedInTurn (settings : SettingsSaid) (request : PostfixRequest) (notice : NoticeRequest) (moment serial : ℕ)
+    (before after : List Deed) (log : Service) (id : List ℕ) : Type 0 where
+  pub answer : RequestAnswer
+  pub earlier : List Deed
+  pub own_before : List Deed
+  pub own_after : List Deed
+  pub later : List Deed
+  pub before_is : before ≡ earlier ++ own_before
+  pub after_is : after ≡ own_after ++ later
+  pub removed : IsRemovedAfter settings log request notice moment serial answer own_before own_after log id
+
+-- first notices of the bounce log were handed in, if any, and then those of the service's own log
+pub record HandsInInTurn (settings : SettingsSaid) (service : Service) (request : PostfixRequest) (notice : NoticeRequest)
+    (moment serial : ℕ) (handed : List Deed) : Type 0 where
+  pub first : List Deed
+  pub rest : List Deed
+  pub handed_are : handed ≡ first ++ rest
+  pub of_bounce_log : (first ≡ []) ⊎ HandsInOnce settings Bounce request notice moment serial first
+  pub of_own_log : (rest ≡ []) ⊎ HandsInOnce settings service request notice moment serial rest
+
 -- First the request was carried out on the bounce log alone: all of its notices were accepted, or Postfix's own service
 -- answered 0. Only then was anything done on the defer log.
 pub record IsToldFirst (settings : SettingsSaid) (request : PostfixRequest) (notice : NoticeRequest) (bytes : List ℕ)

@@ -10,7 +10,7 @@ ghost use Rattle.dsn_postfix.specs.declared.postfix_request.PostfixRequest.TheVa
 ghost use Rattle.dsn_postfix_service.specs.requests.AnsweredRequest.{IsAnswered, is_flush};
 ghost use Rattle.dsn_postfix_service.specs.requests.CarriedOut.{IsCarriedOut};
 ghost use Rattle.dsn_postfix_service.specs.requests.Deed.{Answer, Deed, LogRemoved, LogSought};
-ghost use Rattle.dsn_postfix_service.specs.requests.RequestLaws.{HandsInOnce, IsRemovedAfter, IsTellingDone, IsToldFirst, StandsOrIsPassedOn, hand_ins};
+ghost use Rattle.dsn_postfix_service.specs.requests.RequestLaws.{HandsInInTurn, HandsInOnce, IsRemovedAfter, IsRemovedInTurn, IsTellingDone, IsToldFirst, StandsOrIsPassedOn, hand_ins};
 ghost use Rattle.dsn_postfix_service.specs.requests.RequestStatus.{RequestAnswer};
 ghost use Rattle.dsn_postfix_service.specs.requests.ServiceSettings.{SettingsSaid};
 ghost use Rattle.dsn_text.specs.declared.service.Service.{Service};
@@ -19,43 +19,73 @@ ghost use Rattle.dsn_text.specs.declared.service.Service.TheVariants.{Bounce, De
 /// At each moment of a request for notices at which a log is removed, the log is that of the request, and before it each
 /// letter of each notice that the request has was accepted, and nothing else was handed in. So a crash at any moment leaves
 /// the log, or the mail server has all notices. The only other removal is the one that CLEAN asks for: it is the last deed
-/// of a request that isn't answered status 0.
+/// of a request that isn't answered status 0. A request that is answered may be carried out on the bounce log first: the
+/// deeds of each log stand in a row, and the same is true of each.
 pub fn logs_are_removed_after_acceptance()
-    ensures { (settings : SettingsSaid) (service : Service) (request : PostfixRequest)
+    ensures carried_out { (settings : SettingsSaid) (service : Service) (request : PostfixRequest)
         (notice : NoticeRequest) (bytes : List ℕ) (moment serial : ℕ) (answer : RequestAnswer)
         (gained before after : List Deed) (other : Service) (named : List ℕ) (given : Answer)
         → IsTellingDone settings service request notice bytes moment serial answer gained
         → gained ≡ before ++ LogRemoved other named given ∷ after
         → IsRemovedAfter settings service request notice moment serial answer before after
         other named }
+    ensures answered { (settings : SettingsSaid) (service : Service) (request : PostfixRequest)
+        (notice : NoticeRequest) (bytes : List ℕ) (moment serial : ℕ) (answer : RequestAnswer)
+        (gained before after : List Deed) (log : Service) (named : List ℕ) (given : Answer)
+        → notice_asked request ≡ Some notice
+        → IsAnswered settings service request bytes moment serial answer gained
+        → gained ≡ before ++ LogRemoved log named given ∷ after
+        → IsRemovedInTurn settings request notice moment serial before after log named }
 {}
 
 /// What a request for notices hands in are the first letters of the notices that it has, each at most once, in their order.
+/// A request that is answered hands in those of the bounce log, if it is told, and then those of the service's own log.
 pub fn notices_are_handed_in_once()
-    ensures { (settings : SettingsSaid) (service : Service) (request : PostfixRequest)
+    ensures carried_out { (settings : SettingsSaid) (service : Service) (request : PostfixRequest)
         (notice : NoticeRequest) (bytes : List ℕ) (moment serial : ℕ) (answer : RequestAnswer)
         (gained : List Deed)
         → IsTellingDone settings service request notice bytes moment serial answer gained
         → (hand_ins gained ≡ [])
         ⊎ HandsInOnce settings service request notice moment serial (hand_ins gained) }
-{}
-
-/// Nothing is handed in for a message from nobody, or from the sender of notices about notices.
-pub fn no_notice_causes_another()
-    ensures { (settings : SettingsSaid) (service : Service) (request : PostfixRequest)
+    ensures answered { (settings : SettingsSaid) (service : Service) (request : PostfixRequest)
         (notice : NoticeRequest) (bytes : List ℕ) (moment serial : ℕ) (answer : RequestAnswer)
         (gained : List Deed)
+        → notice_asked request ≡ Some notice
+        → IsAnswered settings service request bytes moment serial answer gained
+        → HandsInInTurn settings service request notice moment serial (hand_ins gained) }
+{}
+
+/// Nothing is handed in for a message from nobody, or from the sender of notices about notices: neither by a request that is
+/// carried out on one log, nor by one that is answered.
+pub fn no_notice_causes_another()
+    ensures carried_out { (settings : SettingsSaid) (service : Service)
+        (request : PostfixRequest) (notice : NoticeRequest) (bytes : List ℕ)
+        (moment serial : ℕ) (answer : RequestAnswer) (gained : List Deed)
         → IsTellingDone settings service request notice bytes moment serial answer gained
+        → is_no_sender settings.double_bounce notice.sender ≡ true
+        → hand_ins gained ≡ [] }
+    ensures answered { (settings : SettingsSaid) (service : Service)
+        (request : PostfixRequest) (notice : NoticeRequest) (bytes : List ℕ)
+        (moment serial : ℕ) (answer : RequestAnswer) (gained : List Deed)
+        → notice_asked request ≡ Some notice
+        → IsAnswered settings service request bytes moment serial answer gained
         → is_no_sender settings.double_bounce notice.sender ≡ true
         → hand_ins gained ≡ [] }
 {}
 
 /// An append that is answered 0 was appended and synced, or Postfix's own service answered 0 to it; nothing else was done.
-#[tactic(auto, using(crate::proofs::CarriedOutLaws::answered_append_stands))]
+#[tactic(auto, using(crate::proofs::CarriedOutLaws::answered_append_stands, crate::proofs::AnsweredLaws::answered_append))]
 pub fn answered_appends_stand()
-    ensures { (settings : SettingsSaid) (service : Service) (request : AppendRequest)
-        (bytes : List ℕ) (moment serial : ℕ) (answer : RequestAnswer) (gained : List Deed)
+    ensures carried_out { (settings : SettingsSaid) (service : Service)
+        (request : AppendRequest) (bytes : List ℕ) (moment serial : ℕ)
+        (answer : RequestAnswer) (gained : List Deed)
         → IsCarriedOut settings service (Append request) bytes moment serial answer gained
+        → answer ≡ Ok 0
+        → StandsOrIsPassedOn service request bytes gained }
+    ensures answered { (settings : SettingsSaid) (service : Service)
+        (request : AppendRequest) (bytes : List ℕ) (moment serial : ℕ)
+        (answer : RequestAnswer) (gained : List Deed)
+        → IsAnswered settings service (Append request) bytes moment serial answer gained
         → answer ≡ Ok 0
         → StandsOrIsPassedOn service request bytes gained }
 {}

@@ -1,6 +1,11 @@
+use Rattle.dsn_postfix_service.proofs.AnsweredLaws.{answered_removal}
 use Rattle.dsn_postfix_service.proofs.CarriedOutLaws.{removed_only_after}
 use Rattle.dsn_postfix_service.proofs.requests.laws.logs_are_removed_after_acceptance.Goals as goal
 
-pub returns : goal.returns
-returns c settings service request notice bytes moment serial answer gained before after other named given done e =
+pub returns-clause-carried_out : goal.returns-clause-carried_out
+returns-clause-carried_out c settings service request notice bytes moment serial answer gained before after other named given done e =
     removed_only_after settings service request notice bytes moment serial answer gained before after other named given done e
+
+pub returns-clause-answered : goal.returns-clause-answered
+returns-clause-answered c settings service request notice bytes moment serial answer gained before after log named given asked is e =
+    answered_removal settings service request notice bytes moment serial answer gained before after log named given asked is e

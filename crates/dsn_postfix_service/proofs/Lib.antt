@@ -1,5 +1,6 @@
 mod HandInExamples
 mod LetterExamples
+mod PathExamples
 mod ReplyExamples
 mod RequestExamples
 pub mod AnsweredLaws
@@ -7,10 +8,13 @@ pub mod CarriedOutLaws
 pub mod CommandLineLemmas
 pub mod DeedLemmas
 pub mod LetterLemmas
+pub mod OwnServiceLemmas
+pub mod PathLemmas
 pub mod QueueIdLemmas
 pub mod RequestLawLemmas
 pub mod RequestLetterLemmas
 pub mod ReplyLemmas
 pub mod ReplyReadingLemmas
+pub mod ServedLemmas
 pub mod TellingParts
 pub mod TransactionLemmas

@@ -12,8 +12,10 @@ mod reply_fault;
 mod reply_place;
 mod transaction;
 
+pub(crate) use dialogue::say;
 pub use hand_in_fault::HandInFault;
 pub use hand_in_step::HandInStep;
+pub(crate) use queue_id_text::after_last_byte;
 pub use queue_id_text::queue_id_in;
 pub use reply_buffer::{LONGEST_REPLY, ReplyBuffer};
 pub use reply_class::ReplyClass;

@@ -18,10 +18,12 @@ mod service_settings;
 mod telling;
 
 pub use answering::answer_request;
+pub(crate) use carrying_out::queue_id_of;
 pub use deed_fault::DeedFault;
 pub use laws::{
     answered_appends_stand, bounce_logs_are_told_first, logs_are_removed_after_acceptance,
     no_notice_causes_another, notices_are_handed_in_once,
 };
 pub use mail_system::MailSystem;
+pub(crate) use pass_on::{NOT_CARRIED_OUT, pass_on};
 pub use service_settings::ServiceSettings;

@@ -1,7 +1,7 @@
 //! A mail system in memory, which writes down what is asked of it, and fails at a set deed.
 ghost use Rattle.std.specs.Prelude.{None};
 
-use dsn_postfix::QueueName;
+use dsn_postfix::{PostfixRequest, QueueName};
 use dsn_postfix_service::{
     DeedFault, HandInFault, HandInStep, MailSystem, ReplyBuffer, ReplyFault,
 };
@@ -77,6 +77,8 @@ fn digits(number: u64) -> [u8; 3] {
 
 impl MailSystem for MemorySystem<'_> {
     ghost deeds = { λ _. None };
+
+    fn begin(&mut self, _request: &PostfixRequest<'_>) {}
 
     fn has_log(&mut self, service: Service, _id: QueueId) -> Result<bool, DeedFault> {
         self.done(b"seek", &[service.letter()])?;

@@ -29,7 +29,7 @@ fn flags_of(request: &PostfixRequest<'_>) -> u32
 }
 
 /// The queue id of a request's message.
-pub(super) fn queue_id_of(request: &PostfixRequest<'_>) -> QueueId
+pub(crate) fn queue_id_of(request: &PostfixRequest<'_>) -> QueueId
     ensures { result ≡ queue_id_of request.now }
 {
     match request {

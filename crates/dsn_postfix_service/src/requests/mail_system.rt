@@ -7,7 +7,7 @@ ghost use Rattle.dsn_postfix_service.specs.requests.Gains.{with_deeds};
 
 use crate::hand_in::{HandInFault, ReplyBuffer};
 use crate::requests::deed_fault::DeedFault;
-use dsn_postfix::QueueName;
+use dsn_postfix::{PostfixRequest, QueueName};
 use dsn_text::{Address, QueueId, Service};
 use std::alloc::Global;
 
@@ -20,6 +20,11 @@ pub trait MailSystem {
     // What was done or tried so far, in its order, with what came of each, where that is told. A
     // system over files and sockets tells nothing; one in memory may.
     ghost deeds: { Self → Option (List Deed) };
+
+    /// Learns which request is done from here on, for what it writes to a log of its own. That is no
+    /// deed.
+    fn begin(&mut self, request: &PostfixRequest<'_>)
+        ensures { deeds self.new ≡ deeds self.old };
 
     /// Says whether a service has a log about a message: a file that isn't empty. It isn't locked by
     /// that.

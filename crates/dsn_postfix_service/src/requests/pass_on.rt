@@ -10,10 +10,10 @@ use dsn_text::Service;
 pub(super) const CARRIED_OUT: u32 = 0;
 
 /// The status that says that it wasn't: -1, as bounce(8) says it.
-pub(super) const NOT_CARRIED_OUT: u32 = 4_294_967_295;
+pub(crate) const NOT_CARRIED_OUT: u32 = 4_294_967_295;
 
 /// Passes a request on to Postfix's own service, and says the status that answers it.
-pub(super) fn pass_on<M: MailSystem>(system: &mut M, service: Service, bytes: &[u8]) -> u32
+pub(crate) fn pass_on<M: MailSystem>(system: &mut M, service: Service, bytes: &[u8]) -> u32
     ensures { Gains M.deeds system.old system.new (PassesOn service bytes.now (Ok result)) }
 {
     match system.pass_on(service, bytes) {

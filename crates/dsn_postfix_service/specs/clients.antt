@@ -1,0 +1,2 @@
+pub mod ListDialogue
+pub mod ServedClient

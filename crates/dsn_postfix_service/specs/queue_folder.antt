@@ -1,0 +1,4 @@
+pub mod FolderHashing
+pub mod HashedId
+pub mod PathInQueue
+pub mod OwnService

@@ -1,0 +1,9 @@
+//! Postfix's programs as clients: each is announced the protocol, asks one request, and hears its
+//! status.
+mod client_fault;
+mod list_dialogue;
+mod serving;
+
+pub use client_fault::ClientFault;
+pub(crate) use list_dialogue::hear_list;
+pub use serving::serve_client;

@@ -1,0 +1,20 @@
+//! The queue folder of a running Postfix as a mail system: its logs, its messages' files, its own
+//! services, and the mail server that notices are handed to.
+mod connection;
+mod folder_hashing;
+mod hashed_id;
+mod log_file;
+mod mail_connection;
+mod message_file;
+mod notice_words;
+mod own_service;
+mod postfix_place;
+mod postfix_system;
+mod queue_path;
+
+pub use connection::Connection;
+pub use folder_hashing::FolderHashing;
+pub use own_service::ask_own_service;
+pub use postfix_place::PostfixPlace;
+pub use postfix_system::PostfixSystem;
+pub use queue_path::path_in_queue;

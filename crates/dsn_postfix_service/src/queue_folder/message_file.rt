@@ -1,0 +1,35 @@
+//! The file of a message in one of Postfix's queues.
+use std::fs::File;
+use std::io;
+use std::io::{Error, ErrorKind};
+use std::os::unix::fs::FileExt;
+
+/// What a record of a recipient begins with, and what it begins with once the recipient is done.
+const RECIPIENT: u8 = b'R';
+
+const DONE: u8 = b'D';
+
+/// Opens a message's file, if it is there, and locks it for those that read it: so no queue manager
+/// that was started anew has the message delivered once more meanwhile.
+pub(super) fn open_shared(rt: &HostRuntime, path: &str) -> io::Result<Option<File>> {
+    let file = match File::open(rt, path) {
+        Ok(file) => file,
+        Err(error) if error.kind() == ErrorKind::NotFound => return Ok(None),
+        Err(error) => return Err(error),
+    };
+    file.try_lock_shared()?;
+    Ok(Some(file))
+}
+
+/// Marks the recipient whose record stands at a place as done. Nothing is written where no record
+/// of a recipient begins there.
+pub(super) fn mark_done(rt: &HostRuntime, path: &str, place: u64) -> io::Result<()> {
+    let file = File::options().read(true).write(true).open(rt, path)?;
+    let mut found = [0];
+    file.read_exact_at(&mut found, place)?;
+    match found {
+        [RECIPIENT] => file.write_all_at(&[DONE], place),
+        [DONE] => Ok(()),
+        _ => Err(Error::from(ErrorKind::InvalidData)),
+    }
+}

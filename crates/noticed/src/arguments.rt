@@ -1,4 +1,5 @@
 //! The arguments: which command they name, and what it is given.
+use crate::postfix_arguments::{PostfixServing, postfix_arguments};
 use crate::refusal::Refusal;
 use dsn_report::{Site, SiteFault};
 use noticed_lib::WatchOptions;
@@ -48,6 +49,8 @@ pub(crate) enum Command {
         /// The folder of the journal.
         folder: String,
     },
+    /// `postfix [OPTION].. QUEUE-FOLDER HOST HAND-IN`.
+    Postfix(PostfixServing),
 }
 
 /// What `serve` is given.
@@ -99,6 +102,7 @@ pub(crate) fn command_of(rt: &HostRuntime) -> Result<Command, Refusal> {
         "journal" => Ok(Command::Journal {
             folder: folder_argument(words)?,
         }),
+        "postfix" => Ok(Command::Postfix(postfix_arguments(rt.alloc(), words)?)),
         _ => Err(Refusal::Usage),
     }
 }
@@ -175,7 +179,7 @@ fn take_option(options: &mut ServeOptions, option: &str, words: &mut Args) -> Re
 }
 
 /// The path that comes next.
-fn path_of(words: &mut Args) -> Result<String, Refusal> {
+pub(crate) fn path_of(words: &mut Args) -> Result<String, Refusal> {
     match words.next() {
         Some(path) if !path.is_empty() => Ok(path),
         _ => Err(Refusal::Usage),
@@ -208,7 +212,7 @@ fn socket_of(path: String) -> Result<String, Refusal> {
 }
 
 /// The number from 1 to `most` that a word is in decimal, without leading zeros.
-fn number_of(word: &str, most: u32) -> Result<u32, Refusal> {
+pub(crate) fn number_of(word: &str, most: u32) -> Result<u32, Refusal> {
     if !matches!(word.as_bytes().first(), Some(b'1'..=b'9')) {
         return Err(Refusal::Usage);
     }
@@ -219,7 +223,7 @@ fn number_of(word: &str, most: u32) -> Result<u32, Refusal> {
 }
 
 /// The site that a host names.
-fn site_of(alloc: Global, host: &str) -> Result<Site, Refusal> {
+pub(crate) fn site_of(alloc: Global, host: &str) -> Result<Site, Refusal> {
     match Site::new(alloc, host.as_bytes()) {
         Ok(site) => Ok(site),
         Err(SiteFault::BadHost) => Err(Refusal::Usage),

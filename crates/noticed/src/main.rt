@@ -7,6 +7,10 @@ mod buffer;
 mod journal_command;
 mod journal_files;
 mod outbox_writer;
+mod postfix_arguments;
+mod postfix_command;
+mod postfix_sockets;
+mod postfix_workers;
 mod refusal;
 mod send_command;
 mod serve_command;
@@ -18,6 +22,7 @@ use arguments::{Command, command_of};
 use batch_command::run_batch;
 use dsn_text::fault_code;
 use journal_command::run_journal;
+use postfix_command::run_postfix;
 use refusal::Refusal;
 use send_command::run_send;
 use serve_command::run_serve;
@@ -27,7 +32,7 @@ use stop_command::run_stop;
 
 /// The line that wrong arguments print on standard error.
 const USAGE: &str =
-    "usage: noticed batch HOST | serve [[--journal FOLDER] --outbox PATH] [--idle SECONDS] [--end-on-fault] [--log] SOCKET HOST AGENTS MAX-USE | stop SOCKET | send SOCKET | journal FOLDER";
+    "usage: noticed batch HOST | serve [[--journal FOLDER] --outbox PATH] [--idle SECONDS] [--end-on-fault] [--log] SOCKET HOST AGENTS MAX-USE | stop SOCKET | send SOCKET | journal FOLDER | postfix [--postfix VERSION] [--lifetime SECONDS] [--double-bounce ADDRESS] [--hash-queue-names NAMES] [--hash-queue-depth DEPTH] [--inherited] QUEUE-FOLDER HOST HAND-IN";
 
 fn main(rt: HostRuntime) -> ExitCode {
     let done = match begin(&rt) {
@@ -36,6 +41,7 @@ fn main(rt: HostRuntime) -> ExitCode {
         Ok(Command::Stop { socket }) => run_stop(&rt, rt.alloc(), &socket),
         Ok(Command::Send { socket }) => run_send(&rt, &rt, &socket),
         Ok(Command::Journal { folder }) => run_journal(&rt, &folder),
+        Ok(Command::Postfix(serving)) => run_postfix(&rt, &rt, serving),
         Err(refusal) => Err(refusal),
     };
     ExitCode::from(match done {

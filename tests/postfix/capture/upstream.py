@@ -1,5 +1,5 @@
 """The mail server to which the private Postfix relays: it answers each RCPT by the first word of the recipient's local part, keeps the
-notices that come from nobody, and drops all other mail."""
+notices that come from nobody, apart from all other mail."""
 import socketserver
 import threading
 
@@ -52,7 +52,9 @@ class Upstream(socketserver.StreamRequestHandler):
         while (line := self.rfile.readline()) not in (b".\r\n", b""):
             text.append((line[1:] if line.startswith(b".") else line).replace(b"\r\n", b"\n"))
         refused = any(it.lower().startswith(b"data") for it in self.taken)
-        if self.sender == b"" and not refused:
+        if not refused and self.sender:
+            self.server.others.append((self.sender, self.taken, b"".join(text)))
+        elif not refused:
             self.server.notices.append((self.taken, b"".join(text)))
         self.say(b"554 5.6.0 not with this text" if refused else b"250 2.0.0 taken")
         self.taken = []
@@ -81,12 +83,12 @@ class Upstream(socketserver.StreamRequestHandler):
 
 
 class Server(socketserver.ThreadingTCPServer):
-    """The server, with the notices that it took: of each its recipients and its text."""
+    """The server, with the notices that it took: of each its recipients and its text; and all else that it took, with the sender."""
 
     allow_reuse_address, daemon_threads, request_queue_size = True, True, 100
 
     def __init__(self, port: int, has_dsn: bool):
-        self.notices, self.has_dsn = [], has_dsn
+        self.notices, self.others, self.has_dsn = [], [], has_dsn
         super().__init__(("127.0.0.1", port), Upstream)
         threading.Thread(target=self.serve_forever, daemon=True).start()
 

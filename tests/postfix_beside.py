@@ -1,0 +1,268 @@
+#!/usr/bin/env python3
+"""Sends the same messages, of over 80 kinds, to two Postfixes of this script's own on loopback, one with its own bounce(8), the other with
+`noticed postfix` in front: each recipient is told once on both sides, and the notices differ only in what is named here. Needs root and
+Debian's package postfix, and is left out without them.
+
+    python3 tests/postfix_beside.py [--itself] [NAME]...      with --itself bounce(8) on both sides, where nothing may differ; some
+                                                              kinds of message, or all"""
+import contextlib
+import re
+import sys
+import time
+from collections import Counter
+from dataclasses import dataclass
+from pathlib import Path
+
+sys.path.insert(0, str(Path(__file__).parent / "support"))
+from private_postfix import Mailbox, Postfix, comes_true, lacks, mail_filter  # noqa: E402
+from running import Checks, program, run  # noqa: E402
+from told import Told, differences, retry_seconds, taken_apart  # noqa: E402
+
+import cases  # noqa: E402  (of tests/postfix/capture, as private_postfix finds it)
+from cases import Case  # noqa: E402
+from submit import by_sendmail, by_smtp  # noqa: E402
+
+# What error(8) says of these has a byte past the end of a text, which may be any.
+UNEVEN = {"without-words", "words-of-none"}
+LIFETIME = 9  # seconds for which what is put off is tried, where it is to expire
+HOPS = b"".join(b"Received: from a%d.example.com by b%d.example.com; Thu, 26 Nov 2026 05:36:03 +0000\n" % (it, it) for it in range(60))
+AT_ONCE = [
+    Case("from-nobody-refused", "bounce", ["no.bob@example.org"], sender=b""),
+    Case("double-bounce-refused", "bounce", ["no.bob@example.org"], sender=b"double-bounce@mx.example.net"),
+    Case("over-the-limit", "bounce", ["no.bob@example.org"], body=b"A line of a long message.\n" * 2300),
+    Case("rather-long", "bounce", ["no.bob@example.org"], body=b"A line of a long message.\n" * 1500),
+    Case("over-the-limit-full", "bounce", ["no.bob@example.org"], options="RET=FULL", body=b"A line of a long message.\n" * 2300),
+    Case("many-more", "bounce", [f"no.number{it}@example.org" for it in range(300)]),
+    Case("too-many-hops", "bounce", ["no.bob@example.org"], command=["-f", "ann@example.com"], header=HOPS),
+    Case("two-senders-words", "bounce", ["utf.a@example.org", "long.b@example.org", "lines.c@example.org", "no.d@example.org", "ok.e@example.org"], options="RET=HDRS ENVID=several"),
+    Case("quoted-sender", "bounce", ["no.bob@example.org"], sender=b'"ann smith"@example.com'),
+    Case("quoted-original", "bounce", [("no.bob@example.org", 'ORCPT=rfc822;"bob+20b"@example.org')]),
+    Case("success-and-failure", "bounce", [("ok.ann@example.org", "NOTIFY=SUCCESS,FAILURE"), ("no.bob@example.org", "NOTIFY=SUCCESS,FAILURE")], options="ENVID=both"),
+]
+EXPIRING = [
+    Case("late-and-refused", "defer", ["no.bob@example.org", "later.eve@example.org", "ok.ann@example.org"]),
+    Case("late-and-told", "defer", [("later.eve@example.org", "NOTIFY=SUCCESS,FAILURE,DELAY ORCPT=rfc822;eve@example.net"), ("ok.ann@example.org", "NOTIFY=SUCCESS")], options="ENVID=x RET=FULL"),
+    Case("late-by-sendmail", "defer", ["later.bob@example.org"], command=["-f", "ann@example.com", "-N", "failure,delay"]),
+]
+
+
+@dataclass
+class Run:
+    """Settings, and the messages that are sent under them; whether all of them are gone at the end."""
+
+    name: str
+    settings: dict
+    messages: list
+    expires: bool = False
+
+
+HURRIED = {"queue_run_delay": "1s", "minimal_backoff_time": "1s", "maximal_backoff_time": "1s", "delay_warning_time": "2s"}
+HURRIED |= {"maximal_queue_lifetime": f"{LIFETIME}s", "bounce_queue_lifetime": f"{LIFETIME}s"}
+LONG_IDS = {"enable_long_queue_ids": "yes", "hash_queue_names": "deferred, defer, bounce, trace", "hash_queue_depth": "2"}
+RUNS = [
+    Run("at once", {}, cases.BOUNCED + AT_ONCE + cases.TRACED),
+    Run("put off", HURRIED, cases.DEFERRED + EXPIRING, expires=True),
+    Run("long ids", LONG_IDS | HURRIED, cases.RUNS[1][1] + cases.RUNS[2][1], expires=True),
+]
+
+
+@dataclass
+class Difference:
+    """A difference that is allowed: the part of a notice, why it differs, and what becomes of the other side's part; `change` has that part
+    and the one that is met."""
+
+    name: str
+    part: str
+    why: str
+    change: object
+
+
+def printable(text: bytes) -> bytes:
+    return bytes(it if 32 <= it < 127 else 63 for it in text)
+
+
+def of_field(name: bytes, change):
+    """A change of one field of each recipient."""
+    return lambda groups, _: sorted([(found, change(value) if found == name else value) for found, value in group] for group in groups)
+
+
+def cut_remark(value: bytes) -> bytes:
+    kind, semicolon, text = value.partition(b"; ")
+    return kind + semicolon + text[:800].rstrip(b" ")
+
+
+def short_header(whole: bytes, met: bytes) -> bytes:
+    """The header of a message, where the other gives that back alone and the message is long."""
+    header = whole.partition(b"\n\n")[0] + b"\n"
+    return header if len(whole) > 32_000 and len(met) < len(whole) // 2 else whole
+
+
+ALLOWED = [
+    Difference("angle brackets", "To", "an address in a header may stand in angle brackets", lambda there, _: [b"<" + it.strip(b"<>") + b">" for it in there]),
+    Difference("words for people", "words", "noticed has its own, shorter ones, and no templates", lambda _, met: met),
+    Difference("question marks", "recipients", "noticed writes ? for a byte of a diagnostic that isn't printable ASCII", of_field(b"Diagnostic-Code", printable)),
+    Difference("cut remark", "recipients", "noticed keeps 800 bytes of a diagnostic", of_field(b"Diagnostic-Code", cut_remark)),
+    Difference("zeros of a status", "recipients", "RFC 3463 has no zeros in front of a number", of_field(b"Status", lambda it: re.sub(rb"\b0+(?=\d)", b"", it))),
+    Difference("no Return-Path", "given back", "noticed gives back what the queue file has; Postfix writes a line before it", lambda there, _: re.sub(rb"\AReturn-Path: [^\n]*\n", b"", there)),
+    Difference("header of a long message", "given back", "noticed gives back at most 32,768 bytes, Postfix 50,000", short_header),
+    Difference("header of a long message", "type of what is given back", "as above", lambda there, met: met if met == b"text/rfc822-headers" else there),
+    Difference("header of a long message", "description of what is given back", "as above", lambda there, met: met if met == there + b" Headers" else there),
+]  # fmt: skip
+
+
+class Side:
+    """One of the two Postfixes, with the messages that it has taken, by their ids."""
+
+    def __init__(self, stack: contextlib.ExitStack, serves, settings: dict):
+        self.mailbox = stack.enter_context(Mailbox())
+        self.milter = mail_filter_of(stack)
+        self.postfix = stack.enter_context(Postfix(self.mailbox, serves, self.milter.server_address[1], **settings))
+        self.known, self.wrong = {}, []
+
+    def send(self, case: Case):
+        postfix = self.postfix
+        taken = by_sendmail(postfix, case) if case.command else by_smtp(postfix.filtered if case.filtered else postfix.smtp, case)
+        self.known[taken.encode()] = case.name
+
+    def told(self) -> dict:
+        """The notices that came of each message, by its name."""
+        found = {}
+        for to, text in list(self.mailbox.notices):
+            try:
+                it = taken_apart(to, text, self.postfix.ports)
+            except (ValueError, TypeError) as fault:
+                self.wrong.append((repr(fault), text[:2000]))
+                continue
+            found.setdefault(self.known.get(it.queue_id, f"unknown {it.queue_id.decode()}"), []).append(it)
+        return {name: sorted(notices, key=lambda it: it.key) for name, notices in found.items()}
+
+
+def mail_filter_of(stack: contextlib.ExitStack):
+    """A mail filter that ends with the run."""
+    it = mail_filter()
+    stack.callback(it.server_close)
+    stack.callback(it.shutdown)
+    return it
+
+
+def compare(checks: Checks, what: str, there: Told, here: Told, used: Counter | None):
+    """Compares two notices of one message; where `used` is None nothing may differ."""
+    for part, wanted, found in differences(there, here):
+        for it in ALLOWED if used is not None else ():
+            if it.part == part and wanted is not None:
+                changed = it.change(wanted, found)
+                used[it.name] += changed != wanted
+                wanted = changed
+        checks.equal(f"{what}: {part}", found, wanted)
+    checks.true(f"{what}: it was compared", True)
+    checks.equal(f"{what}: for how long it is tried", retry_seconds(here), retry_seconds(there))
+
+
+def twice(notices: list) -> list:
+    """Whom notices of one message tell of the same thing more than once."""
+    return [it for it, times in Counter(name for notice in notices for name in notice.names()).items() if times > 1]
+
+
+def compare_sides(checks: Checks, run: Run, sides: list, used: Counter | None):
+    """Compares what came of each message on both sides."""
+    there, here = (it.told() for it in sides)
+    for case in run.messages:
+        name = f"{run.name}, {case.name}"
+        notices, others = there.get(case.name, []), here.get(case.name, [])
+        checks.equal(f"{name}: who is told", [it.key for it in others], [it.key for it in notices])
+        checks.equal(f"{name}: who is told twice", twice(others), twice(notices))
+        for notice, other in zip(notices, others):
+            compare(checks, name, notice, other, used)
+    known = {case.name for case in run.messages}
+    for side, found in zip(sides, (there, here)):
+        checks.equal(f"{run.name}: notices of no message", [it for it in found if it not in known], [])
+        checks.equal(f"{run.name}: notices that can't be read", side.wrong, [])
+        checks.equal(f"{run.name}: reports that have a sender", [it for it in side.mailbox.others if b"report-type=delivery-status" in it[2]], [])
+    return sum(map(len, there.values())), sum(len(it.recipients) for all_of_one in there.values() for it in all_of_one)
+
+
+def one_run(checks: Checks, run: Run, serves, used: Counter | None):
+    """Both sides with the messages of a run."""
+    began = time.monotonic()
+    with contextlib.ExitStack() as stack:
+        sides = [Side(stack, it, run.settings) for it in (None, serves)]
+        for it in sides:
+            it.postfix.start()
+        for case in run.messages:
+            for it in sides:
+                it.send(case)
+        for it, name in zip(sides, ("bounce(8)", "the other side")):
+            checks.true(f"{run.name}: all is done by {name}", it.postfix.rests(90, empty=run.expires))
+            checks.equal(f"{run.name}: complaints in the log of {name}", it.postfix.complaints(), [])
+        notices, recipients = compare_sides(checks, run, sides, used)
+    print(f"  {run.name}: {len(run.messages)} messages, {notices} notices of {recipients} recipients, {time.monotonic() - began:.0f} seconds", flush=True)
+
+
+def late_flush(checks: Checks, serves, used: Counter | None):
+    """A message that expires while the notice of an earlier failure could not be handed in: both recipients are told."""
+    case = Case("expired-with-failure", "defer", ["no.bob@example.org", "later.eve@example.org"])
+    with contextlib.ExitStack() as stack:
+        sides = [Side(stack, it, {"maximal_queue_lifetime": "5d"}) for it in (None, serves)]
+        for it in sides:
+            it.postfix.mute = True
+            it.postfix.start()
+            it.send(case)
+        for it in sides:
+            checks.true("late flush: both logs are there", comes_true(lambda: len(it.postfix.logs("bounce")) == len(it.postfix.logs("defer")) == len(it.postfix.queued("deferred")) == 1))  # noqa: B023
+            it.postfix.stop()
+            it.postfix.mute = False
+            it.postfix.settings |= {"maximal_queue_lifetime": "1s", "bounce_queue_lifetime": "1s"}
+        time.sleep(1.5)
+        for it in sides:
+            it.postfix.start()
+            it.postfix.command("postqueue", "-f")
+            checks.true("late flush: nothing is left", it.postfix.rests(60, empty=True))
+        compare_sides(checks, Run("late flush", {}, [case]), sides, used)
+        found = sorted(name for notice in sides[1].told().get(case.name, []) for name in notice.names())
+        checks.equal("late flush: who is told", found, [(b"rfc822; later.eve@example.org", b"failed"), (b"rfc822; no.bob@example.org", b"failed")])
+
+
+def very_many(checks: Checks, serves):
+    """A message of more failures than one notice of noticed has: each recipient is told once, on both sides."""
+    names = [f"no.number{it}@example.org" for it in range(1100)]
+    with contextlib.ExitStack() as stack:
+        sides = [Side(stack, it, {}) for it in (None, serves)]
+        for it in sides:
+            it.postfix.start()
+            it.send(Case("very-many", "bounce", names))
+        for it in sides:
+            checks.true("very many: all is done", it.postfix.rests(90, empty=True))
+            told = [name for notice in it.told().get("very-many", []) for name, _ in notice.names()]
+            checks.equal("very many: who is told", sorted(told), sorted(b"rfc822; " + it.encode() for it in names))
+
+
+def has_command() -> bool:
+    """Whether the program has the command at all."""
+    return b"postfix" in run(["postfix"]).notes
+
+
+def main():
+    checks = Checks("Postfix: the notices of the same messages beside those of its own bounce(8)")
+    options = {it for it in sys.argv[1:] if it.startswith("--")}
+    if lacks():
+        print(f"  left out: it needs {lacks()}")
+        checks.done()
+    named = [it for it in sys.argv[1:] if it not in options]
+    serves = None if "--itself" in options else program()
+    if serves and not has_command():
+        print("  the program has no command `postfix`: bounce(8) beside itself")
+        serves = None
+    used = Counter({it.name: 0 for it in ALLOWED}) if serves else None
+    for it in RUNS:
+        it.messages = [case for case in it.messages if case.name not in UNEVEN and (not named or case.name in named)]
+        if it.messages:
+            one_run(checks, it, serves, used)
+    if not named:
+        late_flush(checks, serves, used)
+        very_many(checks, serves)
+    if used is not None:
+        print("  allowed differences: " + ", ".join(f"{name} {times}" for name, times in used.items()))
+    checks.done()
+
+
+main()

@@ -1,0 +1,106 @@
+"""What a notice says, taken apart so that two of them can be compared, without what differs from one message to the next: ids of
+messages, moments and ports."""
+import email.utils
+import re
+from dataclasses import dataclass, field
+
+MOMENT = re.compile(rb"\w{3}, +\d{1,2} \w{3} \d{4} \d\d:\d\d:\d\d [+-]\d{4}(?: \(UTC\))?")
+OWN_MESSAGE_ID = re.compile(rb"<\d{14}\.\w+@")
+DATES = (b"Arrival-Date", b"Will-Retry-Until", b"Last-Attempt-Date")
+
+
+def fields(group: bytes) -> list[tuple[bytes, bytes]]:
+    """The fields of a group of lines, in one line each, and without spaces that say nothing."""
+    lines = re.sub(rb"\n[ \t]+", b" ", group.strip(b"\n")).split(b"\n")
+    return [(name, b" ".join(value.split())) for name, _, value in (it.partition(b":") for it in lines if it)]
+
+
+def typed(value: bytes) -> bytes:
+    """A value that has a type before it, with one space behind the semicolon."""
+    kind, semicolon, text = value.partition(b";")
+    return kind + b"; " + text.strip() if semicolon and b" " not in kind else value
+
+
+def moment(value: bytes) -> float:
+    """A date as seconds."""
+    return email.utils.parsedate_to_datetime(re.sub(r" \(.*", "", value.decode())).timestamp()
+
+
+@dataclass
+class Told:
+    """A notice: to whom it went, and its parts by name. What is in `parts` is compared."""
+
+    to: tuple
+    text: bytes
+    queue_id: bytes = b""
+    parts: dict = field(default_factory=dict)
+    recipients: list = field(default_factory=list)
+    dates: dict = field(default_factory=dict)
+
+    @property
+    def key(self):
+        """By which it is found beside the other side's: its address, what it says became of its recipients, and who they are."""
+        return self.to, self.actions(), sorted(it.get(b"Final-Recipient", b"") for it in self.recipients)
+
+    def actions(self) -> list:
+        return sorted({it.get(b"Action", b"") for it in self.recipients})
+
+    def names(self) -> list:
+        """Each recipient that it tells of, with what became of it."""
+        return sorted((it.get(b"Final-Recipient", b""), it.get(b"Action", b"")) for it in self.recipients)
+
+
+def cleaned(text: bytes, queue_id: bytes, ports: dict) -> bytes:
+    """A text without the message's id, moments, and ports."""
+    if queue_id:
+        text = re.sub(rb"\b" + re.escape(queue_id) + rb"\b", b"ID", text)
+    for name, port in ports.items():
+        text = re.sub(rb"\b%d\b" % port, name.encode(), text)
+    return OWN_MESSAGE_ID.sub(b"<MOMENT.ID@", MOMENT.sub(b"MOMENT", text))
+
+
+def taken_apart(to: list, text: bytes, ports: dict) -> Told:
+    """A notice's parts. Raises where it isn't a report of three parts, or of two."""
+    header, _, _ = text.partition(b"\n\n")
+    boundary = re.search(rb'boundary="([^"]*)"', header)[1]
+    _, words, status, *returned, end = text.split(b"\n--" + boundary)
+    if not end.startswith(b"--") or len(returned) > 1:
+        raise ValueError("the parts of a notice")
+    kind, _, groups = status.lstrip(b"\n").partition(b"\n\n")
+    message, *recipients = [dict(fields(it)) for it in groups.strip(b"\n").split(b"\n\n")]
+    it = Told(tuple(sorted(to)), text, message.get(b"X-Postfix-Queue-ID", b""), recipients=recipients)
+    it.dates = {name: [group.pop(name) for group in (message, *recipients) if name in group] for name in DATES}
+    head = fields(header)
+    for name in (b"From", b"To", b"Subject", b"Auto-Submitted", b"MIME-Version"):
+        it.parts[name.decode()] = [value for found, value in head if found.lower() == name.lower()]
+    it.parts["Date, Message-ID"] = [len([1 for found, _ in head if found.lower() == name]) for name in (b"date", b"message-id")]
+    it.parts["report-type"] = re.search(rb"report-type=([\w-]+)", header)[1]
+    it.parts["type of the status"] = dict(fields(kind)).get(b"Content-Type")
+    for name, value in message.items():
+        it.parts[f"message: {name.decode()}"] = typed(cleaned(value, it.queue_id, ports))
+    it.parts["recipients"] = sorted(([(name, typed(cleaned(value, it.queue_id, ports))) for name, value in sorted(group.items())] for group in recipients))
+    return with_texts(it, words, returned, ports)
+
+
+def with_texts(it: Told, words: bytes, returned: list, ports: dict) -> Told:
+    """A notice with what it says to people, whose lines are compared in any order, and what it gives back."""
+    it.parts["words"] = sorted(cleaned(words.partition(b"\n\n")[2], it.queue_id, ports).split(b"\n"))
+    for part in returned:
+        about, _, content = part.lstrip(b"\n").partition(b"\n\n")
+        about = dict(fields(about))
+        it.parts["type of what is given back"] = about.get(b"Content-Type")
+        it.parts["description of what is given back"] = about.get(b"Content-Description")
+        it.parts["given back"] = cleaned(content, it.queue_id, ports)
+    return it
+
+
+def retry_seconds(it: Told) -> set:
+    """How many seconds lie between when the message came and until when it is tried, as the notice says."""
+    came = {moment(date) for date in it.dates[b"Arrival-Date"]}
+    return {moment(until) - at for until in it.dates[b"Will-Retry-Until"] for at in came}
+
+
+def differences(there: Told, here: Told) -> list:
+    """What differs between two notices: the name of the part, and the part of each, or None."""
+    names = [*there.parts, *(it for it in here.parts if it not in there.parts)]
+    return [(it, there.parts.get(it), here.parts.get(it)) for it in names if there.parts.get(it) != here.parts.get(it)]

@@ -192,7 +192,7 @@ def one_run(checks: Checks, run: Run, serves, used: Counter | None):
             for it in sides:
                 it.send(case)
         for it, name in zip(sides, ("bounce(8)", "the other side")):
-            checks.true(f"{run.name}: all is done by {name}", it.postfix.rests(90, empty=run.expires))
+            checks.equal(f"{run.name}: what {name} leaves", it.postfix.left(45, empty=run.expires), [])
             checks.equal(f"{run.name}: complaints in the log of {name}", it.postfix.complaints(), [])
         notices, recipients = compare_sides(checks, run, sides, used)
     print(f"  {run.name}: {len(run.messages)} messages, {notices} notices of {recipients} recipients, {time.monotonic() - began:.0f} seconds", flush=True)
@@ -216,7 +216,7 @@ def late_flush(checks: Checks, serves, used: Counter | None):
         for it in sides:
             it.postfix.start()
             it.postfix.command("postqueue", "-f")
-            checks.true("late flush: nothing is left", it.postfix.rests(60, empty=True))
+            checks.equal("late flush: what is left", it.postfix.left(empty=True), [])
         compare_sides(checks, Run("late flush", {}, [case]), sides, used)
         found = sorted(name for notice in sides[1].told().get(case.name, []) for name in notice.names())
         checks.equal("late flush: who is told", found, [(b"rfc822; later.eve@example.org", b"failed"), (b"rfc822; no.bob@example.org", b"failed")])
@@ -231,7 +231,7 @@ def very_many(checks: Checks, serves):
             it.postfix.start()
             it.send(Case("very-many", "bounce", names))
         for it in sides:
-            checks.true("very many: all is done", it.postfix.rests(90, empty=True))
+            checks.equal("very many: what is left", it.postfix.left(empty=True), [])
             told = [name for notice in it.told().get("very-many", []) for name, _ in notice.names()]
             checks.equal("very many: who is told", sorted(told), sorted(b"rfc822; " + it.encode() for it in names))
 

@@ -80,6 +80,8 @@ HAND_IN = """
     -o content_filter=
     -o receive_override_options=no_header_body_checks,no_milters,no_unknown_recipient_checks,no_address_mappings
 """
+# The queue manager is woken often: it puts a message of which the file is locked for a moment back to those that came in, and looks at
+# these only when it is woken or mail comes.
 MUTE = "    -o cleanup_service_name=nowhere"  # of bounce(8), so that it can't hand a notice in
 MASTER = """
 127.0.0.1:{smtp} inet n - n - - smtpd
@@ -87,7 +89,7 @@ MASTER = """
     -o smtpd_milters=inet:127.0.0.1:{milter}
 pickup unix n - n 60 1 pickup
 cleanup unix n - n - 0 cleanup
-qmgr unix n - n 300 1 qmgr
+qmgr unix n - n 2 1 qmgr
 rewrite unix - - n - - trivial-rewrite
 bounce unix - - n - 0 bounce
 {override}
@@ -300,15 +302,16 @@ class Postfix:
                 found += [it for it in (self.queue / folder).rglob("*") if it.is_file()]
         return found
 
-    def rests(self, seconds=PATIENCE, empty=False) -> bool:
-        """Waits until nothing is at work: no message but what is put off, and no log of which the queue manager asks a notice. Where
-        `empty` is said, nothing at all is left."""
+    def at_work(self, empty=False) -> list[str]:
+        """The files of messages that aren't put off, and those of logs of no such message; where `empty` is said, all files."""
+        kept = set() if empty else {it.name for it in self.queued("deferred")}
+        held = self.queued("maildrop", "incoming", "active") + [it for it in self.queued() + self.logs() if it.name not in kept]
+        return sorted({str(it.relative_to(self.queue)) for it in held})
 
-        def so() -> bool:
-            kept = {it.name for it in self.queued("deferred")} if not empty else set()
-            return not self.queued("maildrop", "incoming", "active") and not [it for it in self.queued() if it.name not in kept] and not [it for it in self.logs() if it.name not in kept]
-
-        return comes_true(lambda: so() and not time.sleep(0.3) and so(), seconds, 0.2)
+    def left(self, seconds=PATIENCE, empty=False) -> list[str]:
+        """What is still at work when it has come to rest, or when so many seconds are over."""
+        comes_true(lambda: not self.at_work(empty) and not time.sleep(0.3) and not self.at_work(empty), seconds, 0.2)
+        return self.at_work(empty)
 
     def __enter__(self):
         return self

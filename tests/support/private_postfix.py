@@ -125,6 +125,23 @@ def free_ports(count: int) -> list[int]:
         return [all_of_them.enter_context(socket.create_server(("127.0.0.1", 0))).getsockname()[1] for _ in range(count)]
 
 
+def asked(path: Path, request: bytes, seconds=60.0) -> bytes:
+    """What a service says on a request that comes whole, as one of Postfix's programs sends it: its announcement, and its answer."""
+    with socket.socket(socket.AF_UNIX) as stream:
+        stream.settimeout(seconds)
+        stream.connect(str(path))
+        stream.sendall(request)
+        said = b""
+        while more := stream.recv(4096):
+            said += more
+        return said
+
+
+def attributes(pairs) -> bytes:
+    """A list of attributes as it is sent."""
+    return b"".join(name.encode() + b"\0" + (value if isinstance(value, bytes) else str(value).encode()) + b"\0" for name, value in pairs) + b"\0"
+
+
 def comes_true(holds, seconds=PATIENCE, every=0.05) -> bool:
     """Whether something holds before so many seconds are over."""
     until = time.monotonic() + seconds
@@ -282,6 +299,10 @@ class Postfix:
     def log(self) -> str:
         path = self.room / "maillog"
         return path.read_text(errors="replace") if path.exists() else ""
+
+    def service(self, name: str) -> Path:
+        """The socket of the service that makes notices, of this name in Postfix."""
+        return self.queue / "private" / self.settings.get(f"{name}_service_name", name)
 
     def complaints(self) -> list:
         """What it logged of things that went wrong in its programs."""

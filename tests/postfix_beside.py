@@ -68,8 +68,8 @@ RUNS = [
 
 @dataclass
 class Difference:
-    """A difference that is allowed: the part of a notice, why it differs, and what becomes of the other side's part; `change` has that part
-    and the one that is met."""
+    """A difference that is allowed: the part of a notice, why it differs, and what becomes of the other side's part, by that part, the
+    one that is met, and the other side's notice."""
 
     name: str
     part: str
@@ -77,36 +77,68 @@ class Difference:
     change: object
 
 
-def printable(text: bytes) -> bytes:
-    return bytes(it if 32 <= it < 127 else 63 for it in text)
+def printable(text: bytes, kept=b"") -> bytes:
+    return bytes(it if 32 <= it < 127 or it in kept else 63 for it in text)
 
 
 def of_field(name: bytes, change):
     """A change of one field of each recipient."""
-    return lambda groups, _: sorted([(found, change(value) if found == name else value) for found, value in group] for group in groups)
+    return lambda groups, *_: sorted([(found, change(value) if found == name else value) for found, value in group] for group in groups)
 
 
-def cut_remark(value: bytes) -> bytes:
-    kind, semicolon, text = value.partition(b"; ")
-    return kind + semicolon + text[:800].rstrip(b" ")
+def cut_remarks(groups: list, met: list, _) -> list:
+    """Diagnostics that are cut after 800 bytes of the log, which may have had more spaces than are compared."""
+    cut = [value for group in met for name, value in group if name == b"Diagnostic-Code" and len(value) > 780]
+    return of_field(b"Diagnostic-Code", lambda value: next((it for it in cut if len(value) > len(it) and value.startswith(it)), value))(groups)
 
 
-def short_header(whole: bytes, met: bytes) -> bytes:
-    """The header of a message, where the other gives that back alone and the message is long."""
-    header = whole.partition(b"\n\n")[0] + b"\n"
-    return header if len(whole) > 32_000 and len(met) < len(whole) // 2 else whole
+def is_whole(there: Told) -> bool:
+    """Whether noticed gives the message back as a whole: it is short, and each line can stand in a 7bit mail."""
+    text = there.parts.get("given back", b"")
+    return len(text) <= 32_768 and all(len(it) <= 998 and re.fullmatch(rb"[\x01-\x0c\x0e-\x7f]*", it) for it in text.split(b"\n"))
 
 
+def header(text: bytes) -> bytes:
+    """A message's header as noticed gives it back."""
+    lines = []
+    for line in text.split(b"\n"):
+        if not (re.match(rb"[!-9;-~]+[ \t]*:", line) or (lines and line[:1] in (b" ", b"\t"))):
+            break
+        lines.append(printable(line, b"\t")[:998] + b"\n")
+    return b"".join(lines)
+
+
+def given_back(text: bytes, _, there: Told) -> bytes:
+    return text if is_whole(there) else header(text)
+
+
+def after_a_long_field(text: bytes, met: bytes, _) -> bytes:
+    """A header that bounce(8) ends within a long field: noticed has more."""
+    return met if text.endswith(b"\n") and len(text.split(b"\n")[-2]) == 998 and met.startswith(text) else text
+
+
+def header_in_place(change):
+    """A change of what is said of the part that is given back, where it is the header in place of the message."""
+    return lambda text, _, there: change(text) if there.parts.get("type of what is given back") == b"message/rfc822" and not is_whole(there) else text
+
+
+DESCRIPTION, TYPE = "description of what is given back", "type of what is given back"
+STATUS, DIAGNOSTIC = b"Status", b"Diagnostic-Code"
 ALLOWED = [
-    Difference("angle brackets", "To", "an address in a header may stand in angle brackets", lambda there, _: [b"<" + it.strip(b"<>") + b">" for it in there]),
-    Difference("words for people", "words", "noticed has its own, shorter ones, and no templates", lambda _, met: met),
-    Difference("question marks", "recipients", "noticed writes ? for a byte of a diagnostic that isn't printable ASCII", of_field(b"Diagnostic-Code", printable)),
-    Difference("cut remark", "recipients", "noticed keeps 800 bytes of a diagnostic", of_field(b"Diagnostic-Code", cut_remark)),
-    Difference("zeros of a status", "recipients", "RFC 3463 has no zeros in front of a number", of_field(b"Status", lambda it: re.sub(rb"\b0+(?=\d)", b"", it))),
-    Difference("no Return-Path", "given back", "noticed gives back what the queue file has; Postfix writes a line before it", lambda there, _: re.sub(rb"\AReturn-Path: [^\n]*\n", b"", there)),
-    Difference("header of a long message", "given back", "noticed gives back at most 32,768 bytes, Postfix 50,000", short_header),
-    Difference("header of a long message", "type of what is given back", "as above", lambda there, met: met if met == b"text/rfc822-headers" else there),
-    Difference("header of a long message", "description of what is given back", "as above", lambda there, met: met if met == there + b" Headers" else there),
+    Difference("angle brackets", "To", "an address may stand in angle brackets", lambda there, *_: [b"<" + it.strip(b"<>") + b">" for it in there]),
+    Difference("words for people", "words", "noticed has its own, and no templates", lambda _, met, __: met),
+    Difference("subject of a success", "Subject", "noticed goes by what became of the recipients, bounce(8) by what was asked (sendmail -v)",
+               lambda it, _, there: [b"Successful Mail Delivery Report"] if set(there.actions()) <= {b"delivered", b"relayed", b"expanded"} else it),
+    Difference("question marks", "recipients", "? for a byte of a diagnostic that isn't printable ASCII", of_field(DIAGNOSTIC, printable)),
+    Difference("cut remark", "recipients", "800 bytes of a diagnostic are kept", cut_remarks),
+    Difference("zeros of a status", "recipients", "RFC 3463 has no zeros in front", of_field(STATUS, lambda it: re.sub(rb"\b0+(?=\d)", b"", it))),
+    Difference("no Return-Path", "given back", "bounce(8) writes a line that the queue file doesn't have", lambda there, *_: re.sub(rb"\AReturn-Path: [^\n]*\n", b"", there)),
+    Difference("header in place of the message", "given back", "noticed gives a message back that is short and can stand in a 7bit mail", given_back),
+    Difference("header in place of the message", TYPE, "as above", header_in_place(lambda _: b"text/rfc822-headers")),
+    Difference("header in place of the message", DESCRIPTION, "as above", header_in_place(lambda it: it + b" Headers")),
+    Difference("header after a long field", "given back", "bounce(8) ends the header where a field has over 2,048 bytes", after_a_long_field),
+    Difference("header of a delay", DESCRIPTION, "bounce(8) calls a message that is put off undelivered, where it gives back the header alone",
+               lambda it, _, there: it.replace(b"Undelivered", b"Delayed") if there.actions() == [b"delayed"] else it),
 ]  # fmt: skip
 
 
@@ -150,7 +182,7 @@ def compare(checks: Checks, what: str, there: Told, here: Told, used: Counter | 
     for part, wanted, found in differences(there, here):
         for it in ALLOWED if used is not None else ():
             if it.part == part and wanted is not None:
-                changed = it.change(wanted, found)
+                changed = it.change(wanted, found, there)
                 used[it.name] += changed != wanted
                 wanted = changed
         checks.equal(f"{what}: {part}", found, wanted)
@@ -202,7 +234,7 @@ def late_flush(checks: Checks, serves, used: Counter | None):
     """A message that expires while the notice of an earlier failure could not be handed in: both recipients are told."""
     case = Case("expired-with-failure", "defer", ["no.bob@example.org", "later.eve@example.org"])
     with contextlib.ExitStack() as stack:
-        sides = [Side(stack, it, {"maximal_queue_lifetime": "5d"}) for it in (None, serves)]
+        sides = [Side(stack, it, {"maximal_queue_lifetime": "432000s"}) for it in (None, serves)]
         for it in sides:
             it.postfix.mute = True
             it.postfix.start()

@@ -178,7 +178,8 @@ class Front:
         self.queue, self.hand_in = room / "queue", hand_in
         self.program = room / Path(program).name
         if not self.program.exists():
-            shutil.copy2(program, self.program)  # where Postfix's user can reach it
+            shutil.copy(program, self.program)  # where Postfix's user can reach it
+            self.program.chmod(0o755)
 
     def start(self):
         """Starts it, and waits until it listens."""

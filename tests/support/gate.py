@@ -36,6 +36,7 @@ ROWS = (
     ("feed.py", "feed_kills.py", "feed_restarts.py", "mailers.py"),
     ("stop.py", "idle.py"),
     ("daemon_limits.py", "changed_bytes.py", "limits.py", "refused_bodies.py"),
+    ("postfix_beside.py", "postfix_faults.py"),
 )
 # Scripts that run with nothing beside but wrong edits: they look at what a process keeps of memory or takes of time, try as much as they can in a
 # given time, or end daemons after some moments of work.

@@ -5,6 +5,7 @@ import contextlib
 import grp
 import os
 import pwd
+import random
 import shutil
 import signal
 import socket
@@ -120,9 +121,14 @@ def lacks() -> str:
 
 
 def free_ports(count: int) -> list[int]:
-    """Ports of loopback that nobody has."""
-    with contextlib.ExitStack() as all_of_them:
-        return [all_of_them.enter_context(socket.create_server(("127.0.0.1", 0))).getsockname()[1] for _ in range(count)]
+    """Ports of loopback that nobody has, below those that the system gives to others meanwhile."""
+    found, dice = [], random.Random()
+    while len(found) < count:
+        port = dice.randrange(20_000, 32_000)
+        with contextlib.suppress(OSError), socket.create_server(("127.0.0.1", port)):
+            if port not in found:
+                found.append(port)
+    return found
 
 
 def asked(path: Path, request: bytes, seconds=60.0) -> bytes:

@@ -29,9 +29,10 @@ from running import Checks, program, run  # noqa: E402
 from cases import Case  # noqa: E402  (of tests/postfix/capture, as private_postfix finds it)
 from submit import by_smtp  # noqa: E402
 
+SLOW = {"queue_run_delay": "3000s", "minimal_backoff_time": "4000s", "maximal_backoff_time": "4000s"}
 QUICK = {"queue_run_delay": "1s", "minimal_backoff_time": "1s", "maximal_backoff_time": "1s", "service_throttle_time": "1s"}
 SENDERS, WAITING = 4, 20  # clients that send at load; messages whose logs wait
-MANY, HELD = 150, 300  # messages whose logs are asked for at once; connections of clients that say nothing
+MANY, EXPIRING, HELD = 150, 60, 300  # messages whose logs are asked for at once, and that expire; connections of clients that say nothing
 BETWEEN = (0.05, 0.4)  # seconds from one kill to the next
 GROWTH = 8192  # KiB that hostile clients may leave behind in the service
 SANITIZED = 1 << 30  # KiB of addresses that only a program with a sanitizer asks for
@@ -160,18 +161,23 @@ def hand_in_fails(checks: Checks, serves, full: bool):
 
 
 def loaded_anew(checks: Checks, serves, full: bool):
-    """Postfix is loaded anew, and stopped and started, while logs wait."""
-    with Tried(serves) as it:
+    """Postfix is loaded anew, and stopped and started, while logs wait; then the notices of all of them are asked for at once."""
+    with Tried(serves, **SLOW) as it:
         it.say_nothing(AWAY)
         for at in range(MANY):
             it.send(f"anew{at}")
         it.wait_for_logs(checks, "loaded anew", MANY)
         it.postfix.reload()
         it.send("after")
-        it.wait_for_logs(checks, "loaded anew", MANY + 1)
+        it.wait_for_logs(checks, "loaded anew, and one more", MANY + 1)
         it.postfix.stop()
+        it.postfix.mute = False
+        it.gate.way = OPEN
         it.postfix.start()
-        it.say_nothing(OPEN)
+        for _ in range(5):
+            it.postfix.command("postqueue", "-f")
+            if not it.postfix.left(10, empty=True):
+                break
         it.judged(checks, "loaded anew, stopped and started")
 
 
@@ -254,7 +260,7 @@ def damaged_queue_files(checks: Checks, serves, full: bool):
     damages = {"cut": lambda it: it[: len(it) // 2], "cut to nothing": lambda _: b"", "zeros": lambda it: bytes(len(it)), "torn": lambda it: it[:100] + b"\xff" * 40 + it[140:]}
     found = {}
     for kind in (None, serves)[: 2 if serves else 1]:
-        with Tried(kind, queue_run_delay="3000s", minimal_backoff_time="4000s", maximal_backoff_time="4000s") as it:
+        with Tried(kind, **SLOW) as it:
             it.say_nothing(AWAY)
             for name in damages:
                 it.send(name.replace(" ", "-"), relayed=False)
@@ -288,7 +294,7 @@ def both_logs(checks: Checks, serves, full: bool):
     """The flush of an expired message whose earlier failure was never told: the service tells both logs before it says that it is done."""
     if not serves:
         return
-    with Tried(serves, queue_run_delay="3000s", minimal_backoff_time="4000s", maximal_backoff_time="4000s") as it:
+    with Tried(serves, **SLOW) as it:
         it.gate.way = AWAY
         queue_id = by_smtp(it.postfix.smtp, Case("both", "defer", ["no.both@example.org", "later.both@example.org"]))
         checks.true("both logs: they are there", comes_true(lambda: len(it.postfix.logs("bounce")) == len(it.postfix.logs("defer")) == len(it.postfix.queued("deferred")) == 1))
@@ -296,6 +302,25 @@ def both_logs(checks: Checks, serves, full: bool):
         checks.equal("both logs: the answer", asked_status(it, "defer", flush_request(queue_id, flags=2)), b"0")
         comes_true(lambda: len(it.told()) >= 2, 10)
         checks.equal("both logs: who is told", it.told(), Counter({("no.both@example.org", "failed"): 1, ("later.both@example.org", "failed"): 1}))
+
+
+def expiring(checks: Checks, serves, full: bool):
+    """Messages expire while the hand-in comes and goes, so that a notice of a failure may fail where that of the expiry goes well: nobody is
+    lost, and no log is left of a message that is gone."""
+    if not serves:
+        return
+    dice, lifetime = random.Random(11), {"maximal_queue_lifetime": "6s", "bounce_queue_lifetime": "6s"}
+    with Tried(serves, **lifetime) as it:
+        it.gate.way, began = AWAY, time.monotonic()
+        for at in range(EXPIRING):
+            names = [f"no.expired{at}@example.org", f"later.expired{at}@example.org"]
+            by_smtp(it.postfix.smtp, Case(f"expired{at}", "defer", names))
+            it.wanted += [(name, "failed") for name in names]
+        while time.monotonic() - began < (30 if full else 15):
+            time.sleep(dice.uniform(0.02, 0.2))
+            it.gate.way = dice.choice([OPEN, AWAY, LATER])
+        it.gate.way = OPEN
+        it.judged(checks, "expiring while the hand-in comes and goes", most=0)
 
 
 def locked(checks: Checks, serves, full: bool):
@@ -311,7 +336,7 @@ def locked(checks: Checks, serves, full: bool):
             time.sleep(3)
             fcntl.flock(log, fcntl.LOCK_UN)
         it.judged(checks, "a locked log")
-    with Tried(serves, queue_run_delay="3000s", minimal_backoff_time="4000s") as it:
+    with Tried(serves, **SLOW) as it:
         checks.equal("an append", asked_status(it, "bounce", append_request("ABC123", "one@example.org")), b"0")
         [log] = it.postfix.logs("bounce")
         before = log.read_bytes()
@@ -458,7 +483,7 @@ def threads_of(process: int) -> int:
     return len(os.listdir(f"/proc/{process}/task"))
 
 
-CHECKS = (kills, hand_in_fails, loaded_anew, back_and_forth, damaged_logs, damaged_queue_files, both_logs, locked, full_disk, hostile, silent)
+CHECKS = (kills, hand_in_fails, loaded_anew, back_and_forth, damaged_logs, damaged_queue_files, both_logs, expiring, locked, full_disk, hostile, silent)
 
 
 def main():

@@ -34,14 +34,15 @@ AT_ONCE = [
     Case("over-the-limit-full", "bounce", ["no.bob@example.org"], options="RET=FULL", body=b"A line of a long message.\n" * 2300),
     Case("many-more", "bounce", [f"no.number{it}@example.org" for it in range(300)]),
     Case("too-many-hops", "bounce", ["no.bob@example.org"], command=["-f", "ann@example.com"], header=HOPS),
-    Case("two-senders-words", "bounce", ["utf.a@example.org", "long.b@example.org", "lines.c@example.org", "no.d@example.org", "ok.e@example.org"], options="RET=HDRS ENVID=several"),
+    Case("several-replies", "bounce", [f"{it}.a@example.org" for it in ("utf", "long", "lines", "no", "ok")], options="RET=HDRS ENVID=several"),
     Case("quoted-sender", "bounce", ["no.bob@example.org"], sender=b'"ann smith"@example.com'),
     Case("quoted-original", "bounce", [("no.bob@example.org", 'ORCPT=rfc822;"bob+20b"@example.org')]),
     Case("success-and-failure", "bounce", [("ok.ann@example.org", "NOTIFY=SUCCESS,FAILURE"), ("no.bob@example.org", "NOTIFY=SUCCESS,FAILURE")], options="ENVID=both"),
 ]
+TOLD = ("ok.ann@example.org", "NOTIFY=SUCCESS")
 EXPIRING = [
     Case("late-and-refused", "defer", ["no.bob@example.org", "later.eve@example.org", "ok.ann@example.org"]),
-    Case("late-and-told", "defer", [("later.eve@example.org", "NOTIFY=SUCCESS,FAILURE,DELAY ORCPT=rfc822;eve@example.net"), ("ok.ann@example.org", "NOTIFY=SUCCESS")], options="ENVID=x RET=FULL"),
+    Case("late-and-told", "defer", [("later.eve@example.org", "NOTIFY=SUCCESS,FAILURE,DELAY ORCPT=rfc822;eve@example.net"), TOLD], options="ENVID=x RET=FULL"),
     Case("late-by-sendmail", "defer", ["later.bob@example.org"], command=["-f", "ann@example.com", "-N", "failure,delay"]),
 ]
 
@@ -56,7 +57,9 @@ class Run:
     expires: bool = False
 
 
-HURRIED = {"queue_run_delay": "1s", "minimal_backoff_time": "1s", "maximal_backoff_time": "1s", "delay_warning_time": "2s"}
+# Tried again after two seconds: where it is one, the queue manager may come back while the last delivery still has the file locked, and
+# then leaves the message alone for a minute.
+HURRIED = {"queue_run_delay": "1s", "minimal_backoff_time": "2s", "maximal_backoff_time": "2s", "delay_warning_time": "2s"}
 HURRIED |= {"maximal_queue_lifetime": f"{LIFETIME}s", "bounce_queue_lifetime": f"{LIFETIME}s"}
 LONG_IDS = {"enable_long_queue_ids": "yes", "hash_queue_names": "deferred, defer, bounce, trace", "hash_queue_depth": "2"}
 RUNS = [
@@ -224,7 +227,7 @@ def one_run(checks: Checks, run: Run, serves, used: Counter | None):
             for it in sides:
                 it.send(case)
         for it, name in zip(sides, ("bounce(8)", "the other side")):
-            checks.equal(f"{run.name}: what {name} leaves", it.postfix.left(45, empty=run.expires), [])
+            checks.equal(f"{run.name}: what {name} leaves", it.postfix.left(90, empty=run.expires), [])
             checks.equal(f"{run.name}: complaints in the log of {name}", it.postfix.complaints(), [])
         notices, recipients = compare_sides(checks, run, sides, used)
     print(f"  {run.name}: {len(run.messages)} messages, {notices} notices of {recipients} recipients, {time.monotonic() - began:.0f} seconds", flush=True)
@@ -240,7 +243,7 @@ def late_flush(checks: Checks, serves, used: Counter | None):
             it.postfix.start()
             it.send(case)
         for it in sides:
-            checks.true("late flush: both logs are there", comes_true(lambda: len(it.postfix.logs("bounce")) == len(it.postfix.logs("defer")) == len(it.postfix.queued("deferred")) == 1))  # noqa: B023
+            checks.true("late flush: both logs are there", comes_true(it.postfix.has_both_logs))
             it.postfix.stop()
             it.postfix.mute = False
             it.postfix.settings |= {"maximal_queue_lifetime": "1s", "bounce_queue_lifetime": "1s"}

@@ -30,7 +30,8 @@ from cases import Case  # noqa: E402  (of tests/postfix/capture, as private_post
 from submit import by_smtp  # noqa: E402
 
 SLOW = {"queue_run_delay": "3000s", "minimal_backoff_time": "4000s", "maximal_backoff_time": "4000s"}
-QUICK = {"queue_run_delay": "1s", "minimal_backoff_time": "1s", "maximal_backoff_time": "1s", "service_throttle_time": "1s"}
+# Postfix leaves a message alone for a minute if it comes back to it while a delivery has the file locked, so not after one second.
+QUICK = {"queue_run_delay": "1s", "minimal_backoff_time": "2s", "maximal_backoff_time": "2s", "service_throttle_time": "1s"}
 SENDERS, WAITING = 4, 20  # clients that send at load; messages whose logs wait
 MANY, EXPIRING, HELD = 150, 60, 300  # messages whose logs are asked for at once, and that expire; connections of clients that say nothing
 BETWEEN = (0.05, 0.4)  # seconds from one kill to the next
@@ -79,7 +80,7 @@ class Tried:
         """Each recipient that notices told of, with what became of it, and how many times."""
         return Counter((who.decode(), what.decode()) for _, text in list(self.mailbox.notices) for who, what in TOLD.findall(text))
 
-    def judged(self, checks: Checks, what: str, seconds=60, most=0) -> int:
+    def judged(self, checks: Checks, what: str, seconds=100, most=0) -> int:
         """Waits until all is done: nobody is lost, and so many at most are told twice. How many are."""
         checks.equal(f"{what}: what is left", self.postfix.left(seconds, empty=True), [])
         told = self.told()
@@ -245,7 +246,8 @@ def damaged_logs(checks: Checks, serves, full: bool):
 
 def flush_request(queue_id: str, queue_name="deferred", number=1, flags=0) -> bytes:
     """A request for the notice of a message, as the queue manager of 3.7 sends it."""
-    return attributes([("nrequest", number), ("flags", flags), ("queue_name", queue_name), ("queue_id", queue_id), ("encoding", ""), ("smtputf8", 0), ("sender", "ann@example.com"), ("envelope_id", ""), ("ret_flags", 0)])
+    of_message = [("queue_name", queue_name), ("queue_id", queue_id), ("encoding", ""), ("smtputf8", 0), ("sender", "ann@example.com")]
+    return attributes([("nrequest", number), ("flags", flags), *of_message, ("envelope_id", ""), ("ret_flags", 0)])
 
 
 def append_request(queue_id: str, recipient: str, reason="host said: 550 5.1.1 no such user here") -> bytes:
@@ -257,7 +259,8 @@ def append_request(queue_id: str, recipient: str, reason="host said: 550 5.1.1 n
 
 def damaged_queue_files(checks: Checks, serves, full: bool):
     """Damaged queue files: the service is asked for the notice of each as the queue manager would ask, answers as bounce(8) does, and goes on."""
-    damages = {"cut": lambda it: it[: len(it) // 2], "cut to nothing": lambda _: b"", "zeros": lambda it: bytes(len(it)), "torn": lambda it: it[:100] + b"\xff" * 40 + it[140:]}
+    damages = {"cut": lambda it: it[: len(it) // 2], "cut to nothing": lambda _: b"", "zeros": lambda it: bytes(len(it))}
+    damages["torn"] = lambda it: it[:100] + b"\xff" * 40 + it[140:]
     found = {}
     for kind in (None, serves)[: 2 if serves else 1]:
         with Tried(kind, **SLOW) as it:
@@ -297,7 +300,7 @@ def both_logs(checks: Checks, serves, full: bool):
     with Tried(serves, **SLOW) as it:
         it.gate.way = AWAY
         queue_id = by_smtp(it.postfix.smtp, Case("both", "defer", ["no.both@example.org", "later.both@example.org"]))
-        checks.true("both logs: they are there", comes_true(lambda: len(it.postfix.logs("bounce")) == len(it.postfix.logs("defer")) == len(it.postfix.queued("deferred")) == 1))
+        checks.true("both logs: they are there", comes_true(it.postfix.has_both_logs))
         it.gate.way = OPEN
         checks.equal("both logs: the answer", asked_status(it, "defer", flush_request(queue_id, flags=2)), b"0")
         comes_true(lambda: len(it.told()) >= 2, 10)
@@ -355,7 +358,8 @@ def locked(checks: Checks, serves, full: bool):
 def small_disk(folder: Path):
     """A file system of 64 KiB in memory over a folder of Postfix's; whether it could be mounted."""
     owner = pwd.getpwnam("postfix")
-    mounted = subprocess.run(["mount", "-t", "tmpfs", "-o", f"size=64k,mode=700,uid={owner.pw_uid},gid={owner.pw_gid}", "tmpfs", str(folder)], check=False, capture_output=True).returncode == 0
+    words = ["mount", "-t", "tmpfs", "-o", f"size=64k,mode=700,uid={owner.pw_uid},gid={owner.pw_gid}", "tmpfs", str(folder)]
+    mounted = subprocess.run(words, check=False, capture_output=True).returncode == 0
     try:
         yield mounted
     finally:
@@ -391,7 +395,8 @@ def full_disk(checks: Checks, serves, full: bool):
         checks.equal("and leaves the log as it was", (room / queue_id).read_bytes(), before)
         it.send("full")
         time.sleep(2)
-        checks.equal("a message meets a full disk: it stays", (len(it.postfix.queued("deferred", "active", "incoming")), it.told().get(("no.fulla@example.org", "failed"))), (1, None))
+        checks.equal("a message meets a full disk: it stays", len(it.postfix.queued("deferred", "active", "incoming")), 1)
+        checks.equal("and nobody is told of its failures", [name for name, what in it.told() if what == "failed"], [])
         (room / "filling").unlink()
         checks.true("there is room again", comes_true(lambda: asked_status(it, "bounce", append_request(queue_id, "three@example.org")) == b"0"))
         checks.true("and the log goes on", (room / queue_id).read_bytes().startswith(before))
@@ -455,7 +460,8 @@ def hostile(checks: Checks, serves, full: bool):
         checks.equal("hostile clients: the service runs", it.postfix.front.running.poll(), None)
         comes_true(lambda: not it.postfix.queued(), 15)
         checks.equal("hostile clients: what was written", [name for name in it.postfix.at_work(empty=True) if not re.fullmatch(r"(bounce|trace)/\w+|defer/\w/\w+", name)], [])
-        found = subprocess.run(["find", str(it.postfix.room), "-newer", str(it.postfix.front.program), "-user", "postfix", "-type", "f", "-not", "-path", "*/queue/*", "-not", "-path", "*/data/*"], capture_output=True, check=True).stdout
+        elsewhere = ["-type", "f", "-user", "postfix", "-not", "-path", "*/queue/*", "-not", "-path", "*/data/*"]
+        found = subprocess.run(["find", str(it.postfix.room), *elsewhere], capture_output=True, check=True).stdout
         checks.equal("hostile clients: files elsewhere", found, b"")
         for log in it.postfix.logs():
             log.unlink()

@@ -81,7 +81,7 @@ HAND_IN = """
     -o content_filter=
     -o receive_override_options=no_header_body_checks,no_milters,no_unknown_recipient_checks,no_address_mappings
 """
-# The queue manager is woken often: it puts a message of which the file is locked for a moment back to those that came in, and looks at
+# The queue manager is woken often: it puts a message of which the file is locked back to those that came in, for a minute, and looks at
 # these only when it is woken or mail comes.
 MUTE = "    -o cleanup_service_name=nowhere"  # of bounce(8), so that it can't hand a notice in
 MASTER = """
@@ -329,6 +329,10 @@ class Postfix:
             with contextlib.suppress(FileNotFoundError):
                 found += [it for it in (self.queue / folder).rglob("*") if it.is_file()]
         return found
+
+    def has_both_logs(self) -> bool:
+        """Whether the one message is put off, with a log of recipients who were refused and one of those who are tried again."""
+        return len(self.logs("bounce")) == len(self.logs("defer")) == len(self.queued("deferred")) == 1
 
     def at_work(self, empty=False) -> list[str]:
         """The files of messages that aren't put off, and those of logs of no such message; where `empty` is said, all files."""

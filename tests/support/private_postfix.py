@@ -215,7 +215,7 @@ class Postfix:
     def __init__(self, mailbox: Mailbox, serves: str | None = None, milter_port=9, place=None, **settings):
         self.room = Path(tempfile.mkdtemp(prefix="noticed-postfix-", dir=place))
         self.room.chmod(0o755)
-        self.queue, self.mailbox, self.master = self.room / "queue", mailbox, None
+        self.queue, self.mailbox, self.master, self.watcher = self.room / "queue", mailbox, None, None
         for name in ("etc", "queue", "data"):
             (self.room / name).mkdir()
         shutil.chown(self.room / "data", "postfix")
@@ -267,11 +267,18 @@ class Postfix:
             self.front.options = self.options()
             self.front.start()
         self.master = subprocess.Popen(
-            ["setpriv", "--pdeathsig=TERM", "--", str(SBIN / "master"), "-c", str(self.room / "etc"), "-s"],
+            [str(SBIN / "master"), "-c", str(self.room / "etc"), "-s"],
             cwd=self.queue, stdin=subprocess.DEVNULL, stdout=subprocess.DEVNULL, stderr=subprocess.DEVNULL, env={"PATH": os.environ["PATH"], "MAIL_CONFIG": str(self.room / "etc")},
         )  # fmt: skip
+        self.watch()
         if not comes_true(lambda: (self.mute or is_open(self.hand_in)) and is_open(self.smtp)):
             raise RuntimeError(f"Postfix doesn't listen: {self.log()[-2000:]}")
+
+    def watch(self):
+        """Has a process wait for this script's end, also by a signal, and end Postfix then: its master forgets a signal that it is to get at
+        the death of its parent, since it changes its user."""
+        words = ["sh", "-c", 'cat; kill -s KILL -- "-$0"; rm -rf "$1"', str(self.master.pid), str(self.room)]
+        self.watcher = subprocess.Popen(words, stdin=subprocess.PIPE, stdout=subprocess.DEVNULL, stderr=subprocess.DEVNULL, start_new_session=True)
 
     def reload(self):
         """Has it read its configuration again."""
@@ -280,6 +287,10 @@ class Postfix:
 
     def stop(self, how=signal.SIGTERM, front=True):
         """Ends Postfix with all of its processes, and then the program in front."""
+        if self.watcher:
+            os.killpg(self.watcher.pid, signal.SIGKILL)
+            self.watcher.communicate()
+            self.watcher = None
         if self.master and self.master.poll() is None:
             self.master.send_signal(how)
             with contextlib.suppress(subprocess.TimeoutExpired):

@@ -1,0 +1,431 @@
+#!/usr/bin/env python3
+"""`noticed postfix` without a Postfix: a queue folder made up of what Postfix wrote (tests/postfix/files/), clients that ask as its
+programs do, a mail server that refuses at each step, and services of its own that take what is passed on. What was asked is answered
+0 only once the server took the notice; else the log stays. And kills, two processes, a log that is locked, a disk that is full, and
+clients that say nothing or no request."""
+import fcntl
+import os
+import re
+import resource
+import signal
+import socket
+import sys
+import tempfile
+import threading
+import time
+from pathlib import Path
+
+sys.path.insert(0, str(Path(__file__).parent / "support"))
+from daemon_and_clients import until  # noqa: E402
+from postfix_folder import ANNOUNCEMENT, FAILED, FILES, SERVICES, Client, OwnService, Postfix, append, asked_in, heard_to_end, listed, mode_of, notice  # noqa: E402
+from running import HOST, ROOT, Checks, Ran, run  # noqa: E402
+
+ONE = "090B8A85C9C"  # the queue id of the message `one`
+LOG_OF = {"failure": "bounce", "delay": "defer", "expired": "defer", "success": "trace"}
+# Messages of which no notice can be made here (tests/postfix_notices.py says why), so that Postfix's own service is asked.
+PASSED_ON = {"utf8", "utf8-sender", "later-utf8", "asked-before", "long-address", "newer-form-quoted", "quoted", "verp-quoted", "orcpt-utf8"}
+STEPS = ("connect", "EHLO", "MAIL", "RCPT", "DATA", "message")
+THREADS = 32  # clients of one service that are served at once
+SECONDS_FOR_CLIENT, SECONDS_FOR_LOCK = 60, 20
+WRONG_IDS = ("../bounce/A1", "A/B", ".", "..", "A1.", "", "A" * 33, "A1 ", "Ä1")
+
+
+def at_once(*calls) -> list:
+    """What calls give that are made at the same time."""
+    found = [None] * len(calls)
+
+    def one(place, call):
+        found[place] = call()
+
+    threads = [threading.Thread(target=one, args=it) for it in enumerate(calls)]
+    for it in threads:
+        it.start()
+    for it in threads:
+        it.join()
+    return found
+
+
+# ---- what goes well
+
+
+def check_append_and_flush(checks: Checks):
+    """An append, the flush, and the notice that comes of them."""
+    with Postfix() as it:
+        checks.equal("its first line", it.lines(), [f"listening in {it.folder} for {HOST}"])
+        it.put("one")
+        checks.equal("an append", it.ask("bounce", append(ONE, offset=6)), 0)
+        record = it.at(f"bounce/{ONE}").read_text()
+        checks.true("the record", record.startswith("\n<no.bob@example.org>: it said: ") and "\noffset=6\nstatus=5.1.1\naction=failed\n" in record)
+        checks.equal("a flush", it.ask("bounce", asked_in("one", "failure")), 0)
+        checks.true("the log is removed", not it.at(f"bounce/{ONE}").exists())
+        said = [b"EHLO mx.example.net\r\n", b"MAIL FROM:<>\r\n", b"RCPT TO:<ann@example.com>\r\n", b"DATA\r\n", b"QUIT\r\n"]
+        checks.true("the transaction", until(lambda: it.server.said == [said]))
+        text = it.server.taken[0][2]
+        for line in (b"To: <ann@example.com>", b"Final-Recipient: rfc822; no.bob@example.org", b"Status: 5.1.1", b"Diagnostic-Code: smtp; 550 5.1.1 no such user", b"Remote-MTA: dns; mx.example.org", b"X-Postfix-Queue-ID: 090B8A85C9C", b"Content-Type: message/rfc822", b"Subject: hello"):
+            checks.true(f"the notice has {line}", b"\r\n" + line + b"\r\n" in text)
+        checks.equal("bounce(8)'s line", it.lines()[1:], [f"{ONE}: sender non-delivery notification: NEW1"])
+        checks.equal("what is left", sorted(str(path.relative_to(it.folder)) for path in it.folder.rglob("*") if not path.is_dir()), ["deferred/0/" + ONE, *(f"private/noticed{name}" for name in ("-bounce", "-defer", "-trace", ".lock"))])
+
+
+def check_modes(checks: Checks):
+    """The modes of what is made, whatever the umask."""
+    for umask in (0, 0o077):
+        with Postfix(start=False) as it:
+            it.start(umask=umask)
+            it.put("one")
+            for service in SERVICES:
+                checks.equal(f"umask {umask:o}: an append to {service}", it.ask(service, append(ONE)), 0)
+            checks.equal(f"umask {umask:o}: sockets", [mode_of(it.at(f"private/noticed-{name}")) for name in SERVICES], ["140666"] * 3)
+            checks.equal(f"umask {umask:o}: the lock", mode_of(it.at("private/noticed.lock")), "100600")
+            checks.equal(f"umask {umask:o}: logs", [mode_of(it.at(name)) for name in (f"bounce/{ONE}", f"defer/0/{ONE}", f"trace/{ONE}")], ["100600"] * 3)
+            checks.equal(f"umask {umask:o}: a hashed folder", mode_of(it.at("defer/0")), "40700")
+
+
+def check_hashing(checks: Checks):
+    """Where logs stand, by the options."""
+    long_id = "4jZlfk4Kjfz1btWg"
+    for options, place, long_place in (
+        ((), f"defer/0/{ONE}", "defer/9/4"),
+        (("--hash-queue-depth", "2"), f"defer/0/9/{ONE}", "defer/9/"),
+        (("--hash-queue-names", ""), f"defer/{ONE}", "defer/4"),
+        (("--hash-queue-names", "active,BOUNCE"), f"defer/{ONE}", "defer/4"),
+    ):
+        with Postfix(*options) as it:
+            checks.equal(f"{options}: appends", [it.ask("defer", append(name)) for name in (ONE, long_id)], [0, 0])
+            found = sorted(str(path.relative_to(it.folder)) for path in it.at("defer").rglob("*") if path.is_file())
+            checks.true(f"{options}: {found}", place in found and any(name.startswith(long_place) and name.endswith(long_id) for name in found))
+
+
+def check_kinds(checks: Checks):
+    """A warning keeps the log; an expired message's is removed; what else is answered 0 without a notice."""
+    with Postfix("--lifetime", "3600") as it:
+        message = it.put("later", "defer")
+        log = it.at(f"defer/E/{message}")
+        checks.equal("a warning", (it.ask("defer", asked_in("later", "delay")), log.exists()), (0, True))
+        text = it.server.taken[-1][2]
+        arrival = re.search(rb"Arrival-Date: \w+, \d+ \w+ \d+ (\d+):(.*)\r", text)
+        checks.true("retried for the lifetime", b" %02d:%s" % ((int(arrival[1]) + 1) % 24, arrival[2]) in re.search(rb"Will-Retry-Until: (.*)\r", text)[1])
+        checks.equal("its line", it.lines()[-1], f"{message}: sender delay notification: NEW1")
+        checks.equal("it expired", (it.ask("defer", asked_in("later", "expired")), log.exists()), (0, False))
+        checks.equal("its line", it.lines()[-1], f"{message}: sender non-delivery notification: NEW2")
+        message = it.put("relayed", "trace")
+        checks.equal("a trace", (it.ask("trace", asked_in("relayed", "success")), it.at(f"trace/{message}").exists()), (0, False))
+        checks.equal("its line", it.lines()[-1], f"{message}: sender delivery status notification: NEW3")
+        checks.equal("a trace without a log", it.ask("trace", asked_in("relayed", "success")), 0)
+        for sender in ("", f"double-bounce@{HOST}"):
+            it.put("one", "bounce")
+            checks.equal(f"from <{sender}>", (it.ask("bounce", notice(1, ONE, sender=sender)), it.at(f"bounce/{ONE}").exists()), (0, False))
+        checks.equal("notices in all", len(it.server.taken), 3)
+    with Postfix("--double-bounce", "nobody@example.com") as it:
+        for sender, notices in (("nobody@example.com", 0), (f"double-bounce@{HOST}", 1)):
+            it.put("one", "bounce")
+            checks.equal(f"from <{sender}>, with an option", (it.ask("bounce", notice(1, ONE, sender=sender)), len(it.server.taken)), (0, notices))
+
+
+def check_expired_with_bounces(checks: Checks):
+    """A message that expires while its bounce log is still there: that log is told first, and the message goes only with both told."""
+    with Postfix() as it:
+        message = it.put("mixed", "bounce", "defer")
+        logs = [it.at(f"bounce/{message}"), it.at(f"defer/1/{message}")]
+        it.server.replies["RCPT"] = b"450 4.2.0 later"
+        checks.equal("refused for now", (it.ask("defer", asked_in("mixed", "expired")), [log.exists() for log in logs]), (FAILED, [True, True]))
+        del it.server.replies["RCPT"]
+        checks.equal("taken", (it.ask("defer", asked_in("mixed", "expired")), [log.exists() for log in logs]), (0, [False, False]))
+        told = [re.findall(rb"Final-Recipient: rfc822; (\w+)", text) for _, _, text in it.server.taken]
+        checks.true(f"both are told, the bounces first: {told}", len(told) == 2 and b"later" in told[1] and b"later" not in told[0])
+
+
+def check_marks(checks: Checks):
+    """Recipients are marked as done in the queue file where that is asked, once the notice was taken."""
+    with Postfix() as it:
+        message = it.put("later", "defer")
+        queue, place = it.at(f"deferred/E/{message}"), int(re.search(rb"offset=(\d+)", (FILES / "later/defer").read_bytes())[1])
+        before = queue.read_bytes()
+        it.server.replies["message"] = b"451 4.3.0 later"
+        checks.equal("not taken", (it.ask("defer", notice(1, message, flags=2)), queue.read_bytes() == before), (FAILED, True))
+        del it.server.replies["message"]
+        checks.equal("taken", it.ask("defer", notice(1, message, flags=2)), 0)
+        checks.equal("one byte is written", queue.read_bytes(), before[:place] + b"D" + before[place + 1 :])
+
+
+def check_all_messages(checks: Checks):
+    """Each message that Postfix wrote, with each request that its queue manager makes: a notice for each that bounce(8) made, or, where
+    it can't be said, one request that is passed on."""
+    for depth, names in ((1, "defer deferred"), (2, "deferred, defer, bounce, trace")):
+        with Postfix("--hash-queue-names", names, "--hash-queue-depth", str(depth)) as it:
+            own = {name: OwnService(it.folder, name) for name in SERVICES}
+            count = 0
+            for case in sorted(FILES.iterdir()):
+                stood = (case / "places").read_text().split()[0]
+                if stood.count("/") - 1 == depth:
+                    count += sum(check_message(checks, it, own, case, request) for request in sorted(case.glob("*.request")))
+            checks.true(f"many requests of messages in folders {depth} deep: {count}", count >= (10 if depth == 2 else 80))
+
+
+def check_message(checks: Checks, it: Postfix, own: dict, case: Path, request: Path) -> int:
+    """One request about one message."""
+    service, what = LOG_OF[request.stem], f"{case.name}, {request.stem}"
+    it.put(case.name, service)
+    taken, asked = len(it.server.taken), len(own[service].asked)
+    checks.equal(f"{what}: status", it.ask(service, request.read_bytes()), 0)
+    made = [name for name in os.listdir(case) if re.fullmatch(rf"{request.stem}(-\d+)?", name)]
+    wanted = [0, [request.read_bytes()]] if case.name in PASSED_ON else [len(made), []]
+    checks.equal(f"{what}: notices, and what is passed on", [len(it.server.taken) - taken, own[service].asked[asked:]], wanted)
+    return 1
+
+
+# ---- what goes wrong
+
+
+def check_refusals(checks: Checks):
+    """A server that refuses at a step, for now or for good, or leaves: -1, and the log stays; asked again, it is told."""
+    with Postfix() as it:
+        for step in STEPS:
+            for reply in (b"450 4.2.0 later", b"550 5.7.1 no", b"421 4.3.2 closing", b"", b"what?", b"250-more\r\n550 other", b"250 ok\r\n250 too soon"):
+                if reply.startswith(b"250 ok") and step in ("connect", "DATA"):
+                    continue  # a wrong reply there, as others
+                it.put("one", "bounce")
+                it.server.replies = {step: reply}
+                taken = len(it.server.taken)
+                found = (it.ask("bounce", asked_in("one", "failure")), it.at(f"bounce/{ONE}").read_bytes())
+                checks.equal(f"{reply} at {step}", found, (FAILED, (FILES / "one/bounce").read_bytes()))
+                checks.true(f"{reply} at {step}: nothing more is said than one transaction", len(it.server.taken) - taken <= 1)
+        it.server.replies = {}
+        checks.true("lines on standard error", any("request not carried out" in line for line in it.lines()))
+        taken = len(it.server.taken)
+        checks.equal("asked again", (it.ask("bounce", asked_in("one", "failure")), len(it.server.taken) - taken, it.at(f"bounce/{ONE}").exists()), (0, 1, False))
+        it.server.replies = {"QUIT": b"550 no"}
+        it.put("one", "bounce")
+        checks.equal("a refused QUIT changes nothing", (it.ask("bounce", asked_in("one", "failure")), it.at(f"bounce/{ONE}").exists()), (0, False))
+        it.put("one", "bounce")
+        it.server.replies = {"RCPT": b"550 no"}
+        checks.equal("CLEAN removes the log all the same", (it.ask("bounce", notice(1, ONE, flags=1)), it.at(f"bounce/{ONE}").exists()), (FAILED, False))
+
+
+def check_no_server(checks: Checks):
+    """Nobody listens where notices are handed in: appends are logged, flushes are answered -1."""
+    with socket.create_server(("127.0.0.1", 0)) as found:
+        address = "127.0.0.1:%d" % found.getsockname()[1]
+    with Postfix(hand_in=address) as it:
+        it.put("one")
+        checks.equal("an append", it.ask("bounce", append(ONE)), 0)
+        checks.equal("a flush", (it.ask("bounce", asked_in("one", "failure")), it.at(f"bounce/{ONE}").exists()), (FAILED, True))
+
+
+def check_passed_on(checks: Checks):
+    """What is no request of this version, or can't be said, goes to Postfix's own service as it is, and its status comes back; without
+    such a service it is -1."""
+    wrong = [listed(nrequest=1, flags=0), listed(what="ever"), b"\0", b"what is this\0\0\0", notice(1, ONE, fifth="sendopts"), notice(9, ONE)]
+    wrong += [notice(1, it) for it in WRONG_IDS] + [append(it) for it in WRONG_IDS] + [notice(1, ONE, queue="../active"), append(ONE, '"bob smith"@example.org'), append(ONE, "a b@example.org")]
+    for options in ((), ("own",)):
+        with Postfix() as it:
+            own = {name: OwnService(it.folder, name) for name in SERVICES} if options else {}
+            for request in wrong:
+                for service in SERVICES:
+                    checks.equal(f"{request[:60]} to {service}, with {options}", it.ask(service, request), 0 if own else FAILED)
+                    checks.equal(f"{request[:60]}: what is passed on", own[service].asked[-1] if own else request, request)
+            checks.equal("nothing is written", [str(path) for path in it.folder.rglob("*") if path.is_file() and not path.name.endswith(".lock")], [])
+            if own:
+                check_own_service(checks, it, own["bounce"])
+
+
+def check_own_service(checks: Checks, it: Postfix, own: OwnService):
+    """The status of Postfix's own service is the answer; one that is none is -1. The log isn't locked while it is asked."""
+    for status, wanted in ((b"status\x00%d\0\0" % FAILED, FAILED), (b"status\x007\0\0", 7), (b"", FAILED), (b"state\x000\0\0", FAILED), (b"status\x000\0", FAILED)):
+        own.status = status
+        checks.equal(f"its status {status}", it.ask("bounce", listed(what="ever")), wanted)
+    own.status, own.announcement = b"status\x000\0\0", b"protocol\0another_protocol\0\0"
+    checks.equal("another protocol", it.ask("bounce", listed(what="ever")), FAILED)
+    own.announcement, unlocked = ANNOUNCEMENT, []
+    message = it.put("quoted", "bounce")
+
+    def lock():
+        with open(it.at(f"bounce/{message}"), "rb+") as log:
+            fcntl.flock(log, fcntl.LOCK_EX | fcntl.LOCK_NB)
+            unlocked.append(True)
+
+    own.during = lock
+    checks.equal("a quoted recipient", (it.ask("bounce", asked_in("quoted", "failure")), unlocked), (0, [True]))
+    it.at(f"deferred/1/{message}").unlink()
+    checks.equal("a missing queue file", (it.ask("bounce", asked_in("quoted", "failure")), len(unlocked), it.at(f"bounce/{message}").exists()), (0, 2, True))
+
+
+def check_versions(checks: Checks):
+    """Each version's layout."""
+    for version in ("3.6", "3.7", "3.8", "3.9", "3.10"):
+        with Postfix("--postfix", version) as it:
+            for fifth in ("smtputf8", "sendopts"):
+                it.put("one", "bounce")
+                wanted = 0 if (fifth == "sendopts") == (version == "3.10") else FAILED
+                checks.equal(f"{version}: {fifth}", it.ask("bounce", notice(1, ONE, fifth=fifth)), wanted)
+
+
+def check_broken_clients(checks: Checks):
+    """Requests that are cut short, or too long: nothing is done, and the next client is served."""
+    request = append(ONE)
+    with Postfix() as it:
+        for cut in (0, 1, 40, len(request) // 2, len(request) - 1):
+            with Client(it.folder, "bounce") as client:
+                client.peer.sendall(request[:cut])
+                client.peer.shutdown(socket.SHUT_WR)
+                checks.equal(f"cut after {cut} bytes: what it is said", heard_to_end(client.peer), ANNOUNCEMENT)
+        checks.equal("too long a request", it.ask("bounce", append(ONE, text="5" * 70_000)), None)
+        checks.equal("nothing is logged", os.listdir(it.at("bounce")), [])
+        checks.true("lines on standard error", until(lambda: sum(line.startswith("client not served: no list was read: ") for line in it.lines()) == 6))
+        with Client(it.folder, "bounce") as client:
+            client.peer.sendall(request)
+        checks.true("a client that leaves is served all the same", until(lambda: it.at(f"bounce/{ONE}").exists()))
+        for cut in range(3):
+            with Client(it.folder, "bounce") as client:
+                for byte in (request[:cut], request[cut:]):
+                    client.peer.sendall(byte)
+                    time.sleep(0.01)
+                checks.equal(f"in pieces, after {cut}", heard_to_end(client.peer), ANNOUNCEMENT + b"status\x000\0\0")
+
+
+def check_locked_log(checks: Checks):
+    """A log that somebody has locked is waited for; after twenty seconds the request fails."""
+    with Postfix() as it:
+        it.put("one", "bounce")
+        with open(it.at(f"bounce/{ONE}"), "rb+") as log:
+            fcntl.flock(log, fcntl.LOCK_EX)
+            threading.Timer(1, fcntl.flock, (log, fcntl.LOCK_UN)).start()
+            began = time.monotonic()
+            checks.equal("an append, after a second", it.ask("bounce", append(ONE)), 0)
+            checks.true("it waited", 0.9 < time.monotonic() - began < 10)
+        log = open(it.at(f"bounce/{ONE}"), "rb+")
+        fcntl.flock(log, fcntl.LOCK_EX)
+        size = os.fstat(log.fileno()).st_size
+        began = time.monotonic()
+        found = at_once(lambda: it.ask("bounce", append(ONE)), lambda: it.ask("bounce", asked_in("one", "failure")))
+        checks.equal("for good: an append and a flush", (found, os.fstat(log.fileno()).st_size), ([FAILED, FAILED], size))
+        checks.true(f"they waited: {time.monotonic() - began}", SECONDS_FOR_LOCK - 1 < time.monotonic() - began < 3 * SECONDS_FOR_LOCK)
+        log.close()
+
+
+def check_full_disk(checks: Checks):
+    """A write that the system cuts short: -1, and the log is what it was before. No file may have more than a thousand bytes."""
+
+    def limit():
+        signal.signal(signal.SIGXFSZ, signal.SIG_IGN)
+        resource.setrlimit(resource.RLIMIT_FSIZE, (1000, 1000))
+
+    with Postfix(start=False) as it:
+        it.limits = limit
+        it.start()
+        found = [(it.ask("bounce", append(ONE)), it.at(f"bounce/{ONE}").stat().st_size) for _ in range(6)]
+        size = found[0][1]
+        fit = 1000 // size
+        checks.equal("appends up to the bound, and after it", found, [(0, size * (1 + it)) if it < fit else (FAILED, size * fit) for it in range(6)])
+
+
+def check_kills(checks: Checks):
+    """Killed by SIGKILL or SIGTERM while a notice is handed in: its log stays, and the next process serves, and tells it."""
+    for how in (signal.SIGKILL, signal.SIGTERM):
+        with Postfix() as it:
+            it.put("one")
+            arrived, go = threading.Event(), threading.Event()
+            it.server.waits["message"] = lambda: (arrived.set(), go.wait(30))
+            checks.equal(f"{how.name}: an append", it.ask("bounce", append(ONE, offset=6)), 0)
+            asking = threading.Thread(target=lambda: it.ask("bounce", asked_in("one", "failure")))
+            asking.start()
+            checks.true(f"{how.name}: the message is said", arrived.wait(30))
+            checks.equal(f"{how.name}: it ends", it.kill(how), -how)
+            asking.join()
+            go.set()
+            it.server.waits.clear()
+            checks.true(f"{how.name}: the log stays", it.at(f"bounce/{ONE}").exists())
+            checks.equal(f"{how.name}: its sockets stay", len(list(it.at("private").iterdir())), 4)
+            it.start()
+            taken = len(it.server.taken)
+            checks.equal(f"{how.name}: asked again", (it.ask("bounce", asked_in("one", "failure")), len(it.server.taken) - taken, it.at(f"bounce/{ONE}").exists()), (0, 1, False))
+
+
+def check_start(checks: Checks):
+    """What a start finds in the folder: a second process doesn't begin, what stands at a socket's name gives way but for a folder."""
+    with Postfix() as it:
+        second = run(["postfix", str(it.folder), HOST, it.server.address])
+        checks.equal("a second process", (second.status, second.outbox, second.notes.decode().splitlines()[0]), (1, b"", "fault 61"))
+        checks.true(f"its words: {second.notes}", second.notes.decode().splitlines()[1].startswith(f"{it.folder}/private: "))
+        checks.equal("the first one serves", it.ask("bounce", append(ONE)), 0)
+        it.kill()
+        for name in SERVICES:
+            it.at(f"private/noticed-{name}").unlink()
+        it.at("private/noticed-defer").write_text("a file")
+        it.start()
+        checks.equal("a file in the way", it.ask("defer", append(ONE)), 0)
+        it.kill()
+        it.at("private/noticed-trace").unlink()
+        it.at("private/noticed-trace").mkdir()
+        checks.equal("a folder in the way", run(["postfix", str(it.folder), HOST, it.server.address]), Ran(b"", f"fault 61\n{it.folder}/private: Is a directory (os error 21)\n".encode(), 1))
+    with tempfile.TemporaryDirectory(prefix="noticed-") as room:
+        checks.equal("no private/", run(["postfix", room, HOST, "127.0.0.1:25"]), Ran(b"", f"fault 61\n{room}/private: No such file or directory (os error 2)\n".encode(), 1))
+
+
+# ---- at once
+
+
+def check_at_once(checks: Checks):
+    """Many clients at once: appends to one log all stand in it; notices are handed in side by side, so many as there are threads; a
+    server that is slow holds up no other service."""
+    with Postfix() as it:
+        found = at_once(*(lambda text=f"550 number {number}": it.ask("bounce", append(ONE, text=text)) for number in range(40)))
+        log = it.at(f"bounce/{ONE}").read_text()
+        checks.equal("appends to one log", (found, sorted(map(int, re.findall(r"diag_text=550 number (\d+)", log)))), ([0] * 40, list(range(40))))
+        one = re.sub(r"number \d+", "number", log[: log.index("\n\n", 1) + 2])
+        checks.true("its records are whole", re.sub(r"number \d+", "number", log) == 40 * one)
+        go, waiting, most = threading.Event(), [], []
+        it.server.waits["message"] = lambda: (waiting.append(1), most.append(len(waiting)), go.wait(30))
+        ids = [f"A{number}" for number in range(THREADS + 8)]
+        queue = (FILES / "one/queue").read_bytes()
+        it.at("deferred/A").mkdir()
+        for message in ids:
+            it.at(f"deferred/A/{message}").write_bytes(queue)
+            it.at(f"bounce/{message}").write_bytes((FILES / "one/bounce").read_bytes())
+        asking = threading.Thread(target=lambda: most.append(at_once(*(lambda message=message: it.ask("bounce", notice(1, message)) for message in ids))))
+        asking.start()
+        checks.true("notices that are handed in side by side", until(lambda: len(waiting) >= THREADS - 1))
+        time.sleep(0.5)
+        checks.equal("and no more", len(waiting), THREADS)
+        checks.equal("another service is served", it.ask("defer", append(ONE)), 0)
+        go.set()
+        asking.join()
+        checks.equal("all are told", (most[-1], len(it.server.taken)), ([0] * len(ids), len(ids)))
+
+
+class Silent:
+    """Clients that say nothing, or a part of a request: they are there from the first step of this script to its last."""
+
+    def __init__(self):
+        self.postfix = Postfix()
+        self.clients = [Client(self.postfix.folder, "bounce") for _ in range(2)]
+        self.clients[1].peer.sendall(append(ONE)[:30])
+        self.began, self.ended = time.monotonic(), []
+        threading.Thread(target=self.wait, daemon=True).start()
+
+    def wait(self):
+        for it in self.clients:
+            it.peer.settimeout(2 * SECONDS_FOR_CLIENT)
+            self.ended.append((heard_to_end(it.peer), time.monotonic() - self.began))
+
+    def check(self, checks: Checks):
+        checks.true("silent clients are cut off", until(lambda: len(self.ended) == 2))
+        for text, seconds in self.ended:
+            checks.true(f"after {seconds} seconds", text == ANNOUNCEMENT and SECONDS_FOR_CLIENT - 2 < seconds < SECONDS_FOR_CLIENT + 20)
+        checks.equal("nothing is logged", os.listdir(self.postfix.at("bounce")), [])
+        self.postfix.kill()
+
+
+def main():
+    checks = Checks("postfix_command: requests of Postfix's programs, their logs and their notices, in a queue folder without a Postfix")
+    silent = Silent()
+    for check in (
+        check_append_and_flush, check_modes, check_hashing, check_kinds, check_expired_with_bounces, check_marks, check_all_messages,
+        check_refusals, check_no_server, check_passed_on, check_versions, check_broken_clients, check_locked_log, check_full_disk, check_kills,
+        check_start, check_at_once, silent.check,
+    ):  # fmt: skip
+        check(checks)
+    checks.done()
+
+
+main()

@@ -6,10 +6,11 @@ from pathlib import Path
 sys.path.insert(0, str(Path(__file__).parent / "support"))
 from running import EXAMPLES, Checks, Ran, empty_outbox, run  # noqa: E402
 
-USAGE = b"usage: noticed batch HOST | serve [[--journal FOLDER] --outbox PATH] [--idle SECONDS] [--end-on-fault] [--log] SOCKET HOST AGENTS MAX-USE | stop SOCKET | send SOCKET | journal FOLDER\n"
+USAGE = b"usage: noticed batch HOST | serve [[--journal FOLDER] --outbox PATH] [--idle SECONDS] [--end-on-fault] [--log] SOCKET HOST AGENTS MAX-USE | stop SOCKET | send SOCKET | journal FOLDER | postfix [--postfix VERSION] [--lifetime SECONDS] [--double-bounce ADDRESS] [--hash-queue-names NAMES] [--hash-queue-depth DEPTH] QUEUE-FOLDER HOST HAND-IN\n"
 PATH = b"the path of the socket must have 1 to 107 bytes\n"
 HOST = "mx.example.net"
 SOCKET = "/nonexistent/noticed.socket"
+QUEUE, HAND_IN = "/nonexistent/queue", "127.0.0.1:10025"
 
 WRONG = {
     "no argument": [],
@@ -81,7 +82,36 @@ WRONG = {
     "journal with a word too many": ["journal", "/nonexistent", HOST],
     "journal with an empty word too many": ["journal", "/nonexistent", ""],
     "journal with a folder that is no UTF-8": ["journal", b"/\xff"],
+    "postfix with nothing": ["postfix"],
+    "postfix with a folder": ["postfix", QUEUE],
+    "postfix without HAND-IN": ["postfix", QUEUE, HOST],
+    "postfix with a word too many": ["postfix", QUEUE, HOST, HAND_IN, HOST],
+    "postfix with an empty word too many": ["postfix", QUEUE, HOST, HAND_IN, ""],
+    "postfix with an empty folder": ["postfix", "", HOST, HAND_IN],
+    "postfix with a folder that is no UTF-8": ["postfix", b"/\xff", HOST, HAND_IN],
+    "postfix with its words exchanged": ["postfix", HOST, QUEUE, HAND_IN],
+    "postfix with a bad host": ["postfix", QUEUE, "a_b", HAND_IN],
+    "postfix with an empty host": ["postfix", QUEUE, "", HAND_IN],
+    "postfix with a host of 256 bytes": ["postfix", QUEUE, "a" * 256, HAND_IN],
+    "postfix with a host that is no UTF-8": ["postfix", QUEUE, b"\xff", HAND_IN],
+    "postfix with an unknown option": ["postfix", "--verbose", "1", QUEUE, HOST, HAND_IN],
+    "postfix with an option of serve": ["postfix", "--log", QUEUE, HOST, HAND_IN],
+    "postfix with an option after its folder": ["postfix", QUEUE, "--lifetime", "1", HOST, HAND_IN],
+    "postfix with an option at its end": ["postfix", QUEUE, HOST, HAND_IN, "--lifetime", "1"],
+    "postfix with an option in one word": ["postfix", "--lifetime=1", QUEUE, HOST, HAND_IN],
+    "postfix with an option in capitals": ["postfix", "--LIFETIME", "1", QUEUE, HOST, HAND_IN],
+    "POSTFIX in capitals": ["POSTFIX", QUEUE, HOST, HAND_IN],
 }
+
+# the options of `postfix`, with a value that is right
+POSTFIX_OPTIONS = {"--postfix": "3.7", "--lifetime": "1", "--double-bounce": "a@b", "--hash-queue-names": "defer", "--hash-queue-depth": "1"}
+NO_VERSIONS = ["", "3", "3.", "3.5", "3.11", "3.07", "3.7.11", "v3.7", "3.7 ", "4.0"]
+# wrong as HAND-IN: no IP address with a port
+NO_HAND_INS = [
+    "", "25", ":25", "127.0.0.1", "127.0.0.1:", "127.0.0.1:x", "127.0.0.1:-1", "127.0.0.1:+1", "127.0.0.1:65536", "127.0.0.1:25 ", " 127.0.0.1:25",
+    "127.0.0.1:25\n", "127.1:25", "127.0.0.256:25", "0127.0.0.1:25", "localhost:25", "mx.example.net:25", "::1:25", "[::1]", "[::1:25", "inet:127.0.0.1:25",
+    "unix:private/smtp", "/run/socket", b"\xff:25",
+]  # fmt: skip
 
 # wrong as AGENTS and as MAX-USE: not a decimal number of at least 1 without leading zeros
 NO_NUMBERS = [
@@ -91,6 +121,8 @@ NO_NUMBERS = [
 NO_AGENTS = [*NO_NUMBERS, "17", "100", "016"]
 NO_USES = [*NO_NUMBERS, "1000001", "01000000", "4294967296"]
 NO_SECONDS = [*NO_NUMBERS, "86401", "4294967296"]
+NO_LIFETIMES = [*NO_NUMBERS, "8640001", "5d", "4294967296"]
+NO_DEPTHS = [*NO_NUMBERS, "17", "4294967296"]
 
 # a socket's path that is empty, or longer than the system takes
 NO_PATHS = ["", "s" * 108, "/" + "s" * 300]
@@ -110,8 +142,35 @@ RIGHT = {
     "a stop of a socket like an option": ["stop", "--log"],
 }
 
+# right, but there is no such folder: fault 61 with the folder of Postfix's sockets
+RIGHT_OF_POSTFIX = {
+    "a folder": [QUEUE, HOST, HAND_IN],
+    "an IPv6 address": [QUEUE, HOST, "[::1]:10025"],
+    "the least and the most": ["--lifetime", "1", "--hash-queue-depth", "16", QUEUE, HOST, "127.0.0.1:65535"],
+    "the most of a lifetime": ["--lifetime", "8640000", QUEUE, HOST, HAND_IN],
+    "no hashed queue": ["--hash-queue-names", "", QUEUE, HOST, HAND_IN],
+    "a list of hashed queues": ["--hash-queue-names", "deferred, defer\tbounce", QUEUE, HOST, HAND_IN],
+    "an address without a domain": ["--double-bounce", "double-bounce", QUEUE, HOST, HAND_IN],
+    "a host like an option": [QUEUE, "--postfix", HAND_IN],
+    **{f"version {it}": ["--postfix", it, QUEUE, HOST, HAND_IN] for it in ("3.6", "3.7", "3.8", "3.9", "3.10")},
+    "all options": [*(word for it in POSTFIX_OPTIONS.items() for word in it), QUEUE, HOST, HAND_IN],
+}
+
 # hosts that look like something else: `batch` has no options, so each is a host name
 ODD_HOSTS = ["-h", "--help", "--", "-", ".", "..", "0", "a", "A" * 255]
+
+
+def wrong_of_postfix() -> dict:
+    """Wrong arguments of `postfix`: its options, and HAND-IN."""
+    place = [QUEUE, HOST, HAND_IN]
+    wrong = {f"postfix with {it!r} as HAND-IN": ["postfix", QUEUE, HOST, it] for it in NO_HAND_INS}
+    for option, value in POSTFIX_OPTIONS.items():
+        wrong[f"postfix with {option} twice"] = ["postfix", option, value, option, value, *place]
+        wrong[f"postfix with {option} without a value"] = ["postfix", option, *place]
+        wrong[f"postfix with {option} alone"] = ["postfix", option, value]
+    for option, values in (("--postfix", NO_VERSIONS), ("--lifetime", NO_LIFETIMES), ("--hash-queue-depth", NO_DEPTHS)):
+        wrong |= {f"postfix with {option} {it!r}": ["postfix", option, it, *place] for it in values}
+    return wrong
 
 
 def main():
@@ -121,6 +180,7 @@ def main():
     wrong |= {f"{it!r} agents": ["serve", SOCKET, HOST, it, "1"] for it in NO_AGENTS}
     wrong |= {f"{it!r} connections": ["serve", SOCKET, HOST, "2", it] for it in NO_USES}
     wrong |= {f"{it!r} seconds": ["serve", "--idle", it, SOCKET, HOST, "2", "1"] for it in NO_SECONDS}
+    wrong |= wrong_of_postfix()
     for what, words in wrong.items():
         checks.equal(what, run(words, given), Ran(b"", USAGE, 2))
     for path in NO_PATHS:
@@ -130,9 +190,12 @@ def main():
         path = SOCKET if SOCKET in words else words[-1]
         why = "No such file or directory (os error 2)"
         checks.equal(what, run(words, given), Ran(b"", f"fault 61\n{path}: {why}\n".encode(), 1))
+    for what, words in RIGHT_OF_POSTFIX.items():
+        why = "No such file or directory (os error 2)"
+        checks.equal(f"postfix with {what}", run(["postfix", *words], given), Ran(b"", f"fault 61\n{QUEUE}/private: {why}\n".encode(), 1))
     for host in ODD_HOSTS:
         checks.equal(f"batch {host[:20]}", run(["batch", host]), Ran(empty_outbox(host), b"", 0))
-    print(f"  {len(wrong)} wrong, {len(RIGHT) + len(ODD_HOSTS)} odd and right")
+    print(f"  {len(wrong)} wrong, {len(RIGHT) + len(RIGHT_OF_POSTFIX) + len(ODD_HOSTS)} odd and right")
     checks.done()
 
 

@@ -5,7 +5,8 @@ modes and owners that come of it; the runs that follow one another, and their en
 `systemd-analyze verify` where that is installed. As root the daemon runs as an account of its own, and others try to get
 at its socket and its outbox. And examples/noticed-feed.service: that it follows the outbox of the first, as an account
 that may read it, is waited for as long as a reply may take, and keeps nothing from the mail program that it runs.
-tests/boot.py tries both under systemd."""
+tests/boot.py tries both under systemd. And examples/noticed-postfix.service: its keys, and that its command begins to
+listen in a queue folder, where it is put in place of Postfix's."""
 import os
 import random
 import re
@@ -26,6 +27,7 @@ from running import EXAMPLES, HOST, ROOT, Checks, Ran, empty_outbox, program  # 
 
 UNIT = EXAMPLES / "noticed.service"
 FEEDER = EXAMPLES / "noticed-feed.service"
+POSTFIX = EXAMPLES / "noticed-postfix.service"
 DAEMON, AGENT, STRANGER = 64801, 64802, 64803  # accounts that no machine has; the daemon's group has its number
 # Keys of a unit that hide files from what it runs, or take rights away; and those that the feeder's has as comments.
 KEEPS = ("Protect", "Private", "Restrict", "SystemCall", "Capability", "NoNewPrivileges", "ReadOnly", "ReadWrite", "Inaccessible")
@@ -46,6 +48,22 @@ WANTED = {
     "NoNewPrivileges": ["yes"],
     "ProtectSystem": ["strict"],
     "RestrictAddressFamilies": ["AF_UNIX"],
+}
+
+# Of the unit for Postfix: its account, that it is there before Postfix asks, and what it may get at.
+WANTED_OF_POSTFIX = {
+    "User": ["postfix"],
+    "Group": ["postfix"],
+    "Restart": ["always"],
+    "StandardError": ["journal"],
+    "SyslogFacility": ["mail"],
+    "LogRateLimitIntervalSec": ["0"],
+    "NoNewPrivileges": ["yes"],
+    "CapabilityBoundingSet": [""],
+    "ProtectSystem": ["strict"],
+    "ReadWritePaths": ["/var/spool/postfix"],
+    "RestrictAddressFamilies": ["AF_UNIX AF_INET AF_INET6"],
+    "IPAddressAllow": ["localhost"],
 }
 
 
@@ -432,6 +450,29 @@ def check_feeder(checks: Checks, sections: dict):
     checks.equal("the feeder: what keeps something from its mail program", [it for it in given["Service"] if it.startswith(KEEPS)], [])
 
 
+def check_postfix(checks: Checks):
+    """The unit for Postfix has its account, its folder and loopback, and its command listens; without the folder it is tried again."""
+    given = sections_of(POSTFIX.read_text())
+    checks.equal("for Postfix: sections", list(given), ["Unit", "Service", "Install"])
+    for key, value in WANTED_OF_POSTFIX.items():
+        checks.equal(f"for Postfix: {key}", given["Service"].get(key), value)
+    checks.equal("for Postfix: it is there before Postfix", given["Unit"].get("Before"), ["postfix.service postfix@-.service"])
+    checks.equal("for Postfix: the count of starts has no limit", given["Unit"].get("StartLimitIntervalSec"), ["0"])
+    (command,) = given["Service"]["ExecStart"]
+    words = words_of(command)
+    folder = given["Service"]["ReadWritePaths"][0]
+    checks.equal("for Postfix: what is written to is its folder", words.count(folder), 1)
+    with tempfile.TemporaryDirectory(prefix="noticed-") as name:
+        words = [program(), *(name if it == folder else it for it in words[1:])]
+        ended = subprocess.run(words, stdin=subprocess.DEVNULL, capture_output=True, check=False, timeout=PATIENCE)
+        checks.equal("for Postfix: without private/", (ended.returncode, ended.stderr.splitlines()[0]), (1, b"fault 61"))
+        (Path(name) / "private").mkdir()
+        with subprocess.Popen(words, stdin=subprocess.DEVNULL, stderr=subprocess.PIPE) as serving:
+            checks.equal("for Postfix: its first line", serving.stderr.readline(), f"listening in {name} for {HOST}\n".encode())
+            serving.terminate()
+        checks.equal("for Postfix: SIGTERM ends it", serving.returncode, -signal.SIGTERM)
+
+
 def check_verify(checks: Checks, name: str, text: str):
     """What systemd itself says of a unit."""
     if not shutil.which("systemd-analyze"):
@@ -458,10 +499,13 @@ def main():
         with tempfile.TemporaryDirectory(prefix="noticed-") as name:
             check(checks, Machine(Path(name), sections["Service"], account), command)
     with tempfile.TemporaryDirectory(prefix="noticed-") as name:
-        check_installed(checks, Machine(Path(name), sections["Service"], account), command, *sections_of(FEEDER.read_text())["Service"]["ExecStart"])
+        check_installed(checks, Machine(Path(name), sections["Service"], account), command, *(it for unit in (FEEDER, POSTFIX) for it in sections_of(unit.read_text())["Service"]["ExecStart"]))
     check_feeder(checks, sections)
+    check_postfix(checks)
     feeder = FEEDER.read_text()
-    for name, it in ((UNIT.name, text), (FEEDER.name, feeder), (f"set.{FEEDER.name}", OPTION.sub("", feeder))):
+    # (that of Postfix names the program where `make install` puts it, which systemd asks for)
+    postfix = POSTFIX.read_text().replace("/usr/local/bin/noticed ", f"{program()} ")
+    for name, it in ((UNIT.name, text), (FEEDER.name, feeder), (f"set.{FEEDER.name}", OPTION.sub("", feeder)), (POSTFIX.name, postfix)):
         check_verify(checks, name, it)
     checks.done()
 

@@ -60,10 +60,12 @@ check:
 	@command -v python3 > /dev/null || { echo "make check needs python3"; echo "0 passed, 1 failed"; exit 1; }
 	RT="$(RT)" exec python3 tests/support/gate.py $(FLAGS)
 
-# Boots a systemd of its own with the installed units, as root; not part of `make check`. Debian's base system, which the first
-# run makes, stays in BOOT.
+# Boots a systemd of its own with the installed units, as root, and then one with Debian's Postfix, which comes from a mirror; not
+# part of `make check`. Debian's base system, which the first run makes, stays in BOOT.
 boot: $(NOTICED)
-	@NOTICED="$(CURDIR)/$(NOTICED)" PYTHONDONTWRITEBYTECODE=1 python3 tests/boot.py "$(BOOT)"
+	@export NOTICED="$(CURDIR)/$(NOTICED)" PYTHONDONTWRITEBYTECODE=1
+	python3 tests/boot.py "$(BOOT)"
+	python3 tests/boot_postfix.py "$(BOOT)"
 
 # What each script of tests/ checks.
 scripts:

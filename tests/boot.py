@@ -21,11 +21,10 @@ from pathlib import Path
 sys.path.insert(0, str(Path(__file__).parent / "support"))
 from daemon_and_clients import FIRST_FRAME, FRAMES, NOTES, OUTBOX  # noqa: E402
 from running import ROOT, Checks, empty_outbox, program  # noqa: E402
-from system import Layer, base_system, lacking  # noqa: E402
+from system import Container, base_system, deploy_block, lacking, until  # noqa: E402
 
 TOOLS = {"systemd-nspawn": "systemd-container", "debootstrap": "debootstrap", "nsenter": "util-linux", "make": "make"}
 PATIENCE = 60  # seconds that one step in the container may take
-MOMENT = 0.05  # seconds between two looks
 CONNECTIONS = 4000  # what the unit's daemon serves
 INSTALLED = "/usr/local/share/doc/noticed"
 SOCKET, OUTBOXES = "/run/noticed/socket", "/var/lib/noticed"
@@ -47,69 +46,12 @@ for _ in range({CONNECTIONS}):
 """
 
 
-def until(holds, patience=PATIENCE) -> bool:
-    """Waits until something holds."""
-    began = time.monotonic()
-    while not holds():
-        if time.monotonic() - began > patience:
-            return False
-        time.sleep(MOMENT)
-    return True
-
-
-class Container(Layer):
-    """A container over a base system: what is written in it goes to memory, stays over a reboot, and is gone at the end."""
-
-    running = None
-
-    def boot(self) -> bool:
-        """Boots it, and waits until systemd has started what it starts."""
-        words = ["systemd-nspawn", "--quiet", "--boot", f"--directory={self.root}", "--machine=noticed-boot", "--private-network", "--console=pipe"]
-        if not Path("/run/systemd/system").is_dir():
-            words += ["--register=no", "--keep-unit"]  # no systemd runs on this machine that could be asked for a scope
-        with open(self.room / "console", "wb") as console:
-            self.running = subprocess.Popen(words, stdin=subprocess.DEVNULL, stdout=console, stderr=console, start_new_session=True)
-        wanted = ("running", "degraded")
-        return until(lambda: self.leader() and self.said("systemctl", "is-system-running") in wanted)
-
-    def __exit__(self, *_):
-        if self.running and self.running.poll() is None:
-            self.running.terminate()
-            try:
-                self.running.wait(timeout=PATIENCE)
-            except subprocess.TimeoutExpired:
-                os.kill(self.leader(), signal.SIGKILL)  # the first of its processes: the others end with it
-                self.running.wait()
-        self.leave()
-
-    def leader(self) -> int:
-        """The process of the container's systemd, 0 where there is none now."""
-        children = Path(f"/proc/{self.running.pid}/task/{self.running.pid}/children").read_text().split()
-        return int(children[0]) if children else 0
-
-    def reboot(self) -> bool:
-        """Has systemd end all and turn the machine off, and boots it anew. (`systemctl reboot` is the same to the units;
-        systemd-nspawn can't begin anew on each machine.)"""
-        self.run("systemctl", "poweroff")
-        self.running.wait(timeout=PATIENCE)
-        return self.boot()
-
-    def run(self, *words, given=b"") -> subprocess.CompletedProcess:
-        """Runs a command in the container."""
-        entering = ["nsenter", f"--target={self.leader()}", "--all", "--", *words]
-        return subprocess.run(entering, input=given, capture_output=True, check=False, timeout=PATIENCE)
-
-    def said(self, *words, given=b"") -> str:
-        """What a command in the container wrote to its standard output."""
-        return self.run(*words, given=given).stdout.decode().strip()
+class Machine(Container):
+    """A container in which the daemon's unit is installed."""
 
     def sent(self, given: bytes, account="agent") -> bytes:
         """What `noticed send` answers an account of the container."""
         return self.run("runuser", "-u", account, "--", "noticed", "send", SOCKET, given=given).stdout
-
-    def file(self, name: str) -> Path:
-        """A file of the container's disk, as it is seen from here."""
-        return self.root / name.lstrip("/")
 
     def modes(self) -> list:
         """The modes and owners of the socket, the outbox and their folders."""
@@ -133,30 +75,13 @@ class Container(Layer):
         return self.said("systemctl", "show", "--value", f"--property={key}", "noticed")
 
 
-def blocks() -> list:
-    """The indented blocks of docs/DEPLOY.md, each as its lines."""
-    found = [[]]
-    for line in (ROOT / "docs/DEPLOY.md").read_text().splitlines():
-        if line.startswith("    ") or (not line and found[-1]):
-            found[-1].append(line[4:])
-        elif found[-1]:
-            found.append([])
-    return ["\n".join(it).rstrip() + "\n" for it in found if it]
-
-
-def block(start: str) -> str:
-    """The one block of docs/DEPLOY.md that begins so."""
-    (found,) = [it for it in blocks() if it.startswith(start)]
-    return found
-
-
-def install(it: Container):
+def install(it: Machine):
     """`make install`, and the steps of docs/DEPLOY.md up to the start of the units, as they stand there."""
     words = ["make", "--silent", f"--old-file={program()}", "install", f"NOTICED={program()}", f"DESTDIR={it.root}", "PREFIX=/usr/local"]
     subprocess.run(words, cwd=ROOT, stdout=subprocess.DEVNULL, check=True)
     for name in ("agent", "stranger"):
         it.run("useradd", "--system", name).check_returncode()
-    steps = block("groupadd ").replace("AGENT", "agent") + block("cd /usr/local/share/doc/noticed\ncp ").replace("editor ", "test -w ")
+    steps = deploy_block("groupadd ").replace("AGENT", "agent") + deploy_block("cd /usr/local/share/doc/noticed\ncp ").replace("editor ", "test -w ")
     it.run("sh", "-c", f"set -e\n{steps.partition(' && systemctl enable')[0]}").check_returncode()
     for name in DELIVERED[:2]:
         it.run("mkdir", "--mode=777", os.path.dirname(name)).check_returncode()
@@ -164,7 +89,7 @@ def install(it: Container):
     it.file("/usr/sbin/sendmail").chmod(0o755)
 
 
-def check_first_start(checks: Checks, it: Container):
+def check_first_start(checks: Checks, it: Machine):
     """The unit comes up where nothing is there, and an agent's account has a notice made that it can't read."""
     checks.equal("systemctl start", it.run("systemctl", "start", "noticed").stderr, b"")
     checks.true("a socket is listened on", it.listens())
@@ -179,7 +104,7 @@ def check_first_start(checks: Checks, it: Container):
     checks.true("a line for the notice", "notice B.A1B2C3." in it.said("journalctl", "--unit=noticed", "--output=cat"))
 
 
-def check_next_run(checks: Checks, it: Container):
+def check_next_run(checks: Checks, it: Machine):
     """After its last connection a daemon is followed by another at once, which has an outbox of its own."""
     before = len(it.outboxes())
     checks.equal("connections to the last", it.run("runuser", "-u", "agent", "--", "python3", "-c", USE_UP).stderr, b"")
@@ -190,10 +115,10 @@ def check_next_run(checks: Checks, it: Container):
     checks.equal("an agent's answers of the next run", it.sent(FRAMES), NOTES)
 
 
-def check_by_hand(checks: Checks, it: Container):
+def check_by_hand(checks: Checks, it: Machine):
     """Messages by hand, as docs/DEPLOY.md has them; and `noticed stop`, after which the next run begins at once."""
     for start in (f"$ python3 {INSTALLED}/frames.py - <<'END'", "$ cat > mine.requests <<'END'"):
-        typed, _, answers = block(start).rpartition("\n0 ")
+        typed, _, answers = deploy_block(start).rpartition("\n0 ")
         script = re.sub(r"^\$ ", "", typed, flags=re.M).replace("A1B2C3", "HAND")  # a key that isn't closed in this run
         checks.equal(f"by hand: {start}", it.said("runuser", "-u", "agent", "--", "sh", "-c", f"cd /tmp\n{script}\n"), f"0 {answers}".strip())
     before = len(it.outboxes())
@@ -202,11 +127,11 @@ def check_by_hand(checks: Checks, it: Container):
     checks.equal("the unit is still the same", it.shows("NRestarts"), "0")
 
 
-def check_run_file(checks: Checks, it: Container):
+def check_run_file(checks: Checks, it: Machine):
     """The `run` file of docs/DEPLOY.md, without systemd: a first start where nothing is there, and an orderly stop."""
     it.run("systemctl", "stop", "noticed", "noticed-feed")
     it.run("rm", "-rf", "/run/noticed", OUTBOXES)
-    it.file("/root/run").write_text(block("#!/bin/sh\nexec 2>&1\ninstall "))
+    it.file("/root/run").write_text(deploy_block("#!/bin/sh\nexec 2>&1\ninstall "))
     words = ["nsenter", f"--target={it.leader()}", "--all", "--", "sh", "-c", "echo $$ > /root/pid; exec sh /root/run"]
     with subprocess.Popen(words, stdin=subprocess.DEVNULL, stdout=subprocess.PIPE) as running:
         try:
@@ -220,7 +145,7 @@ def check_run_file(checks: Checks, it: Container):
     checks.true("the run file: its notes", b"notice B.A1B2C3.0 to " in notes)
 
 
-def check_killed(checks: Checks, it: Container):
+def check_killed(checks: Checks, it: Machine):
     """A daemon that was killed is started anew after seconds, with an outbox of its own."""
     checks.equal("an agent's answers before the daemon is killed", it.sent(FRAMES), NOTES)
     checks.true("the outbox has something", until(it.outbox, 10))
@@ -231,7 +156,7 @@ def check_killed(checks: Checks, it: Container):
     checks.equal("the unit was started anew", it.shows("NRestarts"), "1")
 
 
-def check_stop(checks: Checks, it: Container):
+def check_stop(checks: Checks, it: Machine):
     """`systemctl stop` is orderly: the outbox has its QUIT, what is open is named, and no socket is left."""
     checks.equal("an outcome that nobody flushes", it.sent(FRAMES[:FIRST_FRAME]), b"0 logged 0\n")
     began = time.monotonic()
@@ -243,7 +168,7 @@ def check_stop(checks: Checks, it: Container):
     checks.true("no socket is left", it.run("test", "-e", SOCKET).returncode)
 
 
-def check_fails(checks: Checks, it: Container):
+def check_fails(checks: Checks, it: Machine):
     """Where a folder has the socket's name the daemon can't start: it is tried each few seconds, until it can."""
     it.run("systemctl", "reset-failed", "noticed")
     it.run("mkdir", "-p", SOCKET)
@@ -255,7 +180,7 @@ def check_fails(checks: Checks, it: Container):
     checks.true("it starts once it can", until(lambda: it.run("test", "-S", SOCKET).returncode == 0, 15) and it.listens())
 
 
-def check_reboot(checks: Checks, it: Container):
+def check_reboot(checks: Checks, it: Machine):
     """A reboot is orderly, and the daemon is there after it, with an outbox of its own; and the mode of its folder is the
     unit's, also where it was another."""
     checks.equal("systemctl enable", it.run("systemctl", "enable", "noticed", "noticed-feed").returncode, 0)
@@ -270,7 +195,7 @@ def check_reboot(checks: Checks, it: Container):
     checks.equal("units that failed", it.said("systemctl", "list-units", "--failed", "--plain", "--no-legend", "noticed*"), "")
 
 
-def check_feeder(checks: Checks, it: Container):
+def check_feeder(checks: Checks, it: Machine):
     """The feeder's unit hands in what is sealed after the reboot. What the mail program goes on with isn't killed when the unit
     is stopped, and has the machine's own files."""
     checks.equal("an agent's answers after the reboot", it.sent(FRAMES), NOTES)
@@ -286,12 +211,12 @@ def check_feeder(checks: Checks, it: Container):
     checks.true("what the mail program began is done all the same", until(lambda: is_delivered(it), 15))
 
 
-def is_delivered(it: Container) -> bool:
+def is_delivered(it: Machine) -> bool:
     """Whether the mail program has done what it went on with."""
     return it.run("ls", *DELIVERED).returncode == 0
 
 
-def check_all(checks: Checks, it: Container):
+def check_all(checks: Checks, it: Machine):
     """Each part, with what the journal says where one fails; the first only, where the unit doesn't start."""
     parts = (check_first_start, check_next_run, check_by_hand, check_killed, check_stop, check_fails, check_reboot, check_feeder, check_run_file)
     for check in parts:
@@ -312,7 +237,7 @@ def main():
         print(f"  skipped: it needs {' and '.join(lacking(TOOLS))}")
         checks.done()
     signal.signal(signal.SIGTERM, lambda *_: sys.exit(1))
-    with Container(base_system(Path(sys.argv[1]).resolve())) as it:
+    with Machine(base_system(Path(sys.argv[1]).resolve())) as it:
         checks.true("the container boots", it.boot())
         install(it)
         check_all(checks, it)

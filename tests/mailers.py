@@ -27,7 +27,7 @@ sys.path.insert(0, str(Path(__file__).parent / "support"))
 from daemon_and_clients import Daemon  # noqa: E402
 from feeding import Following, frames  # noqa: E402
 from running import ROOT, Checks, program  # noqa: E402
-from system import KEPT, Layer, base_system, lacking  # noqa: E402
+from system import KEPT, Layer, base_system, installed, lacking  # noqa: E402
 
 RUN = 12  # notices of a run
 TOOLS = {"debootstrap": "debootstrap", "unshare": "util-linux"}
@@ -291,20 +291,6 @@ def handed_in(checks: Checks, mailer, runs: int, odd: list):
         checks.equal(f"{name}: what arrived", sorted(sink.arrived), wanted(runs, odd))
         checks.equal(f"{name}: what else came", sink.refused, [])
         checks.equal(f"{name}: what lies there", sorted(it.name for it in Path(place).iterdir()), ["feed.outbox.state", "outbox"])
-
-
-def installed(it: Layer, package: str) -> str:
-    """Installs a package in a root, where no service is started: what failed."""
-    (it.root / "usr/sbin/policy-rc.d").write_text("#!/bin/sh\nexit 101\n")
-    (it.root / "usr/sbin/policy-rc.d").chmod(0o755)
-    (it.root / "etc/resolv.conf").unlink(missing_ok=True)
-    shutil.copy("/etc/resolv.conf", it.root / "etc/resolv.conf")
-    (it.root / "etc/hosts").write_text("127.0.0.1 localhost mx.example.net mx\n")
-    for words in (["update"], ["install", "--yes", "--no-install-recommends", package]):
-        ran = it.inside("apt-get", "--quiet=2", *words, DEBIAN_FRONTEND="noninteractive")
-        if ran.returncode:
-            return ran.stdout
-    return ""
 
 
 def apart(checks: Checks, name: str, package: str, words: list):

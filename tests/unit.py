@@ -6,7 +6,7 @@ modes and owners that come of it; the runs that follow one another, and their en
 at its socket and its outbox. And examples/noticed-feed.service: that it follows the outbox of the first, as an account
 that may read it, is waited for as long as a reply may take, and keeps nothing from the mail program that it runs.
 tests/boot.py tries both under systemd. And examples/noticed-postfix.service: its keys, and that its command begins to
-listen in a queue folder, where it is put in place of Postfix's."""
+listen in a queue folder, where it is put in place of Postfix's. tests/boot_postfix.py tries it under systemd."""
 import os
 import random
 import re

@@ -3,12 +3,18 @@
 import os
 import re
 import shutil
+import signal
 import subprocess
 import tempfile
+import time
 from pathlib import Path
+
+from running import ROOT
 
 KEPT = Path("/var/cache/noticed-boot")  # where it is kept, unless another folder is named
 PACKAGES = "systemd,systemd-sysv,dbus,python3"
+PATIENCE = 60  # seconds that one step in a container may take
+MOMENT = 0.05  # seconds between two looks
 WITHIN = {"PATH": "/usr/local/sbin:/usr/local/bin:/usr/sbin:/usr/bin:/sbin:/bin", "HOME": "/root", "LC_ALL": "C.UTF-8"}
 
 
@@ -83,6 +89,93 @@ class Layer:
 
     def __exit__(self, *_):
         self.leave()
+
+
+def installed(it: Layer, package: str) -> str:
+    """Installs a package in a root, where no service is started: what failed."""
+    (it.root / "usr/sbin/policy-rc.d").write_text("#!/bin/sh\nexit 101\n")
+    (it.root / "usr/sbin/policy-rc.d").chmod(0o755)
+    (it.root / "etc/resolv.conf").unlink(missing_ok=True)
+    shutil.copy("/etc/resolv.conf", it.root / "etc/resolv.conf")
+    (it.root / "etc/hosts").write_text("127.0.0.1 localhost mx.example.net mx\n")
+    for words in (["update"], ["install", "--yes", "--no-install-recommends", package]):
+        ran = it.inside("apt-get", "--quiet=2", *words, DEBIAN_FRONTEND="noninteractive")
+        if ran.returncode:
+            return ran.stdout
+    return ""
+
+
+def until(holds, patience=PATIENCE) -> bool:
+    """Waits until something holds."""
+    began = time.monotonic()
+    while not holds():
+        if time.monotonic() - began > patience:
+            return False
+        time.sleep(MOMENT)
+    return True
+
+
+class Container(Layer):
+    """A container over a base system: what is written in it goes to memory, stays over a reboot, and is gone at the end."""
+
+    running = None
+
+    def boot(self) -> bool:
+        """Boots it, and waits until systemd has started what it starts."""
+        words = ["systemd-nspawn", "--quiet", "--boot", f"--directory={self.root}", "--machine=noticed-boot", "--private-network", "--console=pipe"]
+        if not Path("/run/systemd/system").is_dir():
+            words += ["--register=no", "--keep-unit"]  # no systemd runs on this machine that could be asked for a scope
+        with open(self.room / "console", "wb") as console:
+            self.running = subprocess.Popen(words, stdin=subprocess.DEVNULL, stdout=console, stderr=console, start_new_session=True)
+        wanted = ("running", "degraded")
+        return until(lambda: self.leader() and self.said("systemctl", "is-system-running") in wanted)
+
+    def __exit__(self, *_):
+        if self.running and self.running.poll() is None:
+            self.running.terminate()
+            try:
+                self.running.wait(timeout=PATIENCE)
+            except subprocess.TimeoutExpired:
+                os.kill(self.leader(), signal.SIGKILL)  # the first of its processes: the others end with it
+                self.running.wait()
+        self.leave()
+
+    def leader(self) -> int:
+        """The process of the container's systemd, 0 where there is none now."""
+        children = Path(f"/proc/{self.running.pid}/task/{self.running.pid}/children").read_text().split()
+        return int(children[0]) if children else 0
+
+    def reboot(self) -> bool:
+        """Has systemd end all and turn the machine off, and boots it anew. (`systemctl reboot` is the same to the units;
+        systemd-nspawn can't begin anew on each machine.)"""
+        self.run("systemctl", "poweroff")
+        self.running.wait(timeout=PATIENCE)
+        return self.boot()
+
+    def run(self, *words, given=b"") -> subprocess.CompletedProcess:
+        """Runs a command in the container."""
+        entering = ["nsenter", f"--target={self.leader()}", "--all", "--", *words]
+        return subprocess.run(entering, input=given, capture_output=True, check=False, timeout=PATIENCE)
+
+    def said(self, *words, given=b"") -> str:
+        """What a command in the container wrote to its standard output."""
+        return self.run(*words, given=given).stdout.decode().strip()
+
+    def file(self, name: str) -> Path:
+        """A file of the container's disk, as it is seen from here."""
+        return self.root / name.lstrip("/")
+
+
+def deploy_block(start: str) -> str:
+    """The one indented block of docs/DEPLOY.md that begins so."""
+    found = [[]]
+    for line in (ROOT / "docs/DEPLOY.md").read_text().splitlines():
+        if line.startswith("    ") or (not line and found[-1]):
+            found[-1].append(line[4:])
+        elif found[-1]:
+            found.append([])
+    (block,) = [it for it in ("\n".join(it).rstrip() + "\n" for it in found if it) if it.startswith(start)]
+    return block
 
 
 def lacking(tools: dict) -> list:

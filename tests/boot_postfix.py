@@ -1,0 +1,167 @@
+#!/usr/bin/env python3
+"""Boots a real systemd in a container with Debian's Postfix, and does there what docs/DEPLOY.md has an administrator do to put
+`noticed postfix` in front of it: the first notice arrives, what can't be said comes from bounce(8), nothing is lost over a kill, a
+stop and a reboot, a main.cf that refuses everything keeps no notice out, and bounce(8) goes on with the logs that wait.
+
+    NOTICED=/path/to/noticed python3 tests/boot_postfix.py FOLDER
+
+It needs root, Debian's packages systemd-container and debootstrap, and a mirror of Debian, from which Postfix comes. FOLDER is
+that of tests/boot.py. Without a FOLDER, as in `make check`, it boots nothing."""
+import re
+import signal
+import subprocess
+import sys
+from pathlib import Path
+
+sys.path.insert(0, str(Path(__file__).parent / "support"))
+from running import HOST, ROOT, Checks, program  # noqa: E402
+from system import Container, base_system, deploy_block, installed, lacking, until  # noqa: E402
+
+TOOLS = {"systemd-nspawn": "systemd-container", "debootstrap": "debootstrap", "nsenter": "util-linux", "make": "make"}
+ANSWERS = f"postfix postfix/main_mailer_type select Internet Site\npostfix postfix/mailname string {HOST}\n"
+QUEUE = "/var/spool/postfix"
+STEPS = {
+    "entry": "127.0.0.1:10025 inet", "unit": "cp /usr/local/share/doc/noticed/noticed-postfix.service", "switch": "postconf -e bounce_service_name",
+    "test": "printf 'Subject: a test", "back": "postconf -X bounce_service_name",
+}  # fmt: skip
+# Settings of main.cf each of which would keep a notice out, or change it.
+AGAINST = (
+    "smtpd_milters=inet:127.0.0.1:9", "non_smtpd_milters=inet:127.0.0.1:9", "milter_default_action=tempfail", "header_checks=static:REJECT",
+    "body_checks=static:REJECT", "nested_header_checks=static:REJECT", "mime_header_checks=static:REJECT", "content_filter=smtp:[127.0.0.1]:9",
+    "smtpd_client_restrictions=reject", "smtpd_helo_restrictions=reject", "smtpd_sender_restrictions=reject", "smtpd_relay_restrictions=reject",
+    "smtpd_recipient_restrictions=reject", "smtpd_data_restrictions=reject", "smtpd_end_of_data_restrictions=reject", "smtpd_helo_required=yes",
+    "smtpd_delay_reject=no", "smtpd_reject_unlisted_recipient=yes", "smtpd_proxy_filter=127.0.0.1:9", "smtpd_command_filter=static:QUIT",
+    "smtpd_client_connection_count_limit=1", "smtpd_client_connection_rate_limit=1", "smtpd_client_message_rate_limit=1",
+    "smtpd_client_event_limit_exceptions=", "smtpd_tls_security_level=encrypt", "smtpd_upstream_proxy_protocol=haproxy", "mynetworks=10.0.0.0/8",
+    "message_size_limit=100", f"always_bcc=copy@{HOST}",
+)  # fmt: skip
+HAND_IN = """
+import smtplib
+for to in ("root", "nosuch"):
+    with smtplib.SMTP("127.0.0.1", 10025, local_hostname="HOST") as server:
+        server.sendmail("", [to + "@HOST"], "Subject: by hand\\r\\n\\r\\n" + 100 * "a notice\\r\\n")
+""".replace("HOST", HOST)
+
+
+class Machine(Container):
+    """A container with Postfix."""
+
+    def shell(self, command: str) -> subprocess.CompletedProcess:
+        """Runs a command of a page, as root's shell does."""
+        return self.run("sh", "-c", f"set -e\n{command}")
+
+    def mailbox(self) -> str:
+        """Root's mailbox."""
+        path = self.file("/var/mail/root")
+        return path.read_text() if path.exists() else ""
+
+    def notices(self) -> list:
+        """The queue ids of the messages of which a notice was taken, and the processes that said so, in their order."""
+        said = self.said("journalctl", "--identifier=postfix/bounce", "--no-pager", "--output=short")
+        return re.findall(r"postfix/bounce\[(\d+)\]: (\w+): sender non-delivery notification: \w+", said)
+
+    def bounces(self, name: str) -> tuple:
+        """Sends a message to nobody of that name, and waits until its notice is in the mailbox: who made it."""
+        before = len(self.notices())
+        self.shell(f"printf 'Subject: to {name}\\n\\nx\\n' | sendmail -f root@{HOST} '{name}@{HOST}'").check_returncode()
+        came = until(lambda: f"Final-Recipient: rfc822; {name}@{HOST}" in self.mailbox() and len(self.notices()) > before)
+        return self.notices()[-1] if came else ("", "")
+
+    def main_process(self) -> str:
+        """The process of the unit."""
+        return self.said("systemctl", "show", "--value", "--property=MainPID", "noticed-postfix")
+
+    def is_empty(self) -> bool:
+        """Whether nothing is in the queue, and no log is left."""
+        return self.said("mailq") == "Mail queue is empty" and not self.said("find", f"{QUEUE}/bounce", f"{QUEUE}/defer", "-type", "f")
+
+
+def check_steps(checks: Checks, it: Machine):
+    """DEPLOY's steps, as they stand there, from the entry of master.cf to the first notice."""
+    with open(it.file("/etc/postfix/master.cf"), "a", encoding="ascii") as file:
+        file.write(deploy_block(STEPS["entry"]))
+    checks.equal("postfix reload", it.shell("postconf -e myhostname=mx.example.net; postfix reload; postfix check").stdout, b"")
+    checks.true("the entry listens", until(lambda: "127.0.0.1:10025" in it.said("ss", "-ltn"), 10))
+    checks.equal("the unit", it.shell(deploy_block(STEPS["unit"]).replace("editor ", "test -w ")).returncode, 0)
+    checks.true("it listens", until(lambda: f"listening in {QUEUE} for {HOST}" in it.said("journalctl", "--unit=noticed-postfix", "--output=cat"), 10))
+    checks.equal("the switch", it.shell(deploy_block(STEPS["switch"])).returncode, 0)
+    test, look = deploy_block(STEPS["test"]).strip().splitlines()
+    it.shell(test).check_returncode()
+    checks.true("the first notice arrives", until(lambda: "Final-Recipient: rfc822; nobody-there@" in it.mailbox()))
+    last = it.said("sh", "-c", look).splitlines()[-1]
+    found = re.search(r"postfix/bounce\[(\d+)\]: (\w+): sender non-delivery notification: \w+$", last)
+    checks.equal(f"its line: {last}", found and found[1], it.main_process())
+    checks.true("its Message-ID", found and f"Message-ID: <B.{found[2]}." in it.mailbox())
+    checks.equal("postfix check", it.run("postfix", "check").stderr, b"")
+    checks.true("nothing is left", until(it.is_empty, 10))
+
+
+def check_passed_on(checks: Checks, it: Machine):
+    """What can't be said comes from bounce(8)."""
+    made = it.bounces('"no body"')
+    checks.true(f"a quoted recipient: {made}", made[0] and made[0] != it.main_process())
+    checks.equal("another one", it.bounces("unquoted")[0], it.main_process())
+
+
+def check_ends(checks: Checks, it: Machine):
+    """Over a kill, a stop and a reboot each message has its notice."""
+    it.run("systemctl", "kill", "--signal=KILL", "noticed-postfix")
+    it.shell("postconf -e minimal_backoff_time=2s maximal_backoff_time=2s queue_run_delay=2s; postfix reload")
+    checks.equal("after a kill", it.bounces("killed")[0], it.main_process())
+    it.run("systemctl", "stop", "noticed-postfix")
+    it.shell(f"printf 'Subject: x\n\nx\n' | sendmail -f root@{HOST} stopped@{HOST}")
+    checks.true("while it is stopped the message is kept", until(lambda: "deferred (noticed-bounce" in it.said("journalctl", "--identifier=postfix/local")))
+    it.run("systemctl", "start", "noticed-postfix")
+    checks.true("and is told then", until(lambda: f"rfc822; stopped@{HOST}" in it.mailbox()))
+    checks.true("a reboot", it.reboot())
+    checks.equal("after a reboot", it.bounces("rebooted")[0], it.main_process())
+    checks.true("nothing is left", until(it.is_empty, 10))
+
+
+def check_against(checks: Checks, it: Machine):
+    """The entry of master.cf takes a notice whatever main.cf says; one to nobody is dropped."""
+    it.run("postconf", "-e", *AGAINST).check_returncode()
+    it.run("postfix", "reload")
+    handed = it.run("python3", "-c", HAND_IN)
+    checks.equal("notices are taken", (handed.returncode, handed.stderr), (0, b""))
+    checks.true("one arrives", until(lambda: "Subject: by hand" in it.mailbox()))
+    checks.true("nothing is left", until(it.is_empty, 10))
+    it.run("postconf", "-X", *(setting.partition("=")[0] for setting in AGAINST)).check_returncode()
+    it.run("postfix", "reload")
+
+
+def check_back(checks: Checks, it: Machine):
+    """bounce(8) goes on with the logs that wait."""
+    it.shell("postconf -M# 127.0.0.1:10025/inet; postfix reload")
+    it.shell(f"printf 'Subject: x\n\nx\n' | sendmail -f root@{HOST} waiting@{HOST}")
+    checks.true("a log waits", until(lambda: it.said("find", f"{QUEUE}/bounce", "-type", "f")))
+    checks.equal("back", it.shell(deploy_block(STEPS["back"])).returncode, 0)
+    checks.true("it is told", until(lambda: f"rfc822; waiting@{HOST}" in it.mailbox()))
+    checks.true("nothing is left", until(it.is_empty, 10))
+
+
+def main():
+    checks = Checks("boot_postfix: docs/DEPLOY.md from Debian's Postfix to noticed and back, under a systemd of its own")
+    if len(sys.argv) != 2:
+        print("  skipped: python3 tests/boot_postfix.py FOLDER boots a Debian that it makes in FOLDER")
+        checks.done()
+    if lacking(TOOLS):
+        print(f"  skipped: it needs {' and '.join(lacking(TOOLS))}")
+        checks.done()
+    signal.signal(signal.SIGTERM, lambda *_: sys.exit(1))
+    with Machine(base_system(Path(sys.argv[1]).resolve())) as it:
+        it.file("/root/answers").write_text(ANSWERS)
+        failed = installed(it, "debconf") or it.inside("debconf-set-selections", "/root/answers").stdout or installed(it, "postfix") or installed(it, "iproute2")
+        checks.equal("Postfix is installed", failed, "")
+        words = ["make", "--silent", f"--old-file={program()}", "install", f"NOTICED={program()}", f"DESTDIR={it.root}", "PREFIX=/usr/local"]
+        subprocess.run(words, cwd=ROOT, stdout=subprocess.DEVNULL, check=True)
+        checks.true("the container boots", it.boot())
+        for check in (check_steps, check_passed_on, check_ends, check_against, check_back):
+            failed = checks.failed
+            check(checks, it)
+            if checks.failed > failed:
+                print(it.said("journalctl", "--no-pager", "--lines=40"))
+    checks.done()
+
+
+main()

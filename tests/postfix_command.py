@@ -17,7 +17,7 @@ from pathlib import Path
 
 sys.path.insert(0, str(Path(__file__).parent / "support"))
 from daemon_and_clients import until  # noqa: E402
-from postfix_folder import ANNOUNCEMENT, FAILED, FILES, SERVICES, Client, OwnService, Postfix, append, asked_in, heard_to_end, listed, mode_of, notice  # noqa: E402
+from postfix_folder import ANNOUNCEMENT, FAILED, FILES, SERVICES, Client, OwnService, Postfix, append, asked_in, heard, heard_to_end, listed, mode_of, notice  # noqa: E402
 from running import HOST, ROOT, Checks, Ran, run  # noqa: E402
 
 ONE = "090B8A85C9C"  # the queue id of the message `one`
@@ -202,6 +202,16 @@ def check_refusals(checks: Checks):
         checks.equal("CLEAN removes the log all the same", (it.ask("bounce", notice(1, ONE, flags=1)), it.at(f"bounce/{ONE}").exists()), (FAILED, False))
 
 
+def check_twice(checks: Checks):
+    """A flush that is asked twice at the same time: one notice is handed in, and once its log is gone the other request is passed on."""
+    with Postfix() as it:
+        own = OwnService(it.folder, "bounce")
+        it.put("one", "bounce")
+        it.server.waits["message"] = lambda: time.sleep(0.5)
+        found = at_once(*2 * [lambda: it.ask("bounce", asked_in("one", "failure"))])
+        checks.equal("twice", (found, len(it.server.taken), own.asked), ([0, 0], 1, [asked_in("one", "failure")]))
+
+
 def check_no_server(checks: Checks):
     """Nobody listens where notices are handed in: appends are logged, flushes are answered -1."""
     with socket.create_server(("127.0.0.1", 0)) as found:
@@ -273,6 +283,7 @@ def check_broken_clients(checks: Checks):
         checks.equal("nothing is logged", os.listdir(it.at("bounce")), [])
         checks.true("lines on standard error", until(lambda: sum(line.startswith("client not served: no list was read: ") for line in it.lines()) == 6))
         with Client(it.folder, "bounce") as client:
+            heard(client.peer)
             client.peer.sendall(request)
         checks.true("a client that leaves is served all the same", until(lambda: it.at(f"bounce/{ONE}").exists()))
         for cut in range(3):
@@ -357,6 +368,13 @@ def check_start(checks: Checks):
         it.at("private/noticed-trace").unlink()
         it.at("private/noticed-trace").mkdir()
         checks.equal("a folder in the way", run(["postfix", str(it.folder), HOST, it.server.address]), Ran(b"", f"fault 61\n{it.folder}/private: Is a directory (os error 21)\n".encode(), 1))
+    for closed in ("0<&-", "1>&-", "2>&-", "0<&- 1>&- 2>&-"):
+        with Postfix(start=False) as it:
+            it.start(closed=closed)
+            it.put("one", "bounce")
+            checks.equal(f"with {closed}", (it.ask("bounce", append(ONE)), it.ask("bounce", asked_in("one", "failure")), len(it.server.taken)), (0, 0, 1))
+            links = [os.readlink(f"/proc/{it.running.pid}/fd/{number}") for number in range(3)]
+            checks.true(f"with {closed}: no socket is a standard stream: {links}", not any(link.startswith("socket:") for link in links))
     with tempfile.TemporaryDirectory(prefix="noticed-") as room:
         checks.equal("no private/", run(["postfix", room, HOST, "127.0.0.1:25"]), Ran(b"", f"fault 61\n{room}/private: No such file or directory (os error 2)\n".encode(), 1))
 
@@ -420,7 +438,7 @@ def main():
     silent = Silent()
     for check in (
         check_append_and_flush, check_modes, check_hashing, check_kinds, check_expired_with_bounces, check_marks, check_all_messages,
-        check_refusals, check_no_server, check_passed_on, check_versions, check_broken_clients, check_locked_log, check_full_disk, check_kills,
+        check_refusals, check_twice, check_no_server, check_passed_on, check_versions, check_broken_clients, check_locked_log, check_full_disk, check_kills,
         check_start, check_at_once, silent.check,
     ):  # fmt: skip
         check(checks)

@@ -10,7 +10,7 @@ import tempfile
 import threading
 from pathlib import Path
 
-from daemon_and_clients import PATIENCE, until
+from daemon_and_clients import PATIENCE, is_listened_on, until
 from running import HOST, ROOT, program
 
 FILES = ROOT / "tests/postfix/files"
@@ -206,15 +206,13 @@ class Postfix:
         self.server.close()
         self.room.cleanup()
 
-    def start(self, umask: int = 0o027, wait: bool = True):
-        """Starts the program, and waits until it says that it listens."""
-        before = self.lines()
-        words = [program(), "postfix", *self.options, str(self.folder), HOST, self.hand_in]
+    def start(self, umask: int = 0o027, closed: str = ""):
+        """Starts the program, with streams that a shell closes, and waits until it listens, or ends."""
+        words = ["sh", "-c", f'exec "$@" {closed}', "sh", program(), "postfix", *self.options, str(self.folder), HOST, self.hand_in]
         with open(self.errors, "ab") as errors:
             self.running = subprocess.Popen(words, stdin=subprocess.DEVNULL, stdout=errors, stderr=errors, umask=umask, preexec_fn=self.limits)
-        if wait and not until(lambda: len(self.lines()) > len(before) or self.running.poll() is not None):
+        if not until(lambda: is_listened_on(self.at("private/noticed-trace")) or self.running.poll() is not None):
             raise TimeoutError(self.lines())
-        return self
 
     def kill(self, how: int = signal.SIGKILL) -> int:
         """Ends the program by a signal: what it ended by."""

@@ -106,6 +106,7 @@ WRONG = {
 # the options of `postfix`, with a value that is right
 POSTFIX_OPTIONS = {"--postfix": "3.7", "--lifetime": "1", "--double-bounce": "a@b", "--hash-queue-names": "defer", "--hash-queue-depth": "1"}
 NO_VERSIONS = ["", "3", "3.", "3.5", "3.11", "3.07", "3.7.11", "v3.7", "3.7 ", "4.0"]
+NO_NAMES = ["defer;bounce", "../defer", "a_b", "defer\n", "d\u00e9fer", "x" * 101, "defer, " + "x" * 101]
 # wrong as HAND-IN: no IP address with a port
 NO_HAND_INS = [
     "", "25", ":25", "127.0.0.1", "127.0.0.1:", "127.0.0.1:x", "127.0.0.1:-1", "127.0.0.1:+1", "127.0.0.1:65536", "127.0.0.1:25 ", " 127.0.0.1:25",
@@ -168,7 +169,7 @@ def wrong_of_postfix() -> dict:
         wrong[f"postfix with {option} twice"] = ["postfix", option, value, option, value, *place]
         wrong[f"postfix with {option} without a value"] = ["postfix", option, *place]
         wrong[f"postfix with {option} alone"] = ["postfix", option, value]
-    for option, values in (("--postfix", NO_VERSIONS), ("--lifetime", NO_LIFETIMES), ("--hash-queue-depth", NO_DEPTHS)):
+    for option, values in (("--postfix", NO_VERSIONS), ("--lifetime", NO_LIFETIMES), ("--hash-queue-depth", NO_DEPTHS), ("--hash-queue-names", NO_NAMES)):
         wrong |= {f"postfix with {option} {it!r}": ["postfix", option, it, *place] for it in values}
     return wrong
 

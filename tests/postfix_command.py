@@ -133,6 +133,18 @@ def check_expired_with_bounces(checks: Checks):
         checks.equal("taken", (it.ask("defer", asked_in("mixed", "expired")), [log.exists() for log in logs]), (0, [False, False]))
         told = [re.findall(rb"Final-Recipient: rfc822; (\w+)", text) for _, _, text in it.server.taken]
         checks.true(f"both are told, the bounces first: {told}", len(told) == 2 and b"later" in told[1] and b"later" not in told[0])
+        own = OwnService(it.folder, "bounce", status=b"status\x00%d\0\0" % FAILED)
+        for status, wanted in ((FAILED, (FAILED, 2, True)), (0, (0, 3, False))):
+            own.status, own.asked = b"status\x00%d\0\0" % status, []
+            it.put("mixed", "bounce", "defer")
+            logs[0].write_bytes(b"damaged\n\n")
+            found = (it.ask("defer", asked_in("mixed", "expired")), len(it.server.taken), logs[1].exists())
+            checks.equal(f"bounces that can't be said, and bounce(8) answers {status}", (found, own.asked), (wanted, [asked_in("mixed", "expired")]))
+        it.put("mixed", "defer")
+        logs[0].write_bytes(b"")
+        own.asked = []
+        found = (it.ask("defer", asked_in("mixed", "expired")), len(it.server.taken), logs[1].exists(), own.asked)
+        checks.equal("an empty bounce log counts as none", found, (0, 4, False, []))
 
 
 def check_marks(checks: Checks):

@@ -5,6 +5,7 @@ programs do, a mail server that refuses at each step, and services of its own th
 clients that say nothing or no request."""
 import fcntl
 import os
+import random
 import re
 import resource
 import signal
@@ -27,6 +28,7 @@ PASSED_ON = {"utf8", "utf8-sender", "later-utf8", "asked-before", "long-address"
 STEPS = ("connect", "EHLO", "MAIL", "RCPT", "DATA", "message")
 THREADS = 32  # clients of one service that are served at once
 SECONDS_FOR_CLIENT, SECONDS_FOR_LOCK = 60, 20
+MESSAGES = 150  # that are told of while the program is killed
 WRONG_IDS = ("../bounce/A1", "A/B", ".", "..", "A1.", "", "A" * 33, "A1 ", "Ä1")
 
 
@@ -364,6 +366,55 @@ def check_kills(checks: Checks):
             checks.equal(f"{how.name}: asked again", (it.ask("bounce", asked_in("one", "failure")), len(it.server.taken) - taken, it.at(f"bounce/{ONE}").exists()), (0, 1, False))
 
 
+def asked_until_done(it: Postfix, message: str):
+    """Logs a recipient of a message and asks for its notice, as Postfix's programs do: each until it is answered 0, and the notice as
+    long as the log is there."""
+    log, is_logged = it.at(f"bounce/{message}"), False
+    while not is_logged or log.exists():
+        try:
+            status = it.ask("bounce", notice(1, message) if is_logged else append(message, f"{message}@example.org"))
+        except OSError:
+            time.sleep(0.01)
+            continue
+        is_logged = is_logged or status == 0
+
+
+def check_kills_at_work(checks: Checks):
+    """Killed again and again while it works: each message's sender is told, at least once, and of its recipients alone."""
+    messages = [f"A{number}" for number in range(MESSAGES)]
+    with Postfix() as it:
+        it.at("deferred/A").mkdir()
+        for message in messages:
+            it.at(f"deferred/A/{message}").write_bytes((FILES / "one/queue").read_bytes())
+        going, waiting = [True], iter(messages)
+        lock = threading.Lock()
+
+        def work():
+            while True:
+                with lock:
+                    message = next(waiting, None)
+                if message is None:
+                    return
+                asked_until_done(it, message)
+
+        def kill():
+            while going:
+                time.sleep(random.uniform(0, 0.06))
+                it.kill()
+                it.start()
+
+        killing = threading.Thread(target=kill)
+        killing.start()
+        at_once(*16 * [work])
+        going.clear()
+        killing.join()
+        told = [re.findall(rb"Final-Recipient: rfc822; (\w+)@", text) for _, _, text in it.server.taken]
+        print(f"  {MESSAGES} messages, {len(it.lines())} starts and notices, {len(told)} told")
+        checks.equal("each is told", sorted({name.decode() for names in told for name in names}), sorted(messages))
+        checks.true("and only of its own recipient", all(len(set(names)) == 1 for names in told))
+        checks.equal("no log is left", os.listdir(it.at("bounce")), [])
+
+
 def check_start(checks: Checks):
     """What a start finds in the folder: a second process doesn't begin, what stands at a socket's name gives way but for a folder."""
     with Postfix() as it:
@@ -450,7 +501,7 @@ def main():
     silent = Silent()
     for check in (
         check_append_and_flush, check_modes, check_hashing, check_kinds, check_expired_with_bounces, check_marks, check_all_messages,
-        check_refusals, check_twice, check_no_server, check_passed_on, check_versions, check_broken_clients, check_locked_log, check_full_disk, check_kills,
+        check_refusals, check_twice, check_no_server, check_passed_on, check_versions, check_broken_clients, check_locked_log, check_full_disk, check_kills, check_kills_at_work,
         check_start, check_at_once, silent.check,
     ):  # fmt: skip
         check(checks)

@@ -493,18 +493,19 @@ class Silent:
         for text, seconds in self.ended:
             checks.true(f"after {seconds} seconds", text == ANNOUNCEMENT and SECONDS_FOR_CLIENT - 2 < seconds < SECONDS_FOR_CLIENT + 20)
         checks.equal("nothing is logged", os.listdir(self.postfix.at("bounce")), [])
-        self.postfix.kill()
 
 
 def main():
     checks = Checks("postfix_command: requests of Postfix's programs, their logs and their notices, in a queue folder without a Postfix")
     silent = Silent()
-    for check in (
+    checking = (
         check_append_and_flush, check_modes, check_hashing, check_kinds, check_expired_with_bounces, check_marks, check_all_messages,
         check_refusals, check_twice, check_no_server, check_passed_on, check_versions, check_broken_clients, check_locked_log, check_full_disk, check_kills, check_kills_at_work,
         check_start, check_at_once, silent.check,
-    ):  # fmt: skip
-        check(checks)
+    )  # fmt: skip
+    with silent.postfix:
+        for check in checking:
+            check(checks)
     checks.done()
 
 

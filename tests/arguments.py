@@ -6,7 +6,7 @@ from pathlib import Path
 sys.path.insert(0, str(Path(__file__).parent / "support"))
 from running import EXAMPLES, Checks, Ran, empty_outbox, run  # noqa: E402
 
-USAGE = b"usage: noticed batch HOST | serve [[--journal FOLDER] --outbox PATH] [--idle SECONDS] [--end-on-fault] [--log] SOCKET HOST AGENTS MAX-USE | stop SOCKET | send SOCKET | journal FOLDER | postfix [--postfix VERSION] [--lifetime SECONDS] [--double-bounce ADDRESS] [--hash-queue-names NAMES] [--hash-queue-depth DEPTH] QUEUE-FOLDER HOST HAND-IN\n"
+USAGE = b"usage: noticed batch HOST | serve [[--journal FOLDER] --outbox PATH] [--idle SECONDS] [--end-on-fault] [--log] SOCKET HOST AGENTS MAX-USE | stop SOCKET | send SOCKET | journal FOLDER | postfix [--postfix VERSION] [--lifetime SECONDS] [--double-bounce ADDRESS] [--hash-queue-names NAMES] [--hash-queue-depth DEPTH] [--inherited] QUEUE-FOLDER HOST HAND-IN\n"
 PATH = b"the path of the socket must have 1 to 107 bytes\n"
 HOST = "mx.example.net"
 SOCKET = "/nonexistent/noticed.socket"
@@ -99,6 +99,8 @@ WRONG = {
     "postfix with an option after its folder": ["postfix", QUEUE, "--lifetime", "1", HOST, HAND_IN],
     "postfix with an option at its end": ["postfix", QUEUE, HOST, HAND_IN, "--lifetime", "1"],
     "postfix with an option in one word": ["postfix", "--lifetime=1", QUEUE, HOST, HAND_IN],
+    "postfix with --inherited twice": ["postfix", "--inherited", "--inherited", QUEUE, HOST, HAND_IN],
+    "postfix with --inherited and a value": ["postfix", "--inherited", "yes", QUEUE, HOST, HAND_IN],
     "postfix with an option in capitals": ["postfix", "--LIFETIME", "1", QUEUE, HOST, HAND_IN],
     "POSTFIX in capitals": ["POSTFIX", QUEUE, HOST, HAND_IN],
 }
@@ -153,6 +155,8 @@ RIGHT_OF_POSTFIX = {
     "a list of hashed queues": ["--hash-queue-names", "deferred, defer\tbounce", QUEUE, HOST, HAND_IN],
     "an address without a domain": ["--double-bounce", "double-bounce", QUEUE, HOST, HAND_IN],
     "a host like an option": [QUEUE, "--postfix", HAND_IN],
+    "inherited sockets": ["--inherited", QUEUE, HOST, HAND_IN],
+    "inherited sockets before another option": ["--inherited", "--lifetime", "1", QUEUE, HOST, HAND_IN],
     **{f"version {it}": ["--postfix", it, QUEUE, HOST, HAND_IN] for it in ("3.6", "3.7", "3.8", "3.9", "3.10")},
     "all options": [*(word for it in POSTFIX_OPTIONS.items() for word in it), QUEUE, HOST, HAND_IN],
 }

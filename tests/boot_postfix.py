@@ -118,6 +118,21 @@ def check_ends(checks: Checks, it: Machine):
     checks.true("nothing is left", until(it.is_empty, 10))
 
 
+def check_kept_sockets(checks: Checks, it: Machine):
+    """With sockets that systemd keeps, a message that is sent while the service is gone is told without a deferral."""
+    it.file("/etc/systemd/system/noticed-postfix.socket").write_text(deploy_block("[Socket]"))
+    it.shell("sed -i 's/ postfix --postfix/ postfix --inherited --postfix/' /etc/systemd/system/noticed-postfix.service; systemctl daemon-reload")
+    it.shell("systemctl stop noticed-postfix; systemctl enable --now noticed-postfix.socket; systemctl start noticed-postfix").check_returncode()
+    checks.equal("with sockets of systemd", it.bounces("kept")[0], it.main_process())
+    it.run("systemctl", "kill", "--signal=KILL", "noticed-postfix")
+    checks.equal("after a kill", it.bounces("keptkilled")[0], it.main_process())
+    deferred = it.said("sh", "-c", "journalctl --identifier=postfix/local --output=cat | grep 'to=<keptkilled@' | grep -c status=deferred || true")
+    checks.equal("it wasn't deferred", deferred, "0")
+    modes = it.said("stat", "--format=%A %U", f"{QUEUE}/private", *(f"{QUEUE}/private/noticed-{name}" for name in ("bounce", "defer", "trace")))
+    checks.equal("modes", modes.splitlines(), ["drwx------ postfix", *3 * ["srw-rw-rw- postfix"]])
+    checks.true("nothing is left", until(it.is_empty, 10))
+
+
 def check_against(checks: Checks, it: Machine):
     """The entry of master.cf takes a notice whatever main.cf says; one to nobody is dropped."""
     it.run("postconf", "-e", *AGAINST).check_returncode()
@@ -156,7 +171,7 @@ def main():
         words = ["make", "--silent", f"--old-file={program()}", "install", f"NOTICED={program()}", f"DESTDIR={it.root}", "PREFIX=/usr/local"]
         subprocess.run(words, cwd=ROOT, stdout=subprocess.DEVNULL, check=True)
         checks.true("the container boots", it.boot())
-        for check in (check_steps, check_passed_on, check_ends, check_against, check_back):
+        for check in (check_steps, check_passed_on, check_ends, check_kept_sockets, check_against, check_back):
             failed = checks.failed
             check(checks, it)
             if checks.failed > failed:

@@ -53,7 +53,7 @@ def at_once(*calls) -> list:
 def check_append_and_flush(checks: Checks):
     """An append, the flush, and the notice that comes of them."""
     with Postfix() as it:
-        checks.equal("its first line", it.lines(), [f"listening in {it.folder} for {HOST}"])
+        checks.true("its first line", until(lambda: it.lines() == [f"listening in {it.folder} for {HOST}"]))
         it.put("one")
         checks.equal("an append", it.ask("bounce", append(ONE, offset=6)), 0)
         record = it.at(f"bounce/{ONE}").read_text()
@@ -415,6 +415,45 @@ def check_kills_at_work(checks: Checks):
         checks.equal("no log is left", os.listdir(it.at("bounce")), [])
 
 
+def check_inherited(checks: Checks):
+    """Sockets that the program inherits: who asks while none runs is served by the next; sockets in another order, or none, aren't taken."""
+    with Postfix("--inherited", start=False) as it:
+        it.put("one")
+        listening = [socket.socket(socket.AF_UNIX) for _ in SERVICES]
+        for one, name in zip(listening, SERVICES):
+            one.bind(str(it.at(f"private/noticed-{name}")))
+            one.listen(100)
+        high = [fcntl.fcntl(one.fileno(), fcntl.F_DUPFD, 100) for one in listening]
+        order = [0, 1, 2]
+
+        def give():
+            for number, place in enumerate(order):
+                os.dup2(high[place], 3 + number)
+
+        words = ["postfix", "--inherited", str(it.folder), HOST, it.server.address]
+        checks.equal("without sockets", run(words).notes.decode().splitlines()[:1], ["fault 61"])
+        order[:] = [1, 0, 2]
+        ended = run(words, preexec_fn=give, close_fds=False)
+        checks.equal("in another order", (ended.status, ended.notes.decode().splitlines()[0]), (1, "fault 61"))
+        order[:] = [0, 1, 2]
+        it.limits, it.close_fds = give, False
+        for number in range(3):
+            asked = []
+            asking = threading.Thread(target=lambda found=asked: found.extend(it.ask(name, append(ONE)) for name in SERVICES))
+            asking.start()
+            time.sleep(0.2)
+            checks.equal("who asks while none runs waits", asked, [])
+            it.start()
+            asking.join()
+            checks.equal("and is served by the next", asked, [0, 0, 0])
+            it.kill()
+        checks.equal("its logs", it.at(f"bounce/{ONE}").read_text().count("\nrecipient="), 3)
+        for one in listening:
+            one.close()
+        for number in high:
+            os.close(number)
+
+
 def check_start(checks: Checks):
     """What a start finds in the folder: a second process doesn't begin, what stands at a socket's name gives way but for a folder."""
     with Postfix() as it:
@@ -500,7 +539,7 @@ def main():
     silent = Silent()
     checking = (
         check_append_and_flush, check_modes, check_hashing, check_kinds, check_expired_with_bounces, check_marks, check_all_messages,
-        check_refusals, check_twice, check_no_server, check_passed_on, check_versions, check_broken_clients, check_locked_log, check_full_disk, check_kills, check_kills_at_work,
+        check_refusals, check_twice, check_no_server, check_passed_on, check_versions, check_broken_clients, check_locked_log, check_full_disk, check_kills, check_kills_at_work, check_inherited,
         check_start, check_at_once, silent.check,
     )  # fmt: skip
     with silent.postfix:

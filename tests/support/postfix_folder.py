@@ -189,7 +189,7 @@ class Postfix:
     def __init__(self, *options: str, hand_in: str = "", folder: Path | None = None, start: bool = True):
         self.room = tempfile.TemporaryDirectory(prefix="noticed-")
         self.folder = folder or Path(self.room.name) / "queue"
-        self.server, self.running, self.limits = MailServer(), None, None
+        self.server, self.running, self.limits, self.close_fds = MailServer(), None, None, True
         self.options, self.hand_in = options, hand_in or self.server.address
         self.errors = Path(self.room.name) / "errors"
         if not folder:
@@ -210,7 +210,7 @@ class Postfix:
         """Starts the program, with streams that a shell closes, and waits until it listens, or ends."""
         words = ["sh", "-c", f'exec "$@" {closed}', "sh", program(), "postfix", *self.options, str(self.folder), HOST, self.hand_in]
         with open(self.errors, "ab") as errors:
-            self.running = subprocess.Popen(words, stdin=subprocess.DEVNULL, stdout=errors, stderr=errors, umask=umask, preexec_fn=self.limits)
+            self.running = subprocess.Popen(words, stdin=subprocess.DEVNULL, stdout=errors, stderr=errors, umask=umask, preexec_fn=self.limits, close_fds=self.close_fds)
         if not until(lambda: is_listened_on(self.at("private/noticed-trace")) or self.running.poll() is not None):
             raise TimeoutError(self.lines())
 

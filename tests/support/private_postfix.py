@@ -176,11 +176,24 @@ class Mailbox(upstream.Server):
         self.server_close()
 
 
+# Gives a program the descriptors that its first word names, as 3 and what follows: as systemd gives a service its sockets.
+HANDS_ON = """
+import fcntl, os, sys
+given = [fcntl.fcntl(int(it), fcntl.F_DUPFD, 100) for it in sys.argv[1].split(",")]
+for at, descriptor in enumerate(given, 3):
+    os.dup2(descriptor, at)
+    os.close(descriptor)
+os.execvp(sys.argv[2], sys.argv[2:])
+"""
+
+
 class Front:
-    """A program that serves in place of bounce(8): `PROGRAM postfix [OPTION].. QUEUE-FOLDER HOST HAND-IN`, run as Postfix's user."""
+    """A program that serves in place of bounce(8): `PROGRAM postfix [OPTION].. QUEUE-FOLDER HOST HAND-IN`, run as Postfix's user. It
+    inherits its sockets where it can (`--inherited`): so they take clients also while it is started anew."""
 
     def __init__(self, program: str, room: Path, hand_in: str):
         self.said, self.running, self.options = room / "front.log", None, []
+        self.sockets = []
         self.queue, self.hand_in = room / "queue", hand_in
         self.program = room / Path(program).name
         if not self.program.exists():
@@ -190,12 +203,34 @@ class Front:
     def start(self):
         """Starts it, and waits until it listens."""
         before = self.times_listening()
+        held, inherited = [], []
+        if self.inherits():
+            self.sockets = self.sockets or [self.listens(f"noticed-{name}") for name in LOGS]
+            descriptors = [it.fileno() for it in self.sockets]
+            held, inherited = [sys.executable, "-c", HANDS_ON, ",".join(map(str, descriptors))], ["--inherited"]
         drop = ["setpriv", "--reuid=postfix", "--regid=postfix", "--clear-groups", "--pdeathsig=KILL", "--"]
         with self.said.open("ab") as out:
-            words = [*drop, str(self.program), "postfix", *self.options, str(self.queue), HOST, self.hand_in]
-            self.running = subprocess.Popen(words, cwd="/", stdin=subprocess.DEVNULL, stdout=out, stderr=out)
+            words = [*held, *drop, str(self.program), "postfix", *self.options, *inherited, str(self.queue), HOST, self.hand_in]
+            kept = [it.fileno() for it in self.sockets]
+            self.running = subprocess.Popen(words, cwd="/", stdin=subprocess.DEVNULL, stdout=out, stderr=out, pass_fds=kept)
         if not comes_true(lambda: self.times_listening() > before or self.running.poll() is not None) or self.running.poll() is not None:
             raise RuntimeError(f"{self.program} doesn't listen: {self.said.read_text()[-2000:]}")
+
+    def inherits(self) -> bool:
+        """Whether the program takes sockets that were made for it."""
+        said = subprocess.run([str(self.program), "postfix"], capture_output=True, check=False, timeout=PATIENCE)
+        return b"--inherited" in said.stderr
+
+    def listens(self, name: str) -> socket.socket:
+        """A socket in the folder of Postfix's own ones, as a unit of systemd makes it."""
+        path = self.queue / "private" / name
+        path.unlink(missing_ok=True)
+        listening = socket.socket(socket.AF_UNIX, socket.SOCK_STREAM)
+        listening.bind(str(path))
+        shutil.chown(path, "postfix")
+        path.chmod(0o666)
+        listening.listen(socket.SOMAXCONN)
+        return listening
 
     def times_listening(self) -> int:
         return self.said.read_bytes().count(b"listening in ") if self.said.exists() else 0

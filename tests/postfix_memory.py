@@ -1,0 +1,59 @@
+#!/usr/bin/env python3
+"""Refuses `noticed postfix` one growth of its memory after another, from the moment at which it listens: it goes on, what isn't
+carried out is answered -1 or not at all and leaves the log as it was, and asked again it is carried out. So no recipient is lost."""
+import os
+import sys
+import tempfile
+from pathlib import Path
+
+sys.path.insert(0, str(Path(__file__).parent / "support"))
+from postfix_folder import HOST, Postfix, asked_in  # noqa: E402
+from preloading import built  # noqa: E402
+from running import Checks  # noqa: E402
+
+FAILED = 4294967295
+MOST = 400  # growths, of which no two requests have so many
+# A request that is answered so wasn't carried out, or its status couldn't be said.
+ANSWERS = (0, FAILED, None)
+
+
+def asked_twice(it: Postfix) -> tuple:
+    """The answers to a request for a notice, which is asked until it is carried out, and what is left of the log each time."""
+    request, log = asked_in("one", "failure"), it.at(f"bounce/{it.put('one', 'bounce')}")
+    whole, found = log.read_bytes(), []
+    while log.exists() and len(found) < 3:
+        found.append((it.ask("bounce", request), log.read_bytes() if log.exists() else None))
+    return whole, found
+
+
+def check_refused(checks: Checks, library: Path, number: int) -> bool:
+    """Refuses the growth of this number: whether none was refused."""
+    with Postfix(start=False) as it:
+        os.environ.update(LD_PRELOAD=str(library), REFUSE=str(number), REFUSE_AFTER=f"listening in {it.folder} for {HOST}\n")
+        try:
+            it.start()
+        finally:
+            for name in ("LD_PRELOAD", "REFUSE", "REFUSE_AFTER"):
+                del os.environ[name]
+        whole, found = asked_twice(it)
+        checks.true(f"growth {number}: answers", all(status in ANSWERS for status, _ in found))
+        checks.true(f"growth {number}: the log stays whole, or is gone", all(left in (whole, None) for _, left in found))
+        checks.equal(f"growth {number}: how often it is asked, and told", (len(found) in (1, 2), len(it.server.taken) in (1, 2), it.running.poll()), (True, True, None))
+        return len(found) == 1 and found[0][0] == 0
+
+
+def main():
+    checks = Checks("Growths of memory are refused to noticed postfix: no recipient is lost")
+    with tempfile.TemporaryDirectory() as room:
+        library, refused = built(room, "refuse"), 0
+        for number in range(1, MOST):
+            if check_refused(checks, library, number):
+                break
+            refused = number
+        checks.true("some growths are refused, and not without end", 5 <= refused < MOST - 1)
+        print(f"  {refused} growths, each refused once")
+    checks.done()
+
+
+if __name__ == "__main__":
+    main()

@@ -205,7 +205,7 @@ def check_refusals(checks: Checks):
                 checks.equal(f"{reply} at {step}", found, (FAILED, (FILES / "one/bounce").read_bytes()))
                 checks.true(f"{reply} at {step}: nothing more is said than one transaction", len(it.server.taken) - taken <= 1)
         it.server.replies = {}
-        checks.true("lines on standard error", any("request not carried out" in line for line in it.lines()))
+        checks.true("lines on standard error", f"{ONE}: noticed-bounce: request not carried out: status 4294967295" in it.lines() and any(f"{ONE}: notice not accepted: refused: " in line for line in it.lines()))
         taken = len(it.server.taken)
         checks.equal("asked again", (it.ask("bounce", asked_in("one", "failure")), len(it.server.taken) - taken, it.at(f"bounce/{ONE}").exists()), (0, 1, False))
         it.server.replies = {"QUIT": b"550 no"}
@@ -295,7 +295,7 @@ def check_broken_clients(checks: Checks):
                 checks.equal(f"cut after {cut} bytes: what it is said", heard_to_end(client.peer), ANNOUNCEMENT)
         checks.equal("too long a request", it.ask("bounce", append(ONE, text="5" * 70_000)), None)
         checks.equal("nothing is logged", os.listdir(it.at("bounce")), [])
-        checks.true("lines on standard error", until(lambda: sum(line.startswith("client not served: no list was read: ") for line in it.lines()) == 6))
+        checks.true("lines on standard error", until(lambda: sum(line.startswith("noticed-bounce: client not served: no list was read: ") for line in it.lines()) == 6))
         with Client(it.folder, "bounce") as client:
             heard(client.peer)
             client.peer.sendall(request)

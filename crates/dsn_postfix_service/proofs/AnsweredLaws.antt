@@ -10,11 +10,11 @@ use Rattle.dsn_postfix.specs.declared.postfix_request.NoticeRequest.{NoticeReque
 use Rattle.dsn_postfix.specs.declared.postfix_request.PostfixRequest.{PostfixRequest}
 use Rattle.dsn_postfix.specs.declared.postfix_request.PostfixRequest.TheVariants.{Append}
 use Rattle.dsn_postfix_service.specs.declared.requests.deed_fault.DeedFault.{DeedFault}
-use Rattle.dsn_postfix_service.specs.requests.AnsweredRequest.{IsAnswered, IsBounceLogTold, IsFlushedInTurn, ends_message, is_flush}
+use Rattle.dsn_postfix_service.specs.requests.AnsweredRequest.{IsAnswered, IsBounceLogTold, IsFlushedInTurn, bounce_serial, ends_message, is_flush}
 use Rattle.dsn_postfix_service.specs.requests.AnsweredRequest as answered
 use Rattle.dsn_postfix_service.specs.requests.CarriedOut.{IsCarriedOut, queue_id_of}
 use Rattle.dsn_postfix_service.specs.requests.Deed.{Answer, Appended, Deed, HandedIn, LogRead, LogReleased, LogRemoved, LogSought, MarkedDone, MessageRead, PassedOn}
-use Rattle.dsn_postfix_service.specs.requests.RequestLaws.{HandsInInTurn, HandsInOnce, IsRemovedAfter, IsRemovedInTurn, IsToldFirst, StandsOrIsPassedOn, hand_ins}
+use Rattle.dsn_postfix_service.specs.requests.RequestLaws.{HandsInInTurn, HandsInOnce, IsRemovedAfter, IsSerialOf, IsRemovedInTurn, IsToldFirst, StandsOrIsPassedOn, hand_ins}
 use Rattle.dsn_postfix_service.specs.requests.RequestStatus.{RequestAnswer, carried_out, is_carried_out, not_carried_out}
 use Rattle.dsn_postfix_service.specs.requests.ServiceSettings.{SettingsSaid}
 use Rattle.dsn_postfix_service.proofs.CarriedOutLaws.{answered_append_stands, first_or, handed_in_once, later, none_once, not_zero, nothing_after, past_block, removed_only_after, status_is, told_or_left}
@@ -66,13 +66,13 @@ told_in_turn : (settings : SettingsSaid) (request : PostfixRequest) (notice : No
 told_in_turn settings request notice bytes moment serial answer gained deeds named asked (answered.put_off not_done first_told) zero e =
     absurd (true_is_false (ap is_carried_out (sym zero) ∙ not_done))
 told_in_turn settings request notice bytes moment serial answer gained deeds named asked (answered.in_turn first rest is first_told out) zero e =
-    let found = found_and_told settings request bytes moment serial named first rest deeds first_told (sym is ∙ e) in
+    let found = found_and_told settings request bytes moment (bounce_serial serial) named first rest deeds first_told (sym is ∙ e) in
     record {
       first = found.first;
       rest = rest;
       deeds_are = found.deeds_are;
       bounce_log = found.bounce_log;
-      told = told_or_left settings Bounce request notice bytes moment serial (Ok 0) found.first (record { asked = asked; carried_out = found.bounce_log }) refl;
+      told = told_or_left settings Bounce request notice bytes moment (bounce_serial serial) (Ok 0) found.first (record { asked = asked; carried_out = found.bounce_log }) refl;
       defer_log = subst (λ (a : RequestAnswer). IsCarriedOut settings Defer request bytes moment serial a rest) zero out;
     }
 
@@ -102,10 +102,10 @@ part_of (one ∷ first) rest (other ∷ before) after deed e =
     part_more one other first rest before after deed (ap (first_or one) e) (part_of first rest before after deed (ap later e))
 
 -- removed by a request on that log, after some deeds and before others
-removed_in_turn : (settings : SettingsSaid) (service : Service) (request : PostfixRequest) (notice : NoticeRequest) (moment serial : ℕ) (answer : RequestAnswer) (earlier own_before own_after before after later : List Deed) (log : Service) (id : List ℕ)
-    → before ≡ earlier ++ own_before → after ≡ own_after ++ later → IsRemovedAfter settings service request notice moment serial answer own_before own_after log id
+removed_in_turn : (settings : SettingsSaid) (service : Service) (request : PostfixRequest) (notice : NoticeRequest) (moment serial own_serial : ℕ) (answer : RequestAnswer) (earlier own_before own_after before after later : List Deed) (log : Service) (id : List ℕ)
+    → IsSerialOf serial own_serial → before ≡ earlier ++ own_before → after ≡ own_after ++ later → IsRemovedAfter settings service request notice moment own_serial answer own_before own_after log id
     → IsRemovedInTurn settings request notice moment serial before after log id
-removed_in_turn settings service request notice moment serial answer earlier own_before own_after before after later log id before_is after_is removed = record {
+removed_in_turn settings service request notice moment serial own_serial answer earlier own_before own_after before after later log id serial_is before_is after_is removed = record {
   answer = answer;
   earlier = earlier;
   own_before = own_before;
@@ -113,7 +113,9 @@ removed_in_turn settings service request notice moment serial answer earlier own
   later = later;
   before_is = before_is;
   after_is = after_is;
-  removed = subst (λ (own : Service). IsRemovedAfter settings own request notice moment serial answer own_before own_after log id) (sym removed.of_service) removed;
+  own_serial = own_serial;
+  serial_is = serial_is;
+  removed = subst (λ (own : Service). IsRemovedAfter settings own request notice moment own_serial answer own_before own_after log id) (sym removed.of_service) removed;
 }
 
 later_too : (settings : SettingsSaid) (request : PostfixRequest) (notice : NoticeRequest) (moment serial : ℕ) (before more rest after : List Deed) (log : Service) (id : List ℕ)
@@ -126,18 +128,20 @@ later_too settings request notice moment serial before more rest after log id is
   later = removed.later ++ rest;
   before_is = removed.before_is;
   after_is = is ∙ ap (λ (deeds : List Deed). deeds ++ rest) removed.after_is ∙ append_assoc removed.own_after removed.later rest;
+  own_serial = removed.own_serial;
+  serial_is = removed.serial_is;
   removed = removed.removed;
 }
 
-removed_by_one : (settings : SettingsSaid) (service : Service) (request : PostfixRequest) (notice : NoticeRequest) (bytes : List ℕ) (moment serial : ℕ) (answer : RequestAnswer) (own earlier own_before before after : List Deed) (log : Service) (id : List ℕ) (given : Answer)
-    → notice_asked request ≡ Some notice → IsCarriedOut settings service request bytes moment serial answer own → before ≡ earlier ++ own_before → own ≡ own_before ++ LogRemoved log id given ∷ after
+removed_by_one : (settings : SettingsSaid) (service : Service) (request : PostfixRequest) (notice : NoticeRequest) (bytes : List ℕ) (moment serial own_serial : ℕ) (answer : RequestAnswer) (own earlier own_before before after : List Deed) (log : Service) (id : List ℕ) (given : Answer)
+    → IsSerialOf serial own_serial → notice_asked request ≡ Some notice → IsCarriedOut settings service request bytes moment own_serial answer own → before ≡ earlier ++ own_before → own ≡ own_before ++ LogRemoved log id given ∷ after
     → IsRemovedInTurn settings request notice moment serial before after log id
-removed_by_one settings service request notice bytes moment serial answer own earlier own_before before after log id given asked out before_is e =
-    removed_in_turn settings service request notice moment serial answer earlier own_before after before after [] log id before_is (sym (append-nil after))
-    (removed_only_after settings service request notice bytes moment serial answer own own_before after log id given (record { asked = asked; carried_out = out }) e)
+removed_by_one settings service request notice bytes moment serial own_serial answer own earlier own_before before after log id given serial_is asked out before_is e =
+    removed_in_turn settings service request notice moment serial own_serial answer earlier own_before after before after [] log id serial_is before_is (sym (append-nil after))
+    (removed_only_after settings service request notice bytes moment own_serial answer own own_before after log id given (record { asked = asked; carried_out = out }) e)
 
 removed_from_bounce_log : (settings : SettingsSaid) (request : PostfixRequest) (notice : NoticeRequest) (bytes : List ℕ) (moment serial : ℕ) (answer : RequestAnswer) (gained before after : List Deed) (log : Service) (id : List ℕ) (given : Answer)
-    → notice_asked request ≡ Some notice → IsBounceLogTold settings request bytes moment serial answer gained → gained ≡ before ++ LogRemoved log id given ∷ after
+    → notice_asked request ≡ Some notice → IsBounceLogTold settings request bytes moment (bounce_serial serial) answer gained → gained ≡ before ++ LogRemoved log id given ∷ after
     → IsRemovedInTurn settings request notice moment serial before after log id
 removed_from_bounce_log settings request notice bytes moment serial answer gained before after log id given asked (answered.unsought why is a) e =
     let past = past_block (LogSought Bounce (queue_id_of request) (Err why) ∷ []) [] before after (LogRemoved log id given) (refl, tt) refl (sym is ∙ e) in
@@ -148,16 +152,16 @@ removed_from_bounce_log settings request notice bytes moment serial answer gaine
 removed_from_bounce_log settings request notice bytes moment serial answer gained before after log id given asked (answered.told own is out) e =
     let sought = LogSought Bounce (queue_id_of request) (Ok true) ∷ [] in
     let past = past_block sought own before after (LogRemoved log id given) (refl, tt) refl (sym is ∙ e) in
-    removed_by_one settings Bounce request notice bytes moment serial answer own sought past.more before after log id given asked out past.before_is past.rest_is
+    removed_by_one settings Bounce request notice bytes moment serial (bounce_serial serial) answer own sought past.more before after log id given (inr refl) asked out past.before_is past.rest_is
 
 removed_from_part : (settings : SettingsSaid) (service : Service) (request : PostfixRequest) (notice : NoticeRequest) (bytes : List ℕ) (moment serial : ℕ) (answer : RequestAnswer) (first rest before after : List Deed) (log : Service) (id : List ℕ) (given : Answer)
-    → notice_asked request ≡ Some notice → IsBounceLogTold settings request bytes moment serial (Ok carried_out) first → IsCarriedOut settings service request bytes moment serial answer rest
+    → notice_asked request ≡ Some notice → IsBounceLogTold settings request bytes moment (bounce_serial serial) (Ok carried_out) first → IsCarriedOut settings service request bytes moment serial answer rest
     → InPart first rest before after (LogRemoved log id given) → IsRemovedInTurn settings request notice moment serial before after log id
 removed_from_part settings service request notice bytes moment serial answer first rest before after log id given asked first_told out (in_first more is after_is) =
     later_too settings request notice moment serial before more rest after log id after_is
     (removed_from_bounce_log settings request notice bytes moment serial (Ok carried_out) first before more log id given asked first_told is)
 removed_from_part settings service request notice bytes moment serial answer first rest before after log id given asked first_told out (in_rest more is rest_is) =
-    removed_by_one settings service request notice bytes moment serial answer rest first more before after log id given asked out is rest_is
+    removed_by_one settings service request notice bytes moment serial serial answer rest first more before after log id given (inl refl) asked out is rest_is
 
 removed_in_flush : (settings : SettingsSaid) (service : Service) (request : PostfixRequest) (notice : NoticeRequest) (bytes : List ℕ) (moment serial : ℕ) (answer : RequestAnswer) (gained before after : List Deed) (log : Service) (id : List ℕ) (given : Answer)
     → notice_asked request ≡ Some notice → IsFlushedInTurn settings service request bytes moment serial answer gained → gained ≡ before ++ LogRemoved log id given ∷ after
@@ -175,7 +179,7 @@ removed_if : (ends : Bool) (settings : SettingsSaid) (service : Service) (reques
 removed_if true settings service request notice bytes moment serial answer gained before after log id given asked is e =
     removed_in_flush settings service request notice bytes moment serial answer gained before after log id given asked is e
 removed_if false settings service request notice bytes moment serial answer gained before after log id given asked is e =
-    removed_by_one settings service request notice bytes moment serial answer gained [] before before after log id given asked is refl e
+    removed_by_one settings service request notice bytes moment serial serial answer gained [] before before after log id given (inl refl) asked is refl e
 
 pub answered_removal : (settings : SettingsSaid) (service : Service) (request : PostfixRequest) (notice : NoticeRequest) (bytes : List ℕ) (moment serial : ℕ) (answer : RequestAnswer) (gained before after : List Deed) (log : Service) (id : List ℕ) (given : Answer)
     → notice_asked request ≡ Some notice → IsAnswered settings service request bytes moment serial answer gained → gained ≡ before ++ LogRemoved log id given ∷ after
@@ -207,14 +211,14 @@ flush_hands_in settings service request notice bytes moment serial answer gained
   first = hand_ins gained;
   rest = [];
   handed_are = sym (append-nil (hand_ins gained));
-  of_bounce_log = bounce_log_hands_in settings request notice bytes moment serial answer gained asked first_told;
+  of_bounce_log = bounce_log_hands_in settings request notice bytes moment (bounce_serial serial) answer gained asked first_told;
   of_own_log = inl refl;
 }
 flush_hands_in settings service request notice bytes moment serial answer gained asked (answered.in_turn first rest is first_told out) = record {
   first = hand_ins first;
   rest = hand_ins rest;
   handed_are = ap hand_ins is ∙ hand_ins-append first rest;
-  of_bounce_log = bounce_log_hands_in settings request notice bytes moment serial (Ok carried_out) first asked first_told;
+  of_bounce_log = bounce_log_hands_in settings request notice bytes moment (bounce_serial serial) (Ok carried_out) first asked first_told;
   of_own_log = hands_in_own settings service request notice bytes moment serial answer rest asked out;
 }
 
@@ -241,7 +245,7 @@ pub answered_to_nobody : (settings : SettingsSaid) (service : Service) (request 
 answered_to_nobody settings service request notice bytes moment serial answer gained asked is none =
     let handed = answered_hand_ins settings service request notice bytes moment serial answer gained asked is in
     handed.handed_are
-    ∙ (λ i. none_once settings Bounce request notice moment serial handed.first asked none handed.of_bounce_log i ++ none_once settings service request notice moment serial handed.rest asked none handed.of_own_log i)
+    ∙ (λ i. none_once settings Bounce request notice moment (bounce_serial serial) handed.first asked none handed.of_bounce_log i ++ none_once settings service request notice moment serial handed.rest asked none handed.of_own_log i)
 
 -- ---- appends
 

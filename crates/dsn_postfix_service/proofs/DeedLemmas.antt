@@ -13,7 +13,7 @@ use Rattle.dsn_postfix.specs.declared.postfix_request.NoticeRequest.{NoticeReque
 use Rattle.dsn_postfix.specs.declared.postfix_request.PostfixRequest.{PostfixRequest}
 use Rattle.dsn_postfix_service.specs.declared.hand_in.hand_in_fault.HandInFault.{HandInFault}
 use Rattle.dsn_postfix_service.specs.declared.requests.deed_fault.DeedFault.{DeedFault}
-use Rattle.dsn_postfix_service.specs.requests.AnsweredRequest.{IsBounceLogTold, IsFlushedInTurn, in_turn, told}
+use Rattle.dsn_postfix_service.specs.requests.AnsweredRequest.{bounce_serial, IsBounceLogTold, IsFlushedInTurn, in_turn, told}
 use Rattle.dsn_postfix_service.specs.requests.AppendDeeds.{IsAppended, record_bytes, tried}
 use Rattle.dsn_postfix_service.specs.requests.CarriedOut.{IsCarriedOut, queue_id_of}
 use Rattle.dsn_postfix_service.specs.requests.Deed.{Answer, Appended, Deed, HandedIn, LogReleased, LogSought, MessageRead}
@@ -270,8 +270,8 @@ carried_out_is (Ok status) e = ap (λ (n : ℕ). Ok n) (zero_is status e)
 carried_out_is (Err why) e = absurd (false_not_true e)
 
 pub flushed_in_turn : {S : Type 0} → (deeds : S → Option (List Deed)) (old between new : S) (settings : SettingsSaid) (service : Service) (request : PostfixRequest) (bytes : List ℕ) (moment serial : ℕ) (before answer : RequestAnswer)
-    → is_carried_out before ≡ true → Gains deeds old between (IsBounceLogTold settings request bytes moment serial before) → Gains deeds between new (IsCarriedOut settings service request bytes moment serial answer)
+    → is_carried_out before ≡ true → Gains deeds old between (IsBounceLogTold settings request bytes moment (bounce_serial serial) before) → Gains deeds between new (IsCarriedOut settings service request bytes moment serial answer)
     → Gains deeds old new (IsFlushedInTurn settings service request bytes moment serial answer)
 flushed_in_turn deeds old between new settings service request bytes moment serial before answer done first last =
     gains_more deeds old between new _ _ _ first last
-    (λ one two told out. in_turn one two refl (subst (λ (a : RequestAnswer). IsBounceLogTold settings request bytes moment serial a one) (carried_out_is before done) told) out)
+    (λ one two told out. in_turn one two refl (subst (λ (a : RequestAnswer). IsBounceLogTold settings request bytes moment (bounce_serial serial) a one) (carried_out_is before done) told) out)

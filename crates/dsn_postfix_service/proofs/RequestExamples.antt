@@ -138,8 +138,8 @@ warning_is_not_last : ends_message Defer (Warn (asked 0)) ≡ false
 warning_is_not_last = refl
 
 -- a flush of a log that can't be read
-unread_at : (service : Service) → IsCarriedOut settings service (Flush (asked 0)) [] 0 0 (Ok not_carried_out) (LogRead service id (Err fault.Failed) ∷ LogReleased ∷ [])
-unread_at service = record {
+unread_at : (service : Service) (serial : ℕ) → IsCarriedOut settings service (Flush (asked 0)) [] 0 serial (Ok not_carried_out) (LogRead service id (Err fault.Failed) ∷ LogReleased ∷ [])
+unread_at service serial = record {
   done = LogRead service id (Err fault.Failed) ∷ LogReleased ∷ [];
   cleaned = [];
   gained_are = refl;
@@ -160,15 +160,15 @@ bounce_log_unknown = answered.put_off refl (answered.unsought fault.Failed refl 
 
 -- there is one, which can't be read: the defer log isn't touched
 bounce_log_unread : IsAnswered settings Defer (Flush (asked 0)) [] 0 0 (Ok not_carried_out) (LogSought Bounce id (Ok true) ∷ LogRead Bounce id (Err fault.Failed) ∷ LogReleased ∷ [])
-bounce_log_unread = answered.put_off refl (answered.told (LogRead Bounce id (Err fault.Failed) ∷ LogReleased ∷ []) refl (unread_at Bounce))
+bounce_log_unread = answered.put_off refl (answered.told (LogRead Bounce id (Err fault.Failed) ∷ LogReleased ∷ []) refl (unread_at Bounce 500000))
 
 -- there is none: the defer log is read
 defer_log_unread : IsAnswered settings Defer (Flush (asked 0)) [] 0 0 (Ok not_carried_out) (LogSought Bounce id (Ok false) ∷ LogRead Defer id (Err fault.Failed) ∷ LogReleased ∷ [])
-defer_log_unread = answered.in_turn (LogSought Bounce id (Ok false) ∷ []) (LogRead Defer id (Err fault.Failed) ∷ LogReleased ∷ []) refl (answered.no_log refl refl) (unread_at Defer)
+defer_log_unread = answered.in_turn (LogSought Bounce id (Ok false) ∷ []) (LogRead Defer id (Err fault.Failed) ∷ LogReleased ∷ []) refl (answered.no_log refl refl) (unread_at Defer 0)
 
 -- a flush of the bounce log asks for no other
 bounce_log_alone : IsAnswered settings Bounce (Flush (asked 0)) [] 0 0 (Ok not_carried_out) (LogRead Bounce id (Err fault.Failed) ∷ LogReleased ∷ [])
-bounce_log_alone = unread_at Bounce
+bounce_log_alone = unread_at Bounce 0
 
 -- ---- parts
 

@@ -219,11 +219,38 @@ fn recipients_are_marked_before_the_log_is_removed(rt: HostRuntime) -> Result<()
         },
     )?;
     let all =
-        b"log B\nmessage active\nhand-in ann@example.com\nmark 031\nmark 045\nremove B\nrelease \n";
-    carried_out(&rt, &bytes, told(Some(LOG), all))?;
+        b"seek B\nlog D\nmessage active\nhand-in ann@example.com\nmark 031\nmark 045\nremove D\nrelease \n";
+    let case = Case {
+        log: Some(LOG),
+        ..flushed(None, all)
+    };
+    carried_out(&rt, &bytes, case)?;
     let unmarked =
-        b"log B\nmessage active\nhand-in ann@example.com\nmark 031\nmark 045\nrelease \nremove B\n";
-    carried_out(&rt, &bytes, failed(4, unmarked))
+        b"seek B\nlog D\nmessage active\nhand-in ann@example.com\nmark 031\nmark 045\nrelease \nremove D\n";
+    let failing = Case {
+        well: 5,
+        status: NOT_DONE,
+        lines: unmarked,
+        ..case
+    };
+    carried_out(&rt, &bytes, failing)
+}
+
+// A recipient of the defer log may have the record of one that bounced.
+#[test]
+fn recipients_of_a_bounce_log_are_not_marked(rt: HostRuntime) -> Result<(), Fail> {
+    let bytes = notice_bytes(
+        rt.alloc(),
+        Asked {
+            flags: b"2",
+            ..FLUSH
+        },
+    )?;
+    let own = b"log D\nmessage active\nhand-in ann@example.com\nmark 031\nremove D\nrelease \n";
+    let both = joined(rt.alloc(), &[BOUNCE, own.as_slice()])?;
+    carried_out(&rt, &bytes, flushed(Some(LOG), &both))?;
+    let alone = b"log B\nmessage active\nhand-in ann@example.com\nremove B\nrelease \n";
+    carried_out(&rt, &bytes, told(Some(LOG), alone))
 }
 
 #[test]

@@ -1,5 +1,5 @@
 -- What is done for a request, and before it for the bounce log of a message that Postfix removes after it.
-use Rattle.std.specs.Prelude.{◌≡◌, ℕ, Bool, true, false, List, [], ◌∷◌, ◌++◌, Ok, Err, MatchBool}
+use Rattle.std.specs.Prelude.{◌≡◌, ℕ, ◌+◌, ◌%◌, ◌^◌, Bool, true, false, List, [], ◌∷◌, ◌++◌, Ok, Err, MatchBool}
 use Rattle.dsn_text.specs.declared.service.Service.{Service}
 use Rattle.dsn_text.specs.declared.service.Service.TheVariants.{Bounce, Defer, Trace as TraceLog}
 use Rattle.dsn_postfix.specs.declared.postfix_request.PostfixRequest.{PostfixRequest}
@@ -25,6 +25,11 @@ ends_message Bounce request = false
 ends_message Defer request = is_flush request
 ends_message TraceLog request = false
 
+-- Letters of both logs are of one kind, about one message and of one moment: so those of the bounce log have serials of
+-- their own.
+abbrev pub bounce_serial : ℕ → ℕ
+bounce_serial serial = (serial + 500000) % 2 ^ 64
+
 -- it is asked whether the message has a bounce log, and if so, the same request is carried out on that log
 pub data IsBounceLogTold (settings : SettingsSaid) (request : PostfixRequest) (bytes : List ℕ) (moment serial : ℕ)
     (answer : RequestAnswer) (gained : List Deed) : Type 0 where
@@ -39,10 +44,10 @@ pub data IsBounceLogTold (settings : SettingsSaid) (request : PostfixRequest) (b
 -- the bounce log is told first; unless that is answered 0 the log of the service is left as it is, also by CLEAN
 pub data IsFlushedInTurn (settings : SettingsSaid) (service : Service) (request : PostfixRequest) (bytes : List ℕ)
     (moment serial : ℕ) (answer : RequestAnswer) (gained : List Deed) : Type 0 where
-  put_off : is_carried_out answer ≡ false → IsBounceLogTold settings request bytes moment serial answer gained
+  put_off : is_carried_out answer ≡ false → IsBounceLogTold settings request bytes moment (bounce_serial serial) answer gained
       → IsFlushedInTurn settings service request bytes moment serial answer gained
   in_turn : (first rest : List Deed) → gained ≡ first ++ rest
-      → IsBounceLogTold settings request bytes moment serial (Ok carried_out) first
+      → IsBounceLogTold settings request bytes moment (bounce_serial serial) (Ok carried_out) first
       → IsCarriedOut settings service request bytes moment serial answer rest
       → IsFlushedInTurn settings service request bytes moment serial answer gained
 

@@ -8,6 +8,7 @@ use Rattle.dsn_postfix.specs.declared.postfix_request.AppendRequest.{AppendReque
 use Rattle.dsn_postfix.specs.declared.postfix_request.NoticeRequest.{NoticeRequest}
 use Rattle.dsn_postfix.specs.declared.postfix_request.PostfixRequest.{PostfixRequest}
 use Rattle.dsn_postfix_service.specs.requests.AppendDeeds.{record_bytes}
+use Rattle.dsn_postfix_service.specs.requests.AnsweredRequest.{bounce_serial}
 use Rattle.dsn_postfix_service.specs.requests.CarriedOut.{IsCarriedOut, must_clean}
 use Rattle.dsn_postfix_service.specs.requests.Deed.{Appended, Deed, HandedIn, LogRead, LogReleased, LogRemoved, LogSought, MarkedDone, MessageRead, PassedOn}
 use Rattle.dsn_postfix_service.specs.requests.HandingIn.{AreAccepted, hand_in_of}
@@ -93,6 +94,10 @@ pub record IsLeftToPostfix (service : Service) (bytes : List ℕ) (gained : List
   pub passed_last : gained ≡ before ++ PassedOn service bytes (Ok 0) ∷ []
   pub none_handed : hand_ins gained ≡ []
 
+-- the first serial of one of a request's two logs
+abbrev pub IsSerialOf : ℕ → ℕ → Type 0
+IsSerialOf serial own = (own ≡ serial) ⊎ (own ≡ bounce_serial serial)
+
 -- Of the deeds of a request that is answered, those about the log that is removed are one request carried out on it, and it
 -- is removed as one such request removes it.
 pub record IsRemovedInTurn (settings : SettingsSaid) (request : PostfixRequest) (notice : NoticeRequest) (moment serial : ℕ)
@@ -104,7 +109,9 @@ pub record IsRemovedInTurn (settings : SettingsSaid) (request : PostfixRequest) 
   pub later : List Deed
   pub before_is : before ≡ earlier ++ own_before
   pub after_is : after ≡ own_after ++ later
-  pub removed : IsRemovedAfter settings log request notice moment serial answer own_before own_after log id
+  pub own_serial : ℕ
+  pub serial_is : IsSerialOf serial own_serial
+  pub removed : IsRemovedAfter settings log request notice moment own_serial answer own_before own_after log id
 
 -- first notices of the bounce log were handed in, if any, and then those of the service's own log
 pub record HandsInInTurn (settings : SettingsSaid) (service : Service) (request : PostfixRequest) (notice : NoticeRequest)
@@ -112,7 +119,7 @@ pub record HandsInInTurn (settings : SettingsSaid) (service : Service) (request 
   pub first : List Deed
   pub rest : List Deed
   pub handed_are : handed ≡ first ++ rest
-  pub of_bounce_log : (first ≡ []) ⊎ HandsInOnce settings Bounce request notice moment serial first
+  pub of_bounce_log : (first ≡ []) ⊎ HandsInOnce settings Bounce request notice moment (bounce_serial serial) first
   pub of_own_log : (rest ≡ []) ⊎ HandsInOnce settings service request notice moment serial rest
 
 -- First the request was carried out on the bounce log alone: all of its notices were accepted, or Postfix's own service
@@ -122,8 +129,8 @@ pub record IsToldFirst (settings : SettingsSaid) (request : PostfixRequest) (not
   pub first : List Deed
   pub rest : List Deed
   pub deeds_are : deeds ≡ first ++ rest
-  pub bounce_log : IsCarriedOut settings Bounce request bytes moment serial (Ok carried_out) first
-  pub told : AreAllTold settings Bounce request notice moment serial (hand_ins first) ⊎ IsLeftToPostfix Bounce bytes first
+  pub bounce_log : IsCarriedOut settings Bounce request bytes moment (bounce_serial serial) (Ok carried_out) first
+  pub told : AreAllTold settings Bounce request notice moment (bounce_serial serial) (hand_ins first) ⊎ IsLeftToPostfix Bounce bytes first
   pub defer_log : IsCarriedOut settings Defer request bytes moment serial (Ok carried_out) rest
 
 -- an append that is answered 0 stands in its log, or Postfix's own service answered 0 to it

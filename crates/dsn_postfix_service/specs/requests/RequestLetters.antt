@@ -1,9 +1,10 @@
 -- The letters of a request for notices, made of what was read for it, and which recipients are marked as done after them.
 use Rattle.std.specs.List.{flat_map, list_any}
 use Rattle.std.specs.Option.{is_some}
-use Rattle.std.specs.Prelude.{◌≡◌, ℕ, ◌+◌, ◌%◌, ◌^◌, nat_lt, Bool, true, List, [], ◌∷◌, ◌++◌, Option, Some, None, Result, Ok, Err, if◌then◌else◌}
+use Rattle.std.specs.Prelude.{◌≡◌, ℕ, ◌+◌, ◌%◌, ◌^◌, nat_lt, Bool, true, false, ◌&&◌, not, List, [], ◌∷◌, ◌++◌, Option, Some, None, Result, Ok, Err, if◌then◌else◌}
 use Rattle.dsn_outcome.specs.Letter.{Letter}
 use Rattle.dsn_text.specs.declared.service.Service.{Service}
+use Rattle.dsn_text.specs.declared.service.Service.TheVariants.{Bounce, Defer, Trace as TraceLog}
 use Rattle.dsn_postfix.specs.NoticePlan.{notices_of}
 use Rattle.dsn_postfix.specs.PlannedNotice.{NoticeFacts}
 use Rattle.dsn_postfix.specs.declared.cant_say.CantSay.{CantSay}
@@ -21,7 +22,7 @@ use Rattle.dsn_postfix_service.specs.declared.letters.letter_fault.LetterFault.{
 use Rattle.dsn_postfix_service.specs.declared.letters.letter_fault.LetterFault.TheVariants as fault
 use Rattle.dsn_postfix_service.specs.letters.NoticeLetter.{IsLetterOf, first_letter_fault}
 use Rattle.dsn_postfix_service.specs.letters.ReportedMessage.{MessageSaid}
-use Rattle.dsn_postfix_service.specs.requests.MailFound.{MailRead}
+use Rattle.dsn_postfix_service.specs.requests.MailFound.{MailRead, tells_of_log}
 use Rattle.dsn_postfix_service.specs.requests.RequestStatus.{has_flag}
 use Rattle.dsn_postfix_service.specs.requests.ServiceSettings.{SettingsSaid}
 use Rattle.dsn_postfix_service.specs.declared.requests.no_letters.NoLetters.{NoLetters}
@@ -125,6 +126,16 @@ places_named service (Verp notice delimiters) log = places_in_log service log
 places_named service (One notice recipient report) log = place_if_known recipient.offset
 places_named service (Trace notice) log = places_in_log service log
 
+-- Delivery agents mark the recipients of a bounce log as soon as they are logged. Another recipient of an alias may have the
+-- same record, and would count as done if it were marked for them.
+abbrev pub is_bounce_log : Service → Bool
+is_bounce_log Bounce = true
+is_bounce_log Defer = false
+is_bounce_log TraceLog = false
+
 -- they are marked as done where the request asks for that by DELRCPT
+abbrev pub marks_done : Service → PostfixRequest → NoticeRequest → Bool
+marks_done service request notice = has_flag 2 notice.flags && not (is_bounce_log service && tells_of_log request)
+
 abbrev pub places_done : Service → PostfixRequest → NoticeRequest → Option (List ℕ) → List ℕ
-places_done service request notice log = if has_flag 2 notice.flags then places_named service request log else []
+places_done service request notice log = if marks_done service request notice then places_named service request log else []

@@ -1,7 +1,7 @@
 //! Answering one request of Postfix's programs: the bounce log of a message is told before its
 //! defer log.
 ghost use Rattle.std.specs.Prelude.{◌≡◌};
-ghost use Rattle.dsn_postfix_service.specs.requests.AnsweredRequest.{IsAnswered, IsBounceLogTold, IsFlushedInTurn, ends_message, is_flush};
+ghost use Rattle.dsn_postfix_service.specs.requests.AnsweredRequest.{IsAnswered, IsBounceLogTold, IsFlushedInTurn, bounce_serial, ends_message, is_flush};
 ghost use Rattle.dsn_postfix_service.specs.requests.Gains.{Gains};
 ghost use Rattle.dsn_postfix_service.specs.requests.ServiceSettings.{settings_said_in};
 
@@ -12,6 +12,9 @@ use crate::requests::service_settings::ServiceSettings;
 use dsn_postfix::PostfixRequest;
 use dsn_text::{NoMemory, Service, Stamp};
 use std::alloc::Global;
+
+/// How far apart the serials of a request's two logs begin.
+const SERIALS_OF_LOG: u64 = 500_000;
 
 /// Whether a request flushes a log: its sender is told that delivery failed.
 fn is_flush(request: &PostfixRequest<'_>) -> bool
@@ -61,6 +64,13 @@ fn tell_bounce_log<M: MailSystem>(
     }
 }
 
+/// The first serial of a bounce log's letters, where those of another log begin with this one.
+fn bounce_serial(first_serial: u64) -> u64
+    ensures { result ≡ bounce_serial first_serial }
+{
+    first_serial.wrapping_add(SERIALS_OF_LOG)
+}
+
 /// Flushes the bounce log of a message, if it has one, and only then the log of a service.
 fn flush_in_turn<M: MailSystem>(
     alloc: Global,
@@ -82,7 +92,7 @@ fn flush_in_turn<M: MailSystem>(
         request,
         bytes,
         moment,
-        first_serial,
+        bounce_serial(first_serial),
         system,
     );
     if !is_carried_out(&told) {
@@ -114,8 +124,8 @@ fn flush_in_turn<M: MailSystem>(
 ///
 /// Before a message's defer log is flushed, its bounce log is, if it has one. Postfix removes a
 /// message whose defer log was flushed, and the recipients of a bounce log that is left then would
-/// never be told of. So the same request is carried out on the bounce log first, with the same
-/// serials: a Message-ID has the service in it. Where that isn't answered 0, this is the answer,
+/// never be told of. So the same request is carried out on the bounce log first, with serials that
+/// begin 500,000 later: the letters of both are of one kind. Where that isn't answered 0, this is the answer,
 /// and the defer log is left as it is. Where it can't be known whether there is a bounce log, the
 /// status is 4,294,967,295, and nothing is done, also with CLEAN.
 ///

@@ -33,7 +33,7 @@ impl MailFound {
 }
 
 /// Whether a request tells of a log.
-fn tells_of_log(request: &PostfixRequest<'_>) -> bool
+pub(super) fn tells_of_log(request: &PostfixRequest<'_>) -> bool
     ensures { result ≡ tells_of_log request.now }
 {
     !matches!(request, PostfixRequest::Append(_) | PostfixRequest::One(..))

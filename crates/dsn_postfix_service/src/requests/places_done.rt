@@ -4,8 +4,9 @@ ghost use Rattle.std.specs.List.{flat_map};
 ghost use Rattle.std.specs.Option.{option_map};
 ghost use Rattle.dsn_postfix.specs.files.LogEntry.{logged_entry_in};
 ghost use Rattle.dsn_postfix.specs.files.LogFile.{log_entries};
-ghost use Rattle.dsn_postfix_service.specs.requests.RequestLetters.{place_if_known, place_of_entry, places_done, places_in_log, places_named};
+ghost use Rattle.dsn_postfix_service.specs.requests.RequestLetters.{marks_done, place_if_known, place_of_entry, places_done, places_in_log, places_named};
 
+use crate::requests::mail_found::tells_of_log;
 use dsn_postfix::{LogEntry, LogReader, NoticeRequest, PostfixRequest};
 use dsn_text::Service;
 use std::alloc::{AllocError, Global};
@@ -89,6 +90,14 @@ fn places_named(
     }
 }
 
+/// Whether recipients are marked as done after a request's notices. Those of a bounce log are done
+/// already, and another recipient of an alias may have the same record.
+fn marks_done(service: Service, request: &PostfixRequest<'_>, notice: &NoticeRequest<'_>) -> bool
+    ensures { result ≡ marks_done service request.now notice.now }
+{
+    notice.flags / 2 % 2 == 1 && !(service == Service::Bounce && tells_of_log(request))
+}
+
 /// The places of the recipients that are to be marked as done.
 pub(super) fn places_done(
     alloc: Global,
@@ -100,7 +109,7 @@ pub(super) fn places_done(
     ensures { IfOk result (λ places. places.items
         ≡ places_done service request.now notice.now (option_map (λ log. log.now) log.entry)) }
 {
-    if notice.flags / 2 % 2 != 1 {
+    if !marks_done(service, request, notice) {
         return Ok(Vec::new(alloc));
     }
     places_named(alloc, service, request, log)

@@ -6,6 +6,7 @@ use std::fs::{File, Permissions};
 use std::io::{Error, ErrorKind};
 use std::os::unix::fs::{OpenOptionsExt, PermissionsExt};
 use std::os::unix::net::UnixListener;
+use std::path::Path;
 use std::{fs, io};
 
 /// The names of the sockets.
@@ -35,6 +36,17 @@ pub(crate) fn listen(
     folder: &str,
     inherits: bool,
 ) -> io::Result<(Listeners, File)> {
+    if inherits {
+        let listeners = inherited(rt, folder)?;
+        let lock = locked(rt, folder)?;
+        return Ok((listeners, lock));
+    }
+    let lock = locked(rt, folder)?;
+    Ok((made(rt, folder)?, lock))
+}
+
+/// The locked file that keeps other processes out of the folder.
+fn locked(rt: &HostRuntime, folder: &str) -> io::Result<File> {
     let path = format!(in rt.alloc(); "{folder}/private/noticed.lock")?;
     let lock = File::options()
         .write(true)
@@ -42,12 +54,7 @@ pub(crate) fn listen(
         .mode(0o600)
         .open(rt, path.as_str())?;
     lock.try_lock()?;
-    let listeners = if inherits {
-        inherited()?
-    } else {
-        made(rt, folder)?
-    };
-    Ok((listeners, lock))
+    Ok(lock)
 }
 
 /// The sockets that are made.
@@ -73,9 +80,9 @@ fn listen_at(rt: &HostRuntime, folder: &str, name: &str) -> io::Result<UnixListe
 
 /// The sockets that whoever started the process listens at, and keeps when it ends: descriptors 3 to
 /// 5, as sd_listen_fds(3) has them.
-fn inherited() -> io::Result<Listeners> {
-    // Nothing else has these descriptors: the process has opened only files so far, and the system
-    // gives each the lowest free number, which these are not where they were inherited.
+fn inherited(rt: &HostRuntime, folder: &str) -> io::Result<Listeners> {
+    // Nothing else has these descriptors: the process has opened no file so far that is still open,
+    // and no thread but this one runs.
     let (bounce, defer, trace) = unsafe {
         (
             UnixListener::from_raw_fd(3),
@@ -84,17 +91,24 @@ fn inherited() -> io::Result<Listeners> {
         )
     };
     Ok(Listeners {
-        bounce: named(bounce, BOUNCE)?,
-        defer: named(defer, DEFER)?,
-        trace: named(trace, TRACE)?,
+        bounce: at_its_path(rt, folder, bounce, BOUNCE)?,
+        defer: at_its_path(rt, folder, defer, DEFER)?,
+        trace: at_its_path(rt, folder, trace, TRACE)?,
     })
 }
 
-/// A socket whose path must end with a name: so none is taken for another, and no file for one.
-fn named(listener: UnixListener, name: &str) -> io::Result<UnixListener> {
+/// A socket, which must be the one of a name in this folder: so none is taken for another, nor that
+/// of another Postfix.
+fn at_its_path(
+    rt: &HostRuntime,
+    folder: &str,
+    listener: UnixListener,
+    name: &str,
+) -> io::Result<UnixListener> {
+    let wanted = format!(in rt.alloc(); "{folder}/private/{name}")?;
     let address = listener.local_addr()?;
     match address.as_pathname() {
-        Some(path) if path.ends_with(name) => Ok(listener),
+        Some(path) if path == Path::new(wanted.as_str()) => Ok(listener),
         _ => Err(Error::from(ErrorKind::InvalidInput)),
     }
 }

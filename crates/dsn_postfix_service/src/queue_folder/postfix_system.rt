@@ -261,13 +261,15 @@ impl MailSystem for PostfixSystem<'_> {
 
     fn mark_done(
         &mut self,
-        queue: &QueueName<'_>,
-        id: QueueId,
+        _queue: &QueueName<'_>,
+        _id: QueueId,
         place: u64,
     ) -> Result<(), DeedFault> {
-        let (rt, postfix): (&HostRuntime, &PostfixPlace<'_>) = (self.rt, self.place);
-        let path = deed(rt, PATH, path_of(rt, postfix, queue.bytes(), id))?;
-        deed(rt, path.as_str(), mark_done(rt, path.as_str(), place))
+        let rt: &HostRuntime = self.rt;
+        match &self.message {
+            Some(file) => deed(rt, "a recipient's record", mark_done(file, place)),
+            None => Err(DeedFault::Failed),
+        }
     }
 
     fn pass_on(&mut self, service: Service, request: &[u8]) -> Result<u32, DeedFault> {

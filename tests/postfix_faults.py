@@ -137,11 +137,12 @@ def killed(serves, kills: int, checks: Checks, name: str, most) -> tuple:
 
 
 def kills(checks: Checks, serves, full: bool):
-    """Killed at load: none is lost, and no more are told twice than by bounce(8) in the same test, or by a notice in hand at each kill."""
+    """Killed at load: none is lost, and few are told twice: those of the notices that were taken at a kill, of up to 32 in hand, and whose
+    log was still there. They are more than with bounce(8), of which one process is killed at a time."""
     count = 50 if full else 12
     twice, _ = killed(None, count, checks, "bounce(8)", None)
     if serves:
-        killed(serves, count, checks, "noticed", max(twice, 3 * count))
+        killed(serves, count, checks, "noticed", max(twice, 12 * count))
 
 
 def hand_in_fails(checks: Checks, serves, full: bool):

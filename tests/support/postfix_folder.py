@@ -121,7 +121,7 @@ class OwnService:
             with self.listening.accept()[0] as peer, contextlib.suppress(OSError):
                 peer.sendall(self.announcement)
                 asked = heard(peer)
-                if self.during:
+                if asked and self.during:
                     self.during()
                 self.asked.append(asked)
                 peer.sendall(self.status)

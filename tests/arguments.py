@@ -196,7 +196,7 @@ def main():
         why = "No such file or directory (os error 2)"
         checks.equal(what, run(words, given), Ran(b"", f"fault 61\n{path}: {why}\n".encode(), 1))
     for what, words in RIGHT_OF_POSTFIX.items():
-        why = "No such file or directory (os error 2)"
+        why = "Bad file descriptor (os error 9)" if "--inherited" in words else "No such file or directory (os error 2)"
         checks.equal(f"postfix with {what}", run(["postfix", *words], given), Ran(b"", f"fault 61\n{QUEUE}/private: {why}\n".encode(), 1))
     for host in ODD_HOSTS:
         checks.equal(f"batch {host[:20]}", run(["batch", host]), Ran(empty_outbox(host), b"", 0))

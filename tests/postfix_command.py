@@ -359,6 +359,7 @@ def check_kills(checks: Checks):
             asking.join()
             go.set()
             it.server.waits.clear()
+            until(lambda: it.server.taken)  # from the process that is gone
             checks.true(f"{how.name}: the log stays", it.at(f"bounce/{ONE}").exists())
             checks.equal(f"{how.name}: its sockets stay", len(list(it.at("private").iterdir())), 4)
             it.start()

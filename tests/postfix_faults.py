@@ -258,6 +258,17 @@ def append_request(queue_id: str, recipient: str, reason="host said: 550 5.1.1 n
     return attributes([("nrequest", 0), ("flags", 0), ("queue_id", queue_id), *told, *became])
 
 
+def asked_again(it, name: str, request: bytes) -> bytes:
+    """The status that a request is answered, asked again as the queue manager would: a bounce(8) that has begun before may still have no
+    cleanup service to hand a notice to."""
+    for _ in range(10):
+        status = asked_status(it, name, request)
+        if status == b"0":
+            break
+        time.sleep(0.5)
+    return status
+
+
 def damaged_queue_files(checks: Checks, serves, full: bool):
     """Damaged queue files: the service is asked for the notice of each as the queue manager would ask, answers as bounce(8) does, and goes on."""
     damages = {"cut": lambda it: it[: len(it) // 2], "cut to nothing": lambda _: b"", "zeros": lambda it: bytes(len(it))}
@@ -275,7 +286,7 @@ def damaged_queue_files(checks: Checks, serves, full: bool):
                 file = next(path for path in it.postfix.queued("deferred") if path.name == queue_id)
                 text = damage(file.read_bytes())
                 file.write_bytes(text)
-            answers = [asked_status(it, "bounce", flush_request(it_id)) for it_id in it.sent]
+            answers = [asked_again(it, "bounce", flush_request(it_id)) for it_id in it.sent]
             comes_true(lambda: len(it.mailbox.notices) >= len(damages), 15)  # noqa: B023
             found[kind] = (answers, it.told(), len(it.postfix.logs("bounce")))
             if it.postfix.front:

@@ -259,8 +259,8 @@ def append_request(queue_id: str, recipient: str, reason="host said: 550 5.1.1 n
 
 
 def asked_again(it, name: str, request: bytes) -> bytes:
-    """The status that a request is answered, asked again as the queue manager would: a bounce(8) that has begun before may still have no
-    cleanup service to hand a notice to."""
+    """The status that bounce(8) alone answers a request, asked again as the queue manager would: one that has begun before may still have
+    no cleanup service to hand a notice to."""
     for _ in range(10):
         status = asked_status(it, name, request)
         if status == b"0":
@@ -286,7 +286,8 @@ def damaged_queue_files(checks: Checks, serves, full: bool):
                 file = next(path for path in it.postfix.queued("deferred") if path.name == queue_id)
                 text = damage(file.read_bytes())
                 file.write_bytes(text)
-            answers = [asked_again(it, "bounce", flush_request(it_id)) for it_id in it.sent]
+            asks = asked_again if kind is None else asked_status  # the reference alone is asked again
+            answers = [asks(it, "bounce", flush_request(it_id)) for it_id in it.sent]
             comes_true(lambda: len(it.mailbox.notices) >= len(damages), 15)  # noqa: B023
             found[kind] = (answers, it.told(), len(it.postfix.logs("bounce")))
             if it.postfix.front:

@@ -1,13 +1,14 @@
 #!/usr/bin/env python3
-"""Refuses `noticed postfix` one growth of its memory after another, from the moment at which it listens: it goes on, what isn't
-carried out is answered -1 or not at all and leaves the log as it was, and asked again it is carried out. So no recipient is lost."""
+"""Refuses `noticed postfix` one growth of its memory after another, from the moment at which it listens, within an append and within a
+flush: it goes on, what isn't carried out is answered -1 or not at all and leaves the log as it was, and asked again it is carried out.
+So no recipient is lost."""
 import os
 import sys
 import tempfile
 from pathlib import Path
 
 sys.path.insert(0, str(Path(__file__).parent / "support"))
-from postfix_folder import HOST, Postfix, asked_in  # noqa: E402
+from postfix_folder import HOST, Postfix, append, asked_in  # noqa: E402
 from preloading import built  # noqa: E402
 from running import Checks  # noqa: E402
 
@@ -27,6 +28,24 @@ def asked_twice(it: Postfix) -> tuple:
     return whole, found
 
 
+def logged_twice(it: Postfix) -> tuple:
+    """The answers to an append, which is asked until it is carried out, and how many records there are each time."""
+    log, found = it.at("bounce/6BB87A7E6A1"), []
+    while len(found) < 3 and (not found or found[-1][0] != 0):
+        status = it.ask("bounce", append("6BB87A7E6A1"))
+        found.append((status, log.read_bytes().count(b"\nrecipient=no.bob@example.org\n") if log.exists() else 0))
+    return log.read_bytes(), found
+
+
+def check_append(checks: Checks, it: Postfix, number: int) -> bool:
+    """An append that is answered 0 stands, and one that isn't may stand whole: whether it was carried out at once."""
+    log, found = logged_twice(it)
+    checks.true(f"growth {number}: answers to an append", all(status in ANSWERS for status, _ in found) and found[-1][0] == 0)
+    checks.true(f"growth {number}: records", all(1 <= count <= at for at, (status, count) in enumerate(found, 1) if status == 0))
+    checks.true(f"growth {number}: no part of a record", log.endswith(b"\n\n") and log.count(b"\nreason=") == found[-1][1])
+    return len(found) == 1
+
+
 def check_refused(checks: Checks, library: Path, number: int) -> bool:
     """Refuses the growth of this number: whether none was refused."""
     with Postfix(start=False) as it:
@@ -36,11 +55,12 @@ def check_refused(checks: Checks, library: Path, number: int) -> bool:
         finally:
             for name in ("LD_PRELOAD", "REFUSE", "REFUSE_AFTER"):
                 del os.environ[name]
+        logged = check_append(checks, it, number)
         whole, found = asked_twice(it)
         checks.true(f"growth {number}: answers", all(status in ANSWERS for status, _ in found))
         checks.true(f"growth {number}: the log stays whole, or is gone", all(left in (whole, None) for _, left in found))
         checks.equal(f"growth {number}: how often it is asked, and told", (len(found) in (1, 2), len(it.server.taken) in (1, 2), it.running.poll()), (True, True, None))
-        return len(found) == 1 and found[0][0] == 0
+        return logged and len(found) == 1 and found[0][0] == 0
 
 
 def main():

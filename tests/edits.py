@@ -32,6 +32,8 @@ STAND_FOR = {
 # Types whose calls no contract says anything of: what they do is the system's, and a script tests it.
 TESTED = {
     ("noticed_lib", "SocketWatch"): "stop.py",
+    ("dsn_postfix_service", "Listeners"): "postfix_command.py",
+    ("dsn_postfix_service", "serve_postfix"): "postfix_command.py",
 }
 
 

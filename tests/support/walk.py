@@ -15,7 +15,7 @@ ROOT = Path(sys.argv[1] if len(sys.argv) > 1 else Path(__file__).resolve().paren
 # Where each walk begins: the functions of these names.
 BEGINNINGS = {"batch": [("", "read_all")], "daemon": [("Agent", "serve"), ("Desk", "take_one")]}
 ELSEWHERE = set("flush discard forget bye goodbye letter letters seal sealed post notice draft drop code fault refused refuse close closed open finish finished end ends hand".split())
-FUNCTION = re.compile(r"^( *)(?:pub(?:\([a-z]+\))? )?(?:const )?fn (\w+)")
+FUNCTION = re.compile(r"^( *)(?:pub(?:\([a-z]+\))? )?(?:const |unsafe )?fn (\w+)")
 IMPL = re.compile(r"^(?:impl|pub trait|trait)\b(?:<[^{]*?>)?\s+(?:[\w:]+(?:<[^{]*?>)?\s+for\s+)?(?:&\S* )?(\w+)")
 CALL = re.compile(r"(?:(\w+)::)?(?:<[^<>()]*>::)?(?:(\.)|\b)(\w+)(?:::<[^<>]*>)?\(")
 NOT_READ = ("tests", "laws", "fake_devices")

@@ -1,6 +1,7 @@
 //! What serves Postfix's programs in place of its bounce(8): the letters of the notices that its logs
 //! have, a client that hands a notice to a mail server, how one request is carried out over a trait
-//! for all that lies outside, a running Postfix as what lies outside, and how a client is served.
+//! for all that lies outside, a running Postfix as what lies outside, how a client is served, and the
+//! sockets and threads that serve all clients.
 #![tactic(auto)]
 
 mod clients;
@@ -8,6 +9,7 @@ mod hand_in;
 mod letters;
 mod queue_folder;
 mod requests;
+mod serving;
 
 pub use clients::{ClientFault, serve_client};
 pub use hand_in::{
@@ -15,11 +17,10 @@ pub use hand_in::{
     hand_in_notice, queue_id_in,
 };
 pub use letters::{LetterFault, ReportedMessage, letter_of_notice};
-pub use queue_folder::{
-    Connection, FolderHashing, PostfixPlace, PostfixSystem, ask_own_service, path_in_queue,
-};
+pub use queue_folder::{FolderHashing, PostfixPlace, ask_own_service, path_in_queue};
 pub use requests::{
     DeedFault, MailSystem, ServiceSettings, answer_request, answered_appends_stand,
     bounce_logs_are_told_first, logs_are_removed_after_acceptance, no_notice_causes_another,
     notices_are_handed_in_once,
 };
+pub use serving::{Listeners, serve_postfix};

@@ -11,10 +11,14 @@ mod own_service;
 mod postfix_place;
 mod postfix_system;
 mod queue_path;
+mod service_name;
+mod text_or_empty;
 
-pub use connection::Connection;
+pub(crate) use connection::Connection;
 pub use folder_hashing::FolderHashing;
 pub use own_service::ask_own_service;
 pub use postfix_place::PostfixPlace;
-pub use postfix_system::PostfixSystem;
+pub(crate) use postfix_system::PostfixSystem;
 pub use queue_path::path_in_queue;
+pub(crate) use service_name::socket_name;
+pub(crate) use text_or_empty::text_or_empty;

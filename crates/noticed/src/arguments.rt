@@ -1,5 +1,6 @@
 //! The arguments: which command they name, and what it is given.
-use crate::postfix_arguments::{PostfixServing, postfix_arguments};
+use crate::postfix_arguments::postfix_arguments;
+use crate::postfix_serving::PostfixServing;
 use crate::refusal::Refusal;
 use dsn_report::{Site, SiteFault};
 use noticed_lib::WatchOptions;

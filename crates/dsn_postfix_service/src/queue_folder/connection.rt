@@ -11,13 +11,13 @@ const TRIES: u32 = 1_000;
 /// A connection over a socket. A call that is interrupted is made again: one that has a time limit is
 /// interrupted where the process is stopped for a while.
 #[derive(Drop)]
-pub struct Connection<T> {
+pub(crate) struct Connection<T> {
     stream: T,
 }
 
 impl<T> Connection<T> {
     /// The connection over this socket.
-    pub fn new(stream: T) -> Connection<T> {
+    pub(crate) fn new(stream: T) -> Connection<T> {
         Connection { stream }
     }
 }

@@ -14,6 +14,8 @@ use crate::queue_folder::notice_words::{FAILURE_NOTICE, notice_kind};
 use crate::queue_folder::own_service::ask_own_service;
 use crate::queue_folder::postfix_place::PostfixPlace;
 use crate::queue_folder::queue_path::path_in_queue;
+use crate::queue_folder::service_name::service_name;
+use crate::queue_folder::text_or_empty::text_or_empty;
 use crate::requests::{DeedFault, MailSystem, queue_id_of};
 use dsn_device::Plain;
 use dsn_postfix::{PostfixRequest, QueueName};
@@ -35,7 +37,7 @@ const PATH: &str = "the path of a file";
 /// A running Postfix, for one request. It tells no deeds to contracts, since no contract can tell
 /// what a file or a socket does.
 #[derive(Drop)]
-pub struct PostfixSystem<'a> {
+pub(crate) struct PostfixSystem<'a> {
     rt: &'a HostRuntime,
     place: &'a PostfixPlace<'a>,
     /// The log that was read and is locked.
@@ -50,7 +52,7 @@ pub struct PostfixSystem<'a> {
 
 impl<'a> PostfixSystem<'a> {
     /// The Postfix at a place.
-    pub fn new(rt: &'a HostRuntime, place: &'a PostfixPlace<'a>) -> PostfixSystem<'a> {
+    pub(crate) fn new(rt: &'a HostRuntime, place: &'a PostfixPlace<'a>) -> PostfixSystem<'a> {
         PostfixSystem {
             rt,
             place,
@@ -62,17 +64,8 @@ impl<'a> PostfixSystem<'a> {
     }
 
     /// The queue id of the message that the request is about, if there was a request.
-    pub fn asked(&self) -> Option<QueueId> {
+    pub(crate) fn asked(&self) -> Option<QueueId> {
         self.asked
-    }
-}
-
-/// The name of a service, which is that of its folder and of its socket.
-fn service_name(service: Service) -> &'static str {
-    match service {
-        Service::Bounce => "bounce",
-        Service::Defer => "defer",
-        Service::Trace => "trace",
     }
 }
 
@@ -141,13 +134,8 @@ fn log_notice(rt: &HostRuntime, told: Option<QueueId>, kind: &str, reply: &Reply
     let (Some(told), Some(notice)) = (told, queue_id_in(reply.last_text())) else {
         return;
     };
-    let (told, notice) = (text_of(told.bytes()), text_of(notice.bytes()));
+    let (told, notice) = (text_or_empty(told.bytes()), text_or_empty(notice.bytes()));
     let _ = eprintln!(rt; "{told}: {kind}: {notice}");
-}
-
-/// A text of ASCII.
-fn text_of(text: &[u8]) -> &str {
-    str::from_utf8(text).unwrap_or("")
 }
 
 /// Writes the line of a notice that wasn't accepted.
@@ -155,7 +143,10 @@ fn log_refusal(rt: &HostRuntime, told: Option<QueueId>, fault: &HandInFault, rep
     let Some(told) = told else {
         return;
     };
-    let (told, reply) = (text_of(told.bytes()), text_of(reply.last_text()));
+    let (told, reply) = (
+        text_or_empty(told.bytes()),
+        text_or_empty(reply.last_text()),
+    );
     let _ = eprintln!(rt; "{told}: notice not accepted: {fault}: {reply}");
 }
 

@@ -1,15 +1,17 @@
 //! The threads that serve the programs of a Postfix.
-use crate::postfix_sockets::{BOUNCE, DEFER, TRACE, socket_name};
+use crate::clients::serve_client;
+use crate::queue_folder::{Connection, PostfixPlace, PostfixSystem, socket_name, text_or_empty};
+use crate::requests::ServiceSettings;
+use crate::serving::listeners::{Listeners, wake};
+use crate::serving::postfix_share::PostfixShare;
 use dsn_device::Plain;
 use dsn_postfix::{ListBuffer, PostfixVersion};
-use dsn_postfix_service::{Connection, PostfixPlace, PostfixSystem, ServiceSettings, serve_client};
 use dsn_text::{QueueId, Service};
-use std::os::unix::net::{UnixListener, UnixStream};
+use std::os::unix::net::UnixStream;
 use std::sync::Wait;
-use std::sync::atomic::{AtomicBool, AtomicU64, Ordering};
 use std::thread::Threads;
 use std::time::Duration;
-use std::{io, str, thread};
+use std::{io, thread};
 
 /// How many clients of one service are served at once. Others wait to be accepted.
 const WORKERS: u32 = 32;
@@ -20,72 +22,46 @@ const SECONDS_FOR_CLIENT: u64 = 60;
 /// How long a thread waits after an accept that failed, in milliseconds.
 const AFTER_FAILED_ACCEPT: u64 = 100;
 
-/// How far apart the first serials of two requests are: no request has more notices.
-const SERIALS: u64 = 1_000_000;
-
-/// The sockets at which Postfix's programs ask.
-#[derive(Drop)]
-pub(crate) struct Listeners {
-    pub(crate) bounce: UnixListener,
-    pub(crate) defer: UnixListener,
-    pub(crate) trace: UnixListener,
+/// Serves the programs of a Postfix, each on one of the threads of the service that it asks. Where a
+/// thread is refused there are fewer. It comes back only where a service has none. What it does is
+/// told on standard error. The runtime comes a second time as what may start threads and wait.
+pub fn serve_postfix<R: Threads + Wait + Sync>(
+    rt: &HostRuntime,
+    waiting: &R,
+    listeners: &Listeners,
+    place: PostfixPlace<'_>,
+    settings: ServiceSettings<'_>,
+    version: PostfixVersion,
+) {
+    let share = PostfixShare::new(place, settings, version);
+    serve_all(rt, waiting, listeners, &share);
 }
 
-/// What all threads share.
-#[derive(Drop)]
-pub(crate) struct PostfixShare<'a> {
-    pub(crate) place: PostfixPlace<'a>,
-    pub(crate) settings: ServiceSettings<'a>,
-    pub(crate) version: PostfixVersion,
-    /// The first serial of the next request's notices.
-    pub(crate) serial: AtomicU64,
-    /// Whether the run is to end, since a service has no thread.
-    pub(crate) ending: AtomicBool,
-    /// Whether the last accept failed.
-    pub(crate) accept_failed: AtomicBool,
-}
-
-/// Serves all clients, each on one of the threads of its service. Where a thread is refused there are
-/// fewer; the run ends where a service has none.
-pub(crate) fn serve_all<R: Threads + Wait + Sync>(
+/// Serves all clients.
+fn serve_all<R: Threads + Wait + Sync>(
     rt: &HostRuntime,
     waiting: &R,
     listeners: &Listeners,
     share: &PostfixShare<'_>,
-    host: &str,
 ) {
     thread::scope(thread::scope_env(), waiting, |scope| {
         for round in 0..WORKERS {
-            let bounce = scope.spawn(move || serve_each(
-                rt,
-                &listeners.bounce,
-                Service::Bounce,
-                share,
-            ));
-            let defer = scope.spawn(move || serve_each(
-                rt,
-                &listeners.defer,
-                Service::Defer,
-                share,
-            ));
-            let trace = scope.spawn(move || serve_each(
-                rt,
-                &listeners.trace,
-                Service::Trace,
-                share,
-            ));
+            let bounce = scope.spawn(move || serve_each(rt, listeners, Service::Bounce, share));
+            let defer = scope.spawn(move || serve_each(rt, listeners, Service::Defer, share));
+            let trace = scope.spawn(move || serve_each(rt, listeners, Service::Trace, share));
             if bounce.is_err() || defer.is_err() || trace.is_err() {
                 end_without(rt, share, round);
                 break;
             }
         }
-        print_start(rt, share, host);
+        print_start(rt, share);
     });
 }
 
 /// Prints that the threads listen, unless the run is to end.
-fn print_start(rt: &HostRuntime, share: &PostfixShare<'_>, host: &str) {
-    if !share.ending.load(Ordering::SeqCst) {
+fn print_start(rt: &HostRuntime, share: &PostfixShare<'_>) {
+    if !share.is_ending() {
+        let host = text_or_empty(share.settings.site.bytes());
         let _ = eprintln!(rt; "listening in {} for {host}", share.place.root);
     }
 }
@@ -94,34 +70,20 @@ fn print_start(rt: &HostRuntime, share: &PostfixShare<'_>, host: &str) {
 fn end_without(rt: &HostRuntime, share: &PostfixShare<'_>, round: u32) {
     let _ = eprintln!(rt; "a thread was refused: {round} threads a service");
     if round == 0 {
-        share.ending.store(true, Ordering::SeqCst);
+        share.end();
         wake(rt, share.place.root);
     }
 }
 
-/// Connects to each of the sockets, so that a thread that waits for a client looks up.
-fn wake(rt: &HostRuntime, folder: &str) {
-    for name in [BOUNCE, DEFER, TRACE] {
-        if let Ok(path) = format!(in rt.alloc(); "{folder}/private/{name}") {
-            let _ = UnixStream::connect(rt, path.as_str());
-        }
-    }
-}
-
-/// Serves one client after another, until the run is to end.
-fn serve_each(
-    rt: &HostRuntime,
-    listener: &UnixListener,
-    service: Service,
-    share: &PostfixShare<'_>,
-) {
-    for client in listener.incoming() {
-        if share.ending.load(Ordering::SeqCst) {
+/// Serves one client of a service after another, until the run is to end.
+fn serve_each(rt: &HostRuntime, listeners: &Listeners, service: Service, share: &PostfixShare<'_>) {
+    for client in listeners.of(service).incoming() {
+        if share.is_ending() {
             return;
         }
         match client {
             Ok(stream) => {
-                share.accept_failed.store(false, Ordering::SeqCst);
+                share.note_accept();
                 serve_one(rt, stream, service, share);
             }
             Err(error) => wait_after(rt, &error, share),
@@ -131,7 +93,7 @@ fn serve_each(
 
 /// Waits after an accept that failed. The first of a row of failures has a line.
 fn wait_after(rt: &HostRuntime, error: &io::Error, share: &PostfixShare<'_>) {
-    if !share.accept_failed.swap(true, Ordering::SeqCst) {
+    if share.note_failed_accept() {
         let _ = eprintln!(rt; "accept failed: {error}");
     }
     thread::sleep(rt, Duration::from_millis(AFTER_FAILED_ACCEPT));
@@ -152,7 +114,7 @@ fn serve_one(rt: &HostRuntime, stream: UnixStream, service: Service, share: &Pos
         service,
         &mut Plain::new(Connection::new(stream)),
         &mut ListBuffer::new(rt.alloc()),
-        share.serial.fetch_add(SERIALS, Ordering::SeqCst),
+        share.next_serial(),
         &mut system,
     );
     match served {
@@ -167,7 +129,7 @@ fn serve_one(rt: &HostRuntime, stream: UnixStream, service: Service, share: &Pos
 /// Writes the line of a request that wasn't carried out.
 fn print_unserved(rt: &HostRuntime, service: Service, asked: Option<QueueId>, status: u32) {
     let id = match &asked {
-        Some(id) => str::from_utf8(id.bytes()).unwrap_or(""),
+        Some(id) => text_or_empty(id.bytes()),
         None => "no request",
     };
     let _ = eprintln!(rt;

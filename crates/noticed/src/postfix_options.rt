@@ -1,0 +1,94 @@
+//! The options of `postfix`.
+use crate::arguments::number_of;
+use crate::refusal::Refusal;
+use dsn_postfix::PostfixVersion;
+use std::env::Args;
+
+/// How many words `postfix` has after its options.
+const WORDS: usize = 3;
+
+/// The longest time for which a delivery is tried, in seconds: a hundred days, as Postfix has it.
+const MOST_LIFETIME: u32 = 8_640_000;
+
+/// The deepest that files of a hashed queue stand.
+const MOST_DEPTH: u32 = 16;
+
+/// What the options of `postfix` ask for, if anything.
+#[derive(Drop)]
+pub(crate) struct PostfixOptions {
+    /// The version of Postfix.
+    pub(crate) version: Option<PostfixVersion>,
+    /// For how many seconds a delivery is tried.
+    pub(crate) lifetime: Option<u32>,
+    /// The sender of notices about notices.
+    pub(crate) double_bounce: Option<String>,
+    /// The names of the hashed queues.
+    pub(crate) hashed: Option<String>,
+    /// How deep their files stand.
+    pub(crate) depth: Option<u32>,
+    /// Whether the sockets are inherited.
+    pub(crate) inherits: bool,
+}
+
+impl PostfixOptions {
+    /// The options among these words, each given once at most: the words before the last three.
+    pub(crate) fn of(words: &mut Args) -> Result<PostfixOptions, Refusal> {
+        let mut options = PostfixOptions {
+            version: None,
+            lifetime: None,
+            double_bounce: None,
+            hashed: None,
+            depth: None,
+            inherits: false,
+        };
+        for _ in WORDS..words.len() {
+            if words.len() <= WORDS {
+                break;
+            }
+            let option = words.next().ok_or(Refusal::Usage)?;
+            options.take(option.as_str(), words)?;
+        }
+        Ok(options)
+    }
+
+    /// Takes one option, with its value if it has one.
+    fn take(&mut self, option: &str, words: &mut Args) -> Result<(), Refusal> {
+        match option {
+            "--postfix" if self.version.is_none() => {
+                self.version = Some(version_of(value_of(words)?.as_str())?);
+            }
+            "--lifetime" if self.lifetime.is_none() => {
+                self.lifetime = Some(number_of(&value_of(words)?, MOST_LIFETIME)?);
+            }
+            "--double-bounce" if self.double_bounce.is_none() => {
+                self.double_bounce = Some(value_of(words)?);
+            }
+            "--hash-queue-names" if self.hashed.is_none() => {
+                self.hashed = Some(value_of(words)?);
+            }
+            "--hash-queue-depth" if self.depth.is_none() => {
+                self.depth = Some(number_of(&value_of(words)?, MOST_DEPTH)?);
+            }
+            "--inherited" if !self.inherits => self.inherits = true,
+            _ => return Err(Refusal::Usage),
+        }
+        Ok(())
+    }
+}
+
+/// The value of an option.
+fn value_of(words: &mut Args) -> Result<String, Refusal> {
+    words.next().ok_or(Refusal::Usage)
+}
+
+/// The version of Postfix that a word names.
+fn version_of(word: &str) -> Result<PostfixVersion, Refusal> {
+    match word {
+        "3.6" => Ok(PostfixVersion::V3_6),
+        "3.7" => Ok(PostfixVersion::V3_7),
+        "3.8" => Ok(PostfixVersion::V3_8),
+        "3.9" => Ok(PostfixVersion::V3_9),
+        "3.10" => Ok(PostfixVersion::V3_10),
+        _ => Err(Refusal::Usage),
+    }
+}

@@ -216,6 +216,37 @@ def check_refusals(checks: Checks):
         checks.equal("CLEAN removes the log all the same", (it.ask("bounce", notice(1, ONE, flags=1)), it.at(f"bounce/{ONE}").exists()), (FAILED, False))
 
 
+def check_sessions(checks: Checks):
+    """Notices are handed in in one session, one after another. One that the server has ended, by 421 or without a word, is followed by another
+    for the same notice, and so is one that was used 100 times; one that nobody uses is ended by QUIT."""
+    hello, transaction, goodbye = [b"EHLO mx.example.net\r\n"], [b"MAIL FROM:<>\r\n", b"RCPT TO:<ann@example.com>\r\n", b"DATA\r\n"], [b"QUIT\r\n"]
+    with Postfix() as it:
+
+        def told(count=1) -> bool:
+            """Whether so many notices went well."""
+            for _ in range(count):
+                it.put("one", "bounce")
+                if it.ask("bounce", asked_in("one", "failure")) or it.at(f"bounce/{ONE}").exists():
+                    return False
+            return True
+
+        checks.equal("two notices, one session", (told(2), it.server.said), (True, [hello + 2 * transaction]))
+        checks.true("it is ended", until(lambda: it.server.said == [hello + 2 * transaction + goodbye]))
+        checks.equal("another session", (told(), it.server.said[1:]), (True, [hello + transaction]))
+        it.server.hang_up()
+        checks.equal("the server hung up", (told(), it.server.said[2:]), (True, [hello + transaction]))
+        asked = []
+        it.server.waits["MAIL"] = lambda: asked.append(it.server.replies.update({"MAIL": b"250 ok" if asked else b"421 4.3.2 closing"}))
+        checks.equal("421 in place of the next sender", (told(), it.server.said[2][-1:], it.server.said[3:]), (True, goodbye, [hello + transaction]))
+        it.server.waits, it.server.replies = {}, {}
+        checks.equal("as often as it may be used", (told(100), [len(said) for said in it.server.said[3:]]), (True, [1 + 3 * 100 + 1, 1 + 3 * 1]))
+        checks.equal("messages taken", len(it.server.taken), 2 + 1 + 1 + 1 + 100)
+        it.server.replies = {"RCPT": b"450 4.2.0 later"}
+        it.put("one", "bounce")
+        sessions = len(it.server.said)
+        checks.equal("a session in which a notice is refused", (it.ask("bounce", asked_in("one", "failure")), it.server.said[-1][-3:], len(it.server.said) - sessions), (FAILED, transaction[:2] + goodbye, 0))
+
+
 def check_twice(checks: Checks):
     """A flush that is asked twice at the same time: one notice is handed in, and once its log is gone the other request is passed on."""
     with Postfix() as it:
@@ -540,7 +571,7 @@ def main():
     silent = Silent()
     checking = (
         check_append_and_flush, check_modes, check_hashing, check_kinds, check_expired_with_bounces, check_marks, check_all_messages,
-        check_refusals, check_twice, check_no_server, check_passed_on, check_versions, check_broken_clients, check_locked_log, check_full_disk, check_kills, check_kills_at_work, check_inherited,
+        check_refusals, check_sessions, check_twice, check_no_server, check_passed_on, check_versions, check_broken_clients, check_locked_log, check_full_disk, check_kills, check_kills_at_work, check_inherited,
         check_start, check_at_once, silent.check,
     )  # fmt: skip
     with silent.postfix:

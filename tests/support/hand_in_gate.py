@@ -8,7 +8,8 @@ OPEN, AWAY, LATER, SILENT = "open", "away", "later", "silent"
 
 
 class Gate:
-    """The server, at a free port of loopback. `way` says how it behaves to connections that come from now on."""
+    """The server, at a free port of loopback. `way` says how it behaves from now on: a session that began in another way ends at its next
+    transaction."""
 
     def __init__(self, behind: int):
         self.behind, self.way, self.met = behind, OPEN, 0
@@ -30,7 +31,7 @@ class Gate:
                 self.put_off(client)
             elif way != AWAY:
                 with socket.create_connection(("127.0.0.1", self.behind)) as server:
-                    self.pass_on(client, server, way == SILENT)
+                    self.pass_on(client, server, way)
 
     def put_off(self, client: socket.socket):
         """Answers 450 to each sender."""
@@ -42,11 +43,14 @@ class Gate:
                 stream.write(b"250 gate.example.net\r\n" if verb in (b"EHLO", b"HELO", b"RSET", b"NOOP") else b"221 bye\r\n" if verb == b"QUIT" else b"450 4.3.2 not now\r\n")
                 stream.flush()
 
-    def pass_on(self, client: socket.socket, server: socket.socket, silent: bool):
+    def pass_on(self, client: socket.socket, server: socket.socket, way: str):
         """Passes each command and each reply on; the reply to a message is kept back where that is asked."""
+        silent = way == SILENT
         with client.makefile("rwb") as near, server.makefile("rwb") as far:
             copy_reply(far, near)
             for line in near:
+                if line[:4].upper() == b"MAIL" and self.way != way:
+                    return
                 far.write(line)
                 far.flush()
                 reply = copy_reply(far, near)

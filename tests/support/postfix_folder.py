@@ -45,12 +45,12 @@ def append(message: str, recipient: str = "no.bob@example.org", offset: int = 0,
 
 class MailServer:
     """A mail server on loopback that takes notices, and says at each step what `replies` has for it, 0 for nothing and a close. What
-    `waits` has for a step is called before the reply. It notes each transaction: what was said, and the message."""
+    `waits` has for a step is called before the reply. It notes what was said in each session, and each message that it took."""
 
     GOOD = {"connect": b"220 mx.example.net ESMTP", "EHLO": b"250 mx.example.net", "MAIL": b"250 ok", "RCPT": b"250 ok", "DATA": b"354 go on", "QUIT": b"221 bye"}
 
     def __init__(self):
-        self.replies, self.waits, self.taken, self.said, self.count = {}, {}, [], [], 0
+        self.replies, self.waits, self.taken, self.said, self.count, self.peers = {}, {}, [], [], 0, []
         self.lock = threading.Lock()
         self.listening = socket.create_server(("127.0.0.1", 0), backlog=200)
         self.address = "127.0.0.1:%d" % self.listening.getsockname()[1]
@@ -76,6 +76,7 @@ class MailServer:
             said = []
             with self.lock:
                 self.said.append(said)
+                self.peers.append(peer)
             going = self.reply(peer, "connect", self.GOOD["connect"])
             while going and (line := lines.readline()):
                 said.append(line)
@@ -94,11 +95,17 @@ class MailServer:
         with self.lock:
             self.count += 1
             name = b"NEW%d" % self.count
-        going = self.reply(peer, "message", b"250 2.0.0 Ok: queued as " + name)
-        if going and self.replies.get("message", b"250").startswith(b"250"):
-            with self.lock:
-                self.taken.append((said[1], said[2], text))
-        return going
+            # before the reply: once it is heard all is done
+            if self.replies.get("message", b"250").startswith(b"250"):
+                self.taken.append((said[-3], said[-2], text))
+        return self.reply(peer, "message", b"250 2.0.0 Ok: queued as " + name)
+
+    def hang_up(self):
+        """Ends all sessions."""
+        with self.lock:
+            for peer in self.peers:
+                with contextlib.suppress(OSError):
+                    peer.shutdown(socket.SHUT_RDWR)
 
     def close(self):
         self.listening.close()

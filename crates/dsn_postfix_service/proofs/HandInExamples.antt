@@ -3,9 +3,9 @@ use Rattle.std.proofs.Common.{◌≡◌, ℕ, List, [], ◌∷◌, ◌++◌, Opt
 use Rattle.std.specs.Prelude.{codes}
 use Rattle.dsn_postfix_service.specs.hand_in.CommandLine.{hello_line, recipient_line}
 use Rattle.dsn_postfix_service.specs.hand_in.Dialogue.{Turn, Heard, HeardNone, Said, SaidPart}
-use Rattle.dsn_postfix_service.specs.hand_in.HandIn.{Leaves, Transacts, commands_of, may_be_taken}
+use Rattle.dsn_postfix_service.specs.hand_in.HandIn.{AsksAll, Greets, Leaves, commands_of, may_be_taken}
 use Rattle.dsn_postfix_service.specs.declared.hand_in.hand_in_fault.HandInFault.TheVariants.{Refused, Unheard, Unsaid}
-use Rattle.dsn_postfix_service.specs.declared.hand_in.hand_in_step.HandInStep.TheVariants.{Recipient, Data, Message}
+use Rattle.dsn_postfix_service.specs.declared.hand_in.hand_in_step.HandInStep.TheVariants.{Greeting, Recipient, Data, Message}
 use Rattle.dsn_postfix_service.specs.declared.hand_in.reply_fault.ReplyFault.TheVariants.{CutShort, Read}
 
 abbrev line : List ℕ → List ℕ
@@ -23,29 +23,34 @@ message = line (codes "Subject: no") ++ line (codes ".")
 abbrev heard : List ℕ → Turn
 heard code = Heard code (line code)
 
-abbrev to_recipient : List Turn
-to_recipient =
-    heard (codes "220") ∷ Said (line (codes "EHLO a.example")) ∷ heard (codes "250") ∷ Said (line (codes "MAIL FROM:<>")) ∷ heard (codes "250")
-    ∷ Said (line (codes "RCPT TO:<b@c.example>")) ∷ []
+-- a session begins, or the server has no service now
+begun : Greets (codes "a.example") (heard (codes "220") ∷ Said (line (codes "EHLO a.example")) ∷ heard (codes "250") ∷ []) None
+begun = (refl, (refl, refl))
 
--- all six replies as they are wanted
-taken : Transacts (commands_of (codes "a.example") (codes "b@c.example") message)
+no_service : Greets (codes "a.example") (heard (codes "421") ∷ []) (Some (Refused Greeting (codes "421")))
+no_service = (refl, refl)
+
+abbrev to_recipient : List Turn
+to_recipient = Said (line (codes "MAIL FROM:<>")) ∷ heard (codes "250") ∷ Said (line (codes "RCPT TO:<b@c.example>")) ∷ []
+
+-- all four replies as they are wanted
+taken : AsksAll (commands_of (codes "b@c.example") message)
     (to_recipient ++ heard (codes "250") ∷ Said (line (codes "DATA")) ∷ heard (codes "354") ∷ Said message ∷ heard (codes "250") ∷ []) None
-taken = (refl, (refl, (refl, (refl, (refl, (refl, refl))))))
+taken = (refl, (refl, (refl, (refl, (refl, refl)))))
 
 -- a recipient that is refused is the last turn
-refused : Transacts (commands_of (codes "a.example") (codes "b@c.example") message) (to_recipient ++ heard (codes "550") ∷ []) (Some (Refused Recipient (codes "550")))
-refused = (refl, (refl, (refl, (refl, refl))))
+refused : AsksAll (commands_of (codes "b@c.example") message) (to_recipient ++ heard (codes "550") ∷ []) (Some (Refused Recipient (codes "550")))
+refused = (refl, (refl, (refl, refl)))
 
 -- DATA that is answered by 250 is refused too
-not_to_go_on : Transacts (commands_of (codes "a.example") (codes "b@c.example") message)
+not_to_go_on : AsksAll (commands_of (codes "b@c.example") message)
     (to_recipient ++ heard (codes "250") ∷ Said (line (codes "DATA")) ∷ heard (codes "250") ∷ []) (Some (Refused Data (codes "250")))
-not_to_go_on = (refl, (refl, (refl, (refl, (refl, refl)))))
+not_to_go_on = (refl, (refl, (refl, (refl, refl))))
 
 -- the reply to the message is cut short: it may be taken
-unheard : Transacts (commands_of (codes "a.example") (codes "b@c.example") message)
+unheard : AsksAll (commands_of (codes "b@c.example") message)
     (to_recipient ++ heard (codes "250") ∷ Said (line (codes "DATA")) ∷ heard (codes "354") ∷ Said message ∷ HeardNone CutShort ∷ []) (Some (Unheard Message CutShort))
-unheard = (refl, (refl, (refl, (refl, (refl, (refl, refl))))))
+unheard = (refl, (refl, (refl, (refl, (refl, refl)))))
 
 may_be : may_be_taken (Unheard Message CutShort) ≡ true
 may_be = refl
@@ -54,7 +59,7 @@ may_not : may_be_taken (Refused Message (codes "451")) ≡ false
 may_not = refl
 
 -- QUIT after a refusal, and nothing after a device that failed
-quit : Leaves (Some (Refused Recipient (codes "550"))) (Said (line (codes "QUIT")) ∷ heard (codes "221") ∷ [])
+quit : Leaves (Some (Refused Recipient (codes "550"))) (Said (line (codes "QUIT")) ∷ [])
 quit = (refl, refl)
 
 nothing : Leaves (Some (Unheard Message Read)) []

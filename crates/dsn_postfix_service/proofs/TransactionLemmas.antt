@@ -1,17 +1,18 @@
--- The turns of a transaction, put together from those of its steps.
-use Rattle.std.proofs.Common.{◌≡◌, ℕ, Bool, true, false, List, [], ◌∷◌, ◌++◌, Option, Some, None, Result, Ok, Err, refl, sym, ap, subst, ◌∙◌, append_assoc, append-nil, drop, drop-cons, get_or, length, suc, ◌<◌, ◌+◌, ◌≤◌, arith}
+-- The turns of a session, put together from those of its steps.
+use Rattle.std.proofs.Common.{◌≡◌, ℕ, Bool, true, false, List, [], ◌∷◌, ◌++◌, Option, Some, None, refl, sym, ap, subst, ◌∙◌, append_assoc, append-nil, drop, drop-cons, get_or, length, suc, ◌<◌, ◌+◌, ◌≤◌, arith}
 use Rattle.std.proofs.lemmas.List.{drop_all}
-use Rattle.std.specs.Prelude.{MatchBool, IfOk, IfErr}
+use Rattle.std.specs.Prelude.{MatchBool}
 use Rattle.dsn_device.specs.declared.drain.Drain
 use Rattle.dsn_device.specs.declared.source.Source
 use Rattle.dsn_postfix_service.specs.hand_in.Command.{Command}
 use Rattle.dsn_postfix_service.specs.hand_in.CommandLine.{quit_line}
 use Rattle.dsn_postfix_service.specs.hand_in.Dialogue.{TakesTurn, TakesTurns, Turn, Heard, HeardNone, Said, SaidPart}
-use Rattle.dsn_postfix_service.specs.hand_in.HandIn.{AsksCommand, AsksAll, HandsIn, Leaves, Listens, SaysGoodbye, Transacts, TurnsOver, is_wanted, last_heard_after}
+use Rattle.dsn_postfix_service.specs.hand_in.HandIn.{AsksCommand, AsksAll, GreetsWith, Listens, SaysGoodbye, TurnsOver, is_wanted, last_heard_after}
 use Rattle.dsn_postfix_service.specs.hand_in.ReplyCode.{class_of}
 use Rattle.dsn_postfix_service.specs.declared.hand_in.hand_in_fault.HandInFault.{HandInFault}
 use Rattle.dsn_postfix_service.specs.declared.hand_in.hand_in_fault.HandInFault.TheVariants.{Refused, Unheard, Unsaid}
 use Rattle.dsn_postfix_service.specs.declared.hand_in.hand_in_step.HandInStep.{HandInStep}
+use Rattle.dsn_postfix_service.specs.declared.hand_in.hand_in_step.HandInStep.TheVariants.{Greeting, Hello}
 use Rattle.dsn_postfix_service.specs.declared.hand_in.reply_fault.ReplyFault.{ReplyFault}
 
 abbrev Goes : Type 1
@@ -43,52 +44,52 @@ last-append before (SaidPart text ∷ turns) more = last-append before turns mor
 
 -- ---- a reply at a step
 
-pub listened : {S : Type 0} → (source : Source.Ghosts S) (drain : Drain.Ghosts S) (old new : S) (step : HandInStep) (code bytes : List ℕ)
-    → is_wanted step (class_of code) ≡ true → TakesTurn source drain old new (Heard code bytes) → TurnsOver source drain old new (Listens step (AsksAll [])) bytes None
-listened source drain old new step code bytes wanted takes = record {
+pub listened : {S : Type 0} → (source : Source.Ghosts S) (drain : Drain.Ghosts S) (old new : S) (step : HandInStep) (code before bytes : List ℕ)
+    → is_wanted step (class_of code) ≡ true → TakesTurn source drain old new (Heard code bytes) → TurnsOver source drain old new (Listens step (AsksAll [])) before bytes None
+listened source drain old new step code before bytes wanted takes = record {
   turns = Heard code bytes ∷ [];
   taken = takes_one source drain old new (Heard code bytes) takes;
   go = rw wanted (refl, refl);
-  last = λ e before. refl;
+  last = λ e. refl;
 }
 
-pub refused : {S : Type 0} → (source : Source.Ghosts S) (drain : Drain.Ghosts S) (old new : S) (step : HandInStep) (code bytes : List ℕ)
-    → is_wanted step (class_of code) ≡ false → TakesTurn source drain old new (Heard code bytes) → TurnsOver source drain old new (Listens step (AsksAll [])) bytes (Some (Refused step code))
-refused source drain old new step code bytes unwanted takes = record {
+pub refused : {S : Type 0} → (source : Source.Ghosts S) (drain : Drain.Ghosts S) (old new : S) (step : HandInStep) (code before bytes : List ℕ)
+    → is_wanted step (class_of code) ≡ false → TakesTurn source drain old new (Heard code bytes) → TurnsOver source drain old new (Listens step (AsksAll [])) before bytes (Some (Refused step code))
+refused source drain old new step code before bytes unwanted takes = record {
   turns = Heard code bytes ∷ [];
   taken = takes_one source drain old new (Heard code bytes) takes;
   go = rw unwanted (refl, refl);
-  last = λ e before. absurd (never_none (Refused step code) e);
+  last = λ e. absurd (never_none (Refused step code) e);
 }
 
-pub unheard : {S : Type 0} → (source : Source.Ghosts S) (drain : Drain.Ghosts S) (old new : S) (step : HandInStep) (why : ReplyFault) (bytes : List ℕ)
-    → TakesTurn source drain old new (HeardNone why) → TurnsOver source drain old new (Listens step (AsksAll [])) bytes (Some (Unheard step why))
-unheard source drain old new step why bytes takes = record {
+pub unheard : {S : Type 0} → (source : Source.Ghosts S) (drain : Drain.Ghosts S) (old new : S) (step : HandInStep) (why : ReplyFault) (before after : List ℕ)
+    → TakesTurn source drain old new (HeardNone why) → TurnsOver source drain old new (Listens step (AsksAll [])) before after (Some (Unheard step why))
+unheard source drain old new step why before after takes = record {
   turns = HeardNone why ∷ [];
   taken = takes_one source drain old new (HeardNone why) takes;
   go = (refl, refl);
-  last = λ e before. absurd (never_none (Unheard step why) e);
+  last = λ e. absurd (never_none (Unheard step why) e);
 }
 
 -- ---- a command, and the reply to it
 
-pub unsaid : {S : Type 0} → (source : Source.Ghosts S) (drain : Drain.Ghosts S) (old new : S) (command : Command) (bytes : List ℕ)
-    → TakesTurn source drain old new (SaidPart command.text) → TurnsOver source drain old new (AsksAll (command ∷ [])) bytes (Some (Unsaid command.step))
-unsaid source drain old new command bytes takes = record {
+pub unsaid : {S : Type 0} → (source : Source.Ghosts S) (drain : Drain.Ghosts S) (old new : S) (command : Command) (before after : List ℕ)
+    → TakesTurn source drain old new (SaidPart command.text) → TurnsOver source drain old new (AsksAll (command ∷ [])) before after (Some (Unsaid command.step))
+unsaid source drain old new command before after takes = record {
   turns = SaidPart command.text ∷ [];
   taken = takes_one source drain old new (SaidPart command.text) takes;
   go = (refl, (refl, refl));
-  last = λ e before. absurd (never_none (Unsaid command.step) e);
+  last = λ e. absurd (never_none (Unsaid command.step) e);
 }
 
-pub asked : {S : Type 0} → (source : Source.Ghosts S) (drain : Drain.Ghosts S) (old between new : S) (command : Command) (bytes : List ℕ) (outcome : Option HandInFault)
-    → TakesTurn source drain old between (Said command.text) → TurnsOver source drain between new (Listens command.step (AsksAll [])) bytes outcome
-    → TurnsOver source drain old new (AsksAll (command ∷ [])) bytes outcome
-asked source drain old between new command bytes outcome said heard = record {
+pub asked : {S : Type 0} → (source : Source.Ghosts S) (drain : Drain.Ghosts S) (old between new : S) (command : Command) (before after : List ℕ) (outcome : Option HandInFault)
+    → TakesTurn source drain old between (Said command.text) → TurnsOver source drain between new (Listens command.step (AsksAll [])) before after outcome
+    → TurnsOver source drain old new (AsksAll (command ∷ [])) before after outcome
+asked source drain old between new command before after outcome said heard = record {
   turns = Said command.text ∷ heard.turns;
   taken = (between, said, heard.taken);
   go = (refl, heard.go);
-  last = λ e before. heard.last e before;
+  last = λ e. heard.last e;
 }
 
 -- ---- commands after others
@@ -148,55 +149,55 @@ left_from commands i command within is =
 
 -- what is left goes on from these turns
 abbrev GoesOnFrom : List Command → List Command → List Turn → Type 0
-GoesOnFrom commands left turns = (after : List Turn) (outcome : Option HandInFault) → AsksAll left after outcome → Transacts commands (turns ++ after) outcome
+GoesOnFrom commands left turns = (after : List Turn) (outcome : Option HandInFault) → AsksAll left after outcome → AsksAll commands (turns ++ after) outcome
 
 pub asked_on : (commands left rest : List Command) (command : Command) (turns more : List Turn) → left ≡ command ∷ rest → GoesOnFrom commands left turns → AsksAll (command ∷ []) more None → GoesOnFrom commands rest (turns ++ more)
 asked_on commands left rest command turns more is goes_on asks after outcome h =
-    subst (λ (all : List Turn). Transacts commands all outcome) (sym (append_assoc turns more after))
+    subst (λ (all : List Turn). AsksAll commands all outcome) (sym (append_assoc turns more after))
     (goes_on (more ++ after) outcome (subst (λ (l : List Command). AsksAll l (more ++ after) outcome) (sym is) (asks_then command (AsksAll rest) more after outcome asks h)))
 
-pub stopped : {S : Type 0} → (source : Source.Ghosts S) (drain : Drain.Ghosts S) (old between new : S) (commands left rest : List Command) (command : Command) (turns : List Turn) (bytes : List ℕ) (why : HandInFault)
-    → left ≡ command ∷ rest → TakesTurns source drain old between turns → GoesOnFrom commands left turns → TurnsOver source drain between new (AsksAll (command ∷ [])) bytes (Some why)
-    → TurnsOver source drain old new (Transacts commands) bytes (Some why)
-stopped source drain old between new commands left rest command turns bytes why is taken goes_on over = record {
+pub stopped : {S : Type 0} → (source : Source.Ghosts S) (drain : Drain.Ghosts S) (old between new : S) (commands left rest : List Command) (command : Command) (turns : List Turn) (first before after : List ℕ) (why : HandInFault)
+    → left ≡ command ∷ rest → TakesTurns source drain old between turns → GoesOnFrom commands left turns → TurnsOver source drain between new (AsksAll (command ∷ [])) before after (Some why)
+    → TurnsOver source drain old new (AsksAll commands) first after (Some why)
+stopped source drain old between new commands left rest command turns first before after why is taken goes_on over = record {
   turns = turns ++ over.turns;
   taken = takes_more source drain old between new turns over.turns taken over.taken;
   go = goes_on over.turns (Some why) (subst (λ (l : List Command). AsksAll l over.turns (Some why)) (sym is) (asks_fault command (AsksAll rest) over.turns why over.go));
-  last = λ e before. absurd (never_none why e);
+  last = λ e. absurd (never_none why e);
 }
 
-pub ended : {S : Type 0} → (source : Source.Ghosts S) (drain : Drain.Ghosts S) (old new : S) (commands : List Command) (i : ℕ) (turns : List Turn) (bytes : List ℕ)
-    → length commands ≤ i → TakesTurns source drain old new turns → GoesOnFrom commands (drop i commands) turns → ((before : List ℕ) → last_heard_after before turns ≡ bytes)
-    → TurnsOver source drain old new (Transacts commands) bytes None
-ended source drain old new commands i turns bytes all taken goes_on last = record {
+pub ended : {S : Type 0} → (source : Source.Ghosts S) (drain : Drain.Ghosts S) (old new : S) (commands : List Command) (i : ℕ) (turns : List Turn) (before after : List ℕ)
+    → length commands ≤ i → TakesTurns source drain old new turns → GoesOnFrom commands (drop i commands) turns → last_heard_after before turns ≡ after
+    → TurnsOver source drain old new (AsksAll commands) before after None
+ended source drain old new commands i turns before after all taken goes_on last = record {
   turns = turns;
   taken = taken;
-  go = subst (λ (ts : List Turn). Transacts commands ts None) (append-nil turns) (goes_on [] None (subst (λ (l : List Command). AsksAll l [] None) (sym (drop_all i commands all)) (refl, refl)));
-  last = λ e before. last before;
+  go = subst (λ (ts : List Turn). AsksAll commands ts None) (append-nil turns) (goes_on [] None (subst (λ (l : List Command). AsksAll l [] None) (sym (drop_all i commands all)) (refl, refl)));
+  last = λ e. last;
+}
+
+-- the reply that was heard last, after more turns
+pub last_after_more : (first between after : List ℕ) (turns more : List Turn) → last_heard_after first turns ≡ between → last_heard_after between more ≡ after → last_heard_after first (turns ++ more) ≡ after
+last_after_more first between after turns more one two = last-append first turns more ∙ ap (λ (bytes : List ℕ). last_heard_after bytes more) one ∙ two
+
+-- ---- how a session begins
+
+pub greeted : {S : Type 0} → (source : Source.Ghosts S) (drain : Drain.Ghosts S) (old between new : S) (line first held after : List ℕ) (outcome : Option HandInFault)
+    → TurnsOver source drain old between (Listens Greeting (AsksAll [])) first held None → TurnsOver source drain between new (AsksAll (record { step = Hello; text = line } ∷ [])) held after outcome
+    → TurnsOver source drain old new (GreetsWith line) first after outcome
+greeted source drain old between new line first held after outcome heard asks = record {
+  turns = heard.turns ++ asks.turns;
+  taken = takes_more source drain old between new heard.turns asks.turns heard.taken asks.taken;
+  go = listens_then Greeting (AsksAll (record { step = Hello; text = line } ∷ [])) heard.turns asks.turns outcome heard.go asks.go;
+  last = λ e. last_after_more first held after heard.turns asks.turns (heard.last refl) (asks.last e);
 }
 
 -- ---- QUIT
 
-pub said_goodbye : {S : Type 0} → (source : Source.Ghosts S) (drain : Drain.Ghosts S) (old between new : S) (bytes : List ℕ) (heard : Result (List ℕ) ReplyFault)
-    → TakesTurn source drain old between (Said quit_line) → IfOk heard (λ code. TakesTurn source drain between new (Heard code bytes)) → IfErr heard (λ why. TakesTurn source drain between new (HeardNone why))
+pub said_goodbye : {S : Type 0} → (source : Source.Ghosts S) (drain : Drain.Ghosts S) (old new : S) → TakesTurn source drain old new (Said quit_line)
     → (turns : List Turn) × TakesTurns source drain old new turns × SaysGoodbye turns
-said_goodbye source drain old between new bytes (Ok code) said takes none = (Said quit_line ∷ Heard code bytes ∷ [], (between, said, (new, takes, refl)), (refl, refl))
-said_goodbye source drain old between new bytes (Err why) said none takes = (Said quit_line ∷ HeardNone why ∷ [], (between, said, (new, takes, refl)), (refl, refl))
+said_goodbye source drain old new takes = (Said quit_line ∷ [], takes_one source drain old new (Said quit_line) takes, (refl, refl))
 
 pub unsaid_goodbye : {S : Type 0} → (source : Source.Ghosts S) (drain : Drain.Ghosts S) (old new : S) → TakesTurn source drain old new (SaidPart quit_line)
     → (turns : List Turn) × TakesTurns source drain old new turns × SaysGoodbye turns
-unsaid_goodbye source drain old new takes = (SaidPart quit_line ∷ [], (new, takes, refl), (refl, refl))
-
--- ---- the whole
-
-pub hands_in : {S : Type 0} → (source : Source.Ghosts S) (drain : Drain.Ghosts S) (old between new : S) (commands : List Command) (bytes : List ℕ) (outcome : Option HandInFault)
-    → TurnsOver source drain old between (Transacts commands) bytes outcome → (left : (turns : List Turn) × TakesTurns source drain between new turns × Leaves outcome turns)
-    → HandsIn source drain old new commands bytes outcome
-hands_in source drain old between new commands bytes outcome over left = record {
-  turns = over.turns;
-  goodbye = left.0;
-  taken = takes_more source drain old between new over.turns left.0 over.taken left.1;
-  transaction = over.go;
-  leave = left.2;
-  last = λ e. over.last e [];
-}
+unsaid_goodbye source drain old new takes = (SaidPart quit_line ∷ [], takes_one source drain old new (SaidPart quit_line) takes, (refl, refl))

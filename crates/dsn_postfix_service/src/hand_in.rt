@@ -1,4 +1,4 @@
-//! Handing one notice to a mail server: a client of SMTP (RFC 5321) that waits for each reply.
+//! Handing notices to a mail server: a client of SMTP (RFC 5321) that waits for each reply.
 mod command;
 mod command_line;
 mod dialogue;
@@ -21,4 +21,4 @@ pub use reply_buffer::{LONGEST_REPLY, ReplyBuffer};
 pub use reply_class::ReplyClass;
 pub use reply_code::ReplyCode;
 pub use reply_fault::ReplyFault;
-pub use transaction::hand_in_notice;
+pub use transaction::{greet, hand_in_notice, leave};

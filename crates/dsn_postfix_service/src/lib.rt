@@ -1,5 +1,5 @@
 //! What serves Postfix's programs in place of its bounce(8): the letters of the notices that its logs
-//! have, a client that hands a notice to a mail server, how one request is carried out over a trait
+//! have, a client that hands notices to a mail server, how one request is carried out over a trait
 //! for all that lies outside, a running Postfix as what lies outside, how a client is served, and the
 //! sockets and threads that serve all clients.
 #![tactic(auto)]
@@ -7,14 +7,15 @@
 mod clients;
 mod hand_in;
 mod letters;
+mod mail_server;
 mod queue_folder;
 mod requests;
 mod serving;
 
 pub use clients::{ClientFault, serve_client};
 pub use hand_in::{
-    HandInFault, HandInStep, LONGEST_REPLY, ReplyBuffer, ReplyClass, ReplyCode, ReplyFault,
-    hand_in_notice, queue_id_in,
+    HandInFault, HandInStep, LONGEST_REPLY, ReplyBuffer, ReplyClass, ReplyCode, ReplyFault, greet,
+    hand_in_notice, leave, queue_id_in,
 };
 pub use letters::{LetterFault, ReportedMessage, letter_of_notice};
 pub use queue_folder::{FolderHashing, PostfixPlace, ask_own_service, path_in_queue};

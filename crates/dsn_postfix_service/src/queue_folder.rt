@@ -4,7 +4,6 @@ mod connection;
 mod folder_hashing;
 mod hashed_id;
 mod log_file;
-mod mail_connection;
 mod message_file;
 mod notice_words;
 mod own_service;

@@ -1,5 +1,6 @@
--- One mail transaction from the null sender (RFC 5321 section 3.3): which turns it has, and what comes of it.
-use Rattle.std.specs.Prelude.{◌≡◌, ℕ, Bool, true, false, List, [], ◌∷◌, ◌++◌, Option, Some, None, Result, Ok, Err, MatchBool}
+-- A session with a mail server: how it begins, its mail transactions from the null sender (RFC 5321 section 3.3), and how it ends;
+-- which turns each of these has, and what comes of it.
+use Rattle.std.specs.Prelude.{◌≡◌, ℕ, Bool, true, false, List, [], ◌∷◌, Option, Some, None, Result, Ok, Err, MatchBool}
 use Rattle.dsn_device.specs.declared.drain.Drain
 use Rattle.dsn_device.specs.declared.source.Source
 use Rattle.dsn_postfix_service.specs.hand_in.Command.{Command}
@@ -13,19 +14,18 @@ use Rattle.dsn_postfix_service.specs.declared.hand_in.hand_in_step.HandInStep.Th
 use Rattle.dsn_postfix_service.specs.declared.hand_in.reply_class.ReplyClass.{ReplyClass}
 use Rattle.dsn_postfix_service.specs.declared.hand_in.reply_class.ReplyClass.TheVariants.{Positive, Intermediate, RefusedForNow, RefusedForGood}
 
--- the steps after the greeting, in their order (RFC 5321 section 3.3), with what is said for EHLO, for RCPT and as the message
-abbrev pub commands_with : List ℕ → List ℕ → List ℕ → List Command
-commands_with hello recipient message =
-    record { step = Hello; text = hello }
-    ∷ record { step = Sender; text = sender_line }
+-- the steps of a transaction, in their order (RFC 5321 section 3.3), with what is said for RCPT and as the message
+abbrev pub commands_with : List ℕ → List ℕ → List Command
+commands_with recipient message =
+    record { step = Sender; text = sender_line }
     ∷ record { step = Recipient; text = recipient }
     ∷ record { step = Data; text = data_line }
     ∷ record { step = Message; text = message }
     ∷ []
 
--- those that hand in a message for one path, by a client with this name
-abbrev pub commands_of : List ℕ → List ℕ → List ℕ → List Command
-commands_of host path message = commands_with (hello_line host) (recipient_line path) message
+-- those that hand in a message for one path
+abbrev pub commands_of : List ℕ → List ℕ → List Command
+commands_of path message = commands_with (recipient_line path) message
 
 -- whether a reply of this class lets a step be followed by the next: DATA wants 3yz, all others 2yz (RFC 5321 section 4.3.2)
 abbrev pub is_wanted : HandInStep → ReplyClass → Bool
@@ -63,9 +63,13 @@ abbrev pub AsksAll : List Command → List Turn → Option HandInFault → Type 
 AsksAll [] turns outcome = (turns ≡ []) × (outcome ≡ None)
 AsksAll (command ∷ commands) turns outcome = AsksCommand command (AsksAll commands) turns outcome
 
--- the greeting is heard, and then the commands are asked
-abbrev pub Transacts : List Command → List Turn → Option HandInFault → Type 0
-Transacts commands turns outcome = Listens Greeting (AsksAll commands) turns outcome
+-- a session begins: the greeting is heard, and then EHLO is asked (RFC 5321 section 3.2), by this line
+abbrev pub GreetsWith : List ℕ → List Turn → Option HandInFault → Type 0
+GreetsWith line turns outcome = Listens Greeting (AsksAll (record { step = Hello; text = line } ∷ [])) turns outcome
+
+-- the same, by a client with this name
+abbrev pub Greets : List ℕ → List Turn → Option HandInFault → Type 0
+Greets host turns outcome = GreetsWith (hello_line host) turns outcome
 
 -- whether the device failed
 abbrev pub is_broken : Option HandInFault → Bool
@@ -74,19 +78,15 @@ is_broken (Some (Refused step code)) = false
 is_broken (Some (Unheard step why)) = is_of_device why
 is_broken (Some (Unsaid step)) = true
 
--- QUIT is said, and its reply is heard, whatever that is (RFC 5321 section 4.1.1.10)
+-- QUIT is said, or tried once, and its reply isn't waited for (RFC 5321 section 4.1.1.10)
 abbrev pub SaysGoodbye : List Turn → Type 0
 SaysGoodbye [] = ⊥
+SaysGoodbye (Said text ∷ turns) = (text ≡ quit_line) × (turns ≡ [])
 SaysGoodbye (SaidPart text ∷ turns) = (text ≡ quit_line) × (turns ≡ [])
-SaysGoodbye (Said text ∷ []) = ⊥
-SaysGoodbye (Said text ∷ Heard code bytes ∷ turns) = (text ≡ quit_line) × (turns ≡ [])
-SaysGoodbye (Said text ∷ HeardNone why ∷ turns) = (text ≡ quit_line) × (turns ≡ [])
-SaysGoodbye (Said text ∷ Said other ∷ turns) = ⊥
-SaysGoodbye (Said text ∷ SaidPart other ∷ turns) = ⊥
 SaysGoodbye (Heard code bytes ∷ turns) = ⊥
 SaysGoodbye (HeardNone why ∷ turns) = ⊥
 
--- over a device that failed nothing is said
+-- a session ends with QUIT; over a device that failed nothing is said
 abbrev pub Leaves : Option HandInFault → List Turn → Type 0
 Leaves outcome turns = MatchBool (is_broken outcome) (turns ≡ []) (SaysGoodbye turns)
 
@@ -98,25 +98,14 @@ last_heard_after before (HeardNone why ∷ turns) = last_heard_after before turn
 last_heard_after before (Said text ∷ turns) = last_heard_after before turns
 last_heard_after before (SaidPart text ∷ turns) = last_heard_after before turns
 
--- turns that go so took a stream from the one state to the other, and this came of them; where nothing went wrong, the bytes
--- are those of the reply that was heard last
+-- turns that go so took a stream from the one state to the other, and this came of them; where nothing went wrong, the reply
+-- that is held after them is the one that was heard last, or that of before where none was
 pub record TurnsOver {S : Type 0} (source : Source.Ghosts S) (drain : Drain.Ghosts S) (old new : S)
-    (Go : List Turn → Option HandInFault → Type 0) (bytes : List ℕ) (outcome : Option HandInFault) : Type 0 where
+    (Go : List Turn → Option HandInFault → Type 0) (before after : List ℕ) (outcome : Option HandInFault) : Type 0 where
   pub turns : List Turn
   pub taken : TakesTurns source drain old new turns
   pub go : Go turns outcome
-  pub last : outcome ≡ None → (before : List ℕ) → last_heard_after before turns ≡ bytes
-
--- a transaction of these commands, and then QUIT, took a stream from the one state to the other; this came of the
--- transaction, and the bytes are those of the reply that was heard last in it
-pub record HandsIn {S : Type 0} (source : Source.Ghosts S) (drain : Drain.Ghosts S) (old new : S)
-    (commands : List Command) (bytes : List ℕ) (outcome : Option HandInFault) : Type 0 where
-  pub turns : List Turn
-  pub goodbye : List Turn
-  pub taken : TakesTurns source drain old new (turns ++ goodbye)
-  pub transaction : Transacts commands turns outcome
-  pub leave : Leaves outcome goodbye
-  pub last : outcome ≡ None → last_heard_after [] turns ≡ bytes
+  pub last : outcome ≡ None → last_heard_after before turns ≡ after
 
 -- the fault that a result says
 abbrev pub fault_said : {T : Type 0} → Result T HandInFault → Option HandInFault

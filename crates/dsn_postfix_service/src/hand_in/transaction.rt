@@ -1,7 +1,7 @@
-//! One mail transaction that hands a notice to a mail server.
+//! A session with a mail server: it begins, notices are handed in, one after another, and it ends.
 ghost use Rattle.std.specs.Prelude.{◌≡◌, List, [], ◌∷◌};
 ghost use Rattle.dsn_postfix_service.specs.hand_in.Dialogue.{TakesTurns, Turn};
-ghost use Rattle.dsn_postfix_service.specs.hand_in.HandIn.{AsksAll, HandsIn, Leaves, Listens, SaysGoodbye, Transacts, TurnsOver, commands_of, commands_with, fault_said};
+ghost use Rattle.dsn_postfix_service.specs.hand_in.HandIn.{AsksAll, Greets, GreetsWith, Leaves, Listens, SaysGoodbye, TurnsOver, commands_of, commands_with, fault_said};
 
 use crate::hand_in::command::Command;
 use crate::hand_in::command_line::{CommandLine, DATA_LINE, QUIT_LINE, SENDER_LINE};
@@ -12,50 +12,70 @@ use crate::hand_in::reply_buffer::ReplyBuffer;
 use dsn_device::Stream;
 use dsn_text::{Address, MtaName};
 
-/// Hands one notice to a mail server in one transaction from the null sender (RFC 5321 section 3.3), over a connection on
-/// which nothing was said or heard so far; then says QUIT, and hears its reply, which doesn't change the answer. Each
-/// command is said only after the reply before it was heard, and nothing more of the transaction after one that isn't
-/// wanted. `message` is the message with its dots doubled and with the line of one dot that ends it; the server learns
-/// `host` as the client's name. The buffer then holds the reply to the message, if the server took it. Time limits are the
-/// stream's: one that ran out is a failure of the device, after which nothing is said.
-pub fn hand_in_notice<S: Stream>(
+/// Begins a session over a new connection: hears the server's greeting, and then says EHLO with `host` as the client's
+/// name, and hears the reply (RFC 5321 section 3.2). Time limits are the stream's: one that ran out is a failure of the
+/// device, here and in the calls below.
+pub fn greet<S: Stream>(
     stream: &mut S,
     buffer: &mut ReplyBuffer,
     host: &MtaName,
+) -> Result<(), HandInFault>
+    ensures { TurnsOver S.Source S.Drain stream.old stream.new (Greets host.now) buffer.old
+        buffer.new (fault_said result) }
+{
+    let line = CommandLine::hello(host);
+    greet_with(stream, buffer, line.bytes())
+}
+
+/// The same, with what is said for EHLO.
+fn greet_with<S: Stream>(
+    stream: &mut S,
+    buffer: &mut ReplyBuffer,
+    line: &[u8],
+) -> Result<(), HandInFault>
+    ensures { TurnsOver S.Source S.Drain stream.old stream.new (GreetsWith line.now) buffer.old
+        buffer.new (fault_said result) }
+{
+    listen(stream, buffer, HandInStep::Greeting)?;
+    ask(stream, buffer, &Command::new(HandInStep::Hello, line))
+}
+
+/// Hands one notice to a mail server in one transaction from the null sender (RFC 5321 section 3.3), in a session that was
+/// begun and in which nothing went wrong so far. Each command is said only after the reply before it was heard, and nothing
+/// more after one that isn't wanted. `message` is the message with its dots doubled and with the line of one dot that ends
+/// it. The buffer then holds the reply to the message, if the server took it.
+pub fn hand_in_notice<S: Stream>(
+    stream: &mut S,
+    buffer: &mut ReplyBuffer,
     path: &Address,
     message: &[u8],
 ) -> Result<(), HandInFault>
-    ensures { HandsIn S.Source S.Drain stream.old stream.new
-        (commands_of host.now path.now message.now) buffer.new (fault_said result) }
+    ensures { TurnsOver S.Source S.Drain stream.old stream.new
+        (AsksAll (commands_of path.now message.now)) buffer.old buffer.new (fault_said result) }
 {
-    let hello = CommandLine::hello(host);
     let recipient = CommandLine::recipient(path);
-    hand_in_with(stream, buffer, hello.bytes(), recipient.bytes(), message)
+    hand_in_with(stream, buffer, recipient.bytes(), message)
 }
 
-/// The same, with what is said for EHLO, for RCPT and as the message.
+/// The same, with what is said for RCPT.
 fn hand_in_with<'a, S: Stream>(
     stream: &mut S,
     buffer: &mut ReplyBuffer,
-    hello: &'a [u8],
     recipient: &'a [u8],
     message: &'a [u8],
 ) -> Result<(), HandInFault>
-    ensures { HandsIn S.Source S.Drain stream.old stream.new
-        (commands_with hello.now recipient.now message.now) buffer.new (fault_said result) }
+    ensures { TurnsOver S.Source S.Drain stream.old stream.new
+        (AsksAll (commands_with recipient.now message.now)) buffer.old buffer.new (fault_said result) }
 {
-    let commands = commands_for(hello, recipient, message);
-    let outcome = transact(stream, buffer, &commands);
-    leave(stream, &outcome);
-    outcome
+    let commands = commands_for(recipient, message);
+    ask_all(stream, buffer, &commands)
 }
 
-/// The commands after the greeting, in their order.
-fn commands_for<'a>(hello: &'a [u8], recipient: &'a [u8], message: &'a [u8]) -> [Command<'a>; 5]
-    ensures { result ≡ commands_with hello.now recipient.now message.now }
+/// The commands of a transaction, in their order.
+fn commands_for<'a>(recipient: &'a [u8], message: &'a [u8]) -> [Command<'a>; 4]
+    ensures { result ≡ commands_with recipient.now message.now }
 {
     [
-        Command::new(HandInStep::Hello, hello),
         Command::new(HandInStep::Sender, SENDER_LINE),
         Command::new(HandInStep::Recipient, recipient),
         Command::new(HandInStep::Data, DATA_LINE),
@@ -63,8 +83,9 @@ fn commands_for<'a>(hello: &'a [u8], recipient: &'a [u8], message: &'a [u8]) -> 
     ]
 }
 
-/// Says QUIT after a transaction, unless the device failed in it, and hears the reply, whatever that is.
-fn leave<S: Stream>(stream: &mut S, outcome: &Result<(), HandInFault>)
+/// Ends a session after what came of its last step: says QUIT, unless the device failed. It doesn't wait for the reply to
+/// that (RFC 5321 section 4.1.1.10 says that a client should): nothing that is done depends on it.
+pub fn leave<S: Stream>(stream: &mut S, outcome: &Result<(), HandInFault>)
     ensures { (turns : List Turn) × TakesTurns S.Source S.Drain stream.old stream.new turns
         × Leaves (fault_said outcome.now) turns }
 {
@@ -74,29 +95,26 @@ fn leave<S: Stream>(stream: &mut S, outcome: &Result<(), HandInFault>)
     }
 }
 
-/// Says QUIT and hears its reply, whatever that is.
+/// Says QUIT. Whether it was said changes nothing.
 fn say_goodbye<S: Stream>(stream: &mut S)
     ensures { (turns : List Turn) × TakesTurns S.Source S.Drain stream.old stream.new turns
         × SaysGoodbye turns }
 {
     match say(stream, QUIT_LINE) {
-        Ok(()) => {
-            let _ = hear(stream, &mut ReplyBuffer::new());
-        }
+        Ok(()) => {}
         Err(_) => {}
     }
 }
 
-/// Hears the greeting, and asks the commands in their order, up to the first that goes wrong.
-fn transact<S: Stream>(
+/// Asks commands in their order, up to the first that goes wrong.
+fn ask_all<S: Stream>(
     stream: &mut S,
     buffer: &mut ReplyBuffer,
     commands: &[Command<'_>],
 ) -> Result<(), HandInFault>
-    ensures { TurnsOver S.Source S.Drain stream.old stream.new (Transacts commands.now) buffer.new
-        (fault_said result) }
+    ensures { TurnsOver S.Source S.Drain stream.old stream.new (AsksAll commands.now) buffer.old
+        buffer.new (fault_said result) }
 {
-    listen(stream, buffer, HandInStep::Greeting)?;
     for command in commands {
         ask(stream, buffer, command)?;
     }
@@ -110,7 +128,7 @@ fn ask<S: Stream>(
     command: &Command<'_>,
 ) -> Result<(), HandInFault>
     ensures { TurnsOver S.Source S.Drain stream.old stream.new (AsksAll (command.now ∷ []))
-        buffer.new (fault_said result) }
+        buffer.old buffer.new (fault_said result) }
 {
     match say(stream, command.text()) {
         Ok(()) => listen(stream, buffer, command.step()),
@@ -125,7 +143,7 @@ fn listen<S: Stream>(
     step: HandInStep,
 ) -> Result<(), HandInFault>
     ensures { TurnsOver S.Source S.Drain stream.old stream.new (Listens step (AsksAll []))
-        buffer.new (fault_said result) }
+        buffer.old buffer.new (fault_said result) }
 {
     match hear(stream, buffer) {
         Ok(code) if step.wants(code.class()) => Ok(()),

@@ -1,14 +1,12 @@
 //! A running Postfix as a mail system.
 ghost use Rattle.std.specs.Prelude.{None};
 
-use crate::hand_in::{
-    HandInFault, HandInStep, ReplyBuffer, ReplyFault, hand_in_notice, queue_id_in,
-};
+use crate::hand_in::{HandInFault, ReplyBuffer, queue_id_in};
+use crate::mail_server::KeptSessions;
 use crate::queue_folder::connection::Connection;
 use crate::queue_folder::log_file::{
     append_synced, has_bytes, open_locked, open_or_make, read_whole, remove_if_there,
 };
-use crate::queue_folder::mail_connection::connect_to_mail_server;
 use crate::queue_folder::message_file::{mark_done, open_shared};
 use crate::queue_folder::notice_words::{FAILURE_NOTICE, notice_kind};
 use crate::queue_folder::own_service::ask_own_service;
@@ -24,6 +22,7 @@ use std::alloc::Global;
 use std::fs::File;
 use std::io::{Eprint, Error, ErrorKind};
 use std::os::unix::net::UnixStream;
+use std::sync::Wait;
 use std::time::Duration;
 use std::{fs, io};
 
@@ -37,9 +36,13 @@ const PATH: &str = "the path of a file";
 /// A running Postfix, for one request. It tells no deeds to contracts, since no contract can tell
 /// what a file or a socket does.
 #[derive(Drop)]
-pub(crate) struct PostfixSystem<'a> {
+pub(crate) struct PostfixSystem<'a, W> {
     rt: &'a HostRuntime,
+    /// What may wait for another thread.
+    waiting: &'a W,
     place: &'a PostfixPlace<'a>,
+    /// The sessions with the mail server that all threads share.
+    sessions: &'a KeptSessions,
     /// The log that was read and is locked.
     log: Option<File>,
     /// The message's file that was read and is locked.
@@ -50,12 +53,19 @@ pub(crate) struct PostfixSystem<'a> {
     kind: &'static str,
 }
 
-impl<'a> PostfixSystem<'a> {
+impl<'a, W> PostfixSystem<'a, W> {
     /// The Postfix at a place.
-    pub(crate) fn new(rt: &'a HostRuntime, place: &'a PostfixPlace<'a>) -> PostfixSystem<'a> {
+    pub(crate) fn new(
+        rt: &'a HostRuntime,
+        waiting: &'a W,
+        place: &'a PostfixPlace<'a>,
+        sessions: &'a KeptSessions,
+    ) -> PostfixSystem<'a, W> {
         PostfixSystem {
             rt,
+            waiting,
             place,
+            sessions,
             log: None,
             message: None,
             asked: None,
@@ -108,27 +118,6 @@ fn own_service(
     Ok(Connection::new(stream))
 }
 
-/// Hands a notice to the mail server. Where no connection could be made, that is a greeting that
-/// wasn't heard.
-fn hand_in_at(
-    rt: &HostRuntime,
-    place: &PostfixPlace<'_>,
-    path: &Address,
-    message: &[u8],
-    reply: &mut ReplyBuffer,
-) -> Result<(), HandInFault> {
-    match connect_to_mail_server(rt, &place.hand_in) {
-        Ok(connection) => {
-            let mut stream = Plain::new(connection);
-            hand_in_notice(&mut stream, reply, place.host, path, message)
-        }
-        Err(error) => {
-            let _ = eprintln!(rt; "{}: {error}", place.hand_in);
-            Err(HandInFault::Unheard(HandInStep::Greeting, ReplyFault::Read))
-        }
-    }
-}
-
 /// Writes the line of a notice that was accepted, as bounce(8) writes it.
 fn log_notice(rt: &HostRuntime, told: Option<QueueId>, kind: &str, reply: &ReplyBuffer) {
     let (Some(told), Some(notice)) = (told, queue_id_in(reply.last_text())) else {
@@ -162,7 +151,7 @@ fn deed<T>(rt: &HostRuntime, what: &str, done: io::Result<T>) -> Result<T, DeedF
     }
 }
 
-impl MailSystem for PostfixSystem<'_> {
+impl<W: Wait> MailSystem for PostfixSystem<'_, W> {
     ghost deeds = { λ _. None };
 
     fn begin(&mut self, request: &PostfixRequest<'_>) {
@@ -238,7 +227,8 @@ impl MailSystem for PostfixSystem<'_> {
     ) -> Result<(), HandInFault> {
         let (rt, place): (&HostRuntime, &PostfixPlace<'_>) = (self.rt, self.place);
         let (asked, kind) = (self.asked, self.kind);
-        match hand_in_at(rt, place, path, message, reply) {
+        let sessions: &KeptSessions = self.sessions;
+        match sessions.hand_in(rt, self.waiting, place, path, message, reply) {
             Ok(()) => {
                 log_notice(rt, asked, kind, reply);
                 Ok(())

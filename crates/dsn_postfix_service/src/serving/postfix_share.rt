@@ -1,7 +1,9 @@
 //! What the threads that serve a Postfix share.
+use crate::mail_server::KeptSessions;
 use crate::queue_folder::PostfixPlace;
 use crate::requests::ServiceSettings;
 use dsn_postfix::PostfixVersion;
+use std::alloc::Global;
 use std::sync::atomic::{AtomicBool, AtomicU64, Ordering};
 
 /// How far apart the first serials of two requests are; those of a request's two logs are half as far
@@ -18,6 +20,8 @@ pub(super) struct PostfixShare<'a> {
     pub(super) settings: ServiceSettings<'a>,
     /// Its version.
     pub(super) version: PostfixVersion,
+    /// The sessions with its mail server.
+    pub(super) sessions: KeptSessions,
     /// The first serial of the next request's notices.
     serial: AtomicU64,
     /// Whether the run is to end, since a service has no thread.
@@ -29,6 +33,7 @@ pub(super) struct PostfixShare<'a> {
 impl<'a> PostfixShare<'a> {
     /// What is shared as the threads of this Postfix start.
     pub(super) fn new(
+        alloc: Global,
         place: PostfixPlace<'a>,
         settings: ServiceSettings<'a>,
         version: PostfixVersion,
@@ -37,6 +42,7 @@ impl<'a> PostfixShare<'a> {
             place,
             settings,
             version,
+            sessions: KeptSessions::new(alloc),
             serial: AtomicU64::new(0),
             ending: AtomicBool::new(false),
             accept_failed: AtomicBool::new(false),

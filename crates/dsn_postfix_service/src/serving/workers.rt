@@ -22,6 +22,9 @@ const SECONDS_FOR_CLIENT: u64 = 60;
 /// How long a thread waits after an accept that failed, in milliseconds.
 const AFTER_FAILED_ACCEPT: u64 = 100;
 
+/// How long a session with the mail server is kept that nobody uses, in seconds: so long, or twice.
+const SECONDS_KEPT: u64 = 2;
+
 /// Serves the programs of a Postfix, each on one of the threads of the service that it asks. Where a
 /// thread is refused there are fewer. It comes back only where a service has none. What it does is
 /// told on standard error. The runtime comes a second time as what may start threads and wait.
@@ -33,7 +36,7 @@ pub fn serve_postfix<R: Threads + Wait + Sync>(
     settings: ServiceSettings<'_>,
     version: PostfixVersion,
 ) {
-    let share = PostfixShare::new(place, settings, version);
+    let share = PostfixShare::new(rt.alloc(), place, settings, version);
     serve_all(rt, waiting, listeners, &share);
 }
 
@@ -46,14 +49,34 @@ fn serve_all<R: Threads + Wait + Sync>(
 ) {
     thread::scope(thread::scope_env(), waiting, |scope| {
         for round in 0..WORKERS {
-            let bounce = scope.spawn(move || serve_each(rt, listeners, Service::Bounce, share));
-            let defer = scope.spawn(move || serve_each(rt, listeners, Service::Defer, share));
-            let trace = scope.spawn(move || serve_each(rt, listeners, Service::Trace, share));
+            let bounce = scope.spawn(move || serve_each(
+                rt,
+                waiting,
+                listeners,
+                Service::Bounce,
+                share,
+            ));
+            let defer = scope.spawn(move || serve_each(
+                rt,
+                waiting,
+                listeners,
+                Service::Defer,
+                share,
+            ));
+            let trace = scope.spawn(move || serve_each(
+                rt,
+                waiting,
+                listeners,
+                Service::Trace,
+                share,
+            ));
             if bounce.is_err() || defer.is_err() || trace.is_err() {
                 end_without(rt, share, round);
                 break;
             }
         }
+        // without this thread the mail server ends them, by its own time limit
+        let _ = scope.spawn(move || end_stale_sessions(rt, waiting, share));
         print_start(rt, share);
     });
 }
@@ -76,7 +99,13 @@ fn end_without(rt: &HostRuntime, share: &PostfixShare<'_>, round: u32) {
 }
 
 /// Serves one client of a service after another, until the run is to end.
-fn serve_each(rt: &HostRuntime, listeners: &Listeners, service: Service, share: &PostfixShare<'_>) {
+fn serve_each<R: Wait>(
+    rt: &HostRuntime,
+    waiting: &R,
+    listeners: &Listeners,
+    service: Service,
+    share: &PostfixShare<'_>,
+) {
     for client in listeners.of(service).incoming() {
         if share.is_ending() {
             return;
@@ -84,10 +113,21 @@ fn serve_each(rt: &HostRuntime, listeners: &Listeners, service: Service, share: 
         match client {
             Ok(stream) => {
                 share.note_accept();
-                serve_one(rt, stream, service, share);
+                serve_one(rt, waiting, stream, service, share);
             }
             Err(error) => wait_after(rt, &error, share),
         }
+    }
+}
+
+/// Ends the sessions with the mail server that nobody uses, until the run is to end.
+fn end_stale_sessions<R: Wait>(rt: &HostRuntime, waiting: &R, share: &PostfixShare<'_>) {
+    for _ in waiting.forever() {
+        if share.is_ending() {
+            return;
+        }
+        thread::sleep(rt, Duration::from_secs(SECONDS_KEPT));
+        share.sessions.end_stale(waiting);
     }
 }
 
@@ -100,12 +140,18 @@ fn wait_after(rt: &HostRuntime, error: &io::Error, share: &PostfixShare<'_>) {
 }
 
 /// Serves one client, and writes a line where it wasn't served as it asked.
-fn serve_one(rt: &HostRuntime, stream: UnixStream, service: Service, share: &PostfixShare<'_>) {
+fn serve_one<R: Wait>(
+    rt: &HostRuntime,
+    waiting: &R,
+    stream: UnixStream,
+    service: Service,
+    share: &PostfixShare<'_>,
+) {
     if let Err(error) = set_limits(&stream) {
         let _ = eprintln!(rt; "{}: client not served: {error}", socket_name(service));
         return;
     }
-    let mut system = PostfixSystem::new(rt, &share.place);
+    let mut system = PostfixSystem::new(rt, waiting, &share.place, &share.sessions);
     let served = serve_client(
         rt,
         rt.alloc(),

@@ -2,7 +2,7 @@ use Rattle.dsn_postfix_service.proofs.TransactionLemmas.{said_goodbye, unsaid_go
 use Rattle.dsn_postfix_service.proofs.hand_in.transaction.say_goodbye.Goals as goal
 
 pub returns-in-Ok : goal.returns-in-Ok
-returns-in-Ok g c = said_goodbye _ _ _ _ _ _ c.hear.result c.in-Ok.ensures.said c.hear.ensures.heard c.hear.ensures.none
+returns-in-Ok g c = said_goodbye _ _ _ _ c.in-Ok.ensures.said
 
 pub returns-in-Err : goal.returns-in-Err
 returns-in-Err g c = unsaid_goodbye _ _ _ _ c.in-Err.ensures.part

@@ -1,5 +1,5 @@
 //! A connection to the mail server that notices are handed to.
-use crate::queue_folder::connection::Connection;
+use crate::queue_folder::Connection;
 use std::io;
 use std::net::{SocketAddr, TcpStream};
 use std::time::Duration;

@@ -12,13 +12,12 @@ use Rattle.dsn_postfix.specs.declared.postfix_request.PostfixRequest.TheVariants
 use Rattle.dsn_postfix_service.specs.declared.requests.deed_fault.DeedFault.{DeedFault}
 use Rattle.dsn_postfix_service.specs.requests.AnsweredRequest.{IsAnswered, IsBounceLogTold, IsFlushedInTurn, bounce_serial, ends_message, is_flush}
 use Rattle.dsn_postfix_service.specs.requests.AnsweredRequest as answered
-use Rattle.dsn_postfix_service.specs.requests.CarriedOut.{IsCarriedOut, queue_id_of}
+use Rattle.dsn_postfix_service.specs.requests.CarriedOut.{IsCarriedOut, flags_of, must_clean, queue_id_of}
 use Rattle.dsn_postfix_service.specs.requests.Deed.{Answer, Appended, Deed, HandedIn, LogRead, LogReleased, LogRemoved, LogSought, MarkedDone, MessageRead, PassedOn}
-use Rattle.dsn_postfix_service.specs.requests.RequestLaws.{HandsInInTurn, HandsInOnce, IsRemovedAfter, IsSerialOf, IsRemovedInTurn, IsToldFirst, StandsOrIsPassedOn, hand_ins}
-use Rattle.dsn_postfix_service.specs.requests.RequestStatus.{RequestAnswer, carried_out, is_carried_out, not_carried_out}
+use Rattle.dsn_postfix_service.specs.requests.RequestLaws.{AreAllTold, HandsInInTurn, HandsInOfBounceLog, HandsInOnce, IsRemovedAfter, IsSerialOf, IsRemovedInTurn, IsToldFirst, StandsOrIsPassedOn, hand_ins}
+use Rattle.dsn_postfix_service.specs.requests.RequestStatus.{RequestAnswer, carried_out, has_flag, is_carried_out, not_carried_out}
 use Rattle.dsn_postfix_service.specs.requests.ServiceSettings.{SettingsSaid}
-use Rattle.dsn_postfix_service.proofs.CarriedOutLaws.{answered_append_stands, first_or, handed_in_once, later, none_once, not_zero, nothing_after, past_block, removed_only_after, status_is, told_or_left}
-use Rattle.dsn_postfix_service.proofs.RequestLawLemmas.{hand_ins-append}
+use Rattle.dsn_postfix_service.proofs.CarriedOutLaws.{and_false, answered_append_stands, false_is_true, first_or, handed_in_once, later, none_of_both, none_once, not_zero, nothing_after, past_block, removed_only_after, status_is, told_or_left}
 
 true_is_false : true ≡ false → ⊥
 true_is_false e = cc
@@ -101,48 +100,44 @@ part_of (one ∷ first) rest [] after deed e =
 part_of (one ∷ first) rest (other ∷ before) after deed e =
     part_more one other first rest before after deed (ap (first_or one) e) (part_of first rest before after deed (ap later e))
 
--- removed by a request on that log, after some deeds and before others
-removed_in_turn : (settings : SettingsSaid) (service : Service) (request : PostfixRequest) (notice : NoticeRequest) (moment serial own_serial : ℕ) (answer : RequestAnswer) (earlier own_before own_after before after later : List Deed) (log : Service) (id : List ℕ)
-    → IsSerialOf serial own_serial → before ≡ earlier ++ own_before → after ≡ own_after ++ later → IsRemovedAfter settings service request notice moment own_serial answer own_before own_after log id
-    → IsRemovedInTurn settings request notice moment serial before after log id
-removed_in_turn settings service request notice moment serial own_serial answer earlier own_before own_after before after later log id serial_is before_is after_is removed = record {
-  answer = answer;
-  earlier = earlier;
-  own_before = own_before;
-  own_after = own_after;
-  later = later;
-  before_is = before_is;
-  after_is = after_is;
-  own_serial = own_serial;
-  serial_is = serial_is;
-  removed = subst (λ (own : Service). IsRemovedAfter settings own request notice moment own_serial answer own_before own_after log id) (sym removed.of_service) removed;
-}
+removed_by_one : (settings : SettingsSaid) (service : Service) (request : PostfixRequest) (notice : NoticeRequest) (bytes : List ℕ) (moment serial own_serial : ℕ) (answer : RequestAnswer) (gained earlier own before after : List Deed) (log : Service) (id : List ℕ) (given : Answer)
+    → IsSerialOf serial own_serial → notice_asked request ≡ Some notice → IsCarriedOut settings service request bytes moment own_serial answer gained → before ≡ earlier ++ own → gained ≡ own ++ LogRemoved log id given ∷ after
+    → IsRemovedInTurn settings request notice moment serial answer before after log id
+removed_by_one settings service request notice bytes moment serial own_serial answer gained earlier own before after log id given serial_is asked out before_is e =
+    let removed = removed_only_after settings service request notice bytes moment own_serial answer gained own after log id given (record { asked = asked; carried_out = out }) e in
+    record {
+      earlier = earlier;
+      own = own;
+      before_is = before_is;
+      own_serial = own_serial;
+      serial_is = serial_is;
+      removed = subst (λ (of : Service). IsRemovedAfter settings of request notice moment own_serial answer own after log id) (sym removed.of_service) removed;
+    }
 
-later_too : (settings : SettingsSaid) (request : PostfixRequest) (notice : NoticeRequest) (moment serial : ℕ) (before more rest after : List Deed) (log : Service) (id : List ℕ)
-    → after ≡ more ++ rest → IsRemovedInTurn settings request notice moment serial before more log id → IsRemovedInTurn settings request notice moment serial before after log id
-later_too settings request notice moment serial before more rest after log id is removed = record {
-  answer = removed.answer;
-  earlier = removed.earlier;
-  own_before = removed.own_before;
-  own_after = removed.own_after;
-  later = removed.later ++ rest;
-  before_is = removed.before_is;
-  after_is = is ∙ ap (λ (deeds : List Deed). deeds ++ rest) removed.after_is ∙ append_assoc removed.own_after removed.later rest;
-  own_serial = removed.own_serial;
-  serial_is = removed.serial_is;
-  removed = removed.removed;
-}
+-- a request that is answered 0 removes nothing for CLEAN, so what is done after a removal is free
+told_before : (settings : SettingsSaid) (service : Service) (request : PostfixRequest) (notice : NoticeRequest) (moment serial : ℕ) (before after : List Deed)
+    → AreAllTold settings service request notice moment serial before ⊎ ((must_clean request (Ok carried_out) ≡ true) × (after ≡ [])) → AreAllTold settings service request notice moment serial before
+told_before settings service request notice moment serial before after (inl told) = told
+told_before settings service request notice moment serial before after (inr cleans) = absurd (false_is_true (sym (and_false (has_flag 1 (flags_of request))) ∙ cleans.0))
 
-removed_by_one : (settings : SettingsSaid) (service : Service) (request : PostfixRequest) (notice : NoticeRequest) (bytes : List ℕ) (moment serial own_serial : ℕ) (answer : RequestAnswer) (own earlier own_before before after : List Deed) (log : Service) (id : List ℕ) (given : Answer)
-    → IsSerialOf serial own_serial → notice_asked request ≡ Some notice → IsCarriedOut settings service request bytes moment own_serial answer own → before ≡ earlier ++ own_before → own ≡ own_before ++ LogRemoved log id given ∷ after
-    → IsRemovedInTurn settings request notice moment serial before after log id
-removed_by_one settings service request notice bytes moment serial own_serial answer own earlier own_before before after log id given serial_is asked out before_is e =
-    removed_in_turn settings service request notice moment serial own_serial answer earlier own_before after before after [] log id serial_is before_is (sym (append-nil after))
-    (removed_only_after settings service request notice bytes moment own_serial answer own own_before after log id given (record { asked = asked; carried_out = out }) e)
+later_too : (settings : SettingsSaid) (request : PostfixRequest) (notice : NoticeRequest) (moment serial : ℕ) (answer : RequestAnswer) (before more after : List Deed) (log : Service) (id : List ℕ)
+    → IsRemovedInTurn settings request notice moment serial (Ok carried_out) before more log id → IsRemovedInTurn settings request notice moment serial answer before after log id
+later_too settings request notice moment serial answer before more after log id in_turn = record {
+  earlier = in_turn.earlier;
+  own = in_turn.own;
+  before_is = in_turn.before_is;
+  own_serial = in_turn.own_serial;
+  serial_is = in_turn.serial_is;
+  removed = record {
+    of_service = in_turn.removed.of_service;
+    of_message = in_turn.removed.of_message;
+    told = inl (told_before settings log request notice moment in_turn.own_serial in_turn.own more in_turn.removed.told);
+  };
+}
 
 removed_from_bounce_log : (settings : SettingsSaid) (request : PostfixRequest) (notice : NoticeRequest) (bytes : List ℕ) (moment serial : ℕ) (answer : RequestAnswer) (gained before after : List Deed) (log : Service) (id : List ℕ) (given : Answer)
     → notice_asked request ≡ Some notice → IsBounceLogTold settings request bytes moment (bounce_serial serial) answer gained → gained ≡ before ++ LogRemoved log id given ∷ after
-    → IsRemovedInTurn settings request notice moment serial before after log id
+    → IsRemovedInTurn settings request notice moment serial answer before after log id
 removed_from_bounce_log settings request notice bytes moment serial answer gained before after log id given asked (answered.unsought why is a) e =
     let past = past_block (LogSought Bounce (queue_id_of request) (Err why) ∷ []) [] before after (LogRemoved log id given) (refl, tt) refl (sym is ∙ e) in
     absurd (nothing_after past.more after (LogRemoved log id given) past.rest_is)
@@ -156,16 +151,16 @@ removed_from_bounce_log settings request notice bytes moment serial answer gaine
 
 removed_from_part : (settings : SettingsSaid) (service : Service) (request : PostfixRequest) (notice : NoticeRequest) (bytes : List ℕ) (moment serial : ℕ) (answer : RequestAnswer) (first rest before after : List Deed) (log : Service) (id : List ℕ) (given : Answer)
     → notice_asked request ≡ Some notice → IsBounceLogTold settings request bytes moment (bounce_serial serial) (Ok carried_out) first → IsCarriedOut settings service request bytes moment serial answer rest
-    → InPart first rest before after (LogRemoved log id given) → IsRemovedInTurn settings request notice moment serial before after log id
+    → InPart first rest before after (LogRemoved log id given) → IsRemovedInTurn settings request notice moment serial answer before after log id
 removed_from_part settings service request notice bytes moment serial answer first rest before after log id given asked first_told out (in_first more is after_is) =
-    later_too settings request notice moment serial before more rest after log id after_is
+    later_too settings request notice moment serial answer before more after log id
     (removed_from_bounce_log settings request notice bytes moment serial (Ok carried_out) first before more log id given asked first_told is)
 removed_from_part settings service request notice bytes moment serial answer first rest before after log id given asked first_told out (in_rest more is rest_is) =
     removed_by_one settings service request notice bytes moment serial serial answer rest first more before after log id given (inl refl) asked out is rest_is
 
 removed_in_flush : (settings : SettingsSaid) (service : Service) (request : PostfixRequest) (notice : NoticeRequest) (bytes : List ℕ) (moment serial : ℕ) (answer : RequestAnswer) (gained before after : List Deed) (log : Service) (id : List ℕ) (given : Answer)
     → notice_asked request ≡ Some notice → IsFlushedInTurn settings service request bytes moment serial answer gained → gained ≡ before ++ LogRemoved log id given ∷ after
-    → IsRemovedInTurn settings request notice moment serial before after log id
+    → IsRemovedInTurn settings request notice moment serial answer before after log id
 removed_in_flush settings service request notice bytes moment serial answer gained before after log id given asked (answered.put_off not_done first_told) e =
     removed_from_bounce_log settings request notice bytes moment serial answer gained before after log id given asked first_told e
 removed_in_flush settings service request notice bytes moment serial answer gained before after log id given asked (answered.in_turn first rest is first_told out) e =
@@ -175,7 +170,7 @@ removed_in_flush settings service request notice bytes moment serial answer gain
 removed_if : (ends : Bool) (settings : SettingsSaid) (service : Service) (request : PostfixRequest) (notice : NoticeRequest) (bytes : List ℕ) (moment serial : ℕ) (answer : RequestAnswer) (gained before after : List Deed) (log : Service) (id : List ℕ) (given : Answer)
     → notice_asked request ≡ Some notice
     → MatchBool ends (IsFlushedInTurn settings service request bytes moment serial answer gained) (IsCarriedOut settings service request bytes moment serial answer gained)
-    → gained ≡ before ++ LogRemoved log id given ∷ after → IsRemovedInTurn settings request notice moment serial before after log id
+    → gained ≡ before ++ LogRemoved log id given ∷ after → IsRemovedInTurn settings request notice moment serial answer before after log id
 removed_if true settings service request notice bytes moment serial answer gained before after log id given asked is e =
     removed_in_flush settings service request notice bytes moment serial answer gained before after log id given asked is e
 removed_if false settings service request notice bytes moment serial answer gained before after log id given asked is e =
@@ -183,69 +178,76 @@ removed_if false settings service request notice bytes moment serial answer gain
 
 pub answered_removal : (settings : SettingsSaid) (service : Service) (request : PostfixRequest) (notice : NoticeRequest) (bytes : List ℕ) (moment serial : ℕ) (answer : RequestAnswer) (gained before after : List Deed) (log : Service) (id : List ℕ) (given : Answer)
     → notice_asked request ≡ Some notice → IsAnswered settings service request bytes moment serial answer gained → gained ≡ before ++ LogRemoved log id given ∷ after
-    → IsRemovedInTurn settings request notice moment serial before after log id
+    → IsRemovedInTurn settings request notice moment serial answer before after log id
 answered_removal settings service request notice bytes moment serial answer gained before after log id given asked is e =
     removed_if (ends_message service request) settings service request notice bytes moment serial answer gained before after log id given asked is e
 
 -- ---- what is handed in
 
 hands_in_own : (settings : SettingsSaid) (service : Service) (request : PostfixRequest) (notice : NoticeRequest) (bytes : List ℕ) (moment serial : ℕ) (answer : RequestAnswer) (gained : List Deed)
-    → notice_asked request ≡ Some notice → IsCarriedOut settings service request bytes moment serial answer gained → (hand_ins gained ≡ []) ⊎ HandsInOnce settings service request notice moment serial (hand_ins gained)
+    → notice_asked request ≡ Some notice → IsCarriedOut settings service request bytes moment serial answer gained → (hand_ins gained ≡ []) ⊎ HandsInOnce settings service request notice moment serial gained
 hands_in_own settings service request notice bytes moment serial answer gained asked out = handed_in_once settings service request notice bytes moment serial answer gained (record { asked = asked; carried_out = out })
 
-handed_as : (settings : SettingsSaid) (service : Service) (request : PostfixRequest) (notice : NoticeRequest) (moment serial : ℕ) (one two : List Deed) → one ≡ two
-    → (two ≡ []) ⊎ HandsInOnce settings service request notice moment serial two → (one ≡ []) ⊎ HandsInOnce settings service request notice moment serial one
-handed_as settings service request notice moment serial one two is either =
-    subst (λ (deeds : List Deed). (deeds ≡ []) ⊎ HandsInOnce settings service request notice moment serial deeds) (sym is) either
+after_sought : (settings : SettingsSaid) (request : PostfixRequest) (notice : NoticeRequest) (moment serial : ℕ) (gained own : List Deed) → gained ≡ LogSought Bounce (queue_id_of request) (Ok true) ∷ own
+    → (hand_ins own ≡ []) ⊎ HandsInOnce settings Bounce request notice moment (bounce_serial serial) own → (hand_ins gained ≡ []) ⊎ HandsInOfBounceLog settings request notice moment serial gained
+after_sought settings request notice moment serial gained own is (inl none) = inl (ap hand_ins is ∙ none)
+after_sought settings request notice moment serial gained own is (inr once) = inr (record { own = own; gained_are = is; once = once })
 
 bounce_log_hands_in : (settings : SettingsSaid) (request : PostfixRequest) (notice : NoticeRequest) (bytes : List ℕ) (moment serial : ℕ) (answer : RequestAnswer) (gained : List Deed)
-    → notice_asked request ≡ Some notice → IsBounceLogTold settings request bytes moment serial answer gained → (hand_ins gained ≡ []) ⊎ HandsInOnce settings Bounce request notice moment serial (hand_ins gained)
+    → notice_asked request ≡ Some notice → IsBounceLogTold settings request bytes moment (bounce_serial serial) answer gained → (hand_ins gained ≡ []) ⊎ HandsInOfBounceLog settings request notice moment serial gained
 bounce_log_hands_in settings request notice bytes moment serial answer gained asked (answered.unsought why is a) = inl (ap hand_ins is)
 bounce_log_hands_in settings request notice bytes moment serial answer gained asked (answered.no_log is a) = inl (ap hand_ins is)
 bounce_log_hands_in settings request notice bytes moment serial answer gained asked (answered.told own is out) =
-    handed_as settings Bounce request notice moment serial (hand_ins gained) (hand_ins own) (ap hand_ins is) (hands_in_own settings Bounce request notice bytes moment serial answer own asked out)
+    after_sought settings request notice moment serial gained own is (hands_in_own settings Bounce request notice bytes moment (bounce_serial serial) answer own asked out)
 
 flush_hands_in : (settings : SettingsSaid) (service : Service) (request : PostfixRequest) (notice : NoticeRequest) (bytes : List ℕ) (moment serial : ℕ) (answer : RequestAnswer) (gained : List Deed)
-    → notice_asked request ≡ Some notice → IsFlushedInTurn settings service request bytes moment serial answer gained → HandsInInTurn settings service request notice moment serial (hand_ins gained)
+    → notice_asked request ≡ Some notice → IsFlushedInTurn settings service request bytes moment serial answer gained → HandsInInTurn settings service request notice moment serial gained
 flush_hands_in settings service request notice bytes moment serial answer gained asked (answered.put_off not_done first_told) = record {
-  first = hand_ins gained;
+  first = gained;
   rest = [];
-  handed_are = sym (append-nil (hand_ins gained));
-  of_bounce_log = bounce_log_hands_in settings request notice bytes moment (bounce_serial serial) answer gained asked first_told;
+  gained_are = sym (append-nil gained);
+  of_bounce_log = bounce_log_hands_in settings request notice bytes moment serial answer gained asked first_told;
   of_own_log = inl refl;
 }
 flush_hands_in settings service request notice bytes moment serial answer gained asked (answered.in_turn first rest is first_told out) = record {
-  first = hand_ins first;
-  rest = hand_ins rest;
-  handed_are = ap hand_ins is ∙ hand_ins-append first rest;
-  of_bounce_log = bounce_log_hands_in settings request notice bytes moment (bounce_serial serial) (Ok carried_out) first asked first_told;
+  first = first;
+  rest = rest;
+  gained_are = is;
+  of_bounce_log = bounce_log_hands_in settings request notice bytes moment serial (Ok carried_out) first asked first_told;
   of_own_log = hands_in_own settings service request notice bytes moment serial answer rest asked out;
 }
 
 hands_in_if : (ends : Bool) (settings : SettingsSaid) (service : Service) (request : PostfixRequest) (notice : NoticeRequest) (bytes : List ℕ) (moment serial : ℕ) (answer : RequestAnswer) (gained : List Deed)
     → notice_asked request ≡ Some notice
     → MatchBool ends (IsFlushedInTurn settings service request bytes moment serial answer gained) (IsCarriedOut settings service request bytes moment serial answer gained)
-    → HandsInInTurn settings service request notice moment serial (hand_ins gained)
+    → HandsInInTurn settings service request notice moment serial gained
 hands_in_if true settings service request notice bytes moment serial answer gained asked is = flush_hands_in settings service request notice bytes moment serial answer gained asked is
 hands_in_if false settings service request notice bytes moment serial answer gained asked is = record {
   first = [];
-  rest = hand_ins gained;
-  handed_are = refl;
+  rest = gained;
+  gained_are = refl;
   of_bounce_log = inl refl;
   of_own_log = hands_in_own settings service request notice bytes moment serial answer gained asked is;
 }
 
 pub answered_hand_ins : (settings : SettingsSaid) (service : Service) (request : PostfixRequest) (notice : NoticeRequest) (bytes : List ℕ) (moment serial : ℕ) (answer : RequestAnswer) (gained : List Deed)
-    → notice_asked request ≡ Some notice → IsAnswered settings service request bytes moment serial answer gained → HandsInInTurn settings service request notice moment serial (hand_ins gained)
+    → notice_asked request ≡ Some notice → IsAnswered settings service request bytes moment serial answer gained → HandsInInTurn settings service request notice moment serial gained
 answered_hand_ins settings service request notice bytes moment serial answer gained asked is =
     hands_in_if (ends_message service request) settings service request notice bytes moment serial answer gained asked is
+
+none_of_bounce_log : (settings : SettingsSaid) (request : PostfixRequest) (notice : NoticeRequest) (moment serial : ℕ) (gained : List Deed) → notice_asked request ≡ Some notice → is_no_sender settings.double_bounce notice.sender ≡ true
+    → (hand_ins gained ≡ []) ⊎ HandsInOfBounceLog settings request notice moment serial gained → hand_ins gained ≡ []
+none_of_bounce_log settings request notice moment serial gained asked none (inl is) = is
+none_of_bounce_log settings request notice moment serial gained asked none (inr found) =
+    ap hand_ins found.gained_are ∙ none_once settings Bounce request notice moment (bounce_serial serial) found.own asked none (inr found.once)
 
 pub answered_to_nobody : (settings : SettingsSaid) (service : Service) (request : PostfixRequest) (notice : NoticeRequest) (bytes : List ℕ) (moment serial : ℕ) (answer : RequestAnswer) (gained : List Deed)
     → notice_asked request ≡ Some notice → IsAnswered settings service request bytes moment serial answer gained → is_no_sender settings.double_bounce notice.sender ≡ true → hand_ins gained ≡ []
 answered_to_nobody settings service request notice bytes moment serial answer gained asked is none =
     let handed = answered_hand_ins settings service request notice bytes moment serial answer gained asked is in
-    handed.handed_are
-    ∙ (λ i. none_once settings Bounce request notice moment (bounce_serial serial) handed.first asked none handed.of_bounce_log i ++ none_once settings service request notice moment serial handed.rest asked none handed.of_own_log i)
+    ap hand_ins handed.gained_are
+    ∙ none_of_both handed.first handed.rest (none_of_bounce_log settings request notice moment serial handed.first asked none handed.of_bounce_log)
+    (none_once settings service request notice moment serial handed.rest asked none handed.of_own_log)
 
 -- ---- appends
 

@@ -20,13 +20,14 @@ use Rattle.dsn_postfix_service.specs.requests.AppendDeeds.{IsAppended, IsLogged,
 use Rattle.dsn_postfix_service.specs.requests.AppendDeeds as append
 use Rattle.dsn_postfix_service.specs.requests.CarriedOut.{Cleans, IsCarriedOut, IsDone, flags_of, must_clean, queue_id_of}
 use Rattle.dsn_postfix_service.specs.requests.Deed.{Answer, Appended, Deed, HandedIn, LogRead, LogReleased, LogRemoved, LogSought, MarkedDone, MessageRead, PassedOn}
+use Rattle.dsn_postfix_service.specs.requests.MailFound.{readings}
 use Rattle.dsn_postfix_service.specs.requests.NoticeDeeds.{EndsTelling, IsNotified}
-use Rattle.dsn_postfix_service.specs.requests.RequestLaws.{AreAllTold, AreHandedIn, HandsInOnce, IsLeftToPostfix, IsRemovedAfter, IsTellingDone, StandsOrIsPassedOn, hand_ins}
+use Rattle.dsn_postfix_service.specs.requests.RequestLaws.{AreAllTold, AreHandedIn, AreToldFirst, HandsInOnce, IsLeftToPostfix, IsRemovedAfter, IsTellingDone, StandsOrIsPassedOn, hand_ins}
 use Rattle.dsn_postfix_service.specs.requests.RequestLetters.{AreLettersOf, message_said}
 use Rattle.dsn_postfix_service.specs.requests.RequestStatus.{RequestAnswer, carried_out, has_flag, is_carried_out, not_carried_out, status_after, status_passed_on}
 use Rattle.dsn_postfix_service.specs.requests.ServiceSettings.{SettingsSaid}
 use Rattle.dsn_postfix_service.proofs.RequestLawLemmas.{Block, RemovesNone, hand_ins-append, is_removal}
-use Rattle.dsn_postfix_service.proofs.TellingParts.{HandedSo, IsRemovalPart, notified_parts, nothing_removed, removed_told}
+use Rattle.dsn_postfix_service.proofs.TellingParts.{IsRemovalPart, NotifiedParts, ToldSo, notified_parts, nothing_removed, removed_told}
 
 -- ---- which requests
 
@@ -155,20 +156,20 @@ after_tail settings service other request notice moment serial answer tail clean
     let last = cleaned_last service other request named (must_clean request answer) cleaned past.more after given cleans past.rest_is in
     record { of_service = last.of_service; of_message = last.of_message ∙ id_of request notice asked; told = inr (last.is_due, last.none_after) }
 
-at_removal : (settings : SettingsSaid) (service other : Service) (request : PostfixRequest) (notice : NoticeRequest) (moment serial : ℕ) (answer : RequestAnswer) (front handed removal tail cleaned before more after : List Deed) (named : List ℕ) (given : Answer)
-    → notice_asked request ≡ Some notice → Block front handed → IsRemovalPart settings service request notice moment serial handed removal → Block tail [] → Cleans service request (must_clean request answer) cleaned
+at_removal : (settings : SettingsSaid) (service other : Service) (request : PostfixRequest) (notice : NoticeRequest) (moment serial : ℕ) (answer : RequestAnswer) (front removal tail cleaned before more after : List Deed) (named : List ℕ) (given : Answer)
+    → notice_asked request ≡ Some notice → IsRemovalPart settings service request notice moment serial front removal → Block tail [] → Cleans service request (must_clean request answer) cleaned
     → before ≡ front ++ more → removal ++ (tail ++ cleaned) ≡ more ++ LogRemoved other named given ∷ after → IsRemovedAfter settings service request notice moment serial answer before after other named
-at_removal settings service other request notice moment serial answer front handed removal tail cleaned before more after named given asked block (nothing_removed none) tail_block cleans before_is e =
+at_removal settings service other request notice moment serial answer front removal tail cleaned before more after named given asked (nothing_removed none) tail_block cleans before_is e =
     after_tail settings service other request notice moment serial answer tail cleaned before more after named given asked tail_block cleans
     (ap (λ (deeds : List Deed). deeds ++ (tail ++ cleaned)) (sym none) ∙ e)
-at_removal settings service other request notice moment serial answer front handed removal tail cleaned before [] after named given asked block (removed_told came is told) tail_block cleans before_is e =
+at_removal settings service other request notice moment serial answer front removal tail cleaned before [] after named given asked (removed_told came is told) tail_block cleans before_is e =
     let same = same_removal service other notice.queue_id named came given (tail ++ cleaned) after (ap (λ (deeds : List Deed). deeds ++ (tail ++ cleaned)) (sym is) ∙ e) in
     record {
       of_service = same.of_service;
       of_message = same.of_message;
-      told = inl (subst (λ (deeds : List Deed). AreAllTold settings service request notice moment serial deeds) (sym (ap hand_ins (before_is ∙ append-nil front) ∙ block.handed_are)) told);
+      told = inl (subst (λ (deeds : List Deed). AreAllTold settings service request notice moment serial deeds) (sym (before_is ∙ append-nil front)) told);
     }
-at_removal settings service other request notice moment serial answer front handed removal tail cleaned before (deed ∷ more) after named given asked block (removed_told came is told) tail_block cleans before_is e =
+at_removal settings service other request notice moment serial answer front removal tail cleaned before (deed ∷ more) after named given asked (removed_told came is told) tail_block cleans before_is e =
     after_tail settings service other request notice moment serial answer tail cleaned before more after named given asked tail_block cleans
     (ap later (ap (λ (deeds : List Deed). deeds ++ (tail ++ cleaned)) (sym is) ∙ e))
 
@@ -185,44 +186,74 @@ removed_only_after settings service request notice bytes moment serial answer ga
     let out = done.carried_out in
     let parts = notified_parts settings service request notice bytes moment serial answer out.done (done_notified settings service request notice bytes moment serial answer out.done done.asked out.is_done) in
     let row = one_row parts.telling.front parts.telling.removal parts.tail out.cleaned parts.told out.done gained out.gained_are parts.all parts.telling.parts in
-    let past = past_block parts.telling.front (parts.telling.removal ++ (parts.tail ++ out.cleaned)) before after (LogRemoved other named given) parts.telling.block.keeps refl (sym row ∙ e) in
-    at_removal settings service other request notice moment serial answer parts.telling.front parts.telling.handed parts.telling.removal parts.tail out.cleaned before past.more after named given done.asked
-    parts.telling.block parts.telling.removal_is parts.tail_block out.clean past.before_is past.rest_is
+    let past = past_block parts.telling.front (parts.telling.removal ++ (parts.tail ++ out.cleaned)) before after (LogRemoved other named given) parts.telling.keeps refl (sym row ∙ e) in
+    at_removal settings service other request notice moment serial answer parts.telling.front parts.telling.removal parts.tail out.cleaned before past.more after named given done.asked
+    parts.telling.removal_is parts.tail_block out.clean past.before_is past.rest_is
 
 -- ---- what is handed in
 
-removal_hands_in_none : (settings : SettingsSaid) (service : Service) (request : PostfixRequest) (notice : NoticeRequest) (moment serial : ℕ) (handed removal : List Deed) → IsRemovalPart settings service request notice moment serial handed removal → hand_ins removal ≡ []
-removal_hands_in_none settings service request notice moment serial handed removal (nothing_removed is) = ap hand_ins is
-removal_hands_in_none settings service request notice moment serial handed removal (removed_told answer is told) = ap hand_ins is
+removal_hands_in_none : (settings : SettingsSaid) (service : Service) (request : PostfixRequest) (notice : NoticeRequest) (moment serial : ℕ) (front removal : List Deed) → IsRemovalPart settings service request notice moment serial front removal → hand_ins removal ≡ []
+removal_hands_in_none settings service request notice moment serial front removal (nothing_removed is) = ap hand_ins is
+removal_hands_in_none settings service request notice moment serial front removal (removed_told answer is told) = ap hand_ins is
 
 cleaning_hands_in_none : (service : Service) (request : PostfixRequest) (due : Bool) (cleaned : List Deed) → Cleans service request due cleaned → hand_ins cleaned ≡ []
 cleaning_hands_in_none service request true cleaned cleans = ap hand_ins cleans.removed
 cleaning_hands_in_none service request false cleaned cleans = ap hand_ins cleans
 
-row_handed : (front removal tail cleaned handed : List Deed) → hand_ins front ≡ handed → hand_ins removal ≡ [] → hand_ins tail ≡ [] → hand_ins cleaned ≡ [] → hand_ins (front ++ (removal ++ (tail ++ cleaned))) ≡ handed
-row_handed front removal tail cleaned handed f r t c =
-    hand_ins-append front (removal ++ (tail ++ cleaned))
-    ∙ ap (λ (deeds : List Deed). hand_ins front ++ deeds) (hand_ins-append removal (tail ++ cleaned) ∙ ap (λ (deeds : List Deed). deeds ++ hand_ins (tail ++ cleaned)) r
-    ∙ hand_ins-append tail cleaned ∙ ap (λ (deeds : List Deed). deeds ++ hand_ins cleaned) t ∙ c)
-    ∙ append-nil (hand_ins front) ∙ f
+pub none_of_both : (one two : List Deed) → hand_ins one ≡ [] → hand_ins two ≡ [] → hand_ins (one ++ two) ≡ []
+none_of_both one two first second = hand_ins-append one two ∙ (λ i. first i ++ second i)
 
-once_as : (settings : SettingsSaid) (service : Service) (request : PostfixRequest) (notice : NoticeRequest) (moment serial : ℕ) (handed all : List Deed) → all ≡ handed
-    → (handed ≡ []) ⊎ HandsInOnce settings service request notice moment serial handed → (all ≡ []) ⊎ HandsInOnce settings service request notice moment serial all
-once_as settings service request notice moment serial handed all is (inl none) = inl (is ∙ none)
-once_as settings service request notice moment serial handed all is (inr once) = inr (subst (λ (deeds : List Deed). HandsInOnce settings service request notice moment serial deeds) (sym is) once)
+none_after : (one two : List Deed) → hand_ins two ≡ [] → hand_ins (one ++ two) ≡ hand_ins one
+none_after one two none = hand_ins-append one two ∙ ap (λ (deeds : List Deed). hand_ins one ++ deeds) none ∙ append-nil (hand_ins one)
+
+-- the deeds of a request: those that tell, and others that hand in nothing
+pub record RequestRow (settings : SettingsSaid) (service : Service) (request : PostfixRequest) (notice : NoticeRequest) (bytes : List ℕ) (moment serial : ℕ) (answer : RequestAnswer) (done gained : List Deed) : Type 0 where
+  pub parts : NotifiedParts settings service request notice bytes moment serial answer done
+  pub others : List Deed
+  pub gained_are : gained ≡ parts.telling.front ++ others
+  pub none_handed : hand_ins others ≡ []
+
+row_of : (settings : SettingsSaid) (service : Service) (request : PostfixRequest) (notice : NoticeRequest) (bytes : List ℕ) (moment serial : ℕ) (answer : RequestAnswer) (gained : List Deed)
+    → (telling_done : IsTellingDone settings service request notice bytes moment serial answer gained) → RequestRow settings service request notice bytes moment serial answer telling_done.carried_out.done gained
+row_of settings service request notice bytes moment serial answer gained telling_done =
+    let out = telling_done.carried_out in
+    let parts = notified_parts settings service request notice bytes moment serial answer out.done (done_notified settings service request notice bytes moment serial answer out.done telling_done.asked out.is_done) in
+    let telling = parts.telling in
+    record {
+      parts = parts;
+      others = telling.removal ++ (parts.tail ++ out.cleaned);
+      gained_are = one_row telling.front telling.removal parts.tail out.cleaned parts.told out.done gained out.gained_are parts.all telling.parts;
+      none_handed = none_of_both telling.removal (parts.tail ++ out.cleaned)
+          (removal_hands_in_none settings service request notice moment serial telling.front telling.removal telling.removal_is)
+          (none_of_both parts.tail out.cleaned parts.tail_block.handed_are (cleaning_hands_in_none service request (must_clean request answer) out.cleaned out.clean));
+    }
+
+-- others after them hand in nothing
+once_longer : (settings : SettingsSaid) (service : Service) (request : PostfixRequest) (notice : NoticeRequest) (moment serial : ℕ) (front others : List Deed) → hand_ins others ≡ []
+    → HandsInOnce settings service request notice moment serial front → HandsInOnce settings service request notice moment serial (front ++ others)
+once_longer settings service request notice moment serial front others none once = record {
+  found = once.found;
+  more = once.more ++ others;
+  gained_are = ap (λ (deeds : List Deed). deeds ++ others) once.gained_are ∙ append_assoc (readings service request notice once.found) once.more others;
+  letters = once.letters;
+  asked = once.asked;
+  front = once.front;
+  rest = once.rest;
+  letters_are = once.letters_are;
+  each = subst (λ (deeds : List Deed). AreHandedIn settings.host once.front deeds) (sym (none_after front others none)) once.each;
+}
+
+once_or_none : (settings : SettingsSaid) (service : Service) (request : PostfixRequest) (notice : NoticeRequest) (moment serial : ℕ) (front others : List Deed) → hand_ins others ≡ []
+    → (hand_ins front ≡ []) ⊎ HandsInOnce settings service request notice moment serial front → (hand_ins (front ++ others) ≡ []) ⊎ HandsInOnce settings service request notice moment serial (front ++ others)
+once_or_none settings service request notice moment serial front others none (inl is) = inl (none_of_both front others is none)
+once_or_none settings service request notice moment serial front others none (inr once) = inr (once_longer settings service request notice moment serial front others none once)
 
 pub handed_in_once : (settings : SettingsSaid) (service : Service) (request : PostfixRequest) (notice : NoticeRequest) (bytes : List ℕ) (moment serial : ℕ) (answer : RequestAnswer) (gained : List Deed)
-    → IsTellingDone settings service request notice bytes moment serial answer gained → (hand_ins gained ≡ []) ⊎ HandsInOnce settings service request notice moment serial (hand_ins gained)
+    → IsTellingDone settings service request notice bytes moment serial answer gained → (hand_ins gained ≡ []) ⊎ HandsInOnce settings service request notice moment serial gained
 handed_in_once settings service request notice bytes moment serial answer gained done =
-    let out = done.carried_out in
-    let parts = notified_parts settings service request notice bytes moment serial answer out.done (done_notified settings service request notice bytes moment serial answer out.done done.asked out.is_done) in
-    let telling = parts.telling in
-    let row = one_row telling.front telling.removal parts.tail out.cleaned parts.told out.done gained out.gained_are parts.all telling.parts in
-    once_as settings service request notice moment serial telling.handed (hand_ins gained)
-    (ap hand_ins row ∙ row_handed telling.front telling.removal parts.tail out.cleaned telling.handed telling.block.handed_are
-    (removal_hands_in_none settings service request notice moment serial telling.handed telling.removal telling.removal_is) parts.tail_block.handed_are
-    (cleaning_hands_in_none service request (must_clean request answer) out.cleaned out.clean))
-    telling.once
+    let row = row_of settings service request notice bytes moment serial answer gained done in
+    subst (λ (deeds : List Deed). (hand_ins deeds ≡ []) ⊎ HandsInOnce settings service request notice moment serial deeds) (sym row.gained_are)
+    (once_or_none settings service request notice moment serial row.parts.telling.front row.others row.none_handed row.parts.telling.once)
 
 -- ---- nobody to be told
 
@@ -245,20 +276,20 @@ empty_front : (front rest : List Letter) → [] ≡ front ++ rest → front ≡ 
 empty_front [] rest e = refl
 empty_front (letter ∷ front) rest e = absurd (no_letter_more letter (front ++ rest) e)
 
-pub none_once : (settings : SettingsSaid) (service : Service) (request : PostfixRequest) (notice : NoticeRequest) (moment serial : ℕ) (handed : List Deed) → notice_asked request ≡ Some notice → is_no_sender settings.double_bounce notice.sender ≡ true
-    → (handed ≡ []) ⊎ HandsInOnce settings service request notice moment serial handed → handed ≡ []
-none_once settings service request notice moment serial handed asked none (inl is) = is
-none_once settings service request notice moment serial handed asked none (inr once) =
+pub none_once : (settings : SettingsSaid) (service : Service) (request : PostfixRequest) (notice : NoticeRequest) (moment serial : ℕ) (gained : List Deed) → notice_asked request ≡ Some notice → is_no_sender settings.double_bounce notice.sender ≡ true
+    → (hand_ins gained ≡ []) ⊎ HandsInOnce settings service request notice moment serial gained → hand_ins gained ≡ []
+none_once settings service request notice moment serial gained asked none (inl is) = is
+none_once settings service request notice moment serial gained asked none (inr once) =
     let letters = once.asked in
     let no_notices : letters.notices ≡ [] = sym (same_notices [] letters.notices _ (no_sender_plan settings.double_bounce service request notice _ once.found.log asked none) letters.planned) in
     let no_letters : once.letters ≡ [] = subst (λ (ns : List NoticeFacts). AreLettersOf (message_said settings.lifetime notice letters.records) moment serial ns once.letters) no_notices letters.each in
     let no_front : once.front ≡ [] = empty_front once.front once.rest (sym no_letters ∙ once.letters_are) in
-    subst (λ (ls : List Letter). AreHandedIn settings.host ls handed) no_front once.each
+    subst (λ (ls : List Letter). AreHandedIn settings.host ls (hand_ins gained)) no_front once.each
 
 pub nobody_is_told : (settings : SettingsSaid) (service : Service) (request : PostfixRequest) (notice : NoticeRequest) (bytes : List ℕ) (moment serial : ℕ) (answer : RequestAnswer) (gained : List Deed)
     → IsTellingDone settings service request notice bytes moment serial answer gained → is_no_sender settings.double_bounce notice.sender ≡ true → hand_ins gained ≡ []
 nobody_is_told settings service request notice bytes moment serial answer gained done none =
-    none_once settings service request notice moment serial (hand_ins gained) done.asked none (handed_in_once settings service request notice bytes moment serial answer gained done)
+    none_once settings service request notice moment serial gained done.asked none (handed_in_once settings service request notice bytes moment serial answer gained done)
 
 -- ---- appends
 
@@ -293,7 +324,7 @@ append_stands : (service : Service) (request : AppendRequest) (bytes : List ℕ)
 append_stands service request bytes (Ok status) gained is zero = logged_stands service request bytes status gained is (status_is 0 (Ok status) zero)
 append_stands service request bytes (Err refused) gained is zero = absurd (no_status refused 0 zero)
 
-and_false : (b : Bool) → (b && false) ≡ false
+pub and_false : (b : Bool) → (b && false) ≡ false
 and_false true = refl
 and_false false = refl
 
@@ -311,37 +342,34 @@ answered_append_stands settings service request bytes moment serial answer gaine
 
 -- ---- requests for notices that are answered 0
 
-end_told : (settings : SettingsSaid) (service : Service) (request : PostfixRequest) (notice : NoticeRequest) (bytes : List ℕ) (moment serial : ℕ) (answer : RequestAnswer) (telling : Telling) (handed last : List Deed)
-    → HandedSo settings service request notice moment serial telling handed → EndsTelling service bytes telling answer last → answer ≡ Ok 0
-    → AreAllTold settings service request notice moment serial handed ⊎ ((handed ≡ []) × (last ≡ PassedOn service bytes (Ok 0) ∷ []))
-end_told settings service request notice bytes moment serial answer Told handed last so ends zero = inl so
-end_told settings service request notice bytes moment serial answer Unsayable handed last so passes zero =
+end_told : (settings : SettingsSaid) (service : Service) (request : PostfixRequest) (notice : NoticeRequest) (bytes : List ℕ) (moment serial : ℕ) (answer : RequestAnswer) (telling : Telling) (front last : List Deed)
+    → ToldSo settings service request notice moment serial telling front → EndsTelling service bytes telling answer last → answer ≡ Ok 0
+    → AreAllTold settings service request notice moment serial front ⊎ ((hand_ins front ≡ []) × (last ≡ PassedOn service bytes (Ok 0) ∷ []))
+end_told settings service request notice bytes moment serial answer Told front last so ends zero = inl so
+end_told settings service request notice bytes moment serial answer Unsayable front last so passes zero =
     inr (so, passed_with_zero service bytes last passes.given passes.passed (status_is 0 (Ok (status_passed_on passes.given)) (sym passes.answer_is ∙ zero)))
-end_told settings service request notice bytes moment serial answer Failed handed last so ends zero = absurd (not_zero (status_is 0 (Ok not_carried_out) (sym ends.1 ∙ zero)))
-end_told settings service request notice bytes moment serial answer TellingNoMemory handed last so ends zero = absurd (false_is_true (ap is_err (sym zero) ∙ ends.1))
+end_told settings service request notice bytes moment serial answer Failed front last so ends zero = absurd (not_zero (status_is 0 (Ok not_carried_out) (sym ends.1 ∙ zero)))
+end_told settings service request notice bytes moment serial answer TellingNoMemory front last so ends zero = absurd (false_is_true (ap is_err (sym zero) ∙ ends.1))
 
-told_or_passed : (settings : SettingsSaid) (service : Service) (request : PostfixRequest) (notice : NoticeRequest) (bytes : List ℕ) (moment serial : ℕ) (told last handed gained : List Deed) → gained ≡ told ++ LogReleased ∷ last → hand_ins gained ≡ handed
-    → AreAllTold settings service request notice moment serial handed ⊎ ((handed ≡ []) × (last ≡ PassedOn service bytes (Ok 0) ∷ []))
-    → AreAllTold settings service request notice moment serial (hand_ins gained) ⊎ IsLeftToPostfix service bytes gained
-told_or_passed settings service request notice bytes moment serial told last handed gained is handed_is (inl all) = inl (subst (λ (deeds : List Deed). AreAllTold settings service request notice moment serial deeds) (sym handed_is) all)
-told_or_passed settings service request notice bytes moment serial told last handed gained is handed_is (inr passed) = inr (record {
+told_or_passed : (settings : SettingsSaid) (service : Service) (request : PostfixRequest) (notice : NoticeRequest) (bytes : List ℕ) (moment serial : ℕ) (told last front others gained : List Deed) → gained ≡ told ++ LogReleased ∷ last → gained ≡ front ++ others → hand_ins others ≡ []
+    → AreAllTold settings service request notice moment serial front ⊎ ((hand_ins front ≡ []) × (last ≡ PassedOn service bytes (Ok 0) ∷ []))
+    → AreToldFirst settings service request notice moment serial gained ⊎ IsLeftToPostfix service bytes gained
+told_or_passed settings service request notice bytes moment serial told last front others gained is row none (inl all) = inl (record { first = front; after = others; gained_are = row; told = all; none_handed = none })
+told_or_passed settings service request notice bytes moment serial told last front others gained is row none (inr passed) = inr (record {
   before = told ++ LogReleased ∷ [];
   passed_last = is ∙ ap (λ (deeds : List Deed). told ++ LogReleased ∷ deeds) passed.1 ∙ sym (append_assoc told (LogReleased ∷ []) (PassedOn service bytes (Ok 0) ∷ []));
-  none_handed = handed_is ∙ passed.0;
+  none_handed = ap hand_ins row ∙ none_of_both front others passed.0 none;
 })
 
 pub told_or_left : (settings : SettingsSaid) (service : Service) (request : PostfixRequest) (notice : NoticeRequest) (bytes : List ℕ) (moment serial : ℕ) (answer : RequestAnswer) (gained : List Deed)
     → IsTellingDone settings service request notice bytes moment serial answer gained → answer ≡ Ok 0
-    → AreAllTold settings service request notice moment serial (hand_ins gained) ⊎ IsLeftToPostfix service bytes gained
+    → AreToldFirst settings service request notice moment serial gained ⊎ IsLeftToPostfix service bytes gained
 told_or_left settings service request notice bytes moment serial answer gained done zero =
     let out = done.carried_out in
-    let parts = notified_parts settings service request notice bytes moment serial answer out.done (done_notified settings service request notice bytes moment serial answer out.done done.asked out.is_done) in
-    let telling = parts.telling in
-    let row = one_row telling.front telling.removal parts.tail out.cleaned parts.told out.done gained out.gained_are parts.all telling.parts in
+    let row = row_of settings service request notice bytes moment serial answer gained done in
+    let parts = row.parts in
     let none_cleaned = nothing_to_clean service request answer out.cleaned zero out.clean in
-    told_or_passed settings service request notice bytes moment serial parts.told parts.last telling.handed gained
+    told_or_passed settings service request notice bytes moment serial parts.told parts.last parts.telling.front row.others gained
     (out.gained_are ∙ ap (λ (deeds : List Deed). out.done ++ deeds) none_cleaned ∙ append-nil out.done ∙ parts.all ∙ ap (λ (deeds : List Deed). parts.told ++ deeds) parts.tail_is)
-    (ap hand_ins row ∙ row_handed telling.front telling.removal parts.tail out.cleaned telling.handed telling.block.handed_are
-    (removal_hands_in_none settings service request notice moment serial telling.handed telling.removal telling.removal_is) parts.tail_block.handed_are
-    (cleaning_hands_in_none service request (must_clean request answer) out.cleaned out.clean))
-    (end_told settings service request notice bytes moment serial answer parts.ended telling.handed parts.last telling.so parts.ends zero)
+    row.gained_are row.none_handed
+    (end_told settings service request notice bytes moment serial answer parts.ended parts.telling.front parts.last parts.telling.so parts.ends zero)

@@ -11,152 +11,190 @@ use Rattle.dsn_postfix_service.specs.declared.requests.not_accepted.NotAccepted.
 use Rattle.dsn_postfix_service.specs.declared.requests.telling.Telling.{Telling}
 use Rattle.dsn_postfix_service.specs.declared.requests.telling.Telling.TheVariants.{Told, Unsayable, Failed, NoMemory}
 use Rattle.dsn_postfix_service.specs.requests.Deed.{Answer, Deed, LogReleased, LogRemoved, PassedOn}
-use Rattle.dsn_postfix_service.specs.requests.Finishing.{FinishesAt, RemovesLog}
+use Rattle.dsn_postfix_service.specs.requests.Finishing.{AreMarked, FinishesAt, RemovesLog}
 use Rattle.dsn_postfix_service.specs.requests.Finishing as finishing
 use Rattle.dsn_postfix_service.specs.requests.MailFound.{MailRead, readings}
 use Rattle.dsn_postfix_service.specs.requests.NoticeDeeds.{EndsTelling, IsNotified, Tells, TellsLetters, TellsOfMail, end_at_letter, end_of_telling}
 use Rattle.dsn_postfix_service.specs.requests.NoticeDeeds as notices
-use Rattle.dsn_postfix_service.specs.requests.RequestLaws.{AreAllTold, HandsInOnce}
-use Rattle.dsn_postfix_service.specs.requests.RequestLetters.{AreLettersAsked}
+use Rattle.dsn_postfix_service.specs.requests.RequestLaws.{AreAllTold, AreHandedIn, HandsInOnce, hand_ins}
+use Rattle.dsn_postfix_service.specs.requests.RequestLetters.{AreLettersAsked, places_done}
 use Rattle.dsn_postfix_service.specs.requests.RequestStatus.{RequestAnswer}
 use Rattle.dsn_postfix_service.specs.requests.ServiceSettings.{SettingsSaid}
-use Rattle.dsn_postfix_service.proofs.RequestLawLemmas.{Block, accepted_block, accepted_handed, block_is, both, marked_block, no_deeds, readings_block, stopped_front, stopped_marks, unread_block}
+use Rattle.dsn_postfix_service.proofs.RequestLawLemmas.{Block, RemovesNone, accepted_block, accepted_handed, block_is, both, marked_block, no_deeds, readings_block, stopped_front, stopped_marks, unread_block}
 
 -- ---- what is done after all are accepted
 
-pub record FinishParts (service : Service) (notice : NoticeRequest) (gained : List Deed) : Type 0 where
+-- no log was removed, or one was, after all were marked
+abbrev pub RemovesMarked : Service → NoticeRequest → List ℕ → List Deed → List Deed → Type 0
+RemovesMarked service notice places marks removal =
+    (removal ≡ []) ⊎ ((answer : Answer) × (removal ≡ LogRemoved service notice.queue_id answer ∷ []) × AreMarked notice places marks)
+
+pub record FinishParts (service : Service) (notice : NoticeRequest) (places : List ℕ) (done : Bool) (gained : List Deed) : Type 0 where
   pub marks : List Deed
   pub removal : List Deed
   pub parts : gained ≡ marks ++ removal
   pub block : Block marks []
-  pub removal_is : (removal ≡ []) ⊎ ((answer : Answer) × (removal ≡ LogRemoved service notice.queue_id answer ∷ []))
+  pub removal_is : RemovesMarked service notice places marks removal
+  pub if_done : done ≡ true → AreMarked notice places marks
 
-removal_of : (service : Service) (id : List ℕ) (due done : Bool) (gained : List Deed) → RemovesLog service id due done gained
-    → (gained ≡ []) ⊎ ((answer : Answer) × (gained ≡ LogRemoved service id answer ∷ []))
-removal_of service id due done gained (finishing.kept e d is) = inl is
-removal_of service id due done gained (finishing.removed e d is) = inr (Ok tt, is)
-removal_of service id due done gained (finishing.unremoved why e d is) = inr (Err why, is)
+removal_of : (service : Service) (notice : NoticeRequest) (places : List ℕ) (due done : Bool) (marks gained : List Deed) → AreMarked notice places marks
+    → RemovesLog service notice.queue_id due done gained → RemovesMarked service notice places marks gained
+removal_of service notice places due done marks gained are (finishing.kept e d is) = inl is
+removal_of service notice places due done marks gained are (finishing.removed e d is) = inr (Ok tt, is, are)
+removal_of service notice places due done marks gained are (finishing.unremoved why e d is) = inr (Err why, is, are)
+
+false_is_true : false ≡ true → ⊥
+false_is_true e = cc
 
 finish_parts : (service : Service) (request : PostfixRequest) (notice : NoticeRequest) (log : Option (List ℕ)) (places : List ℕ) (done : Bool) (gained : List Deed)
-    → FinishesAt service request notice log places done gained → FinishParts service notice gained
+    → FinishesAt service request notice log places done gained → FinishParts service notice places done gained
 finish_parts service request notice log places done gained (finishing.unmarked d stops) = record {
   marks = gained;
   removal = [];
   parts = sym (append-nil gained);
   block = stopped_marks notice places gained stops;
   removal_is = inl refl;
+  if_done = λ all. absurd (false_is_true (sym d ∙ all));
 }
 finish_parts service request notice log places done gained (finishing.marked marks removal is are removes) = record {
   marks = marks;
   removal = removal;
   parts = is;
   block = marked_block notice places marks are;
-  removal_is = removal_of service notice.queue_id (finishing.is_removal_due request log) done removal removes;
+  removal_is = removal_of service notice places (finishing.is_removal_due request log) done marks removal are removes;
+  if_done = λ all. are;
 }
 
 -- ---- telling
 
-pub data IsRemovalPart (settings : SettingsSaid) (service : Service) (request : PostfixRequest) (notice : NoticeRequest) (moment serial : ℕ) (handed removal : List Deed) : Type 0 where
-  nothing_removed : removal ≡ [] → IsRemovalPart settings service request notice moment serial handed removal
-  removed_told : (answer : Answer) → removal ≡ LogRemoved service notice.queue_id answer ∷ [] → AreAllTold settings service request notice moment serial handed
-      → IsRemovalPart settings service request notice moment serial handed removal
+-- what was removed after these deeds
+pub data IsRemovalPart (settings : SettingsSaid) (service : Service) (request : PostfixRequest) (notice : NoticeRequest) (moment serial : ℕ) (front removal : List Deed) : Type 0 where
+  nothing_removed : removal ≡ [] → IsRemovalPart settings service request notice moment serial front removal
+  removed_told : (answer : Answer) → removal ≡ LogRemoved service notice.queue_id answer ∷ [] → AreAllTold settings service request notice moment serial front
+      → IsRemovalPart settings service request notice moment serial front removal
 
--- what was handed in where telling ends so
-abbrev pub HandedSo : SettingsSaid → Service → PostfixRequest → NoticeRequest → ℕ → ℕ → Telling → List Deed → Type 0
-HandedSo settings service request notice moment serial Told handed = AreAllTold settings service request notice moment serial handed
-HandedSo settings service request notice moment serial Unsayable handed = handed ≡ []
-HandedSo settings service request notice moment serial Failed handed = Unit {0}
-HandedSo settings service request notice moment serial NoMemory handed = Unit {0}
+-- what these deeds told where telling ends so
+abbrev pub ToldSo : SettingsSaid → Service → PostfixRequest → NoticeRequest → ℕ → ℕ → Telling → List Deed → Type 0
+ToldSo settings service request notice moment serial Told front = AreAllTold settings service request notice moment serial front
+ToldSo settings service request notice moment serial Unsayable front = hand_ins front ≡ []
+ToldSo settings service request notice moment serial Failed front = Unit {0}
+ToldSo settings service request notice moment serial NoMemory front = Unit {0}
 
-handed_if_done : (settings : SettingsSaid) (service : Service) (request : PostfixRequest) (notice : NoticeRequest) (moment serial : ℕ) (done : Bool) (handed : List Deed) → AreAllTold settings service request notice moment serial handed
-    → HandedSo settings service request notice moment serial (end_of_telling done) handed
-handed_if_done settings service request notice moment serial true handed told = told
-handed_if_done settings service request notice moment serial false handed told = tt
+told_if_done : (settings : SettingsSaid) (service : Service) (request : PostfixRequest) (notice : NoticeRequest) (moment serial : ℕ) (done : Bool) (front : List Deed) → (done ≡ true → AreAllTold settings service request notice moment serial front)
+    → ToldSo settings service request notice moment serial (end_of_telling done) front
+told_if_done settings service request notice moment serial true front told = told refl
+told_if_done settings service request notice moment serial false front told = tt
 
-handed_if_stopped : (settings : SettingsSaid) (service : Service) (request : PostfixRequest) (notice : NoticeRequest) (moment serial : ℕ) (why : NotAccepted) (handed : List Deed) → HandedSo settings service request notice moment serial (end_at_letter why) handed
-handed_if_stopped settings service request notice moment serial not_accepted.Refused handed = tt
-handed_if_stopped settings service request notice moment serial not_accepted.NoMemory handed = tt
+told_if_stopped : (settings : SettingsSaid) (service : Service) (request : PostfixRequest) (notice : NoticeRequest) (moment serial : ℕ) (why : NotAccepted) (front : List Deed) → ToldSo settings service request notice moment serial (end_at_letter why) front
+told_if_stopped settings service request notice moment serial not_accepted.Refused front = tt
+told_if_stopped settings service request notice moment serial not_accepted.NoMemory front = tt
 
-handed_as : (settings : SettingsSaid) (service : Service) (request : PostfixRequest) (notice : NoticeRequest) (moment serial : ℕ) (one two : Telling) (handed : List Deed) → one ≡ two
-    → HandedSo settings service request notice moment serial two handed → HandedSo settings service request notice moment serial one handed
-handed_as settings service request notice moment serial one two handed is so = subst (λ (telling : Telling). HandedSo settings service request notice moment serial telling handed) (sym is) so
+told_as : (settings : SettingsSaid) (service : Service) (request : PostfixRequest) (notice : NoticeRequest) (moment serial : ℕ) (one two : Telling) (front : List Deed) → one ≡ two
+    → ToldSo settings service request notice moment serial two front → ToldSo settings service request notice moment serial one front
+told_as settings service request notice moment serial one two front is so = subst (λ (telling : Telling). ToldSo settings service request notice moment serial telling front) (sym is) so
 
 pub record TellingParts (settings : SettingsSaid) (service : Service) (request : PostfixRequest) (notice : NoticeRequest) (moment serial : ℕ) (telling : Telling) (gained : List Deed) : Type 0 where
   pub front : List Deed
   pub removal : List Deed
   pub parts : gained ≡ front ++ removal
-  pub handed : List Deed
-  pub block : Block front handed
-  pub once : (handed ≡ []) ⊎ HandsInOnce settings service request notice moment serial handed
-  pub removal_is : IsRemovalPart settings service request notice moment serial handed removal
-  pub so : HandedSo settings service request notice moment serial telling handed
+  pub keeps : RemovesNone front
+  pub once : (hand_ins front ≡ []) ⊎ HandsInOnce settings service request notice moment serial front
+  pub removal_is : IsRemovalPart settings service request notice moment serial front removal
+  pub so : ToldSo settings service request notice moment serial telling front
 
 -- nothing was handed in, and nothing removed
-quiet_parts : (settings : SettingsSaid) (service : Service) (request : PostfixRequest) (notice : NoticeRequest) (moment serial : ℕ) (telling : Telling) (gained : List Deed) → HandedSo settings service request notice moment serial telling [] → Block gained [] → TellingParts settings service request notice moment serial telling gained
+quiet_parts : (settings : SettingsSaid) (service : Service) (request : PostfixRequest) (notice : NoticeRequest) (moment serial : ℕ) (telling : Telling) (gained : List Deed) → ToldSo settings service request notice moment serial telling gained → Block gained [] → TellingParts settings service request notice moment serial telling gained
 quiet_parts settings service request notice moment serial telling gained so block = record {
   front = gained;
   removal = [];
   parts = sym (append-nil gained);
-  handed = [];
-  block = block;
-  once = inl refl;
+  keeps = block.keeps;
+  once = inl block.handed_are;
   removal_is = nothing_removed refl;
   so = so;
 }
 
-removal_told : (settings : SettingsSaid) (service : Service) (request : PostfixRequest) (notice : NoticeRequest) (moment serial : ℕ) (handed removal : List Deed) → AreAllTold settings service request notice moment serial handed
-    → (removal ≡ []) ⊎ ((answer : Answer) × (removal ≡ LogRemoved service notice.queue_id answer ∷ [])) → IsRemovalPart settings service request notice moment serial handed removal
-removal_told settings service request notice moment serial handed removal told (inl none) = nothing_removed none
-removal_told settings service request notice moment serial handed removal told (inr some) = removed_told some.0 some.1 told
+removal_told : (settings : SettingsSaid) (service : Service) (request : PostfixRequest) (notice : NoticeRequest) (moment serial : ℕ) (places : List ℕ) (front marks removal : List Deed) → (AreMarked notice places marks → AreAllTold settings service request notice moment serial front)
+    → RemovesMarked service notice places marks removal → IsRemovalPart settings service request notice moment serial front removal
+removal_told settings service request notice moment serial places front marks removal told (inl none) = nothing_removed none
+removal_told settings service request notice moment serial places front marks removal told (inr some) = removed_told some.0 some.1 (told some.2)
 
-letters_parts : (settings : SettingsSaid) (service : Service) (request : PostfixRequest) (notice : NoticeRequest) (moment serial : ℕ) (found : MailRead) (made : List Letter) (places : List ℕ) (telling : Telling) (gained : List Deed)
-    → AreLettersAsked settings service request notice moment serial found made → TellsLetters settings service request notice found made places telling gained
+-- what was read, and nothing after it
+read_alone : (service : Service) (request : PostfixRequest) (notice : NoticeRequest) (found : MailRead) (gained : List Deed) → gained ≡ [] → Block (readings service request notice found ++ gained) []
+read_alone service request notice found gained is = both (readings service request notice found) gained [] [] (readings_block service request notice found) (block_is gained [] [] is no_deeds)
+
+letters_parts : (settings : SettingsSaid) (service : Service) (request : PostfixRequest) (notice : NoticeRequest) (moment serial : ℕ) (found : MailRead) (made : List Letter) (telling : Telling) (gained : List Deed)
+    → AreLettersAsked settings service request notice moment serial found made → TellsLetters settings service request notice found made (places_done service request notice found.log) telling gained
     → TellingParts settings service request notice moment serial telling (readings service request notice found ++ gained)
-letters_parts settings service request notice moment serial found made places telling gained asked (notices.stopped why t stops) =
-    let front = stopped_front settings.host made why gained stops in
+letters_parts settings service request notice moment serial found made telling gained asked (notices.stopped why t stops) =
+    let tried = stopped_front settings.host made why gained stops in
     let read = readings service request notice found in
+    let block = both read gained [] gained (readings_block service request notice found) tried.block in
     record {
       front = read ++ gained;
       removal = [];
       parts = sym (append-nil (read ++ gained));
-      handed = gained;
-      block = both read gained [] gained (readings_block service request notice found) front.block;
-      once = inr (record { found = found; letters = made; asked = asked; front = front.front; rest = front.rest; letters_are = front.letters_are; each = front.each });
+      keeps = block.keeps;
+      once = inr (record {
+        found = found;
+        more = gained;
+        gained_are = refl;
+        letters = made;
+        asked = asked;
+        front = tried.front;
+        rest = tried.rest;
+        letters_are = tried.letters_are;
+        each = subst (λ (deeds : List Deed). AreHandedIn settings.host tried.front deeds) (sym block.handed_are) tried.each;
+      });
       removal_is = nothing_removed refl;
-      so = handed_as settings service request notice moment serial telling (end_at_letter why) gained t (handed_if_stopped settings service request notice moment serial why gained);
+      so = told_as settings service request notice moment serial telling (end_at_letter why) (read ++ gained) t (told_if_stopped settings service request notice moment serial why (read ++ gained));
     }
-letters_parts settings service request notice moment serial found made places telling gained asked (notices.accepted done taken rest t is accepted finishes) =
+letters_parts settings service request notice moment serial found made telling gained asked (notices.accepted done taken rest t is accepted finishes) =
+    let places = places_done service request notice found.log in
     let finish = finish_parts service request notice found.log places done rest finishes in
     let read = readings service request notice found in
-    let told : AreAllTold settings service request notice moment serial taken = record { found = found; letters = made; asked = asked; accepted = accepted } in
+    let front : List Deed = read ++ (taken ++ finish.marks) in
+    let block : Block front taken = both read (taken ++ finish.marks) [] taken (readings_block service request notice found)
+    (subst (λ (handed : List Deed). Block (taken ++ finish.marks) handed) (append-nil taken)
+    (both taken finish.marks taken [] (accepted_block settings.host made taken accepted) finish.block)) in
+    let told : AreMarked notice places finish.marks → AreAllTold settings service request notice moment serial front =
+    λ marked. record { found = found; letters = made; handed = taken; marks = finish.marks; gained_are = refl; asked = asked; accepted = accepted; marked = marked } in
     record {
-      front = read ++ (taken ++ finish.marks);
+      front = front;
       removal = finish.removal;
       parts = ap (λ (deeds : List Deed). read ++ deeds) (is ∙ ap (λ (deeds : List Deed). taken ++ deeds) finish.parts ∙ sym (append_assoc taken finish.marks finish.removal))
           ∙ sym (append_assoc read (taken ++ finish.marks) finish.removal);
-      handed = taken;
-      block = both read (taken ++ finish.marks) [] taken (readings_block service request notice found)
-          (subst (λ (handed : List Deed). Block (taken ++ finish.marks) handed) (append-nil taken)
-          (both taken finish.marks taken [] (accepted_block settings.host made taken accepted) finish.block));
-      once = inr (record { found = found; letters = made; asked = asked; front = made; rest = []; letters_are = sym (append-nil made); each = accepted_handed settings.host made taken accepted });
-      removal_is = removal_told settings service request notice moment serial taken finish.removal told finish.removal_is;
-      so = handed_as settings service request notice moment serial telling (end_of_telling done) taken t (handed_if_done settings service request notice moment serial done taken told);
+      keeps = block.keeps;
+      once = inr (record {
+        found = found;
+        more = taken ++ finish.marks;
+        gained_are = refl;
+        letters = made;
+        asked = asked;
+        front = made;
+        rest = [];
+        letters_are = sym (append-nil made);
+        each = subst (λ (deeds : List Deed). AreHandedIn settings.host made deeds) (sym block.handed_are) (accepted_handed settings.host made taken accepted);
+      });
+      removal_is = removal_told settings service request notice moment serial places front finish.marks finish.removal told finish.removal_is;
+      so = told_as settings service request notice moment serial telling (end_of_telling done) front t (told_if_done settings service request notice moment serial done front (λ all. told (finish.if_done all)));
     }
 
 mail_parts : (settings : SettingsSaid) (service : Service) (request : PostfixRequest) (notice : NoticeRequest) (moment serial : ℕ) (found : MailRead) (telling : Telling) (gained : List Deed)
     → TellsOfMail settings service request notice moment serial found telling gained
     → TellingParts settings service request notice moment serial telling (readings service request notice found ++ gained)
 mail_parts settings service request notice moment serial found telling gained (notices.no_memory t is) =
-    quiet_parts settings service request notice moment serial telling _ (handed_as settings service request notice moment serial telling NoMemory [] t tt) (both (readings service request notice found) gained [] [] (readings_block service request notice found) (block_is gained [] [] is no_deeds))
+    quiet_parts settings service request notice moment serial telling _ (told_as settings service request notice moment serial telling NoMemory _ t tt) (read_alone service request notice found gained is)
 mail_parts settings service request notice moment serial found telling gained (notices.unsayable t is unsaid) =
-    quiet_parts settings service request notice moment serial telling _ (handed_as settings service request notice moment serial telling Unsayable [] t refl) (both (readings service request notice found) gained [] [] (readings_block service request notice found) (block_is gained [] [] is no_deeds))
+    let block = read_alone service request notice found gained is in
+    quiet_parts settings service request notice moment serial telling _ (told_as settings service request notice moment serial telling Unsayable _ t block.handed_are) block
 mail_parts settings service request notice moment serial found telling gained (notices.letters made asked tells) =
-    letters_parts settings service request notice moment serial found made _ telling gained asked tells
+    letters_parts settings service request notice moment serial found made telling gained asked tells
 
 pub telling_parts : (settings : SettingsSaid) (service : Service) (request : PostfixRequest) (notice : NoticeRequest) (moment serial : ℕ) (telling : Telling) (gained : List Deed)
     → Tells settings service request notice moment serial telling gained → TellingParts settings service request notice moment serial telling gained
 telling_parts settings service request notice moment serial telling gained (notices.unread t fails) =
-    quiet_parts settings service request notice moment serial telling gained (handed_as settings service request notice moment serial telling Failed [] t tt) (unread_block service request notice gained fails)
+    quiet_parts settings service request notice moment serial telling gained (told_as settings service request notice moment serial telling Failed gained t tt) (unread_block service request notice gained fails)
 telling_parts settings service request notice moment serial telling gained (notices.read found told is tells) =
     subst (λ (deeds : List Deed). TellingParts settings service request notice moment serial telling deeds) (sym is) (mail_parts settings service request notice moment serial found telling told tells)
 

@@ -34,7 +34,7 @@ pub data DoesAsked (settings : SettingsSaid) (version : PostfixVersion) (service
   other : (fault : RequestFault) → postfix_request_at version list ≡ Err fault → PassesOn service list answer gained
       → DoesAsked settings version service list moment serial answer gained
 
--- a list was heard after the announcement, and what it asks was done, before anything more was said
+-- a list was heard after the announcement, and what it asks was done, at some moment; this is the status that answers it
 pub record AsksAndIsDone {S M : Type 0} (source : Source.Ghosts S) (drain : Drain.Ghosts S) (deeds : M → Option (List Deed))
     (settings : SettingsSaid) (version : PostfixVersion) (service : Service) (serial : ℕ) (old heard : S) (before after : M)
     (status : ℕ) : Type 0 where

@@ -9,11 +9,12 @@ use Rattle.dsn_postfix.specs.declared.postfix_request.NoticeRequest.{NoticeReque
 use Rattle.dsn_postfix.specs.declared.postfix_request.PostfixRequest.{PostfixRequest}
 use Rattle.dsn_postfix_service.specs.requests.AppendDeeds.{record_bytes}
 use Rattle.dsn_postfix_service.specs.requests.AnsweredRequest.{bounce_serial}
-use Rattle.dsn_postfix_service.specs.requests.CarriedOut.{IsCarriedOut, must_clean}
+use Rattle.dsn_postfix_service.specs.requests.CarriedOut.{IsCarriedOut, must_clean, queue_id_of}
 use Rattle.dsn_postfix_service.specs.requests.Deed.{Appended, Deed, HandedIn, LogRead, LogReleased, LogRemoved, LogSought, MarkedDone, MessageRead, PassedOn}
+use Rattle.dsn_postfix_service.specs.requests.Finishing.{AreMarked}
 use Rattle.dsn_postfix_service.specs.requests.HandingIn.{AreAccepted, hand_in_of}
-use Rattle.dsn_postfix_service.specs.requests.MailFound.{MailRead}
-use Rattle.dsn_postfix_service.specs.requests.RequestLetters.{AreLettersAsked}
+use Rattle.dsn_postfix_service.specs.requests.MailFound.{MailRead, readings}
+use Rattle.dsn_postfix_service.specs.requests.RequestLetters.{AreLettersAsked, places_done}
 use Rattle.dsn_postfix_service.specs.requests.RequestStatus.{RequestAnswer, carried_out}
 use Rattle.dsn_postfix_service.specs.requests.ServiceSettings.{SettingsSaid}
 use Rattle.dsn_postfix_service.specs.declared.hand_in.hand_in_fault.HandInFault.{HandInFault}
@@ -60,24 +61,41 @@ pub record IsTellingDone (settings : SettingsSaid) (service : Service) (request 
 
 -- ---- the laws
 
--- what was handed in is a front of the letters of the notices that the request has: each letter at most once, in order
+-- The deeds begin with the reading of a log and a file. What they hand in is a front of the letters of the notices that the
+-- request has of these: each letter at most once, in order.
 pub record HandsInOnce (settings : SettingsSaid) (service : Service) (request : PostfixRequest) (notice : NoticeRequest)
-    (moment serial : ℕ) (handed : List Deed) : Type 0 where
+    (moment serial : ℕ) (gained : List Deed) : Type 0 where
   pub found : MailRead
+  pub more : List Deed
+  pub gained_are : gained ≡ readings service request notice found ++ more
   pub letters : List Letter
   pub asked : AreLettersAsked settings service request notice moment serial found letters
   pub front : List Letter
   pub rest : List Letter
   pub letters_are : letters ≡ front ++ rest
-  pub each : AreHandedIn settings.host front handed
+  pub each : AreHandedIn settings.host front (hand_ins gained)
 
--- all letters of the notices that the request has were accepted, and nothing else was handed in
+-- a log and a file were read, then all letters of the notices that the request has of these were accepted, and then its
+-- recipients were marked as done, where it asks for that; these are all of the deeds
 pub record AreAllTold (settings : SettingsSaid) (service : Service) (request : PostfixRequest) (notice : NoticeRequest)
-    (moment serial : ℕ) (handed : List Deed) : Type 0 where
+    (moment serial : ℕ) (gained : List Deed) : Type 0 where
   pub found : MailRead
   pub letters : List Letter
+  pub handed : List Deed
+  pub marks : List Deed
+  pub gained_are : gained ≡ readings service request notice found ++ (handed ++ marks)
   pub asked : AreLettersAsked settings service request notice moment serial found letters
   pub accepted : AreAccepted settings.host letters handed
+  pub marked : AreMarked notice (places_done service request notice found.log) marks
+
+-- all was told by the first of some deeds, and those after them hand in nothing
+pub record AreToldFirst (settings : SettingsSaid) (service : Service) (request : PostfixRequest) (notice : NoticeRequest)
+    (moment serial : ℕ) (gained : List Deed) : Type 0 where
+  pub first : List Deed
+  pub after : List Deed
+  pub gained_are : gained ≡ first ++ after
+  pub told : AreAllTold settings service request notice moment serial first
+  pub none_handed : hand_ins after ≡ []
 
 -- a log that is removed is that of the request, and all was told before, unless the request asks by CLEAN that what failed
 -- leaves no log: then nothing is done after it, and the answer isn't status 0
@@ -85,7 +103,7 @@ pub record IsRemovedAfter (settings : SettingsSaid) (service : Service) (request
     (moment serial : ℕ) (answer : RequestAnswer) (before after : List Deed) (other : Service) (id : List ℕ) : Type 0 where
   pub of_service : other ≡ service
   pub of_message : id ≡ notice.queue_id
-  pub told : AreAllTold settings service request notice moment serial (hand_ins before)
+  pub told : AreAllTold settings service request notice moment serial before
       ⊎ ((must_clean request answer ≡ true) × (after ≡ []))
 
 -- nothing was handed in, and Postfix's own service answered 0 to the whole request
@@ -98,29 +116,32 @@ pub record IsLeftToPostfix (service : Service) (bytes : List ℕ) (gained : List
 abbrev pub IsSerialOf : ℕ → ℕ → Type 0
 IsSerialOf serial own = (own ≡ serial) ⊎ (own ≡ bounce_serial serial)
 
--- Of the deeds of a request that is answered, those about the log that is removed are one request carried out on it, and it
--- is removed as one such request removes it.
+-- The deeds on the log that is removed follow some earlier ones, and it is removed after them as by a request that is carried
+-- out on it alone.
 pub record IsRemovedInTurn (settings : SettingsSaid) (request : PostfixRequest) (notice : NoticeRequest) (moment serial : ℕ)
-    (before after : List Deed) (log : Service) (id : List ℕ) : Type 0 where
-  pub answer : RequestAnswer
+    (answer : RequestAnswer) (before after : List Deed) (log : Service) (id : List ℕ) : Type 0 where
   pub earlier : List Deed
-  pub own_before : List Deed
-  pub own_after : List Deed
-  pub later : List Deed
-  pub before_is : before ≡ earlier ++ own_before
-  pub after_is : after ≡ own_after ++ later
+  pub own : List Deed
+  pub before_is : before ≡ earlier ++ own
   pub own_serial : ℕ
   pub serial_is : IsSerialOf serial own_serial
-  pub removed : IsRemovedAfter settings log request notice moment own_serial answer own_before own_after log id
+  pub removed : IsRemovedAfter settings log request notice moment own_serial answer own after log id
 
--- first notices of the bounce log were handed in, if any, and then those of the service's own log
+-- a bounce log was found, and the deeds after that hand in its notices
+pub record HandsInOfBounceLog (settings : SettingsSaid) (request : PostfixRequest) (notice : NoticeRequest) (moment serial : ℕ)
+    (gained : List Deed) : Type 0 where
+  pub own : List Deed
+  pub gained_are : gained ≡ LogSought Bounce (queue_id_of request) (Ok true) ∷ own
+  pub once : HandsInOnce settings Bounce request notice moment (bounce_serial serial) own
+
+-- first notices of the bounce log are handed in, if any, and then those of the service's own log
 pub record HandsInInTurn (settings : SettingsSaid) (service : Service) (request : PostfixRequest) (notice : NoticeRequest)
-    (moment serial : ℕ) (handed : List Deed) : Type 0 where
+    (moment serial : ℕ) (gained : List Deed) : Type 0 where
   pub first : List Deed
   pub rest : List Deed
-  pub handed_are : handed ≡ first ++ rest
-  pub of_bounce_log : (first ≡ []) ⊎ HandsInOnce settings Bounce request notice moment (bounce_serial serial) first
-  pub of_own_log : (rest ≡ []) ⊎ HandsInOnce settings service request notice moment serial rest
+  pub gained_are : gained ≡ first ++ rest
+  pub of_bounce_log : (hand_ins first ≡ []) ⊎ HandsInOfBounceLog settings request notice moment serial first
+  pub of_own_log : (hand_ins rest ≡ []) ⊎ HandsInOnce settings service request notice moment serial rest
 
 -- First the request was carried out on the bounce log alone: all of its notices were accepted, or Postfix's own service
 -- answered 0. Only then was anything done on the defer log.
@@ -130,7 +151,7 @@ pub record IsToldFirst (settings : SettingsSaid) (request : PostfixRequest) (not
   pub rest : List Deed
   pub deeds_are : deeds ≡ first ++ rest
   pub bounce_log : IsCarriedOut settings Bounce request bytes moment (bounce_serial serial) (Ok carried_out) first
-  pub told : AreAllTold settings Bounce request notice moment (bounce_serial serial) (hand_ins first) ⊎ IsLeftToPostfix Bounce bytes first
+  pub told : AreToldFirst settings Bounce request notice moment (bounce_serial serial) first ⊎ IsLeftToPostfix Bounce bytes first
   pub defer_log : IsCarriedOut settings Defer request bytes moment serial (Ok carried_out) rest
 
 -- an append that is answered 0 stands in its log, or Postfix's own service answered 0 to it

@@ -16,11 +16,12 @@ ghost use Rattle.dsn_postfix_service.specs.requests.ServiceSettings.{SettingsSai
 ghost use Rattle.dsn_text.specs.declared.service.Service.{Service};
 ghost use Rattle.dsn_text.specs.declared.service.Service.TheVariants.{Bounce, Defer};
 
-/// At each moment of a request for notices at which a log is removed, the log is that of the request, and before it each
-/// letter of each notice that the request has was accepted, and nothing else was handed in. So a crash at any moment leaves
-/// the log, or the mail server has all notices. The only other removal is the one that CLEAN asks for: it is the last deed
-/// of a request that isn't answered status 0. A request that is answered may be carried out on the bounce log first: the
-/// deeds of each log stand in a row, and the same is true of each.
+/// At each moment of a request for notices at which a log is removed, the log is that of the request. Before that it did this
+/// alone: it read a log and a file, each letter of each notice that it has of these was accepted, and its recipients were
+/// marked as done where it asks for that. So a crash at any moment of a request without CLEAN leaves the log, or the mail
+/// server has all notices of what was read. The only other removal is the one that CLEAN asks for: it is the last deed of a
+/// request that isn't answered status 0. A request that is answered may do other deeds first: those on the log that is
+/// removed follow them in a row, and the same is true of these.
 pub fn logs_are_removed_after_acceptance()
     ensures carried_out { (settings : SettingsSaid) (service : Service) (request : PostfixRequest)
         (notice : NoticeRequest) (bytes : List ℕ) (moment serial : ℕ) (answer : RequestAnswer)
@@ -35,24 +36,25 @@ pub fn logs_are_removed_after_acceptance()
         → notice_asked request ≡ Some notice
         → IsAnswered settings service request bytes moment serial answer gained
         → gained ≡ before ++ LogRemoved log named given ∷ after
-        → IsRemovedInTurn settings request notice moment serial before after log named }
+        → IsRemovedInTurn settings request notice moment serial answer before after log named }
 {}
 
-/// What a request for notices hands in are the first letters of the notices that it has, each at most once, in their order.
-/// A request that is answered hands in those of the bounce log, if it is told, and then those of the service's own log.
+/// A request for notices that hands in any first reads a log and a file. What it hands in are the first letters of the notices
+/// that it has of these, each at most once, in their order. A request that is answered hands in those of the bounce log, if
+/// one was found, and then those of the service's own log.
 pub fn notices_are_handed_in_once()
     ensures carried_out { (settings : SettingsSaid) (service : Service) (request : PostfixRequest)
         (notice : NoticeRequest) (bytes : List ℕ) (moment serial : ℕ) (answer : RequestAnswer)
         (gained : List Deed)
         → IsTellingDone settings service request notice bytes moment serial answer gained
         → (hand_ins gained ≡ [])
-        ⊎ HandsInOnce settings service request notice moment serial (hand_ins gained) }
+        ⊎ HandsInOnce settings service request notice moment serial gained }
     ensures answered { (settings : SettingsSaid) (service : Service) (request : PostfixRequest)
         (notice : NoticeRequest) (bytes : List ℕ) (moment serial : ℕ) (answer : RequestAnswer)
         (gained : List Deed)
         → notice_asked request ≡ Some notice
         → IsAnswered settings service request bytes moment serial answer gained
-        → HandsInInTurn settings service request notice moment serial (hand_ins gained) }
+        → HandsInInTurn settings service request notice moment serial gained }
 {}
 
 /// Nothing is handed in for a message from nobody, or from the sender of notices about notices: neither by a request that is
@@ -90,8 +92,9 @@ pub fn answered_appends_stand()
         → StandsOrIsPassedOn service request bytes gained }
 {}
 
-/// Where a flush of the defer log is answered 0, and its message has a bounce log, each letter of each notice of that log was
-/// accepted before the first deed on the defer log, or Postfix's own service answered 0 to the flush of the bounce log.
+/// Where a flush of the defer log is answered 0, and a bounce log was found, that log was read, and each letter of each notice
+/// of it was accepted before the first deed on the defer log, or Postfix's own service answered 0 to the flush of the bounce
+/// log.
 pub fn bounce_logs_are_told_first()
     ensures { (settings : SettingsSaid) (request : PostfixRequest) (notice : NoticeRequest)
         (bytes : List ℕ) (moment serial : ℕ) (answer : RequestAnswer) (gained deeds : List Deed)

@@ -20,7 +20,7 @@ pub use hand_in::{
 pub use letters::{LetterFault, ReportedMessage, letter_of_notice};
 pub use queue_folder::{FolderHashing, PostfixPlace, ask_own_service, path_in_queue};
 pub use requests::{
-    DeedFault, MailSystem, ServiceSettings, answer_request, answered_appends_stand,
+    DeedFault, MailSystem, RequestTerms, ServiceSettings, answer_request, answered_appends_stand,
     bounce_logs_are_told_first, logs_are_removed_after_acceptance, no_notice_causes_another,
     notices_are_handed_in_once,
 };

@@ -6,14 +6,17 @@ mod deed_fault;
 mod finish;
 mod hand_in_letters;
 mod laws;
+mod letters_made;
 mod mail_found;
 mod mail_system;
 mod no_letters;
 mod not_accepted;
+mod notice_task;
 mod notify;
 mod pass_on;
 mod places_done;
 mod request_letters;
+mod request_terms;
 mod service_settings;
 mod telling;
 
@@ -26,4 +29,5 @@ pub use laws::{
 };
 pub use mail_system::MailSystem;
 pub(crate) use pass_on::{NOT_CARRIED_OUT, pass_on};
+pub use request_terms::RequestTerms;
 pub use service_settings::ServiceSettings;

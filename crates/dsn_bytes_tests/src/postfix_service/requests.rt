@@ -3,7 +3,7 @@
 use crate::assert_same::same;
 use crate::postfix_service::memory_system::MemorySystem;
 use dsn_postfix::{PostfixVersion, decode_postfix_request};
-use dsn_postfix_service::{DeedFault, ServiceSettings, answer_request};
+use dsn_postfix_service::{DeedFault, RequestTerms, ServiceSettings, answer_request};
 use dsn_report::Site;
 use dsn_text::{Service, Stamp};
 use std::alloc::{AllocGlobal, Global};
@@ -118,17 +118,13 @@ fn carried_out(rt: &(impl AllocGlobal + Abort), bytes: &[u8], case: Case<'_>) ->
         asked: Vec::new(rt.alloc()),
     };
     let request = decode_postfix_request(PostfixVersion::V3_7, bytes)?;
-    let moment = Stamp::new(1_700_000_000).ok_or("the moment")?;
-    let status = answer_request(
-        rt.alloc(),
-        &settings,
-        case.service,
-        &request,
-        bytes,
-        moment,
-        0,
-        &mut system,
-    )?;
+    let terms = RequestTerms {
+        settings: &settings,
+        service: case.service,
+        moment: Stamp::new(1_700_000_000).ok_or("the moment")?,
+        first_serial: 0,
+    };
+    let status = answer_request(rt.alloc(), &terms, &request, bytes, &mut system)?;
     same(rt, system.asked.as_slice(), case.lines);
     same(rt, status, case.status);
     Ok(())

@@ -9,7 +9,9 @@ ghost use Rattle.dsn_postfix_service.specs.requests.ServiceSettings.{settings_sa
 use crate::clients::client_fault::ClientFault;
 use crate::clients::list_dialogue::hear_list;
 use crate::hand_in::say;
-use crate::requests::{MailSystem, NOT_CARRIED_OUT, ServiceSettings, answer_request, pass_on};
+use crate::requests::{
+    MailSystem, NOT_CARRIED_OUT, RequestTerms, ServiceSettings, answer_request, pass_on,
+};
 use dsn_device::Stream;
 use dsn_postfix::{
     ListBuffer, PostfixVersion, decode_postfix_request, encode_announcement, encode_status,
@@ -49,16 +51,13 @@ pub fn serve_client<R: Clock, S: Stream, M: MailSystem>(
     let Some(moment) = moment_now(rt) else {
         return Err(ClientFault::NoMoment);
     };
-    let answer = answer_list(
-        alloc,
+    let terms = RequestTerms {
         settings,
-        version,
         service,
-        list,
         moment,
         first_serial,
-        system,
-    );
+    };
+    let answer = answer_list(alloc, version, &terms, list, system);
     say_status(alloc, stream, status_said(answer))
 }
 
@@ -79,33 +78,21 @@ fn announce<S: Stream>(alloc: Global, stream: &mut S) -> Result<(), ClientFault>
 /// Does what a list asks, and says the answer.
 fn answer_list<M: MailSystem>(
     alloc: Global,
-    settings: &ServiceSettings<'_>,
     version: PostfixVersion,
-    service: Service,
+    terms: &RequestTerms<'_>,
     list: &[u8],
-    moment: Stamp,
-    first_serial: u64,
     system: &mut M,
 ) -> Result<u32, NoMemory>
     ensures { Gains M.deeds system.old system.new
-        (DoesAsked (settings_said_in settings.now) version service list.now moment first_serial
-        result) }
+        (DoesAsked (settings_said_in terms.now.settings.now) version terms.now.service list.now
+        terms.now.moment terms.now.first_serial result) }
 {
     match decode_postfix_request(version, list) {
         Ok(request) => {
             system.begin(&request);
-            answer_request(
-                alloc,
-                settings,
-                service,
-                &request,
-                list,
-                moment,
-                first_serial,
-                system,
-            )
+            answer_request(alloc, terms, &request, list, system)
         }
-        Err(_) => Ok(pass_on(system, service, list)),
+        Err(_) => Ok(pass_on(system, terms.service, list)),
     }
 }
 

@@ -8,9 +8,9 @@ ghost use Rattle.dsn_postfix_service.specs.requests.ServiceSettings.{settings_sa
 use crate::requests::carrying_out::{carry_out, is_carried_out, queue_id_of};
 use crate::requests::mail_system::MailSystem;
 use crate::requests::pass_on::{CARRIED_OUT, NOT_CARRIED_OUT};
-use crate::requests::service_settings::ServiceSettings;
+use crate::requests::request_terms::RequestTerms;
 use dsn_postfix::PostfixRequest;
-use dsn_text::{NoMemory, Service, Stamp};
+use dsn_text::{NoMemory, Service};
 use std::alloc::Global;
 
 /// How far apart the serials of a request's two logs begin.
@@ -33,37 +33,6 @@ fn ends_message(service: Service, request: &PostfixRequest<'_>) -> bool
     }
 }
 
-/// Asks whether the message of a request has a bounce log, and if so, carries the request out on
-/// that log.
-fn tell_bounce_log<M: MailSystem>(
-    alloc: Global,
-    settings: &ServiceSettings<'_>,
-    request: &PostfixRequest<'_>,
-    bytes: &[u8],
-    moment: Stamp,
-    first_serial: u64,
-    system: &mut M,
-) -> Result<u32, NoMemory>
-    ensures { Gains M.deeds system.old system.new
-        (IsBounceLogTold (settings_said_in settings.now) request.now bytes.now moment first_serial
-        result) }
-{
-    match system.has_log(Service::Bounce, queue_id_of(request)) {
-        Ok(true) => carry_out(
-            alloc,
-            settings,
-            Service::Bounce,
-            request,
-            bytes,
-            moment,
-            first_serial,
-            system,
-        ),
-        Ok(false) => Ok(CARRIED_OUT),
-        Err(_) => Ok(NOT_CARRIED_OUT),
-    }
-}
-
 /// The first serial of a bounce log's letters, where those of another log begin with this one.
 fn bounce_serial(first_serial: u64) -> u64
     ensures { result ≡ bounce_serial first_serial }
@@ -71,43 +40,49 @@ fn bounce_serial(first_serial: u64) -> u64
     first_serial.wrapping_add(SERIALS_OF_LOG)
 }
 
-/// Flushes the bounce log of a message, if it has one, and only then the log of a service.
-fn flush_in_turn<M: MailSystem>(
+/// Asks whether the message of a request has a bounce log, and if so, carries the request out on
+/// that log.
+fn tell_bounce_log<M: MailSystem>(
     alloc: Global,
-    settings: &ServiceSettings<'_>,
-    service: Service,
+    terms: &RequestTerms<'_>,
     request: &PostfixRequest<'_>,
     bytes: &[u8],
-    moment: Stamp,
-    first_serial: u64,
     system: &mut M,
 ) -> Result<u32, NoMemory>
     ensures { Gains M.deeds system.old system.new
-        (IsFlushedInTurn (settings_said_in settings.now) service request.now bytes.now moment
-        first_serial result) }
+        (IsBounceLogTold (settings_said_in terms.now.settings.now) request.now bytes.now
+        terms.now.moment (bounce_serial terms.now.first_serial) result) }
 {
-    let told = tell_bounce_log(
-        alloc,
-        settings,
-        request,
-        bytes,
-        moment,
-        bounce_serial(first_serial),
-        system,
-    );
+    let bounce_terms = RequestTerms {
+        settings: terms.settings,
+        service: Service::Bounce,
+        moment: terms.moment,
+        first_serial: bounce_serial(terms.first_serial),
+    };
+    match system.has_log(Service::Bounce, queue_id_of(request)) {
+        Ok(true) => carry_out(alloc, &bounce_terms, request, bytes, system),
+        Ok(false) => Ok(CARRIED_OUT),
+        Err(_) => Ok(NOT_CARRIED_OUT),
+    }
+}
+
+/// Flushes the bounce log of a message, if it has one, and only then the log of a service.
+fn flush_in_turn<M: MailSystem>(
+    alloc: Global,
+    terms: &RequestTerms<'_>,
+    request: &PostfixRequest<'_>,
+    bytes: &[u8],
+    system: &mut M,
+) -> Result<u32, NoMemory>
+    ensures { Gains M.deeds system.old system.new
+        (IsFlushedInTurn (settings_said_in terms.now.settings.now) terms.now.service request.now
+        bytes.now terms.now.moment terms.now.first_serial result) }
+{
+    let told = tell_bounce_log(alloc, terms, request, bytes, system);
     if !is_carried_out(&told) {
         return told;
     }
-    carry_out(
-        alloc,
-        settings,
-        service,
-        request,
-        bytes,
-        moment,
-        first_serial,
-        system,
-    )
+    carry_out(alloc, terms, request, bytes, system)
 }
 
 /// Carries out one request to a service of Postfix's programs, and says the status that answers it:
@@ -129,43 +104,21 @@ fn flush_in_turn<M: MailSystem>(
 /// and the defer log is left as it is. Where it can't be known whether there is a bounce log, the
 /// status is 4,294,967,295, and nothing is done, also with CLEAN.
 ///
-/// `bytes` are those of the request, in which it is passed on. The letters are made at the moment,
-/// with serials from the first one on, which stand in their Message-IDs.
+/// `bytes` are those of the request, in which it is passed on.
 pub fn answer_request<M: MailSystem>(
     alloc: Global,
-    settings: &ServiceSettings<'_>,
-    service: Service,
+    terms: &RequestTerms<'_>,
     request: &PostfixRequest<'_>,
     bytes: &[u8],
-    moment: Stamp,
-    first_serial: u64,
     system: &mut M,
 ) -> Result<u32, NoMemory>
     ensures { Gains M.deeds system.old system.new
-        (IsAnswered (settings_said_in settings.now) service request.now bytes.now moment
-        first_serial result) }
+        (IsAnswered (settings_said_in terms.now.settings.now) terms.now.service request.now bytes.now
+        terms.now.moment terms.now.first_serial result) }
 {
-    if ends_message(service, request) {
-        flush_in_turn(
-            alloc,
-            settings,
-            service,
-            request,
-            bytes,
-            moment,
-            first_serial,
-            system,
-        )
+    if ends_message(terms.service, request) {
+        flush_in_turn(alloc, terms, request, bytes, system)
     } else {
-        carry_out(
-            alloc,
-            settings,
-            service,
-            request,
-            bytes,
-            moment,
-            first_serial,
-            system,
-        )
+        carry_out(alloc, terms, request, bytes, system)
     }
 }

@@ -7,11 +7,12 @@ ghost use Rattle.dsn_postfix_service.specs.requests.ServiceSettings.{settings_sa
 
 use crate::requests::append::append;
 use crate::requests::mail_system::MailSystem;
+use crate::requests::notice_task::NoticeTask;
 use crate::requests::notify::notify;
 use crate::requests::pass_on::CARRIED_OUT;
-use crate::requests::service_settings::ServiceSettings;
+use crate::requests::request_terms::RequestTerms;
 use dsn_postfix::PostfixRequest;
-use dsn_text::{NoMemory, QueueId, Service, Stamp};
+use dsn_text::{NoMemory, QueueId, Service};
 use std::alloc::Global;
 
 /// The flags of a request.
@@ -71,33 +72,29 @@ fn clean<M: MailSystem>(service: Service, request: &PostfixRequest<'_>, due: boo
 /// Does what a request asks, and says the status, or that memory was refused.
 fn do_asked<M: MailSystem>(
     alloc: Global,
-    settings: &ServiceSettings<'_>,
-    service: Service,
+    terms: &RequestTerms<'_>,
     request: &PostfixRequest<'_>,
     bytes: &[u8],
-    moment: Stamp,
-    first_serial: u64,
     system: &mut M,
 ) -> Result<u32, NoMemory>
     ensures { Gains M.deeds system.old system.new
-        (IsDone (settings_said_in settings.now) service request.now bytes.now moment first_serial
-        result) }
+        (IsDone (settings_said_in terms.now.settings.now) terms.now.service request.now bytes.now
+        terms.now.moment terms.now.first_serial result) }
 {
     match request {
-        PostfixRequest::Append(asked) => append(alloc, service, asked, bytes, system),
+        PostfixRequest::Append(asked) => append(alloc, terms.service, asked, bytes, system),
         PostfixRequest::Flush(notice)
         | PostfixRequest::Warn(notice)
         | PostfixRequest::Verp(notice, _)
         | PostfixRequest::One(notice, _, _)
         | PostfixRequest::Trace(notice) => notify(
             alloc,
-            settings,
-            service,
-            request,
-            notice,
+            &NoticeTask {
+                terms,
+                request,
+                notice,
+            },
             bytes,
-            moment,
-            first_serial,
             system,
         ),
     }
@@ -107,29 +104,17 @@ fn do_asked<M: MailSystem>(
 /// that answers it, or that memory was refused.
 pub(super) fn carry_out<M: MailSystem>(
     alloc: Global,
-    settings: &ServiceSettings<'_>,
-    service: Service,
+    terms: &RequestTerms<'_>,
     request: &PostfixRequest<'_>,
     bytes: &[u8],
-    moment: Stamp,
-    first_serial: u64,
     system: &mut M,
 ) -> Result<u32, NoMemory>
     ensures { Gains M.deeds system.old system.new
-        (IsCarriedOut (settings_said_in settings.now) service request.now bytes.now moment
-        first_serial result) }
+        (IsCarriedOut (settings_said_in terms.now.settings.now) terms.now.service request.now
+        bytes.now terms.now.moment terms.now.first_serial result) }
 {
-    let answer = do_asked(
-        alloc,
-        settings,
-        service,
-        request,
-        bytes,
-        moment,
-        first_serial,
-        system,
-    );
+    let answer = do_asked(alloc, terms, request, bytes, system);
     let due = must_clean(request, &answer);
-    clean(service, request, due, system);
+    clean(terms.service, request, due, system);
     answer
 }

@@ -5,6 +5,8 @@ ghost use Rattle.dsn_postfix_service.specs.requests.Finishing.{FinishesAt, Marks
 ghost use Rattle.dsn_postfix_service.specs.requests.Gains.{Gains};
 
 use crate::requests::mail_system::MailSystem;
+use crate::requests::notice_task::NoticeTask;
+use crate::requests::request_terms::RequestTerms;
 use dsn_postfix::{NoticeRequest, PostfixRequest};
 use dsn_text::{QueueId, Service};
 
@@ -64,24 +66,23 @@ fn remove_if_due<M: MailSystem>(service: Service, id: QueueId, due: bool, system
 /// Marks the recipients at these places as done, and once all are, removes the request's log if it
 /// is to be removed. Says whether all of that was done.
 pub(super) fn finish<M: MailSystem>(
-    service: Service,
-    request: &PostfixRequest<'_>,
-    notice: &NoticeRequest<'_>,
+    task: &NoticeTask<'_>,
     log: Option<&[u8]>,
     places: &[u64],
     system: &mut M,
 ) -> bool
     ensures { Gains M.deeds system.old system.new
-        (FinishesAt service request.now notice.now (option_map (λ log. log.now) log.entry)
-        places.now result) }
+        (FinishesAt task.now.terms.now.service task.now.request.now task.now.notice.now
+        (option_map (λ log. log.now) log.entry) places.now result) }
 {
-    if !mark_all(notice, places, system) {
+    let terms: &RequestTerms<'_> = task.terms;
+    if !mark_all(task.notice, places, system) {
         return false;
     }
     remove_if_due(
-        service,
-        notice.queue_id,
-        is_removal_due(request, log),
+        terms.service,
+        task.notice.queue_id,
+        is_removal_due(task.request, log),
         system,
     )
 }

@@ -7,18 +7,17 @@ ghost use Rattle.dsn_postfix_service.specs.requests.ServiceSettings.{settings_sa
 
 use crate::requests::finish::finish;
 use crate::requests::hand_in_letters::hand_in_letters;
+use crate::requests::letters_made::{LettersMade, make_letters};
 use crate::requests::mail_found::{MailFound, read_mail};
 use crate::requests::mail_system::MailSystem;
 use crate::requests::no_letters::NoLetters;
 use crate::requests::not_accepted::NotAccepted;
+use crate::requests::notice_task::NoticeTask;
 use crate::requests::pass_on::{CARRIED_OUT, NOT_CARRIED_OUT, pass_on};
-use crate::requests::places_done::places_done;
-use crate::requests::request_letters::letters_asked;
+use crate::requests::request_terms::RequestTerms;
 use crate::requests::service_settings::ServiceSettings;
 use crate::requests::telling::Telling;
-use dsn_outcome::Letter;
-use dsn_postfix::{NoticeRequest, PostfixRequest};
-use dsn_text::{NoMemory, Service, Stamp};
+use dsn_text::{NoMemory, Service};
 use std::alloc::Global;
 
 /// How telling ends where all was done, or not.
@@ -38,25 +37,24 @@ fn end_at_letter(why: NotAccepted) -> Telling
     }
 }
 
-/// Hands in the letters of what was read; once all are accepted, marks the recipients at these
-/// places, and removes the log.
+/// Hands in the letters of what was read; once all are accepted, marks the recipients that are done
+/// by that, and removes the log.
 fn tell_letters<M: MailSystem>(
     alloc: Global,
-    settings: &ServiceSettings<'_>,
-    service: Service,
-    request: &PostfixRequest<'_>,
-    notice: &NoticeRequest<'_>,
+    task: &NoticeTask<'_>,
     found: &MailFound,
-    letters: &[Letter],
-    places: &[u64],
+    made: &LettersMade,
     system: &mut M,
 ) -> Telling
     ensures { Gains M.deeds system.old system.new
-        (TellsLetters (settings_said_in settings.now) service request.now notice.now
-        (mail_read_in found.now) letters.now places.now result) }
+        (TellsLetters (settings_said_in task.now.terms.now.settings.now) task.now.terms.now.service
+        task.now.request.now task.now.notice.now (mail_read_in found.now) made.now.letters.items
+        made.now.places.items result) }
 {
-    match hand_in_letters(alloc, settings.site, letters, system) {
-        Ok(()) => end_of_telling(finish(service, request, notice, found.log(), places, system)),
+    let terms: &RequestTerms<'_> = task.terms;
+    let settings: &ServiceSettings<'_> = terms.settings;
+    match hand_in_letters(alloc, settings.site, &made.letters, system) {
+        Ok(()) => end_of_telling(finish(task, found.log(), &made.places, system)),
         Err(why) => end_at_letter(why),
     }
 }
@@ -64,68 +62,32 @@ fn tell_letters<M: MailSystem>(
 /// Makes all letters of what was read, and only then hands in the first.
 fn tell_of_mail<M: MailSystem>(
     alloc: Global,
-    settings: &ServiceSettings<'_>,
-    service: Service,
-    request: &PostfixRequest<'_>,
-    notice: &NoticeRequest<'_>,
+    task: &NoticeTask<'_>,
     found: &MailFound,
-    moment: Stamp,
-    first_serial: u64,
     system: &mut M,
 ) -> Telling
     ensures { Gains M.deeds system.old system.new
-        (TellsOfMail (settings_said_in settings.now) service request.now notice.now moment
-        first_serial (mail_read_in found.now) result) }
+        (TellsOfMail (settings_said_in task.now.terms.now.settings.now) task.now.terms.now.service
+        task.now.request.now task.now.notice.now task.now.terms.now.moment
+        task.now.terms.now.first_serial (mail_read_in found.now) result) }
 {
-    let made = letters_asked(
-        alloc,
-        settings,
-        service,
-        request,
-        notice,
-        found,
-        moment,
-        first_serial,
-    );
-    match made {
-        Ok(letters) => match places_done(alloc, service, request, notice, found.log()) {
-            Ok(places) => tell_letters(
-                alloc, settings, service, request, notice, found, &letters, &places, system,
-            ),
-            Err(_) => Telling::NoMemory,
-        },
+    match make_letters(alloc, task, found) {
+        Ok(made) => tell_letters(alloc, task, found, &made, system),
         Err(NoLetters::Unsayable) => Telling::Unsayable,
         Err(NoLetters::NoMemory) => Telling::NoMemory,
     }
 }
 
 /// Reads what a request tells of, and tells the message's sender.
-fn tell<M: MailSystem>(
-    alloc: Global,
-    settings: &ServiceSettings<'_>,
-    service: Service,
-    request: &PostfixRequest<'_>,
-    notice: &NoticeRequest<'_>,
-    moment: Stamp,
-    first_serial: u64,
-    system: &mut M,
-) -> Telling
+fn tell<M: MailSystem>(alloc: Global, task: &NoticeTask<'_>, system: &mut M) -> Telling
     ensures { Gains M.deeds system.old system.new
-        (Tells (settings_said_in settings.now) service request.now notice.now moment first_serial
-        result) }
+        (Tells (settings_said_in task.now.terms.now.settings.now) task.now.terms.now.service
+        task.now.request.now task.now.notice.now task.now.terms.now.moment
+        task.now.terms.now.first_serial result) }
 {
-    match read_mail(alloc, service, request, notice, system) {
-        Ok(found) => tell_of_mail(
-            alloc,
-            settings,
-            service,
-            request,
-            notice,
-            &found,
-            moment,
-            first_serial,
-            system,
-        ),
+    let terms: &RequestTerms<'_> = task.terms;
+    match read_mail(alloc, terms.service, task.request, task.notice, system) {
+        Ok(found) => tell_of_mail(alloc, task, &found, system),
         Err(_) => Telling::Failed,
     }
 }
@@ -151,29 +113,17 @@ fn end_telling<M: MailSystem>(
 /// notice can't be said, the whole request is passed on to Postfix's own service.
 pub(super) fn notify<M: MailSystem>(
     alloc: Global,
-    settings: &ServiceSettings<'_>,
-    service: Service,
-    request: &PostfixRequest<'_>,
-    notice: &NoticeRequest<'_>,
+    task: &NoticeTask<'_>,
     bytes: &[u8],
-    moment: Stamp,
-    first_serial: u64,
     system: &mut M,
 ) -> Result<u32, NoMemory>
     ensures { Gains M.deeds system.old system.new
-        (IsNotified (settings_said_in settings.now) service request.now notice.now bytes.now
-        moment first_serial result) }
+        (IsNotified (settings_said_in task.now.terms.now.settings.now) task.now.terms.now.service
+        task.now.request.now task.now.notice.now bytes.now task.now.terms.now.moment
+        task.now.terms.now.first_serial result) }
 {
-    let telling = tell(
-        alloc,
-        settings,
-        service,
-        request,
-        notice,
-        moment,
-        first_serial,
-        system,
-    );
+    let terms: &RequestTerms<'_> = task.terms;
+    let telling = tell(alloc, task, system);
     system.release_log();
-    end_telling(service, bytes, telling, system)
+    end_telling(terms.service, bytes, telling, system)
 }

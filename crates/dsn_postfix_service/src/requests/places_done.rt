@@ -7,6 +7,8 @@ ghost use Rattle.dsn_postfix.specs.files.LogFile.{log_entries};
 ghost use Rattle.dsn_postfix_service.specs.requests.RequestLetters.{marks_done, place_if_known, place_of_entry, places_done, places_in_log, places_named};
 
 use crate::requests::mail_found::tells_of_log;
+use crate::requests::notice_task::NoticeTask;
+use crate::requests::request_terms::RequestTerms;
 use dsn_postfix::{LogEntry, LogReader, NoticeRequest, PostfixRequest};
 use dsn_text::Service;
 use std::alloc::{AllocError, Global};
@@ -101,16 +103,16 @@ fn marks_done(service: Service, request: &PostfixRequest<'_>, notice: &NoticeReq
 /// The places of the recipients that are to be marked as done.
 pub(super) fn places_done(
     alloc: Global,
-    service: Service,
-    request: &PostfixRequest<'_>,
-    notice: &NoticeRequest<'_>,
+    task: &NoticeTask<'_>,
     log: Option<&[u8]>,
 ) -> Result<Vec<u64>, AllocError>
     ensures { IfOk result (λ places. places.items
-        ≡ places_done service request.now notice.now (option_map (λ log. log.now) log.entry)) }
+        ≡ places_done task.now.terms.now.service task.now.request.now task.now.notice.now
+        (option_map (λ log. log.now) log.entry)) }
 {
-    if !marks_done(service, request, notice) {
+    let terms: &RequestTerms<'_> = task.terms;
+    if !marks_done(terms.service, task.request, task.notice) {
         return Ok(Vec::new(alloc));
     }
-    places_named(alloc, service, request, log)
+    places_named(alloc, terms.service, task.request, log)
 }

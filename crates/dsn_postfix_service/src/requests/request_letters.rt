@@ -15,13 +15,15 @@ ghost use Rattle.dsn_postfix_service.specs.requests.ServiceSettings.{settings_sa
 use crate::letters::{LetterFault, ReportedMessage, letter_of_notice};
 use crate::requests::mail_found::MailFound;
 use crate::requests::no_letters::NoLetters;
+use crate::requests::notice_task::NoticeTask;
+use crate::requests::request_terms::RequestTerms;
 use crate::requests::service_settings::ServiceSettings;
 use dsn_outcome::Letter;
 use dsn_postfix::{
-    MessageFacts, NoticeRequest, PlanFault, PlannedNotice, PostfixRequest, QueueReader,
-    QueuedRecipient, plan_notices, queue_files_have_one_list, text_of_message,
+    MessageFacts, NoticeRequest, PlanFault, PlannedNotice, QueueReader, QueuedRecipient,
+    plan_notices, queue_files_have_one_list, text_of_message,
 };
-use dsn_text::{Service, Stamp};
+use dsn_text::Stamp;
 use std::alloc::{AllocError, Global};
 
 /// The next recipient of a queue file, if there is one before its end or the place where it can't
@@ -135,20 +137,20 @@ fn letters_of(
 /// The letters of all notices that a request has of what was read for it.
 pub(super) fn letters_asked(
     alloc: Global,
-    settings: &ServiceSettings<'_>,
-    service: Service,
-    request: &PostfixRequest<'_>,
-    notice: &NoticeRequest<'_>,
+    task: &NoticeTask<'_>,
     found: &MailFound,
-    moment: Stamp,
-    first_serial: u64,
 ) -> Result<Vec<Letter>, NoLetters>
-    ensures letters { IfOk result (λ letters. AreLettersAsked (settings_said_in settings.now)
-        service request.now notice.now moment first_serial (mail_read_in found.now)
-        letters.items) }
-    ensures none { IfErr result (IsReason (CantBeSaid (settings_said_in settings.now) service
-        request.now notice.now (mail_read_in found.now))) }
+    ensures letters { IfOk result (λ letters. AreLettersAsked
+        (settings_said_in task.now.terms.now.settings.now) task.now.terms.now.service
+        task.now.request.now task.now.notice.now task.now.terms.now.moment
+        task.now.terms.now.first_serial (mail_read_in found.now) letters.items) }
+    ensures none { IfErr result (IsReason (CantBeSaid
+        (settings_said_in task.now.terms.now.settings.now) task.now.terms.now.service
+        task.now.request.now task.now.notice.now (mail_read_in found.now))) }
 {
+    let terms: &RequestTerms<'_> = task.terms;
+    let settings: &ServiceSettings<'_> = terms.settings;
+    let notice: &NoticeRequest<'_> = task.notice;
     queue_files_have_one_list();
     let Ok(queued) = queued_recipients(alloc, &found.file) else {
         return Err(NoLetters::NoMemory);
@@ -165,8 +167,15 @@ pub(super) fn letters_asked(
         lifetime: settings.lifetime,
     };
     let double_bounce = settings.double_bounce;
-    match plan_notices(alloc, double_bounce, service, request, &queued, found.log()) {
-        Ok(notices) => letters_of(alloc, &message, &notices, moment, first_serial),
+    match plan_notices(
+        alloc,
+        double_bounce,
+        terms.service,
+        task.request,
+        &queued,
+        found.log(),
+    ) {
+        Ok(notices) => letters_of(alloc, &message, &notices, terms.moment, terms.first_serial),
         Err(PlanFault::NoMemory) => Err(NoLetters::NoMemory),
         Err(PlanFault::Unsaid(_)) => Err(NoLetters::Unsayable),
     }

@@ -9,9 +9,9 @@ use Rattle.dsn_postfix_service.proofs.requests.answering.answer_request.Goals as
 -- a flush of the defer log
 pub returns-then-ends_message : goal.returns-then-ends_message
 returns-then-ends_message g c =
-    let settings = settings_said_in c.args.settings.now in
+    let settings = settings_said_in c.args.terms.now.settings.now in
     let request = c.args.request.now in
     gains_as g.M.MailSystem.deeds _ _ _ _ c.flush_in_turn.ensures (λ gained is.
-    subst (λ ends. MatchBool ends (IsFlushedInTurn settings c.args.service request c.args.bytes.now c.args.moment c.args.first_serial c.flush_in_turn.result gained)
-    (IsCarriedOut settings c.args.service request c.args.bytes.now c.args.moment c.args.first_serial c.flush_in_turn.result gained))
+    subst (λ ends. MatchBool ends (IsFlushedInTurn settings c.args.terms.now.service request c.args.bytes.now c.args.terms.now.moment c.args.terms.now.first_serial c.flush_in_turn.result gained)
+    (IsCarriedOut settings c.args.terms.now.service request c.args.bytes.now c.args.terms.now.moment c.args.terms.now.first_serial c.flush_in_turn.result gained))
     (sym c.if-ends_message.true ∙ c.ends_message.ensures) is)

@@ -8,5 +8,5 @@ use Rattle.dsn_postfix_service.proofs.requests.carrying_out.carry_out.Goals as g
 pub returns : goal.returns
 returns g c =
     gains_more g.M.MailSystem.deeds _ _ _ _ _ _ c.do_asked-answer.ensures
-    (subst (λ due. Gains g.M.MailSystem.deeds c.do_asked-answer.new.system c.clean.new.system (Cleans c.args.service c.args.request.now due)) c.must_clean-due.ensures c.clean.ensures)
+    (subst (λ due. Gains g.M.MailSystem.deeds c.do_asked-answer.new.system c.clean.new.system (Cleans c.args.terms.now.service c.args.request.now due)) c.must_clean-due.ensures c.clean.ensures)
     (λ done cleaned is_done clean. record { done = done; cleaned = cleaned; gained_are = refl; is_done = is_done; clean = clean })

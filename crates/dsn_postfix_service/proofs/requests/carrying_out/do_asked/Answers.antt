@@ -6,4 +6,4 @@ use Rattle.dsn_postfix_service.proofs.requests.carrying_out.do_asked.Goals as go
 
 pub returns-in-Append : goal.returns-in-Append
 returns-in-Append g c =
-    subst (λ request. Gains g.M.MailSystem.deeds c.args.system.now c.append.new.system (IsDone (settings_said_in c.args.settings.now) c.args.service request c.args.bytes.now c.args.moment c.args.first_serial c.append.result)) (sym c.in-Append.is) c.append.ensures
+    subst (λ request. Gains g.M.MailSystem.deeds c.args.system.now c.append.new.system (IsDone (settings_said_in c.args.terms.now.settings.now) c.args.terms.now.service request c.args.bytes.now c.args.terms.now.moment c.args.terms.now.first_serial c.append.result)) (sym c.in-Append.is) c.append.ensures

@@ -30,25 +30,25 @@ returns-in-Ok-plan_notices-clause-letters c =
     let text : c.deref-4.result.now ≡ message_text records =
     c.deref-4.ensures.value ∙ c.in-Ok-text_of_message.ensures records ending (come_from _ c.deref-2.ensures.value) in
     let arrival : c.arrival_said.result ≡ (said_of_message records).arrival = c.arrival_said.ensures records ending (come_from _ c.deref-3.ensures.value) in
-    let notice = c.args.notice.now in
+    let notice = c.args.task.now.notice.now in
     let notices : List PlannedNotice = c.in-Ok-plan_notices.notices.items in
-    let planned : notices_of c.args.settings.now.double_bounce.now c.args.service c.args.request.now (recipients_of records) (mail_read_in c.args.found.now).log ≡ Ok (map notice_facts_in notices) =
-    (λ i. notices_of c.args.settings.now.double_bounce.now c.args.service c.args.request.now (sym queued i) (sym c.log.ensures i)) ∙ c.in-Ok-plan_notices.ensures in
+    let planned : notices_of c.args.task.now.terms.now.settings.now.double_bounce.now c.args.task.now.terms.now.service c.args.task.now.request.now (recipients_of records) (mail_read_in c.args.found.now).log ≡ Ok (map notice_facts_in notices) =
+    (λ i. notices_of c.args.task.now.terms.now.settings.now.double_bounce.now c.args.task.now.terms.now.service c.args.task.now.request.now (sym queued i) (sym c.log.ensures i)) ∙ c.in-Ok-plan_notices.ensures in
     ok_as c.letters_of.result _ _ c.letters_of.ensures.letters (λ letters are. record {
       records = records;
       ending = ending;
       listed = listing.lists;
       notices = map notice_facts_in notices;
       planned = planned;
-      each = subst (λ (ns : List PlannedNotice). AreLettersOf (message_said c.args.settings.now.lifetime notice records) c.args.moment c.args.first_serial (map notice_facts_in ns) letters.items) c.deref-in-Ok-plan_notices.ensures.value
-          (subst (λ (message : MessageSaid). AreLettersOf message c.args.moment c.args.first_serial (map notice_facts_in c.deref-in-Ok-plan_notices.result.now) letters.items)
+      each = subst (λ (ns : List PlannedNotice). AreLettersOf (message_said c.args.task.now.terms.now.settings.now.lifetime notice records) c.args.task.now.terms.now.moment c.args.task.now.terms.now.first_serial (map notice_facts_in ns) letters.items) c.deref-in-Ok-plan_notices.ensures.value
+          (subst (λ (message : MessageSaid). AreLettersOf message c.args.task.now.terms.now.moment c.args.task.now.terms.now.first_serial (map notice_facts_in c.deref-in-Ok-plan_notices.result.now) letters.items)
           (λ i. record {
             queue_id = notice.queue_id;
             arrival = arrival i;
             sender = c.bytes.ensures.same i;
             envelope_id = c.bytes-2.ensures.same i;
             text = text i;
-            lifetime = c.args.settings.now.lifetime;
+            lifetime = c.args.task.now.terms.now.settings.now.lifetime;
           }) are);
     })
 
@@ -65,11 +65,11 @@ returns-in-Ok-plan_notices-clause-none c =
     let text : c.deref-4.result.now ≡ message_text records =
     c.deref-4.ensures.value ∙ c.in-Ok-text_of_message.ensures records ending (come_from _ c.deref-2.ensures.value) in
     let arrival : c.arrival_said.result ≡ (said_of_message records).arrival = c.arrival_said.ensures records ending (come_from _ c.deref-3.ensures.value) in
-    let notice = c.args.notice.now in
+    let notice = c.args.task.now.notice.now in
     let notices : List PlannedNotice = c.in-Ok-plan_notices.notices.items in
-    let said : MessageSaid = message_said c.args.settings.now.lifetime notice records in
-    let planned : notices_of c.args.settings.now.double_bounce.now c.args.service c.args.request.now (recipients_of records) (mail_read_in c.args.found.now).log ≡ Ok (map notice_facts_in notices) =
-    (λ i. notices_of c.args.settings.now.double_bounce.now c.args.service c.args.request.now (sym queued i) (sym c.log.ensures i)) ∙ c.in-Ok-plan_notices.ensures in
+    let said : MessageSaid = message_said c.args.task.now.terms.now.settings.now.lifetime notice records in
+    let planned : notices_of c.args.task.now.terms.now.settings.now.double_bounce.now c.args.task.now.terms.now.service c.args.task.now.request.now (recipients_of records) (mail_read_in c.args.found.now).log ≡ Ok (map notice_facts_in notices) =
+    (λ i. notices_of c.args.task.now.terms.now.settings.now.double_bounce.now c.args.task.now.terms.now.service c.args.task.now.request.now (sym queued i) (sym c.log.ensures i)) ∙ c.in-Ok-plan_notices.ensures in
     err_as c.letters_of.result _ _ c.letters_of.ensures.none (λ why reason.
     reason_as _ _ why reason (λ fault. record {
       records = records;
@@ -84,7 +84,7 @@ returns-in-Ok-plan_notices-clause-none c =
             sender = c.bytes.ensures.same i;
             envelope_id = c.bytes-2.ensures.same i;
             text = text i;
-            lifetime = c.args.settings.now.lifetime;
+            lifetime = c.args.task.now.terms.now.settings.now.lifetime;
           }) fault));
     }))
 
@@ -98,12 +98,12 @@ returns-clause-none c =
     λ other is. subst (λ (f : List ℕ). RecordsFrom f (first_place f) records ending) (sym is) listing.lists in
     let queued : map recipient_facts_in c.deref-5.result.now ≡ recipients_of records =
     ap (map recipient_facts_in) c.deref-5.ensures.value ∙ c.in-Ok.ensures records ending (come_from _ c.deref.ensures.value) in
-    let planned : notices_of c.args.settings.now.double_bounce.now c.args.service c.args.request.now (recipients_of records) (mail_read_in c.args.found.now).log ≡ Err c.in-Err-Unsaid.field-0-0 =
-    (λ i. notices_of c.args.settings.now.double_bounce.now c.args.service c.args.request.now (sym queued i) (sym c.log.ensures i))
-    ∙ subst (λ (why : PlanFault). IsPlanFault (notices_of c.args.settings.now.double_bounce.now c.args.service c.args.request.now (map recipient_facts_in c.deref-5.result.now) (option_map (λ log. log.now) c.log.result)) why) c.in-Err-Unsaid.field-0-is c.in-Err-Unsaid.ensures in
+    let planned : notices_of c.args.task.now.terms.now.settings.now.double_bounce.now c.args.task.now.terms.now.service c.args.task.now.request.now (recipients_of records) (mail_read_in c.args.found.now).log ≡ Err c.in-Err-Unsaid.field-0-0 =
+    (λ i. notices_of c.args.task.now.terms.now.settings.now.double_bounce.now c.args.task.now.terms.now.service c.args.task.now.request.now (sym queued i) (sym c.log.ensures i))
+    ∙ subst (λ (why : PlanFault). IsPlanFault (notices_of c.args.task.now.terms.now.settings.now.double_bounce.now c.args.task.now.terms.now.service c.args.task.now.request.now (map recipient_facts_in c.deref-5.result.now) (option_map (λ log. log.now) c.log.result)) why) c.in-Err-Unsaid.field-0-is c.in-Err-Unsaid.ensures in
     record {
       records = records;
       ending = ending;
       listed = listing.lists;
-      unsaid = subst (λ (plan : Result (List NoticeFacts) CantSay). IsUnsaid (message_said c.args.settings.now.lifetime c.args.notice.now records) plan) (sym planned) tt;
+      unsaid = subst (λ (plan : Result (List NoticeFacts) CantSay). IsUnsaid (message_said c.args.task.now.terms.now.settings.now.lifetime c.args.task.now.notice.now records) plan) (sym planned) tt;
     }

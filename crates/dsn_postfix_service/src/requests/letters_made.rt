@@ -1,0 +1,48 @@
+//! What is made of a request's log and file before its first notice is handed in.
+ghost use Rattle.std.specs.Prelude.{◌≡◌, IfErr, IfOk};
+ghost use Rattle.dsn_postfix_service.specs.requests.MailFound.{mail_read_in};
+ghost use Rattle.dsn_postfix_service.specs.requests.RequestLetters.{AreLettersAsked, CantBeSaid, IsReason, places_done};
+ghost use Rattle.dsn_postfix_service.specs.requests.ServiceSettings.{settings_said_in};
+
+use crate::requests::mail_found::MailFound;
+use crate::requests::no_letters::NoLetters;
+use crate::requests::notice_task::NoticeTask;
+use crate::requests::places_done::places_done;
+use crate::requests::request_letters::letters_asked;
+use crate::requests::request_terms::RequestTerms;
+use dsn_outcome::Letter;
+use std::alloc::Global;
+
+/// The letters of a request, and who is done after them.
+#[derive(Drop)]
+pub(super) struct LettersMade {
+    /// The letters of all notices that it has.
+    pub(super) letters: Vec<Letter>,
+    /// The places of the recipients that are marked as done once all are accepted.
+    pub(super) places: Vec<u64>,
+}
+
+/// Makes all letters of what was read, and says who is done after them.
+pub(super) fn make_letters(
+    alloc: Global,
+    task: &NoticeTask<'_>,
+    found: &MailFound,
+) -> Result<LettersMade, NoLetters>
+    ensures made { IfOk result (λ made. AreLettersAsked (settings_said_in task.now.terms.now.settings.now)
+        task.now.terms.now.service task.now.request.now task.now.notice.now task.now.terms.now.moment
+        task.now.terms.now.first_serial (mail_read_in found.now) made.letters.items) }
+    ensures places { IfOk result (λ made. made.places.items
+        ≡ places_done task.now.terms.now.service task.now.request.now task.now.notice.now
+        (mail_read_in found.now).log) }
+    ensures none { IfErr result (IsReason (CantBeSaid (settings_said_in task.now.terms.now.settings.now)
+        task.now.terms.now.service task.now.request.now task.now.notice.now (mail_read_in found.now))) }
+{
+    let letters = match letters_asked(alloc, task, found) {
+        Ok(letters) => letters,
+        Err(why) => return Err(why),
+    };
+    match places_done(alloc, task, found.log()) {
+        Ok(places) => Ok(LettersMade { letters, places }),
+        Err(_) => Err(NoLetters::NoMemory),
+    }
+}

@@ -192,7 +192,8 @@ def check_message(checks: Checks, it: Postfix, own: dict, case: Path, request: P
 
 
 def check_refusals(checks: Checks):
-    """A server that refuses at a step, for now or for good, or leaves: -1, and the log stays; asked again, it is told."""
+    """A server that refuses at a step, for now or for good, or leaves, where Postfix's own service isn't there: -1, and the log stays;
+    asked again, it is told."""
     with Postfix() as it:
         for step in STEPS:
             for reply in (b"450 4.2.0 later", b"550 5.7.1 no", b"421 4.3.2 closing", b"", b"what?", b"250-more\r\n550 other", b"250 ok\r\n250 too soon"):
@@ -245,6 +246,27 @@ def check_sessions(checks: Checks):
         it.put("one", "bounce")
         sessions = len(it.server.said)
         checks.equal("a session in which a notice is refused", (it.ask("bounce", asked_in("one", "failure")), it.server.said[-1][-3:], len(it.server.said) - sessions), (FAILED, transaction[:2] + goodbye, 0))
+
+
+def check_refused_for_good(checks: Checks):
+    """What is refused for good before a notice of the request was taken goes to Postfix's own service as it is, with the log, and its
+    status comes back; what is refused for now, or after one was taken, is answered -1."""
+    with Postfix() as it:
+        own = OwnService(it.folder, "bounce")
+        request, log = asked_in("one", "failure"), (FILES / "one/bounce").read_bytes()
+        for step in STEPS:
+            for reply, wanted in ((b"550 5.7.1 no", (0, [request], log)), (b"450 4.2.0 later", (FAILED, [], log))):
+                it.put("one", "bounce")
+                it.server.replies, own.asked = {step: reply}, []
+                checks.equal(f"{reply} at {step}, beside bounce(8)", (it.ask("bounce", request), own.asked, it.at(f"bounce/{ONE}").read_bytes()), wanted)
+        own.status, own.asked = b"status\x00%d\0\0" % FAILED, []
+        it.server.replies = {"RCPT": b"550 no"}
+        checks.equal("bounce(8) fails", (it.ask("bounce", request), own.asked, it.at(f"bounce/{ONE}").read_bytes()), (FAILED, [request], log))
+        it.server.replies, own.asked = {}, []
+        message, taken = it.put("verp", "bounce"), len(it.server.taken)
+        it.server.waits["RCPT"] = lambda: it.server.replies.update({"RCPT": b"550 no"} if len(it.server.taken) > taken else {})
+        found = (it.ask("bounce", asked_in("verp", "failure")), len(it.server.taken) - taken, own.asked, it.at(f"bounce/{message}").exists())
+        checks.equal("refused for good after one was taken", found, (FAILED, 1, [], True))
 
 
 def check_twice(checks: Checks):
@@ -571,7 +593,7 @@ def main():
     silent = Silent()
     checking = (
         check_append_and_flush, check_modes, check_hashing, check_kinds, check_expired_with_bounces, check_marks, check_all_messages,
-        check_refusals, check_sessions, check_twice, check_no_server, check_passed_on, check_versions, check_broken_clients, check_locked_log, check_full_disk, check_kills, check_kills_at_work, check_inherited,
+        check_refusals, check_refused_for_good, check_sessions, check_twice, check_no_server, check_passed_on, check_versions, check_broken_clients, check_locked_log, check_full_disk, check_kills, check_kills_at_work, check_inherited,
         check_start, check_at_once, silent.check,
     )  # fmt: skip
     with silent.postfix:

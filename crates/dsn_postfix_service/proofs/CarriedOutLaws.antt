@@ -15,7 +15,7 @@ use Rattle.dsn_postfix.specs.declared.postfix_request.PostfixRequest.TheVariants
 use Rattle.dsn_postfix.specs.files.QueueRecipients.{RecipientFacts}
 use Rattle.dsn_postfix_service.specs.declared.requests.deed_fault.DeedFault.{DeedFault}
 use Rattle.dsn_postfix_service.specs.declared.requests.telling.Telling.{Telling}
-use Rattle.dsn_postfix_service.specs.declared.requests.telling.Telling.TheVariants.{Told, Unsayable, Failed, NoMemory as TellingNoMemory}
+use Rattle.dsn_postfix_service.specs.declared.requests.telling.Telling.TheVariants.{Told, Unsayable, RefusedForGood, Failed, NoMemory as TellingNoMemory}
 use Rattle.dsn_postfix_service.specs.requests.AppendDeeds.{IsAppended, IsLogged, record_bytes}
 use Rattle.dsn_postfix_service.specs.requests.AppendDeeds as append
 use Rattle.dsn_postfix_service.specs.requests.CarriedOut.{Cleans, IsCarriedOut, IsDone, flags_of, must_clean, queue_id_of}
@@ -27,7 +27,7 @@ use Rattle.dsn_postfix_service.specs.requests.RequestLetters.{AreLettersOf, mess
 use Rattle.dsn_postfix_service.specs.requests.RequestStatus.{RequestAnswer, carried_out, has_flag, is_carried_out, not_carried_out, status_after, status_passed_on}
 use Rattle.dsn_postfix_service.specs.requests.ServiceSettings.{SettingsSaid}
 use Rattle.dsn_postfix_service.proofs.RequestLawLemmas.{Block, RemovesNone, hand_ins-append, is_removal}
-use Rattle.dsn_postfix_service.proofs.TellingParts.{IsRemovalPart, NotifiedParts, ToldSo, notified_parts, nothing_removed, removed_told}
+use Rattle.dsn_postfix_service.proofs.TellingParts.{IsRemovalPart, LeftOver, NotifiedParts, ToldSo, notified_parts, nothing_removed, removed_told}
 
 -- ---- which requests
 
@@ -342,28 +342,34 @@ answered_append_stands settings service request bytes moment serial answer gaine
 
 -- ---- requests for notices that are answered 0
 
-end_told : (settings : SettingsSaid) (service : Service) (request : PostfixRequest) (notice : NoticeRequest) (bytes : List ℕ) (moment serial : ℕ) (answer : RequestAnswer) (telling : Telling) (front last : List Deed)
-    → ToldSo settings service request notice moment serial telling front → EndsTelling service bytes telling answer last → answer ≡ Ok 0
-    → AreAllTold settings service request notice moment serial front ⊎ ((hand_ins front ≡ []) × (last ≡ PassedOn service bytes (Ok 0) ∷ []))
-end_told settings service request notice bytes moment serial answer Told front last so ends zero = inl so
-end_told settings service request notice bytes moment serial answer Unsayable front last so passes zero =
+end_told : (settings : SettingsSaid) (service : Service) (request : PostfixRequest) (notice : NoticeRequest) (bytes : List ℕ) (moment serial : ℕ) (answer : RequestAnswer) (telling : Telling) (front told last : List Deed)
+    → ToldSo settings service request notice moment serial telling front told → EndsTelling service bytes telling answer last → answer ≡ Ok 0
+    → AreAllTold settings service request notice moment serial front ⊎ (LeftOver settings service request notice moment serial told × (last ≡ PassedOn service bytes (Ok 0) ∷ []))
+end_told settings service request notice bytes moment serial answer Told front told last so ends zero = inl so
+end_told settings service request notice bytes moment serial answer Unsayable front told last so passes zero =
     inr (so, passed_with_zero service bytes last passes.given passes.passed (status_is 0 (Ok (status_passed_on passes.given)) (sym passes.answer_is ∙ zero)))
-end_told settings service request notice bytes moment serial answer Failed front last so ends zero = absurd (not_zero (status_is 0 (Ok not_carried_out) (sym ends.1 ∙ zero)))
-end_told settings service request notice bytes moment serial answer TellingNoMemory front last so ends zero = absurd (false_is_true (ap is_err (sym zero) ∙ ends.1))
+end_told settings service request notice bytes moment serial answer RefusedForGood front told last so passes zero =
+    inr (so, passed_with_zero service bytes last passes.given passes.passed (status_is 0 (Ok (status_passed_on passes.given)) (sym passes.answer_is ∙ zero)))
+end_told settings service request notice bytes moment serial answer Failed front told last so ends zero = absurd (not_zero (status_is 0 (Ok not_carried_out) (sym ends.1 ∙ zero)))
+end_told settings service request notice bytes moment serial answer TellingNoMemory front told last so ends zero = absurd (false_is_true (ap is_err (sym zero) ∙ ends.1))
 
 told_or_passed : (settings : SettingsSaid) (service : Service) (request : PostfixRequest) (notice : NoticeRequest) (bytes : List ℕ) (moment serial : ℕ) (told last front others gained : List Deed) → gained ≡ told ++ LogReleased ∷ last → gained ≡ front ++ others → hand_ins others ≡ []
-    → AreAllTold settings service request notice moment serial front ⊎ ((hand_ins front ≡ []) × (last ≡ PassedOn service bytes (Ok 0) ∷ []))
-    → AreToldFirst settings service request notice moment serial gained ⊎ IsLeftToPostfix service bytes gained
+    → AreAllTold settings service request notice moment serial front ⊎ (LeftOver settings service request notice moment serial told × (last ≡ PassedOn service bytes (Ok 0) ∷ []))
+    → AreToldFirst settings service request notice moment serial gained ⊎ IsLeftToPostfix settings service request notice bytes moment serial gained
 told_or_passed settings service request notice bytes moment serial told last front others gained is row none (inl all) = inl (record { first = front; after = others; gained_are = row; told = all; none_handed = none })
-told_or_passed settings service request notice bytes moment serial told last front others gained is row none (inr passed) = inr (record {
-  before = told ++ LogReleased ∷ [];
-  passed_last = is ∙ ap (λ (deeds : List Deed). told ++ LogReleased ∷ deeds) passed.1 ∙ sym (append_assoc told (LogReleased ∷ []) (PassedOn service bytes (Ok 0) ∷ []));
-  none_handed = ap hand_ins row ∙ none_of_both front others passed.0 none;
-})
+told_or_passed settings service request notice bytes moment serial told last front others gained is row none (inr passed) =
+    let left = passed.0 in
+    inr (record {
+      found = left.found;
+      tried = left.tried;
+      gained_are = is ∙ (λ i. left.told_is i ++ LogReleased ∷ passed.1 i)
+          ∙ append_assoc (readings service request notice left.found) left.tried (LogReleased ∷ PassedOn service bytes (Ok 0) ∷ []);
+      why = left.why;
+    })
 
 pub told_or_left : (settings : SettingsSaid) (service : Service) (request : PostfixRequest) (notice : NoticeRequest) (bytes : List ℕ) (moment serial : ℕ) (answer : RequestAnswer) (gained : List Deed)
     → IsTellingDone settings service request notice bytes moment serial answer gained → answer ≡ Ok 0
-    → AreToldFirst settings service request notice moment serial gained ⊎ IsLeftToPostfix service bytes gained
+    → AreToldFirst settings service request notice moment serial gained ⊎ IsLeftToPostfix settings service request notice bytes moment serial gained
 told_or_left settings service request notice bytes moment serial answer gained done zero =
     let out = done.carried_out in
     let row = row_of settings service request notice bytes moment serial answer gained done in
@@ -372,4 +378,4 @@ told_or_left settings service request notice bytes moment serial answer gained d
     told_or_passed settings service request notice bytes moment serial parts.told parts.last parts.telling.front row.others gained
     (out.gained_are ∙ ap (λ (deeds : List Deed). out.done ++ deeds) none_cleaned ∙ append-nil out.done ∙ parts.all ∙ ap (λ (deeds : List Deed). parts.told ++ deeds) parts.tail_is)
     row.gained_are row.none_handed
-    (end_told settings service request notice bytes moment serial answer parts.ended parts.telling.front parts.last parts.telling.so parts.ends zero)
+    (end_told settings service request notice bytes moment serial answer parts.ended parts.telling.front parts.told parts.last parts.telling.so parts.ends zero)

@@ -19,7 +19,7 @@ use Rattle.dsn_postfix_service.specs.requests.CarriedOut.{IsCarriedOut, queue_id
 use Rattle.dsn_postfix_service.specs.requests.Deed.{Answer, Appended, Deed, HandedIn, LogReleased, LogSought, MessageRead}
 use Rattle.dsn_postfix_service.specs.requests.Finishing.{AreMarked, FailsToMark, StopsAtPlace, marking}
 use Rattle.dsn_postfix_service.specs.requests.Gains.{Gains, with_deeds}
-use Rattle.dsn_postfix_service.specs.requests.HandingIn.{AreAccepted, IsNotAccepted, IsRefused, StopsAtLetter, hand_in_of}
+use Rattle.dsn_postfix_service.specs.requests.HandingIn.{AreAccepted, IsNotAccepted, StopsAtLetter, hand_in_of, is_first_after, refusal_of, refused}
 use Rattle.dsn_postfix_service.specs.requests.MailFound.{FailsToRead, ReadsLog, log_reading, log_unread, message_reading, message_unread}
 use Rattle.dsn_postfix_service.specs.requests.NoticeDeeds.{EndsTelling, IsNotified, Tells}
 use Rattle.dsn_postfix_service.specs.requests.RequestStatus.{RequestAnswer, carried_out, is_carried_out, status_after}
@@ -124,13 +124,13 @@ one_accepted deeds old new host letter path data' reply to is after = record {
   are = (record { reply = reply; deed_is = refl }, refl);
 }
 
-pub one_refused : {S : Type 0} → (deeds : S → Option (List Deed)) (old new : S) (host : List ℕ) (letter : Letter) (path data' : List ℕ) (why : HandInFault)
-    → letter.draft.return_path ≡ Some path → data' ≡ mail_data host letter → deeds new ≡ with_deeds (deeds old) (HandedIn path data' (Err why) ∷ [])
-    → Gains deeds old new (IsRefused host letter)
-one_refused deeds old new host letter path data' why to is after = record {
-  gained = hand_in_of host letter (Err why) ∷ [];
-  after = after ∙ (λ i. with_deeds (deeds old) (HandedIn (sym (path_is letter path to) i) (is i) (Err why) ∷ []));
-  are = record { fault = why; tried = refl };
+pub one_refused : {S : Type 0} → (deeds : S → Option (List Deed)) (old new : S) (host : List ℕ) (first : Bool) (letter : Letter) (path data' : List ℕ) (fault : HandInFault) (why : NotAccepted)
+    → letter.draft.return_path ≡ Some path → data' ≡ mail_data host letter → why ≡ refusal_of first fault → deeds new ≡ with_deeds (deeds old) (HandedIn path data' (Err fault) ∷ [])
+    → Gains deeds old new (IsNotAccepted host first letter why)
+one_refused deeds old new host first letter path data' fault why to is why_is after = record {
+  gained = hand_in_of host letter (Err fault) ∷ [];
+  after = after ∙ (λ i. with_deeds (deeds old) (HandedIn (sym (path_is letter path to) i) (is i) (Err fault) ∷ []));
+  are = refused fault why_is refl;
 }
 
 pub accepted_more : (host : List ℕ) (front back : List Letter) (taken more : List Deed) → AreAccepted host front taken → AreAccepted host back more → AreAccepted host (front ++ back) (taken ++ more)
@@ -149,47 +149,53 @@ at_one xs front rest after x split first = split ∙ ap (λ (left : List _). fro
 pub at_end : {X : Type 0} → (xs front rest : List X) → xs ≡ front ++ rest → rest ≡ [] → xs ≡ front
 at_end xs front rest split none = split ∙ ap (λ (left : List _). front ++ left) none ∙ append-nil front
 
--- the letters so far were accepted
-pub record AcceptedSoFar {S : Type 0} (deeds : S → Option (List Deed)) (old new : S) (host : List ℕ) (letters rest : List Letter) : Type 0 where
+-- the letters so far were accepted, and the next is the first or not
+pub record AcceptedSoFar {S : Type 0} (deeds : S → Option (List Deed)) (old new : S) (host : List ℕ) (letters rest : List Letter) (first : Bool) : Type 0 where
   pub front : List Letter
   pub taken : List Deed
   pub split : letters ≡ front ++ rest
   pub after : deeds new ≡ with_deeds (deeds old) taken
   pub accepted : AreAccepted host front taken
+  pub first_is : first ≡ is_first_after front
 
-pub accepted_one_more : {S : Type 0} → (deeds : S → Option (List Deed)) (old between new : S) (host : List ℕ) (letters rest after : List Letter) (letter : Letter)
-    → AcceptedSoFar deeds old between host letters rest → rest ≡ letter ∷ after → Gains deeds between new (AreAccepted host (letter ∷ [])) → AcceptedSoFar deeds old new host letters after
-accepted_one_more deeds old between new host letters rest after letter so_far first one = record {
+not_first : (front : List Letter) (letter : Letter) → false ≡ is_first_after (front ++ letter ∷ [])
+not_first [] letter = refl
+not_first (other ∷ front) letter = refl
+
+pub accepted_one_more : {S : Type 0} → (deeds : S → Option (List Deed)) (old between new : S) (host : List ℕ) (letters rest after : List Letter) (first : Bool) (letter : Letter)
+    → AcceptedSoFar deeds old between host letters rest first → rest ≡ letter ∷ after → Gains deeds between new (AreAccepted host (letter ∷ [])) → AcceptedSoFar deeds old new host letters after false
+accepted_one_more deeds old between new host letters rest after first letter so_far next one = record {
   front = so_far.front ++ letter ∷ [];
   taken = so_far.taken ++ one.gained;
-  split = past_one letters so_far.front rest after letter so_far.split first;
+  split = past_one letters so_far.front rest after letter so_far.split next;
   after = after_both deeds old between new so_far.taken one.gained so_far.after one.after;
   accepted = accepted_more host so_far.front (letter ∷ []) so_far.taken one.gained so_far.accepted one.are;
+  first_is = not_first so_far.front letter;
 }
 
-pub all_accepted : {S : Type 0} → (deeds : S → Option (List Deed)) (old new : S) (host : List ℕ) (letters rest : List Letter)
-    → AcceptedSoFar deeds old new host letters rest → rest ≡ [] → Gains deeds old new (AreAccepted host letters)
-all_accepted deeds old new host letters rest so_far none = record {
+pub all_accepted : {S : Type 0} → (deeds : S → Option (List Deed)) (old new : S) (host : List ℕ) (letters rest : List Letter) (first : Bool)
+    → AcceptedSoFar deeds old new host letters rest first → rest ≡ [] → Gains deeds old new (AreAccepted host letters)
+all_accepted deeds old new host letters rest first so_far none = record {
   gained = so_far.taken;
   after = so_far.after;
   are = subst (λ (xs : List Letter). AreAccepted host xs so_far.taken) (sym (at_end letters so_far.front rest so_far.split none)) so_far.accepted;
 }
 
-pub stopped_at : {S : Type 0} → (deeds : S → Option (List Deed)) (old between new : S) (host : List ℕ) (letters rest after : List Letter) (letter : Letter) (why : NotAccepted)
-    → AcceptedSoFar deeds old between host letters rest → rest ≡ letter ∷ after → Gains deeds between new (IsNotAccepted host letter why) → Gains deeds old new (StopsAtLetter host letters why)
-stopped_at deeds old between new host letters rest after letter why so_far first one = record {
+pub stopped_at : {S : Type 0} → (deeds : S → Option (List Deed)) (old between new : S) (host : List ℕ) (letters rest after : List Letter) (first : Bool) (letter : Letter) (why : NotAccepted)
+    → AcceptedSoFar deeds old between host letters rest first → rest ≡ letter ∷ after → Gains deeds between new (IsNotAccepted host first letter why) → Gains deeds old new (StopsAtLetter host letters why)
+stopped_at deeds old between new host letters rest after first letter why so_far next one = record {
   gained = so_far.taken ++ one.gained;
   after = after_both deeds old between new so_far.taken one.gained so_far.after one.after;
   are = record {
     before = so_far.front;
     stopped = letter;
     after = after;
-    letters_are = at_one letters so_far.front rest after letter so_far.split first;
+    letters_are = at_one letters so_far.front rest after letter so_far.split next;
     taken = so_far.taken;
     last = one.gained;
     gained_are = refl;
     accepted = so_far.accepted;
-    not_accepted = one.are;
+    not_accepted = subst (λ (is_first : Bool). IsNotAccepted host is_first letter why one.gained) so_far.first_is one.are;
   };
 }
 

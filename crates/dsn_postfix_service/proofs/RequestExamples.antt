@@ -12,6 +12,9 @@ use Rattle.dsn_postfix.specs.declared.postfix_request.PostfixRequest.TheVariants
 use Rattle.dsn_postfix.specs.declared.postfix_request.ReportedRecipient.{ReportedRecipient}
 use Rattle.dsn_postfix.specs.files.LogRecord.{unsayable_field}
 use Rattle.dsn_postfix_service.specs.declared.requests.deed_fault.DeedFault.TheVariants as fault
+use Rattle.dsn_postfix_service.specs.declared.hand_in.hand_in_fault.HandInFault.TheVariants.{Refused}
+use Rattle.dsn_postfix_service.specs.declared.hand_in.hand_in_step.HandInStep.TheVariants.{Recipient}
+use Rattle.dsn_postfix_service.specs.declared.requests.not_accepted.NotAccepted.TheVariants as not_accepted
 use Rattle.dsn_postfix_service.specs.declared.requests.telling.Telling.TheVariants as telling
 use Rattle.dsn_postfix_service.specs.requests.AnsweredRequest.{IsAnswered, ends_message}
 use Rattle.dsn_postfix_service.specs.requests.AnsweredRequest as answered
@@ -19,6 +22,7 @@ use Rattle.dsn_postfix_service.specs.requests.AppendDeeds.{IsAppended, record_by
 use Rattle.dsn_postfix_service.specs.requests.CarriedOut.{IsCarriedOut, must_clean}
 use Rattle.dsn_postfix_service.specs.requests.Deed.{Answer, Appended, Deed, HandedIn, LogRead, LogReleased, LogRemoved, LogSought, MessageRead, PassedOn}
 use Rattle.dsn_postfix_service.specs.requests.Finishing.{is_removal_due}
+use Rattle.dsn_postfix_service.specs.requests.HandingIn.{refusal_of}
 use Rattle.dsn_postfix_service.specs.requests.MailFound.{log_unread, readings}
 use Rattle.dsn_postfix_service.specs.requests.NoticeDeeds.{EndsTelling, unread}
 use Rattle.dsn_postfix_service.specs.requests.RequestLaws.{hand_ins}
@@ -122,6 +126,21 @@ status_needs_a_deed status (unsayable field some passes) = absurd (no_deed (Pass
 -- nor to a request for notices that ends with nobody told, unless what can't be said is passed on
 unsayable_needs_a_deed : (answer : RequestAnswer) → EndsTelling Bounce [] telling.Unsayable answer [] → ⊥
 unsayable_needs_a_deed answer passes = no_deed (PassedOn Bounce [] passes.given) passes.passed
+
+-- nor to one whose first notice is refused for good
+refused_needs_a_deed : (answer : RequestAnswer) → EndsTelling Bounce [] telling.RefusedForGood answer [] → ⊥
+refused_needs_a_deed answer passes = no_deed (PassedOn Bounce [] passes.given) passes.passed
+
+-- ---- letters that are refused
+
+first_refused_for_good : refusal_of true (Refused Recipient (codes "550")) ≡ not_accepted.RefusedForGood
+first_refused_for_good = refl
+
+later_refused_for_good : refusal_of false (Refused Recipient (codes "550")) ≡ not_accepted.Refused
+later_refused_for_good = refl
+
+first_refused_for_now : refusal_of true (Refused Recipient (codes "450")) ≡ not_accepted.Refused
+first_refused_for_now = refl
 
 -- ---- the bounce log first
 

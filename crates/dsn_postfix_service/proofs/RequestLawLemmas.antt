@@ -1,15 +1,19 @@
 -- What is true of each request that was carried out: the parts of its deeds, which of them remove a log, and which hand in.
 use Rattle.std.proofs.Common.{◌≡◌, ℕ, Bool, true, false, List, [], ◌∷◌, ◌++◌, Option, Result, Ok, Err, refl, sym, ap, subst, ◌∙◌, append_assoc, append-nil, map}
+use Rattle.std.specs.Prelude.{if◌then◌else◌}
 use Rattle.dsn_outcome.specs.Letter.{Letter}
 use Rattle.dsn_text.specs.declared.service.Service.{Service}
 use Rattle.dsn_postfix.specs.declared.postfix_request.NoticeRequest.{NoticeRequest}
 use Rattle.dsn_postfix.specs.declared.postfix_request.PostfixRequest.{PostfixRequest}
+use Rattle.dsn_postfix_service.specs.declared.hand_in.hand_in_fault.HandInFault.{HandInFault}
 use Rattle.dsn_postfix_service.specs.declared.requests.deed_fault.DeedFault.{DeedFault}
 use Rattle.dsn_postfix_service.specs.declared.requests.not_accepted.NotAccepted.{NotAccepted}
-use Rattle.dsn_postfix_service.specs.declared.requests.not_accepted.NotAccepted.TheVariants.{Refused, NoMemory}
+use Rattle.dsn_postfix_service.specs.declared.requests.not_accepted.NotAccepted.TheVariants.{NoMemory, Refused, RefusedForGood}
+use Rattle.dsn_postfix_service.specs.hand_in.HandIn.{is_refused_for_good}
 use Rattle.dsn_postfix_service.specs.requests.Deed.{Appended, Deed, HandedIn, LogRead, LogReleased, LogRemoved, LogSought, MarkedDone, MessageRead, PassedOn}
 use Rattle.dsn_postfix_service.specs.requests.Finishing.{AreMarked, StopsAtPlace, marking}
-use Rattle.dsn_postfix_service.specs.requests.HandingIn.{AreAccepted, IsNotAccepted, StopsAtLetter, hand_in_of}
+use Rattle.dsn_postfix_service.specs.requests.HandingIn.{AreAccepted, IsNotAccepted, StopsAtLetter, hand_in_of, is_first_after}
+use Rattle.dsn_postfix_service.specs.requests.HandingIn as handing
 use Rattle.dsn_postfix_service.specs.requests.MailFound.{FailsToRead, MailRead, log_reading, log_unread, message_reading, message_unread, readings, tells_of_log}
 use Rattle.dsn_postfix_service.specs.requests.RequestLaws.{AreHandedIn, hand_ins, is_hand_in, onto_if}
 
@@ -112,18 +116,18 @@ pub record FrontHanded (host : List ℕ) (letters : List Letter) (gained : List 
 one_tried : (host : List ℕ) (letter : Letter) (why : _) → Block (hand_in_of host letter (Err why) ∷ []) (hand_in_of host letter (Err why) ∷ [])
 one_tried host letter why = record { keeps = (refl, tt); handed_are = refl }
 
-last_handed : (host : List ℕ) (before after : List Letter) (stopped : Letter) (why : NotAccepted) (taken last : List Deed) → AreAccepted host before taken → IsNotAccepted host stopped why last
+last_handed : (host : List ℕ) (first : Bool) (before after : List Letter) (stopped : Letter) (why : NotAccepted) (taken last : List Deed) → AreAccepted host before taken → IsNotAccepted host first stopped why last
     → FrontHanded host (before ++ stopped ∷ after) (taken ++ last)
-last_handed host before after stopped Refused taken last accepted is =
-    let tried : List Deed = hand_in_of host stopped (Err is.fault) ∷ [] in
-    subst (λ (deeds : List Deed). FrontHanded host (before ++ stopped ∷ after) (taken ++ deeds)) (sym is.tried) (record {
+last_handed host first before after stopped why taken last accepted (handing.refused fault why_is is) =
+    let tried : List Deed = hand_in_of host stopped (Err fault) ∷ [] in
+    subst (λ (deeds : List Deed). FrontHanded host (before ++ stopped ∷ after) (taken ++ deeds)) (sym is) (record {
       front = before ++ stopped ∷ [];
       rest = after;
       letters_are = sym (append_assoc before (stopped ∷ []) after);
-      block = both taken tried taken tried (accepted_block host before taken accepted) (one_tried host stopped is.fault);
-      each = handed_more host before (stopped ∷ []) taken tried (accepted_handed host before taken accepted) (record { answer = Err is.fault; deed_is = refl }, refl);
+      block = both taken tried taken tried (accepted_block host before taken accepted) (one_tried host stopped fault);
+      each = handed_more host before (stopped ∷ []) taken tried (accepted_handed host before taken accepted) (record { answer = Err fault; deed_is = refl }, refl);
     })
-last_handed host before after stopped NoMemory taken last accepted is =
+last_handed host first before after stopped why taken last accepted (handing.no_memory why_is is) =
     subst (λ (deeds : List Deed). FrontHanded host (before ++ stopped ∷ after) (taken ++ deeds)) (sym is)
     (subst (λ (deeds : List Deed). FrontHanded host (before ++ stopped ∷ after) deeds) (sym (append-nil taken)) (record {
       front = before;
@@ -137,7 +141,44 @@ pub stopped_front : (host : List ℕ) (letters : List Letter) (why : NotAccepted
 stopped_front host letters why gained stops =
     subst (λ (deeds : List Deed). FrontHanded host letters deeds) (sym stops.gained_are)
     (subst (λ (ls : List Letter). FrontHanded host ls (stops.taken ++ stops.last)) (sym stops.letters_are)
-    (last_handed host stops.before stops.after stops.stopped why stops.taken stops.last stops.accepted stops.not_accepted))
+    (last_handed host (is_first_after stops.before) stops.before stops.after stops.stopped why stops.taken stops.last stops.accepted stops.not_accepted))
+
+-- the first of some letters was refused for good, and no other handed in
+pub record FirstRefused (host : List ℕ) (letters : List Letter) (gained : List Deed) : Type 0 where
+  pub letter : Letter
+  pub others : List Letter
+  pub fault : HandInFault
+  pub letters_are : letters ≡ letter ∷ others
+  pub for_good : is_refused_for_good fault ≡ true
+  pub tried : gained ≡ hand_in_of host letter (Err fault) ∷ []
+
+refused_now : RefusedForGood ≡ Refused → ⊥
+refused_now e = cc
+
+without_memory : RefusedForGood ≡ NoMemory → ⊥
+without_memory e = cc
+
+for_good_if : (b : Bool) → RefusedForGood ≡ (if b then RefusedForGood else Refused) → b ≡ true
+for_good_if true e = refl
+for_good_if false e = absurd (refused_now e)
+
+first_of : (host : List ℕ) (letters before after : List Letter) (stopped : Letter) (gained taken last : List Deed) → letters ≡ before ++ stopped ∷ after → gained ≡ taken ++ last → AreAccepted host before taken
+    → IsNotAccepted host (is_first_after before) stopped RefusedForGood last → FirstRefused host letters gained
+first_of host letters [] after stopped gained taken last letters_are is accepted (handing.refused fault why_is tried) = record {
+  letter = stopped;
+  others = after;
+  fault = fault;
+  letters_are = letters_are;
+  for_good = for_good_if (is_refused_for_good fault) why_is;
+  tried = is ∙ ap (λ (deeds : List Deed). deeds ++ last) accepted ∙ tried;
+}
+first_of host letters (other ∷ before) after stopped gained taken last letters_are is accepted (handing.refused fault why_is tried) = absurd (refused_now why_is)
+first_of host letters [] after stopped gained taken last letters_are is accepted (handing.no_memory why_is none) = absurd (without_memory why_is)
+first_of host letters (other ∷ before) after stopped gained taken last letters_are is accepted (handing.no_memory why_is none) = absurd (without_memory why_is)
+
+pub first_refused : (host : List ℕ) (letters : List Letter) (gained : List Deed) → StopsAtLetter host letters RefusedForGood gained → FirstRefused host letters gained
+first_refused host letters gained stops =
+    first_of host letters stops.before stops.after stops.stopped gained stops.taken stops.last stops.letters_are stops.gained_are stops.accepted stops.not_accepted
 
 -- ---- recipients
 

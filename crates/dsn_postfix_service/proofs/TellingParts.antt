@@ -9,18 +9,20 @@ use Rattle.dsn_postfix_service.specs.declared.requests.deed_fault.DeedFault.{Dee
 use Rattle.dsn_postfix_service.specs.declared.requests.not_accepted.NotAccepted.{NotAccepted}
 use Rattle.dsn_postfix_service.specs.declared.requests.not_accepted.NotAccepted.TheVariants as not_accepted
 use Rattle.dsn_postfix_service.specs.declared.requests.telling.Telling.{Telling}
-use Rattle.dsn_postfix_service.specs.declared.requests.telling.Telling.TheVariants.{Told, Unsayable, Failed, NoMemory}
+use Rattle.dsn_postfix_service.specs.declared.requests.telling.Telling.TheVariants.{Told, Unsayable, RefusedForGood, Failed, NoMemory}
 use Rattle.dsn_postfix_service.specs.requests.Deed.{Answer, Deed, LogReleased, LogRemoved, PassedOn}
 use Rattle.dsn_postfix_service.specs.requests.Finishing.{AreMarked, FinishesAt, RemovesLog}
 use Rattle.dsn_postfix_service.specs.requests.Finishing as finishing
+use Rattle.dsn_postfix_service.specs.requests.HandingIn.{StopsAtLetter}
 use Rattle.dsn_postfix_service.specs.requests.MailFound.{MailRead, readings}
 use Rattle.dsn_postfix_service.specs.requests.NoticeDeeds.{EndsTelling, IsNotified, Tells, TellsLetters, TellsOfMail, end_at_letter, end_of_telling}
 use Rattle.dsn_postfix_service.specs.requests.NoticeDeeds as notices
-use Rattle.dsn_postfix_service.specs.requests.RequestLaws.{AreAllTold, AreHandedIn, HandsInOnce, hand_ins}
+use Rattle.dsn_postfix_service.specs.requests.RequestLaws.{AreAllTold, AreHandedIn, HandsInOnce, IsLeftOver, hand_ins}
+use Rattle.dsn_postfix_service.specs.requests.RequestLaws as laws
 use Rattle.dsn_postfix_service.specs.requests.RequestLetters.{AreLettersAsked, places_done}
 use Rattle.dsn_postfix_service.specs.requests.RequestStatus.{RequestAnswer}
 use Rattle.dsn_postfix_service.specs.requests.ServiceSettings.{SettingsSaid}
-use Rattle.dsn_postfix_service.proofs.RequestLawLemmas.{Block, RemovesNone, accepted_block, accepted_handed, block_is, both, marked_block, no_deeds, readings_block, stopped_front, stopped_marks, unread_block}
+use Rattle.dsn_postfix_service.proofs.RequestLawLemmas.{Block, RemovesNone, accepted_block, accepted_handed, block_is, both, first_refused, marked_block, no_deeds, readings_block, stopped_front, stopped_marks, unread_block}
 
 -- ---- what is done after all are accepted
 
@@ -73,25 +75,49 @@ pub data IsRemovalPart (settings : SettingsSaid) (service : Service) (request : 
   removed_told : (answer : Answer) → removal ≡ LogRemoved service notice.queue_id answer ∷ [] → AreAllTold settings service request notice moment serial front
       → IsRemovalPart settings service request notice moment serial front removal
 
--- what these deeds told where telling ends so
-abbrev pub ToldSo : SettingsSaid → Service → PostfixRequest → NoticeRequest → ℕ → ℕ → Telling → List Deed → Type 0
-ToldSo settings service request notice moment serial Told front = AreAllTold settings service request notice moment serial front
-ToldSo settings service request notice moment serial Unsayable front = hand_ins front ≡ []
-ToldSo settings service request notice moment serial Failed front = Unit {0}
-ToldSo settings service request notice moment serial NoMemory front = Unit {0}
+-- what was read, and what was tried before it was left to Postfix's own service
+pub record LeftOver (settings : SettingsSaid) (service : Service) (request : PostfixRequest) (notice : NoticeRequest) (moment serial : ℕ) (told : List Deed) : Type 0 where
+  pub found : MailRead
+  pub tried : List Deed
+  pub told_is : told ≡ readings service request notice found ++ tried
+  pub why : IsLeftOver settings service request notice moment serial found tried
 
-told_if_done : (settings : SettingsSaid) (service : Service) (request : PostfixRequest) (notice : NoticeRequest) (moment serial : ℕ) (done : Bool) (front : List Deed) → (done ≡ true → AreAllTold settings service request notice moment serial front)
-    → ToldSo settings service request notice moment serial (end_of_telling done) front
-told_if_done settings service request notice moment serial true front told = told refl
-told_if_done settings service request notice moment serial false front told = tt
+-- what was told where telling ends so: of all deeds, which begin with a front that removes no log
+abbrev pub ToldSo : SettingsSaid → Service → PostfixRequest → NoticeRequest → ℕ → ℕ → Telling → List Deed → List Deed → Type 0
+ToldSo settings service request notice moment serial Told front told = AreAllTold settings service request notice moment serial front
+ToldSo settings service request notice moment serial Unsayable front told = LeftOver settings service request notice moment serial told
+ToldSo settings service request notice moment serial RefusedForGood front told = LeftOver settings service request notice moment serial told
+ToldSo settings service request notice moment serial Failed front told = Unit {0}
+ToldSo settings service request notice moment serial NoMemory front told = Unit {0}
 
-told_if_stopped : (settings : SettingsSaid) (service : Service) (request : PostfixRequest) (notice : NoticeRequest) (moment serial : ℕ) (why : NotAccepted) (front : List Deed) → ToldSo settings service request notice moment serial (end_at_letter why) front
-told_if_stopped settings service request notice moment serial not_accepted.Refused front = tt
-told_if_stopped settings service request notice moment serial not_accepted.NoMemory front = tt
+told_if_done : (settings : SettingsSaid) (service : Service) (request : PostfixRequest) (notice : NoticeRequest) (moment serial : ℕ) (done : Bool) (front told : List Deed) → (done ≡ true → AreAllTold settings service request notice moment serial front)
+    → ToldSo settings service request notice moment serial (end_of_telling done) front told
+told_if_done settings service request notice moment serial true front told all = all refl
+told_if_done settings service request notice moment serial false front told all = tt
 
-told_as : (settings : SettingsSaid) (service : Service) (request : PostfixRequest) (notice : NoticeRequest) (moment serial : ℕ) (one two : Telling) (front : List Deed) → one ≡ two
-    → ToldSo settings service request notice moment serial two front → ToldSo settings service request notice moment serial one front
-told_as settings service request notice moment serial one two front is so = subst (λ (telling : Telling). ToldSo settings service request notice moment serial telling front) (sym is) so
+left_if_first : (settings : SettingsSaid) (service : Service) (request : PostfixRequest) (notice : NoticeRequest) (moment serial : ℕ) (found : MailRead) (made : List Letter) (gained : List Deed)
+    → AreLettersAsked settings service request notice moment serial found made → StopsAtLetter settings.host made not_accepted.RefusedForGood gained
+    → LeftOver settings service request notice moment serial (readings service request notice found ++ gained)
+left_if_first settings service request notice moment serial found made gained asked stops =
+    let first = first_refused settings.host made gained stops in
+    record {
+      found = found;
+      tried = gained;
+      told_is = refl;
+      why = laws.refused first.letter first.others first.fault
+          (subst (λ (letters : List Letter). AreLettersAsked settings service request notice moment serial found letters) first.letters_are asked) first.for_good first.tried;
+    }
+
+told_if_stopped : (settings : SettingsSaid) (service : Service) (request : PostfixRequest) (notice : NoticeRequest) (moment serial : ℕ) (found : MailRead) (made : List Letter) (why : NotAccepted) (front gained : List Deed)
+    → AreLettersAsked settings service request notice moment serial found made → StopsAtLetter settings.host made why gained
+    → ToldSo settings service request notice moment serial (end_at_letter why) front (readings service request notice found ++ gained)
+told_if_stopped settings service request notice moment serial found made not_accepted.Refused front gained asked stops = tt
+told_if_stopped settings service request notice moment serial found made not_accepted.NoMemory front gained asked stops = tt
+told_if_stopped settings service request notice moment serial found made not_accepted.RefusedForGood front gained asked stops = left_if_first settings service request notice moment serial found made gained asked stops
+
+told_as : (settings : SettingsSaid) (service : Service) (request : PostfixRequest) (notice : NoticeRequest) (moment serial : ℕ) (one two : Telling) (front told : List Deed) → one ≡ two
+    → ToldSo settings service request notice moment serial two front told → ToldSo settings service request notice moment serial one front told
+told_as settings service request notice moment serial one two front told is so = subst (λ (telling : Telling). ToldSo settings service request notice moment serial telling front told) (sym is) so
 
 pub record TellingParts (settings : SettingsSaid) (service : Service) (request : PostfixRequest) (notice : NoticeRequest) (moment serial : ℕ) (telling : Telling) (gained : List Deed) : Type 0 where
   pub front : List Deed
@@ -100,10 +126,10 @@ pub record TellingParts (settings : SettingsSaid) (service : Service) (request :
   pub keeps : RemovesNone front
   pub once : (hand_ins front ≡ []) ⊎ HandsInOnce settings service request notice moment serial front
   pub removal_is : IsRemovalPart settings service request notice moment serial front removal
-  pub so : ToldSo settings service request notice moment serial telling front
+  pub so : ToldSo settings service request notice moment serial telling front gained
 
 -- nothing was handed in, and nothing removed
-quiet_parts : (settings : SettingsSaid) (service : Service) (request : PostfixRequest) (notice : NoticeRequest) (moment serial : ℕ) (telling : Telling) (gained : List Deed) → ToldSo settings service request notice moment serial telling gained → Block gained [] → TellingParts settings service request notice moment serial telling gained
+quiet_parts : (settings : SettingsSaid) (service : Service) (request : PostfixRequest) (notice : NoticeRequest) (moment serial : ℕ) (telling : Telling) (gained : List Deed) → ToldSo settings service request notice moment serial telling gained gained → Block gained [] → TellingParts settings service request notice moment serial telling gained
 quiet_parts settings service request notice moment serial telling gained so block = record {
   front = gained;
   removal = [];
@@ -147,7 +173,7 @@ letters_parts settings service request notice moment serial found made telling g
         each = subst (λ (deeds : List Deed). AreHandedIn settings.host tried.front deeds) (sym block.handed_are) tried.each;
       });
       removal_is = nothing_removed refl;
-      so = told_as settings service request notice moment serial telling (end_at_letter why) (read ++ gained) t (told_if_stopped settings service request notice moment serial why (read ++ gained));
+      so = told_as settings service request notice moment serial telling (end_at_letter why) (read ++ gained) (read ++ gained) t (told_if_stopped settings service request notice moment serial found made why (read ++ gained) gained asked stops);
     }
 letters_parts settings service request notice moment serial found made telling gained asked (notices.accepted done taken rest t is accepted finishes) =
     let places = places_done service request notice found.log in
@@ -177,24 +203,25 @@ letters_parts settings service request notice moment serial found made telling g
         each = subst (λ (deeds : List Deed). AreHandedIn settings.host made deeds) (sym block.handed_are) (accepted_handed settings.host made taken accepted);
       });
       removal_is = removal_told settings service request notice moment serial places front finish.marks finish.removal told finish.removal_is;
-      so = told_as settings service request notice moment serial telling (end_of_telling done) front t (told_if_done settings service request notice moment serial done front (λ all. told (finish.if_done all)));
+      so = told_as settings service request notice moment serial telling (end_of_telling done) front (read ++ gained) t (told_if_done settings service request notice moment serial done front (read ++ gained) (λ all. told (finish.if_done all)));
     }
 
 mail_parts : (settings : SettingsSaid) (service : Service) (request : PostfixRequest) (notice : NoticeRequest) (moment serial : ℕ) (found : MailRead) (telling : Telling) (gained : List Deed)
     → TellsOfMail settings service request notice moment serial found telling gained
     → TellingParts settings service request notice moment serial telling (readings service request notice found ++ gained)
 mail_parts settings service request notice moment serial found telling gained (notices.no_memory t is) =
-    quiet_parts settings service request notice moment serial telling _ (told_as settings service request notice moment serial telling NoMemory _ t tt) (read_alone service request notice found gained is)
+    quiet_parts settings service request notice moment serial telling _ (told_as settings service request notice moment serial telling NoMemory _ _ t tt) (read_alone service request notice found gained is)
 mail_parts settings service request notice moment serial found telling gained (notices.unsayable t is unsaid) =
-    let block = read_alone service request notice found gained is in
-    quiet_parts settings service request notice moment serial telling _ (told_as settings service request notice moment serial telling Unsayable _ t block.handed_are) block
+    quiet_parts settings service request notice moment serial telling _
+    (told_as settings service request notice moment serial telling Unsayable _ _ t (record { found = found; tried = gained; told_is = refl; why = laws.unsayable unsaid is }))
+    (read_alone service request notice found gained is)
 mail_parts settings service request notice moment serial found telling gained (notices.letters made asked tells) =
     letters_parts settings service request notice moment serial found made telling gained asked tells
 
 pub telling_parts : (settings : SettingsSaid) (service : Service) (request : PostfixRequest) (notice : NoticeRequest) (moment serial : ℕ) (telling : Telling) (gained : List Deed)
     → Tells settings service request notice moment serial telling gained → TellingParts settings service request notice moment serial telling gained
 telling_parts settings service request notice moment serial telling gained (notices.unread t fails) =
-    quiet_parts settings service request notice moment serial telling gained (told_as settings service request notice moment serial telling Failed gained t tt) (unread_block service request notice gained fails)
+    quiet_parts settings service request notice moment serial telling gained (told_as settings service request notice moment serial telling Failed gained gained t tt) (unread_block service request notice gained fails)
 telling_parts settings service request notice moment serial telling gained (notices.read found told is tells) =
     subst (λ (deeds : List Deed). TellingParts settings service request notice moment serial telling deeds) (sym is) (mail_parts settings service request notice moment serial found telling told tells)
 
@@ -208,6 +235,7 @@ ends_block service bytes Told answer last ends = block_is last [] [] ends.0 no_d
 ends_block service bytes Failed answer last ends = block_is last [] [] ends.0 no_deeds
 ends_block service bytes NoMemory answer last ends = block_is last [] [] ends.0 no_deeds
 ends_block service bytes Unsayable answer last ends = block_is last _ [] ends.passed (passed_alone service bytes ends.given)
+ends_block service bytes RefusedForGood answer last ends = block_is last _ [] ends.passed (passed_alone service bytes ends.given)
 
 released_block : (last : List Deed) → Block last [] → Block (LogReleased ∷ last) []
 released_block last block = record { keeps = (refl, block.keeps); handed_are = block.handed_are }

@@ -1,6 +1,6 @@
 //! Postfix's programs as clients: what each is told, what is done for it, and where it goes wrong.
 use crate::assert_same::same;
-use crate::postfix_service::memory_system::MemorySystem;
+use crate::postfix_service::memory_system::{MemorySystem, UNHEARD};
 use crate::postfix_service::server::Server;
 use dsn_outcome::Plain;
 use dsn_postfix::{ListBuffer, ListFault, PostfixVersion};
@@ -69,6 +69,7 @@ fn served(
         file: b"",
         well: client.well,
         fault: DeedFault::Failed,
+        refusal: UNHEARD,
         status: 7,
         asked: Vec::new(rt.alloc()),
     };

@@ -21,6 +21,8 @@ pub(crate) struct MemorySystem<'a> {
     pub(crate) well: usize,
     /// What comes of the deed that fails, where it hands in nothing.
     pub(crate) fault: DeedFault,
+    /// What comes of it where it hands in a notice.
+    pub(crate) refusal: HandInFault,
     /// What Postfix's own service answers.
     pub(crate) status: u32,
     /// A line of each deed, in their order.
@@ -56,6 +58,9 @@ impl<'a> MemorySystem<'a> {
         }
     }
 }
+
+/// No reply to a message that was said.
+pub(crate) const UNHEARD: HandInFault = HandInFault::Unheard(HandInStep::Message, ReplyFault::Read);
 
 /// A copy of a text.
 fn copied(alloc: Global, text: &[u8]) -> Result<Vec<u8>, DeedFault> {
@@ -133,7 +138,7 @@ impl MailSystem for MemorySystem<'_> {
         if self.goes_well(b"hand-in", path.bytes()) {
             Ok(())
         } else {
-            Err(HandInFault::Unheard(HandInStep::Message, ReplyFault::Read))
+            Err(self.refusal)
         }
     }
 

@@ -1,9 +1,11 @@
 //! Requests that are answered over a mail system in memory: what is done for each, in which order, and what it is
 //! answered, with a failure at each deed.
 use crate::assert_same::same;
-use crate::postfix_service::memory_system::MemorySystem;
+use crate::postfix_service::memory_system::{MemorySystem, UNHEARD};
 use dsn_postfix::{PostfixVersion, decode_postfix_request};
-use dsn_postfix_service::{DeedFault, RequestTerms, ServiceSettings, answer_request};
+use dsn_postfix_service::{
+    DeedFault, HandInFault, HandInStep, ReplyCode, RequestTerms, ServiceSettings, answer_request,
+};
 use dsn_report::Site;
 use dsn_text::{Service, Stamp};
 use std::alloc::{AllocGlobal, Global};
@@ -94,6 +96,7 @@ struct Case<'a> {
     log: Option<&'a [u8]>,
     well: usize,
     fault: DeedFault,
+    refusal: HandInFault,
     postfix: u32,
     status: u32,
     lines: &'a [u8],
@@ -114,6 +117,7 @@ fn carried_out(rt: &(impl AllocGlobal + Abort), bytes: &[u8], case: Case<'_>) ->
         file: FILE,
         well: case.well,
         fault: case.fault,
+        refusal: case.refusal,
         status: case.postfix,
         asked: Vec::new(rt.alloc()),
     };
@@ -138,6 +142,7 @@ fn told<'a>(log: Option<&'a [u8]>, lines: &'a [u8]) -> Case<'a> {
         log: None,
         well: ALWAYS,
         fault: DeedFault::Failed,
+        refusal: UNHEARD,
         postfix: 7,
         status: 0,
         lines,
@@ -291,6 +296,69 @@ fn each_recipient_has_a_path_of_its_own(rt: HostRuntime) -> Result<(), Fail> {
     let second =
         b"log B\nmessage active\nhand-in ann+no=a.example@example.com\nhand-in ann+no=b.example@example.com\nrelease \n";
     carried_out(&rt, &bytes, failed(3, second))
+}
+
+/// A refusal of a recipient, by these digits.
+fn refused(digits: [u8; 3]) -> Result<HandInFault, Fail> {
+    let code = ReplyCode::new(digits).ok_or("the code")?;
+    Ok(HandInFault::Refused(HandInStep::Recipient, code))
+}
+
+#[test]
+fn a_first_letter_that_is_refused_for_good_is_passed_on(rt: HostRuntime) -> Result<(), Fail> {
+    let bytes = notice_bytes(rt.alloc(), FLUSH)?;
+    let passed = b"log B\nmessage active\nhand-in ann@example.com\nrelease \npass-on B\n";
+    let case = Case {
+        refusal: refused(*b"550")?,
+        status: 7,
+        ..failed(2, passed)
+    };
+    carried_out(&rt, &bytes, case)?;
+    let put_off = b"log B\nmessage active\nhand-in ann@example.com\nrelease \n";
+    let for_now = Case {
+        refusal: refused(*b"450")?,
+        ..failed(2, put_off)
+    };
+    carried_out(&rt, &bytes, for_now)
+}
+
+// Who is told by the first would be told once more.
+#[test]
+fn a_later_letter_that_is_refused_for_good_is_put_off(rt: HostRuntime) -> Result<(), Fail> {
+    let verp = Asked {
+        kind: b"3",
+        own: b"verp_delimiters\0+=\0",
+        ..FLUSH
+    };
+    let bytes = notice_bytes(rt.alloc(), verp)?;
+    let second =
+        b"log B\nmessage active\nhand-in ann+no=a.example@example.com\nhand-in ann+no=b.example@example.com\nrelease \n";
+    let case = Case {
+        refusal: refused(*b"550")?,
+        ..failed(3, second)
+    };
+    carried_out(&rt, &bytes, case)
+}
+
+#[test]
+fn a_defer_log_is_told_after_a_bounce_log_that_was_refused(rt: HostRuntime) -> Result<(), Fail> {
+    let bytes = notice_bytes(rt.alloc(), FLUSH)?;
+    let first =
+        b"seek B\nlog B\nmessage active\nhand-in ann@example.com\nrelease \npass-on B\n".as_slice();
+    let both = joined(rt.alloc(), &[first, DEFER])?;
+    let case = Case {
+        refusal: refused(*b"554")?,
+        postfix: 0,
+        status: 0,
+        ..stopped(3, &both)
+    };
+    carried_out(&rt, &bytes, case)?;
+    let failing = Case {
+        refusal: refused(*b"554")?,
+        status: 7,
+        ..stopped(3, first)
+    };
+    carried_out(&rt, &bytes, failing)
 }
 
 #[test]

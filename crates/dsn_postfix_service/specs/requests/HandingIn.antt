@@ -1,12 +1,13 @@
 -- Letters that are handed in, one after another.
-use Rattle.std.specs.Prelude.{◌≡◌, ℕ, List, [], ◌∷◌, ◌++◌, Result, Ok, Err}
+use Rattle.std.specs.Prelude.{◌≡◌, ◌&&◌, ℕ, Bool, true, false, List, [], ◌∷◌, ◌++◌, Result, Ok, Err, if◌then◌else◌}
 use Rattle.dsn_outcome.specs.Letter.{Letter}
 use Rattle.dsn_report.specs.Notice.{return_path_of}
 use Rattle.dsn_report.specs.Outbox.{mail_data}
+use Rattle.dsn_postfix_service.specs.hand_in.HandIn.{is_refused_for_good}
 use Rattle.dsn_postfix_service.specs.requests.Deed.{Deed, HandedIn}
 use Rattle.dsn_postfix_service.specs.declared.hand_in.hand_in_fault.HandInFault.{HandInFault}
 use Rattle.dsn_postfix_service.specs.declared.requests.not_accepted.NotAccepted.{NotAccepted}
-use Rattle.dsn_postfix_service.specs.declared.requests.not_accepted.NotAccepted.TheVariants.{Refused, NoMemory}
+use Rattle.dsn_postfix_service.specs.declared.requests.not_accepted.NotAccepted.TheVariants.{Refused, RefusedForGood, NoMemory}
 
 -- a letter is handed in as its notice's mail data, for its return path
 abbrev pub hand_in_of : List ℕ → Letter → Result (List ℕ) HandInFault → Deed
@@ -22,15 +23,22 @@ AreAccepted host [] gained = gained ≡ []
 AreAccepted host (letter ∷ letters) [] = ⊥
 AreAccepted host (letter ∷ letters) (deed ∷ gained) = IsAccepted host letter deed × AreAccepted host letters gained
 
--- a letter was handed in, and not accepted
-pub record IsRefused (host : List ℕ) (letter : Letter) (gained : List Deed) : Type 0 where
-  pub fault : HandInFault
-  pub tried : gained ≡ hand_in_of host letter (Err fault) ∷ []
+-- whether the letter after these is the first of a request
+abbrev pub is_first_after : List Letter → Bool
+is_first_after [] = true
+is_first_after (letter ∷ letters) = false
 
--- a letter wasn't accepted: it was handed in all the same, unless the memory for its text was refused
-abbrev pub IsNotAccepted : List ℕ → Letter → NotAccepted → List Deed → Type 0
-IsNotAccepted host letter Refused gained = IsRefused host letter gained
-IsNotAccepted host letter NoMemory gained = gained ≡ []
+-- What the mail server refuses for good it refuses whenever it is asked. Only of a request's first letter can that be told by
+-- another: once a letter was accepted, who is told by it would be told again.
+abbrev pub refusal_of : Bool → HandInFault → NotAccepted
+refusal_of first fault = if first && is_refused_for_good fault then RefusedForGood else Refused
+
+-- a letter, the first of its request or not, wasn't accepted: it was handed in all the same, unless the memory for its text
+-- was refused
+pub data IsNotAccepted (host : List ℕ) (first : Bool) (letter : Letter) (why : NotAccepted) (gained : List Deed) : Type 0 where
+  refused : (fault : HandInFault) → why ≡ refusal_of first fault → gained ≡ hand_in_of host letter (Err fault) ∷ []
+      → IsNotAccepted host first letter why gained
+  no_memory : why ≡ NoMemory → gained ≡ [] → IsNotAccepted host first letter why gained
 
 -- those before it were, and nothing was done after it
 pub record StopsAtLetter (host : List ℕ) (letters : List Letter) (why : NotAccepted) (gained : List Deed) : Type 0 where
@@ -42,12 +50,12 @@ pub record StopsAtLetter (host : List ℕ) (letters : List Letter) (why : NotAcc
   pub last : List Deed
   pub gained_are : gained ≡ taken ++ last
   pub accepted : AreAccepted host before taken
-  pub not_accepted : IsNotAccepted host stopped why last
+  pub not_accepted : IsNotAccepted host (is_first_after before) stopped why last
 
 -- one was accepted, or not
-abbrev pub HandsInOne : List ℕ → Letter → Result (Unit {0}) NotAccepted → List Deed → Type 0
-HandsInOne host letter (Ok done) gained = AreAccepted host (letter ∷ []) gained
-HandsInOne host letter (Err why) gained = IsNotAccepted host letter why gained
+abbrev pub HandsInOne : List ℕ → Bool → Letter → Result (Unit {0}) NotAccepted → List Deed → Type 0
+HandsInOne host first letter (Ok done) gained = AreAccepted host (letter ∷ []) gained
+HandsInOne host first letter (Err why) gained = IsNotAccepted host first letter why gained
 
 -- all were accepted, or not
 abbrev pub HandsInAll : List ℕ → List Letter → Result (Unit {0}) NotAccepted → List Deed → Type 0

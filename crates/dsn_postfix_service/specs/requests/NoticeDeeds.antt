@@ -14,7 +14,7 @@ use Rattle.dsn_postfix_service.specs.requests.ServiceSettings.{SettingsSaid}
 use Rattle.dsn_postfix_service.specs.declared.requests.not_accepted.NotAccepted.{NotAccepted}
 use Rattle.dsn_postfix_service.specs.declared.requests.not_accepted.NotAccepted.TheVariants as not_accepted
 use Rattle.dsn_postfix_service.specs.declared.requests.telling.Telling.{Telling}
-use Rattle.dsn_postfix_service.specs.declared.requests.telling.Telling.TheVariants.{Told, Unsayable, Failed, NoMemory}
+use Rattle.dsn_postfix_service.specs.declared.requests.telling.Telling.TheVariants.{Told, Unsayable, RefusedForGood, Failed, NoMemory}
 
 abbrev pub end_of_telling : Bool → Telling
 end_of_telling true = Told
@@ -22,6 +22,7 @@ end_of_telling false = Failed
 
 abbrev pub end_at_letter : NotAccepted → Telling
 end_at_letter not_accepted.Refused = Failed
+end_at_letter not_accepted.RefusedForGood = RefusedForGood
 end_at_letter not_accepted.NoMemory = NoMemory
 
 -- letters are handed in; once all are accepted, the rest follows
@@ -55,11 +56,12 @@ pub data Tells (settings : SettingsSaid) (service : Service) (request : PostfixR
       → TellsOfMail settings service request notice moment serial found telling told
       → Tells settings service request notice moment serial telling gained
 
--- a request whose notices can't be said is passed on whole
+-- a request is passed on whole where its notices can't be said, and where the first of them is refused for good
 abbrev pub EndsTelling : Service → List ℕ → Telling → RequestAnswer → List Deed → Type 0
 EndsTelling service bytes Told answer gained = (gained ≡ []) × (answer ≡ Ok carried_out)
 EndsTelling service bytes Failed answer gained = (gained ≡ []) × (answer ≡ Ok not_carried_out)
 EndsTelling service bytes Unsayable answer gained = PassesOn service bytes answer gained
+EndsTelling service bytes RefusedForGood answer gained = PassesOn service bytes answer gained
 EndsTelling service bytes NoMemory answer gained = (gained ≡ []) × IsErr answer
 
 -- the log is released before Postfix's own service may want it

@@ -1,5 +1,5 @@
 -- What is true of each request that was carried out, at each moment of it.
-use Rattle.std.specs.Prelude.{◌≡◌, ◌⊎◌, ℕ, Bool, true, false, List, [], ◌∷◌, ◌++◌, Some, Result, Ok}
+use Rattle.std.specs.Prelude.{◌≡◌, ◌⊎◌, ℕ, Bool, true, false, List, [], ◌∷◌, ◌++◌, Some, Result, Ok, Err}
 use Rattle.dsn_outcome.specs.Letter.{Letter}
 use Rattle.dsn_text.specs.declared.service.Service.{Service}
 use Rattle.dsn_text.specs.declared.service.Service.TheVariants.{Bounce, Defer}
@@ -7,6 +7,7 @@ use Rattle.dsn_postfix.specs.NoticePlan.{notice_asked}
 use Rattle.dsn_postfix.specs.declared.postfix_request.AppendRequest.{AppendRequest}
 use Rattle.dsn_postfix.specs.declared.postfix_request.NoticeRequest.{NoticeRequest}
 use Rattle.dsn_postfix.specs.declared.postfix_request.PostfixRequest.{PostfixRequest}
+use Rattle.dsn_postfix_service.specs.hand_in.HandIn.{is_refused_for_good}
 use Rattle.dsn_postfix_service.specs.requests.AppendDeeds.{record_bytes}
 use Rattle.dsn_postfix_service.specs.requests.AnsweredRequest.{bounce_serial}
 use Rattle.dsn_postfix_service.specs.requests.CarriedOut.{IsCarriedOut, must_clean, queue_id_of}
@@ -14,7 +15,7 @@ use Rattle.dsn_postfix_service.specs.requests.Deed.{Appended, Deed, HandedIn, Lo
 use Rattle.dsn_postfix_service.specs.requests.Finishing.{AreMarked}
 use Rattle.dsn_postfix_service.specs.requests.HandingIn.{AreAccepted, hand_in_of}
 use Rattle.dsn_postfix_service.specs.requests.MailFound.{MailRead, readings}
-use Rattle.dsn_postfix_service.specs.requests.RequestLetters.{AreLettersAsked, places_done}
+use Rattle.dsn_postfix_service.specs.requests.RequestLetters.{AreLettersAsked, CantBeSaid, places_done}
 use Rattle.dsn_postfix_service.specs.requests.RequestStatus.{RequestAnswer, carried_out}
 use Rattle.dsn_postfix_service.specs.requests.ServiceSettings.{SettingsSaid}
 use Rattle.dsn_postfix_service.specs.declared.hand_in.hand_in_fault.HandInFault.{HandInFault}
@@ -106,11 +107,25 @@ pub record IsRemovedAfter (settings : SettingsSaid) (service : Service) (request
   pub told : AreAllTold settings service request notice moment serial before
       ⊎ ((must_clean request answer ≡ true) × (after ≡ []))
 
--- nothing was handed in, and Postfix's own service answered 0 to the whole request
-pub record IsLeftToPostfix (service : Service) (bytes : List ℕ) (gained : List Deed) : Type 0 where
-  pub before : List Deed
-  pub passed_last : gained ≡ before ++ PassedOn service bytes (Ok 0) ∷ []
-  pub none_handed : hand_ins gained ≡ []
+-- why notices of a log and a file are left to Postfix's own service, with what was tried: one can't be said, and nothing was
+-- handed in; or the first letter was refused for good, and no other was handed in
+pub data IsLeftOver (settings : SettingsSaid) (service : Service) (request : PostfixRequest) (notice : NoticeRequest)
+    (moment serial : ℕ) (found : MailRead) (tried : List Deed) : Type 0 where
+  unsayable : CantBeSaid settings service request notice found → tried ≡ []
+      → IsLeftOver settings service request notice moment serial found tried
+  refused : (letter : Letter) (letters : List Letter) (fault : HandInFault)
+      → AreLettersAsked settings service request notice moment serial found (letter ∷ letters)
+      → is_refused_for_good fault ≡ true → tried ≡ hand_in_of settings.host letter (Err fault) ∷ []
+      → IsLeftOver settings service request notice moment serial found tried
+
+-- a log and a file were read, none of the notices of these was accepted, and Postfix's own service answered 0 to the whole
+-- request; these are all of the deeds
+pub record IsLeftToPostfix (settings : SettingsSaid) (service : Service) (request : PostfixRequest) (notice : NoticeRequest)
+    (bytes : List ℕ) (moment serial : ℕ) (gained : List Deed) : Type 0 where
+  pub found : MailRead
+  pub tried : List Deed
+  pub gained_are : gained ≡ readings service request notice found ++ (tried ++ LogReleased ∷ PassedOn service bytes (Ok 0) ∷ [])
+  pub why : IsLeftOver settings service request notice moment serial found tried
 
 -- the first serial of one of a request's two logs
 abbrev pub IsSerialOf : ℕ → ℕ → Type 0
@@ -143,15 +158,15 @@ pub record HandsInInTurn (settings : SettingsSaid) (service : Service) (request 
   pub of_bounce_log : (hand_ins first ≡ []) ⊎ HandsInOfBounceLog settings request notice moment serial first
   pub of_own_log : (hand_ins rest ≡ []) ⊎ HandsInOnce settings service request notice moment serial rest
 
--- First the request was carried out on the bounce log alone: all of its notices were accepted, or Postfix's own service
--- answered 0. Only then was anything done on the defer log.
+-- First the request was carried out on the bounce log alone: all of its notices were accepted, or none, and Postfix's own
+-- service answered 0. Only then was anything done on the defer log.
 pub record IsToldFirst (settings : SettingsSaid) (request : PostfixRequest) (notice : NoticeRequest) (bytes : List ℕ)
     (moment serial : ℕ) (deeds : List Deed) : Type 0 where
   pub first : List Deed
   pub rest : List Deed
   pub deeds_are : deeds ≡ first ++ rest
   pub bounce_log : IsCarriedOut settings Bounce request bytes moment (bounce_serial serial) (Ok carried_out) first
-  pub told : AreToldFirst settings Bounce request notice moment (bounce_serial serial) first ⊎ IsLeftToPostfix Bounce bytes first
+  pub told : AreToldFirst settings Bounce request notice moment (bounce_serial serial) first ⊎ IsLeftToPostfix settings Bounce request notice bytes moment (bounce_serial serial) first
   pub defer_log : IsCarriedOut settings Defer request bytes moment serial (Ok carried_out) rest
 
 -- an append that is answered 0 stands in its log, or Postfix's own service answered 0 to it

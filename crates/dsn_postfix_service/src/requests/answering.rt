@@ -94,8 +94,9 @@ fn flush_in_turn<M: MailSystem>(
 /// An append puts its record at the end of the log. All others tell the message's sender: what they
 /// tell of is read, all letters are made, and only then is one handed in; once all are accepted,
 /// recipients are marked as done where the request asks for that, and the log is removed, unless
-/// the request is a warning. What can't be said is passed on. A request with CLEAN has its log
-/// removed unless the status is 0, also where there is none.
+/// the request is a warning. What can't be said is passed on, and so is a request whose first
+/// letter is refused for good. A request with CLEAN has its log removed unless the status is 0, also
+/// where there is none.
 ///
 /// Before a message's defer log is flushed, its bounce log is, if it has one. Postfix removes a
 /// message whose defer log was flushed, and the recipients of a bounce log that is left then would

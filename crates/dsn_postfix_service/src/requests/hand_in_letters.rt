@@ -1,23 +1,37 @@
 //! Handing in letters, one after another.
 ghost use Rattle.std.specs.Prelude.{◌≡◌};
 ghost use Rattle.dsn_postfix_service.specs.requests.Gains.{Gains};
-ghost use Rattle.dsn_postfix_service.specs.requests.HandingIn.{HandsInAll, HandsInOne};
+ghost use Rattle.dsn_postfix_service.specs.requests.HandingIn.{HandsInAll, HandsInOne, refusal_of};
 
-use crate::hand_in::ReplyBuffer;
+use crate::hand_in::{HandInFault, ReplyBuffer};
 use crate::requests::mail_system::MailSystem;
 use crate::requests::not_accepted::NotAccepted;
 use dsn_outcome::Letter;
 use dsn_report::{Site, mail_data};
 use std::alloc::Global;
 
-/// Hands in one letter, and says whether it was accepted, or why not.
+/// What a fault of handing in a letter comes to. A refusal for good of a request's first letter is
+/// told apart: none of the request's letters was accepted then, nor will this one be.
+fn refusal(is_first: bool, fault: HandInFault) -> NotAccepted
+    ensures { result ≡ refusal_of is_first fault }
+{
+    if is_first && fault.is_refused_for_good() {
+        NotAccepted::RefusedForGood
+    } else {
+        NotAccepted::Refused
+    }
+}
+
+/// Hands in one letter, the first of its request or not, and says whether it was accepted, or why
+/// not.
 fn hand_in_letter<M: MailSystem>(
     alloc: Global,
     site: &Site,
     letter: &Letter,
+    is_first: bool,
     system: &mut M,
 ) -> Result<(), NotAccepted>
-    ensures { Gains M.deeds system.old system.new (HandsInOne site.now letter.now result) }
+    ensures { Gains M.deeds system.old system.new (HandsInOne site.now is_first letter.now result) }
 {
     let Ok(message) = mail_data(alloc, site, letter) else {
         return Err(NotAccepted::NoMemory);
@@ -25,7 +39,7 @@ fn hand_in_letter<M: MailSystem>(
     let mut reply = ReplyBuffer::new();
     match system.hand_in(letter.return_path(), &message, &mut reply) {
         Ok(()) => Ok(()),
-        Err(_) => Err(NotAccepted::Refused),
+        Err(fault) => Err(refusal(is_first, fault)),
     }
 }
 
@@ -39,9 +53,10 @@ pub(super) fn hand_in_letters<M: MailSystem>(
 ) -> Result<(), NotAccepted>
     ensures { Gains M.deeds system.old system.new (HandsInAll site.now letters.now result) }
 {
+    let mut is_first = true;
     for letter in letters {
-        match hand_in_letter(alloc, site, letter, system) {
-            Ok(()) => {}
+        match hand_in_letter(alloc, site, letter, is_first, system) {
+            Ok(()) => is_first = false,
             Err(why) => return Err(why),
         }
     }

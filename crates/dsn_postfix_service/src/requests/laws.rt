@@ -93,8 +93,8 @@ pub fn answered_appends_stand()
 {}
 
 /// Where a flush of the defer log is answered 0, and a bounce log was found, that log was read, and each letter of each notice
-/// of it was accepted before the first deed on the defer log, or Postfix's own service answered 0 to the flush of the bounce
-/// log.
+/// of it was accepted before the first deed on the defer log; or none was, and Postfix's own service answered 0 to the flush
+/// of the bounce log.
 pub fn bounce_logs_are_told_first()
     ensures { (settings : SettingsSaid) (request : PostfixRequest) (notice : NoticeRequest)
         (bytes : List ℕ) (moment serial : ℕ) (answer : RequestAnswer) (gained deeds : List Deed)

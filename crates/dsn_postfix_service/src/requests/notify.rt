@@ -33,6 +33,7 @@ fn end_at_letter(why: NotAccepted) -> Telling
 {
     match why {
         NotAccepted::Refused => Telling::Failed,
+        NotAccepted::RefusedForGood => Telling::RefusedForGood,
         NotAccepted::NoMemory => Telling::NoMemory,
     }
 }
@@ -104,13 +105,14 @@ fn end_telling<M: MailSystem>(
     match telling {
         Telling::Told => Ok(CARRIED_OUT),
         Telling::Failed => Ok(NOT_CARRIED_OUT),
-        Telling::Unsayable => Ok(pass_on(system, service, bytes)),
+        Telling::Unsayable | Telling::RefusedForGood => Ok(pass_on(system, service, bytes)),
         Telling::NoMemory => Err(NoMemory),
     }
 }
 
 /// Tells the message's sender what a request asks, releases the log, and says the status. Where a
-/// notice can't be said, the whole request is passed on to Postfix's own service.
+/// notice can't be said, or the first is refused for good, the whole request is passed on to
+/// Postfix's own service.
 pub(super) fn notify<M: MailSystem>(
     alloc: Global,
     task: &NoticeTask<'_>,

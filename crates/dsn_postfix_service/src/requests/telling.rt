@@ -7,6 +7,8 @@ pub(super) enum Telling {
     Told,
     /// A notice can't be said, and none was handed in.
     Unsayable,
+    /// The first notice was refused for good, and no other was handed in.
+    RefusedForGood,
     /// Something failed.
     Failed,
     /// The memory for a letter, for its text, or for who is marked was refused.

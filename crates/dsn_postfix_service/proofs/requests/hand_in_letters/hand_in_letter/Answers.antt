@@ -8,4 +8,4 @@ returns-in-Ok-hand_in g c =
 
 pub returns : goal.returns
 returns g c =
-    one_refused g.M.MailSystem.deeds _ _ c.args.site.now c.args.letter.now _ _ c.in-Err.field-0 c.return_path.ensures (c.deref.ensures.value ∙ c.in-Ok.ensures) c.in-Err.ensures
+    one_refused g.M.MailSystem.deeds _ _ c.args.site.now c.args.is_first c.args.letter.now _ _ c.in-Err.fault c.refusal.result c.return_path.ensures (c.deref.ensures.value ∙ c.in-Ok.ensures) c.refusal.ensures c.in-Err.ensures

@@ -10,7 +10,7 @@ from pathlib import Path
 sys.path.insert(0, str(Path(__file__).parent))
 from running import ROOT  # noqa: E402
 
-ITEM = re.compile(r"^( *)(pub(?:\(crate\))? )?(?:const |unsafe )?(?:fn (\w+)|(?:impl|trait|mod)\b(.*)|([A-Z_]+): )")
+ITEM = re.compile(r"^( *)(pub(?:\(crate\))? )?(?:const )?(?:fn (\w+)|(?:impl|trait|mod)\b(.*)|([A-Z_]+): )")
 DEFINITION = "(definition)"
 
 

@@ -111,11 +111,7 @@ fn refused(step: HandInStep, digits: [u8; 3]) -> Result<(), HandInFault> {
 
 /// Scripts of servers that refuse, with the step at which they do, and the code.
 const REFUSALS: [(&[u8], HandInStep, [u8; 3]); 7] = [
-    (
-        b"|554 no\r\n|221 bye\r\n",
-        HandInStep::Greeting,
-        *b"554",
-    ),
+    (b"|554 no\r\n|221 bye\r\n", HandInStep::Greeting, *b"554"),
     (
         b"|220 a\r\n|502 no\r\n|221 bye\r\n",
         HandInStep::Hello,

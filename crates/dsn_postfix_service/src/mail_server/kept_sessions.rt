@@ -59,12 +59,7 @@ impl KeptSessions {
     }
 
     /// Keeps a session after a notice was handed in, or ends it where it wasn't accepted.
-    fn put_away<W: Wait>(
-        &self,
-        waiting: &W,
-        session: Session,
-        outcome: &Result<(), HandInFault>,
-    ) {
+    fn put_away<W: Wait>(&self, waiting: &W, session: Session, outcome: &Result<(), HandInFault>) {
         let left = match outcome {
             Ok(()) => self.keep(waiting, session),
             Err(_) => Some(session),

@@ -166,7 +166,8 @@ pub record IsToldFirst (settings : SettingsSaid) (request : PostfixRequest) (not
   pub rest : List Deed
   pub deeds_are : deeds ≡ first ++ rest
   pub bounce_log : IsCarriedOut settings Bounce request bytes moment (bounce_serial serial) (Ok carried_out) first
-  pub told : AreToldFirst settings Bounce request notice moment (bounce_serial serial) first ⊎ IsLeftToPostfix settings Bounce request notice bytes moment (bounce_serial serial) first
+  pub told : AreToldFirst settings Bounce request notice moment (bounce_serial serial) first
+      ⊎ IsLeftToPostfix settings Bounce request notice bytes moment (bounce_serial serial) first
   pub defer_log : IsCarriedOut settings Defer request bytes moment serial (Ok carried_out) rest
 
 -- an append that is answered 0 stands in its log, or Postfix's own service answered 0 to it

@@ -209,43 +209,76 @@ def check_refusals(checks: Checks):
         checks.true("lines on standard error", f"{ONE}: noticed-bounce: request not carried out: status 4294967295" in it.lines() and any(f"{ONE}: notice not accepted: refused: " in line for line in it.lines()))
         taken = len(it.server.taken)
         checks.equal("asked again", (it.ask("bounce", asked_in("one", "failure")), len(it.server.taken) - taken, it.at(f"bounce/{ONE}").exists()), (0, 1, False))
-        it.server.replies = {"QUIT": b"550 no"}
-        it.put("one", "bounce")
-        checks.equal("a refused QUIT changes nothing", (it.ask("bounce", asked_in("one", "failure")), it.at(f"bounce/{ONE}").exists()), (0, False))
         it.put("one", "bounce")
         it.server.replies = {"RCPT": b"550 no"}
         checks.equal("CLEAN removes the log all the same", (it.ask("bounce", notice(1, ONE, flags=1)), it.at(f"bounce/{ONE}").exists()), (FAILED, False))
 
 
+HELLO, TRANSACTION, GOODBYE = [b"EHLO mx.example.net\r\n"], [b"MAIL FROM:<>\r\n", b"RCPT TO:<ann@example.com>\r\n", b"DATA\r\n"], [b"QUIT\r\n"]
+KEPT = 2  # seconds for which a session is kept at least
+
+
+class Sessions:
+    """A Postfix of which notice after notice is asked for, and the longest time between two."""
+
+    def __init__(self, postfix: Postfix):
+        self.postfix, self.server, self.all_told = postfix, postfix.server, True
+        self.asked, self.longest = time.monotonic(), 0.0
+
+    def tell(self, count=1, wanted=(0, False)):
+        """Has so many notices made, one after another: each is to be answered so, with its log there or not."""
+        for _ in range(count):
+            self.postfix.put("one", "bounce")
+            found = (self.postfix.ask("bounce", asked_in("one", "failure")), self.postfix.at(f"bounce/{ONE}").exists())
+            self.all_told &= found == wanted
+            now = time.monotonic()
+            self.asked, self.longest = now, max(self.longest, now - self.asked)
+
+    def hung_up(self):
+        """The server ends the session without a word."""
+        self.tell()
+        self.server.hang_up()
+        self.tell()
+
+    def closing(self):
+        """The server answers the second MAIL by 421."""
+        asked = []
+        self.server.waits["MAIL"] = lambda: asked.append(self.server.replies.update({"MAIL": b"421 4.3.2 closing" if len(asked) == 1 else b"250 ok"}))
+        self.tell(2)
+
+    def refused(self):
+        """The server refuses the second notice for now."""
+        self.tell()
+        self.server.replies = {"RCPT": b"450 4.2.0 later"}
+        self.tell(wanted=(FAILED, True))
+
+
 def check_sessions(checks: Checks):
     """Notices are handed in in one session, one after another. One that the server has ended, by 421 or without a word, is followed by another
-    for the same notice, and so is one that was used 100 times; one that nobody uses is ended by QUIT."""
-    hello, transaction, goodbye = [b"EHLO mx.example.net\r\n"], [b"MAIL FROM:<>\r\n", b"RCPT TO:<ann@example.com>\r\n", b"DATA\r\n"], [b"QUIT\r\n"]
-    with Postfix() as it:
-
-        def told(count=1) -> bool:
-            """Whether so many notices went well."""
-            for _ in range(count):
-                it.put("one", "bounce")
-                if it.ask("bounce", asked_in("one", "failure")) or it.at(f"bounce/{ONE}").exists():
-                    return False
-            return True
-
-        checks.equal("two notices, one session", (told(2), it.server.said), (True, [hello + 2 * transaction]))
-        checks.true("it is ended", until(lambda: it.server.said == [hello + 2 * transaction + goodbye]))
-        checks.equal("another session", (told(), it.server.said[1:]), (True, [hello + transaction]))
-        it.server.hang_up()
-        checks.equal("the server hung up", (told(), it.server.said[2:]), (True, [hello + transaction]))
-        asked = []
-        it.server.waits["MAIL"] = lambda: asked.append(it.server.replies.update({"MAIL": b"250 ok" if asked else b"421 4.3.2 closing"}))
-        checks.equal("421 in place of the next sender", (told(), it.server.said[2][-1:], it.server.said[3:]), (True, goodbye, [hello + transaction]))
-        it.server.waits, it.server.replies = {}, {}
-        checks.equal("as often as it may be used", (told(100), [len(said) for said in it.server.said[3:]]), (True, [1 + 3 * 100 + 1, 1 + 3 * 1]))
-        checks.equal("messages taken", len(it.server.taken), 2 + 1 + 1 + 1 + 100)
-        it.server.replies = {"RCPT": b"450 4.2.0 later"}
-        it.put("one", "bounce")
-        sessions = len(it.server.said)
-        checks.equal("a session in which a notice is refused", (it.ask("bounce", asked_in("one", "failure")), it.server.said[-1][-3:], len(it.server.said) - sessions), (FAILED, transaction[:2] + goodbye, 0))
+    for the same notice, and so is one that was used 100 times; one that nobody uses is ended by QUIT, whose reply changes nothing. Where this
+    machine is so busy that a session may have been ended meanwhile, it is tried again."""
+    for name, play, wanted in (
+        ("two notices", lambda it: it.tell(2), [HELLO + 2 * TRANSACTION]),
+        ("the server hung up", Sessions.hung_up, [HELLO + TRANSACTION, HELLO + TRANSACTION]),
+        ("421 in place of the next sender", Sessions.closing, [HELLO + TRANSACTION + TRANSACTION[:1] + GOODBYE, HELLO + TRANSACTION]),
+        ("as often as it may be used", lambda it: it.tell(101), [HELLO + 100 * TRANSACTION + GOODBYE, HELLO + TRANSACTION]),
+        ("a notice that is refused", Sessions.refused, [HELLO + TRANSACTION + TRANSACTION[:2] + GOODBYE]),
+    ):
+        for _ in range(10):
+            with Postfix() as postfix:
+                it = Sessions(postfix)
+                play(it)
+                seen = until(lambda: postfix.server.said == wanted, KEPT / 2)
+                if seen or it.longest < KEPT / 2:
+                    break
+        checks.equal(f"sessions: {name}", (it.all_told, seen), (True, True))
+    with Postfix() as postfix:
+        it = Sessions(postfix)
+        postfix.server.replies = {"QUIT": b"550 no"}
+        it.tell()
+        checks.true("a session that nobody uses is ended", until(lambda: postfix.server.said == [HELLO + TRANSACTION + GOODBYE]))
+        it.tell()
+        checks.equal("the reply to QUIT changes nothing", (it.all_told, postfix.server.said[1][:4]), (True, HELLO + TRANSACTION))
 
 
 def check_refused_for_good(checks: Checks):

@@ -43,11 +43,11 @@ def flush(number: int, message: bytes = b"Q1") -> bytes:
     return frames.flush(number, 1, message)
 
 
-def until(holds) -> bool:
+def until(holds, patience=PATIENCE) -> bool:
     """Waits until something holds; false where it takes too long."""
     began = time.monotonic()
     while not holds():
-        if time.monotonic() - began > PATIENCE:
+        if time.monotonic() - began > patience:
             return False
         time.sleep(MOMENT)
     return True

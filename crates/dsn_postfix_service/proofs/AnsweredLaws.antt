@@ -14,7 +14,8 @@ use Rattle.dsn_postfix_service.specs.requests.AnsweredRequest.{IsAnswered, IsBou
 use Rattle.dsn_postfix_service.specs.requests.AnsweredRequest as answered
 use Rattle.dsn_postfix_service.specs.requests.CarriedOut.{IsCarriedOut, flags_of, must_clean, queue_id_of}
 use Rattle.dsn_postfix_service.specs.requests.Deed.{Answer, Appended, Deed, HandedIn, LogRead, LogReleased, LogRemoved, LogSought, MarkedDone, MessageRead, PassedOn}
-use Rattle.dsn_postfix_service.specs.requests.RequestLaws.{AreAllTold, HandsInInTurn, HandsInOfBounceLog, HandsInOnce, IsRemovedAfter, IsSerialOf, IsRemovedInTurn, IsToldFirst, StandsOrIsPassedOn, hand_ins}
+use Rattle.dsn_postfix_service.specs.requests.RequestLaws as law
+use Rattle.dsn_postfix_service.specs.requests.RequestLaws.{AreAllTold, HandsInInTurn, HandsInOfBounceLog, HandsInOnce, IsLogOf, IsRemovedAfter, IsRemovedInTurn, IsToldFirst, StandsOrIsPassedOn, hand_ins}
 use Rattle.dsn_postfix_service.specs.requests.RequestStatus.{RequestAnswer, carried_out, has_flag, is_carried_out, not_carried_out}
 use Rattle.dsn_postfix_service.specs.requests.ServiceSettings.{SettingsSaid}
 use Rattle.dsn_postfix_service.proofs.CarriedOutLaws.{and_false, answered_append_stands, false_is_true, first_or, handed_in_once, later, none_of_both, none_once, not_zero, nothing_after, past_block, removed_only_after, status_is, told_or_left}
@@ -100,17 +101,17 @@ part_of (one ∷ first) rest [] after deed e =
 part_of (one ∷ first) rest (other ∷ before) after deed e =
     part_more one other first rest before after deed (ap (first_or one) e) (part_of first rest before after deed (ap later e))
 
-removed_by_one : (settings : SettingsSaid) (service : Service) (request : PostfixRequest) (notice : NoticeRequest) (bytes : List ℕ) (moment serial own_serial : ℕ) (answer : RequestAnswer) (gained earlier own before after : List Deed) (log : Service) (id : List ℕ) (given : Answer)
-    → IsSerialOf serial own_serial → notice_asked request ≡ Some notice → IsCarriedOut settings service request bytes moment own_serial answer gained → before ≡ earlier ++ own → gained ≡ own ++ LogRemoved log id given ∷ after
-    → IsRemovedInTurn settings request notice moment serial answer before after log id
-removed_by_one settings service request notice bytes moment serial own_serial answer gained earlier own before after log id given serial_is asked out before_is e =
-    let removed = removed_only_after settings service request notice bytes moment own_serial answer gained own after log id given (record { asked = asked; carried_out = out }) e in
+removed_by_one : (settings : SettingsSaid) (service own_service : Service) (request : PostfixRequest) (notice : NoticeRequest) (bytes : List ℕ) (moment serial own_serial : ℕ) (answer : RequestAnswer) (gained earlier own before after : List Deed) (log : Service) (id : List ℕ) (given : Answer)
+    → IsLogOf service request serial own_service own_serial → notice_asked request ≡ Some notice → IsCarriedOut settings own_service request bytes moment own_serial answer gained → before ≡ earlier ++ own → gained ≡ own ++ LogRemoved log id given ∷ after
+    → IsRemovedInTurn settings service request notice moment serial answer before after log id
+removed_by_one settings service own_service request notice bytes moment serial own_serial answer gained earlier own before after log id given log_is asked out before_is e =
+    let removed = removed_only_after settings own_service request notice bytes moment own_serial answer gained own after log id given (record { asked = asked; carried_out = out }) e in
     record {
       earlier = earlier;
       own = own;
       before_is = before_is;
       own_serial = own_serial;
-      serial_is = serial_is;
+      log_is = subst (λ (of : Service). IsLogOf service request serial of own_serial) (sym removed.of_service) log_is;
       removed = subst (λ (of : Service). IsRemovedAfter settings of request notice moment own_serial answer own after log id) (sym removed.of_service) removed;
     }
 
@@ -120,14 +121,14 @@ told_before : (settings : SettingsSaid) (service : Service) (request : PostfixRe
 told_before settings service request notice moment serial before after (inl told) = told
 told_before settings service request notice moment serial before after (inr cleans) = absurd (false_is_true (sym (and_false (has_flag 1 (flags_of request))) ∙ cleans.0))
 
-later_too : (settings : SettingsSaid) (request : PostfixRequest) (notice : NoticeRequest) (moment serial : ℕ) (answer : RequestAnswer) (before more after : List Deed) (log : Service) (id : List ℕ)
-    → IsRemovedInTurn settings request notice moment serial (Ok carried_out) before more log id → IsRemovedInTurn settings request notice moment serial answer before after log id
-later_too settings request notice moment serial answer before more after log id in_turn = record {
+later_too : (settings : SettingsSaid) (service : Service) (request : PostfixRequest) (notice : NoticeRequest) (moment serial : ℕ) (answer : RequestAnswer) (before more after : List Deed) (log : Service) (id : List ℕ)
+    → IsRemovedInTurn settings service request notice moment serial (Ok carried_out) before more log id → IsRemovedInTurn settings service request notice moment serial answer before after log id
+later_too settings service request notice moment serial answer before more after log id in_turn = record {
   earlier = in_turn.earlier;
   own = in_turn.own;
   before_is = in_turn.before_is;
   own_serial = in_turn.own_serial;
-  serial_is = in_turn.serial_is;
+  log_is = in_turn.log_is;
   removed = record {
     of_service = in_turn.removed.of_service;
     of_message = in_turn.removed.of_message;
@@ -135,52 +136,52 @@ later_too settings request notice moment serial answer before more after log id 
   };
 }
 
-removed_from_bounce_log : (settings : SettingsSaid) (request : PostfixRequest) (notice : NoticeRequest) (bytes : List ℕ) (moment serial : ℕ) (answer : RequestAnswer) (gained before after : List Deed) (log : Service) (id : List ℕ) (given : Answer)
-    → notice_asked request ≡ Some notice → IsBounceLogTold settings request bytes moment (bounce_serial serial) answer gained → gained ≡ before ++ LogRemoved log id given ∷ after
-    → IsRemovedInTurn settings request notice moment serial answer before after log id
-removed_from_bounce_log settings request notice bytes moment serial answer gained before after log id given asked (answered.unsought why is a) e =
+removed_from_bounce_log : (settings : SettingsSaid) (service : Service) (request : PostfixRequest) (notice : NoticeRequest) (bytes : List ℕ) (moment serial : ℕ) (answer : RequestAnswer) (gained before after : List Deed) (log : Service) (id : List ℕ) (given : Answer)
+    → ends_message service request ≡ true → notice_asked request ≡ Some notice → IsBounceLogTold settings request bytes moment (bounce_serial serial) answer gained → gained ≡ before ++ LogRemoved log id given ∷ after
+    → IsRemovedInTurn settings service request notice moment serial answer before after log id
+removed_from_bounce_log settings service request notice bytes moment serial answer gained before after log id given ends asked (answered.unsought why is a) e =
     let past = past_block (LogSought Bounce (queue_id_of request) (Err why) ∷ []) [] before after (LogRemoved log id given) (refl, tt) refl (sym is ∙ e) in
     absurd (nothing_after past.more after (LogRemoved log id given) past.rest_is)
-removed_from_bounce_log settings request notice bytes moment serial answer gained before after log id given asked (answered.no_log is a) e =
+removed_from_bounce_log settings service request notice bytes moment serial answer gained before after log id given ends asked (answered.no_log is a) e =
     let past = past_block (LogSought Bounce (queue_id_of request) (Ok false) ∷ []) [] before after (LogRemoved log id given) (refl, tt) refl (sym is ∙ e) in
     absurd (nothing_after past.more after (LogRemoved log id given) past.rest_is)
-removed_from_bounce_log settings request notice bytes moment serial answer gained before after log id given asked (answered.told own is out) e =
+removed_from_bounce_log settings service request notice bytes moment serial answer gained before after log id given ends asked (answered.told own is out) e =
     let sought = LogSought Bounce (queue_id_of request) (Ok true) ∷ [] in
     let past = past_block sought own before after (LogRemoved log id given) (refl, tt) refl (sym is ∙ e) in
-    removed_by_one settings Bounce request notice bytes moment serial (bounce_serial serial) answer own sought past.more before after log id given (inr refl) asked out past.before_is past.rest_is
+    removed_by_one settings service Bounce request notice bytes moment serial (bounce_serial serial) answer own sought past.more before after log id given (law.bounce_log ends refl refl) asked out past.before_is past.rest_is
 
 removed_from_part : (settings : SettingsSaid) (service : Service) (request : PostfixRequest) (notice : NoticeRequest) (bytes : List ℕ) (moment serial : ℕ) (answer : RequestAnswer) (first rest before after : List Deed) (log : Service) (id : List ℕ) (given : Answer)
-    → notice_asked request ≡ Some notice → IsBounceLogTold settings request bytes moment (bounce_serial serial) (Ok carried_out) first → IsCarriedOut settings service request bytes moment serial answer rest
-    → InPart first rest before after (LogRemoved log id given) → IsRemovedInTurn settings request notice moment serial answer before after log id
-removed_from_part settings service request notice bytes moment serial answer first rest before after log id given asked first_told out (in_first more is after_is) =
-    later_too settings request notice moment serial answer before more after log id
-    (removed_from_bounce_log settings request notice bytes moment serial (Ok carried_out) first before more log id given asked first_told is)
-removed_from_part settings service request notice bytes moment serial answer first rest before after log id given asked first_told out (in_rest more is rest_is) =
-    removed_by_one settings service request notice bytes moment serial serial answer rest first more before after log id given (inl refl) asked out is rest_is
+    → ends_message service request ≡ true → notice_asked request ≡ Some notice → IsBounceLogTold settings request bytes moment (bounce_serial serial) (Ok carried_out) first → IsCarriedOut settings service request bytes moment serial answer rest
+    → InPart first rest before after (LogRemoved log id given) → IsRemovedInTurn settings service request notice moment serial answer before after log id
+removed_from_part settings service request notice bytes moment serial answer first rest before after log id given ends asked first_told out (in_first more is after_is) =
+    later_too settings service request notice moment serial answer before more after log id
+    (removed_from_bounce_log settings service request notice bytes moment serial (Ok carried_out) first before more log id given ends asked first_told is)
+removed_from_part settings service request notice bytes moment serial answer first rest before after log id given ends asked first_told out (in_rest more is rest_is) =
+    removed_by_one settings service service request notice bytes moment serial serial answer rest first more before after log id given (law.own_log refl refl) asked out is rest_is
 
 removed_in_flush : (settings : SettingsSaid) (service : Service) (request : PostfixRequest) (notice : NoticeRequest) (bytes : List ℕ) (moment serial : ℕ) (answer : RequestAnswer) (gained before after : List Deed) (log : Service) (id : List ℕ) (given : Answer)
-    → notice_asked request ≡ Some notice → IsFlushedInTurn settings service request bytes moment serial answer gained → gained ≡ before ++ LogRemoved log id given ∷ after
-    → IsRemovedInTurn settings request notice moment serial answer before after log id
-removed_in_flush settings service request notice bytes moment serial answer gained before after log id given asked (answered.put_off not_done first_told) e =
-    removed_from_bounce_log settings request notice bytes moment serial answer gained before after log id given asked first_told e
-removed_in_flush settings service request notice bytes moment serial answer gained before after log id given asked (answered.in_turn first rest is first_told out) e =
-    removed_from_part settings service request notice bytes moment serial answer first rest before after log id given asked first_told out
+    → ends_message service request ≡ true → notice_asked request ≡ Some notice → IsFlushedInTurn settings service request bytes moment serial answer gained → gained ≡ before ++ LogRemoved log id given ∷ after
+    → IsRemovedInTurn settings service request notice moment serial answer before after log id
+removed_in_flush settings service request notice bytes moment serial answer gained before after log id given ends asked (answered.put_off not_done first_told) e =
+    removed_from_bounce_log settings service request notice bytes moment serial answer gained before after log id given ends asked first_told e
+removed_in_flush settings service request notice bytes moment serial answer gained before after log id given ends asked (answered.in_turn first rest is first_told out) e =
+    removed_from_part settings service request notice bytes moment serial answer first rest before after log id given ends asked first_told out
     (part_of first rest before after (LogRemoved log id given) (sym is ∙ e))
 
 removed_if : (ends : Bool) (settings : SettingsSaid) (service : Service) (request : PostfixRequest) (notice : NoticeRequest) (bytes : List ℕ) (moment serial : ℕ) (answer : RequestAnswer) (gained before after : List Deed) (log : Service) (id : List ℕ) (given : Answer)
-    → notice_asked request ≡ Some notice
+    → ends_message service request ≡ ends → notice_asked request ≡ Some notice
     → MatchBool ends (IsFlushedInTurn settings service request bytes moment serial answer gained) (IsCarriedOut settings service request bytes moment serial answer gained)
-    → gained ≡ before ++ LogRemoved log id given ∷ after → IsRemovedInTurn settings request notice moment serial answer before after log id
-removed_if true settings service request notice bytes moment serial answer gained before after log id given asked is e =
-    removed_in_flush settings service request notice bytes moment serial answer gained before after log id given asked is e
-removed_if false settings service request notice bytes moment serial answer gained before after log id given asked is e =
-    removed_by_one settings service request notice bytes moment serial serial answer gained [] before before after log id given (inl refl) asked is refl e
+    → gained ≡ before ++ LogRemoved log id given ∷ after → IsRemovedInTurn settings service request notice moment serial answer before after log id
+removed_if true settings service request notice bytes moment serial answer gained before after log id given ends asked is e =
+    removed_in_flush settings service request notice bytes moment serial answer gained before after log id given ends asked is e
+removed_if false settings service request notice bytes moment serial answer gained before after log id given ends asked is e =
+    removed_by_one settings service service request notice bytes moment serial serial answer gained [] before before after log id given (law.own_log refl refl) asked is refl e
 
 pub answered_removal : (settings : SettingsSaid) (service : Service) (request : PostfixRequest) (notice : NoticeRequest) (bytes : List ℕ) (moment serial : ℕ) (answer : RequestAnswer) (gained before after : List Deed) (log : Service) (id : List ℕ) (given : Answer)
     → notice_asked request ≡ Some notice → IsAnswered settings service request bytes moment serial answer gained → gained ≡ before ++ LogRemoved log id given ∷ after
-    → IsRemovedInTurn settings request notice moment serial answer before after log id
+    → IsRemovedInTurn settings service request notice moment serial answer before after log id
 answered_removal settings service request notice bytes moment serial answer gained before after log id given asked is e =
-    removed_if (ends_message service request) settings service request notice bytes moment serial answer gained before after log id given asked is e
+    removed_if (ends_message service request) settings service request notice bytes moment serial answer gained before after log id given refl asked is e
 
 -- ---- what is handed in
 

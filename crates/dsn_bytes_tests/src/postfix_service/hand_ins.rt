@@ -17,7 +17,7 @@ const MESSAGE: &[u8] = b"Subject: no\r\n\r\n..\r\n.\r\n";
 
 /// The replies of a server that takes the message (RFC 5321 appendix D.1).
 const TAKES: &[u8] =
-    b"|220 mx.example.org ESMTP\r\n|250-mx.example.org\r\n250-PIPELINING\r\n250 8BITMIME\r\n|250 2.1.0 Ok\r\n|250 2.1.5 Ok\r\n|354 End data with <CR><LF>.<CR><LF>\r\n|250 2.0.0 Ok: queued as 4F9D195432C\r\n|221 2.0.0 Bye\r\n";
+    b"|220 mx.example.org ESMTP\r\n|250-mx.example.org\r\n250-PIPELINING\r\n250 8BITMIME\r\n|250 2.1.0 Ok\r\n|250 2.1.5 Ok\r\n|354 End data with <CR><LF>.<CR><LF>\r\n|250 2.0.0 Ok: queued as 4F9D195432C\r\n";
 
 /// What such a server is sent, with a `<` where it began a reply.
 const WHOLE: &[u8] =
@@ -111,34 +111,30 @@ fn refused(step: HandInStep, digits: [u8; 3]) -> Result<(), HandInFault> {
 
 /// Scripts of servers that refuse, with the step at which they do, and the code.
 const REFUSALS: [(&[u8], HandInStep, [u8; 3]); 7] = [
-    (b"|554 no\r\n|221 bye\r\n", HandInStep::Greeting, *b"554"),
+    (b"|554 no\r\n", HandInStep::Greeting, *b"554"),
+    (b"|220 a\r\n|502 no\r\n", HandInStep::Hello, *b"502"),
     (
-        b"|220 a\r\n|502 no\r\n|221 bye\r\n",
-        HandInStep::Hello,
-        *b"502",
-    ),
-    (
-        b"|220 a\r\n|250 a\r\n|451 no\r\n|221 bye\r\n",
+        b"|220 a\r\n|250 a\r\n|451 no\r\n",
         HandInStep::Sender,
         *b"451",
     ),
     (
-        b"|220 a\r\n|250 a\r\n|250 b\r\n|550 no\r\n|221 bye\r\n",
+        b"|220 a\r\n|250 a\r\n|250 b\r\n|550 no\r\n",
         HandInStep::Recipient,
         *b"550",
     ),
     (
-        b"|220 a\r\n|250 a\r\n|250 b\r\n|354 c\r\n|221 bye\r\n",
+        b"|220 a\r\n|250 a\r\n|250 b\r\n|354 c\r\n",
         HandInStep::Recipient,
         *b"354",
     ),
     (
-        b"|220 a\r\n|250 a\r\n|250 b\r\n|250 c\r\n|250 d\r\n|221 bye\r\n",
+        b"|220 a\r\n|250 a\r\n|250 b\r\n|250 c\r\n|250 d\r\n",
         HandInStep::Data,
         *b"250",
     ),
     (
-        b"|220 a\r\n|250 a\r\n|250 b\r\n|250 c\r\n|354 d\r\n|452 no\r\n|221 bye\r\n",
+        b"|220 a\r\n|250 a\r\n|250 b\r\n|250 c\r\n|354 d\r\n|452 no\r\n",
         HandInStep::Message,
         *b"452",
     ),

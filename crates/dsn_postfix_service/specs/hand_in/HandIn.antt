@@ -78,7 +78,7 @@ is_broken (Some (Refused step code)) = false
 is_broken (Some (Unheard step why)) = is_of_device why
 is_broken (Some (Unsaid step)) = true
 
--- QUIT is said, or tried once, and its reply isn't waited for (RFC 5321 section 4.1.1.10)
+-- QUIT is said, or tried once; its reply isn't waited for, although RFC 5321 section 4.1.1.10 says that a client should
 abbrev pub SaysGoodbye : List Turn → Type 0
 SaysGoodbye [] = ⊥
 SaysGoodbye (Said text ∷ turns) = (text ≡ quit_line) × (turns ≡ [])

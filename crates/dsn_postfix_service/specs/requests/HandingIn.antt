@@ -28,8 +28,8 @@ abbrev pub is_first_after : List Letter → Bool
 is_first_after [] = true
 is_first_after (letter ∷ letters) = false
 
--- What the mail server refuses for good it refuses whenever it is asked. Only of a request's first letter can that be told by
--- another: once a letter was accepted, who is told by it would be told again.
+-- What the mail server refuses for good it refuses whenever it is asked. Only where that is a
+-- request's first letter another service can tell all of it: once a letter was accepted, its sender would be told again.
 abbrev pub refusal_of : Bool → HandInFault → NotAccepted
 refusal_of first fault = if first && is_refused_for_good fault then RefusedForGood else Refused
 

@@ -9,7 +9,7 @@ use Rattle.dsn_postfix.specs.declared.postfix_request.NoticeRequest.{NoticeReque
 use Rattle.dsn_postfix.specs.declared.postfix_request.PostfixRequest.{PostfixRequest}
 use Rattle.dsn_postfix_service.specs.hand_in.HandIn.{is_refused_for_good}
 use Rattle.dsn_postfix_service.specs.requests.AppendDeeds.{record_bytes}
-use Rattle.dsn_postfix_service.specs.requests.AnsweredRequest.{bounce_serial}
+use Rattle.dsn_postfix_service.specs.requests.AnsweredRequest.{bounce_serial, ends_message}
 use Rattle.dsn_postfix_service.specs.requests.CarriedOut.{IsCarriedOut, must_clean, queue_id_of}
 use Rattle.dsn_postfix_service.specs.requests.Deed.{Appended, Deed, HandedIn, LogRead, LogReleased, LogRemoved, LogSought, MarkedDone, MessageRead, PassedOn}
 use Rattle.dsn_postfix_service.specs.requests.Finishing.{AreMarked}
@@ -127,19 +127,22 @@ pub record IsLeftToPostfix (settings : SettingsSaid) (service : Service) (reques
   pub gained_are : gained ≡ readings service request notice found ++ (tried ++ LogReleased ∷ PassedOn service bytes (Ok 0) ∷ [])
   pub why : IsLeftOver settings service request notice moment serial found tried
 
--- the first serial of one of a request's two logs
-abbrev pub IsSerialOf : ℕ → ℕ → Type 0
-IsSerialOf serial own = (own ≡ serial) ⊎ (own ≡ bounce_serial serial)
+-- a log of a request to a service, with the first serial of its letters: the service's own, or the bounce log of a message
+-- that the request ends
+pub data IsLogOf (service : Service) (request : PostfixRequest) (serial : ℕ) (log : Service) (own_serial : ℕ) : Type 0 where
+  own_log : log ≡ service → own_serial ≡ serial → IsLogOf service request serial log own_serial
+  bounce_log : ends_message service request ≡ true → log ≡ Bounce → own_serial ≡ bounce_serial serial
+      → IsLogOf service request serial log own_serial
 
--- The deeds on the log that is removed follow some earlier ones, and it is removed after them as by a request that is carried
--- out on it alone.
-pub record IsRemovedInTurn (settings : SettingsSaid) (request : PostfixRequest) (notice : NoticeRequest) (moment serial : ℕ)
-    (answer : RequestAnswer) (before after : List Deed) (log : Service) (id : List ℕ) : Type 0 where
+-- The log that is removed is one of the request's. The deeds on it follow some earlier ones, and it is removed after them as by
+-- a request that is carried out on it alone.
+pub record IsRemovedInTurn (settings : SettingsSaid) (service : Service) (request : PostfixRequest) (notice : NoticeRequest)
+    (moment serial : ℕ) (answer : RequestAnswer) (before after : List Deed) (log : Service) (id : List ℕ) : Type 0 where
   pub earlier : List Deed
   pub own : List Deed
   pub before_is : before ≡ earlier ++ own
   pub own_serial : ℕ
-  pub serial_is : IsSerialOf serial own_serial
+  pub log_is : IsLogOf service request serial log own_serial
   pub removed : IsRemovedAfter settings log request notice moment own_serial answer own after log id
 
 -- a bounce log was found, and the deeds after that hand in its notices

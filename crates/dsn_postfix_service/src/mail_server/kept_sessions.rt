@@ -7,7 +7,7 @@ use std::alloc::Global;
 use std::mem;
 use std::sync::{Mutex, Wait};
 
-/// How many sessions are kept of each round.
+/// How many sessions are kept.
 const MOST_KEPT: usize = 16;
 
 /// Sessions that nobody uses.
@@ -49,7 +49,8 @@ impl KeptSessions {
     /// it was used as often as it may be.
     fn keep<W: Wait>(&self, waiting: &W, session: Session) -> Option<Session> {
         let mut idle = self.idle.lock(waiting);
-        if idle.fresh.len() >= MOST_KEPT || !session.may_go_on() {
+        let kept = idle.fresh.len().saturating_add(idle.stale.len());
+        if kept >= MOST_KEPT || !session.may_go_on() {
             return Some(session);
         }
         match idle.fresh.push(session) {
@@ -89,6 +90,8 @@ impl KeptSessions {
                 return outcome;
             }
         }
+        // no reply of the other session is left
+        *reply = ReplyBuffer::new();
         let mut session = Session::begin(rt, place, reply)?;
         let outcome = session.hand_in(path, message, reply);
         self.put_away(waiting, session, &outcome);

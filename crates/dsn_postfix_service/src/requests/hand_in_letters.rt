@@ -10,8 +10,8 @@ use dsn_outcome::Letter;
 use dsn_report::{Site, mail_data};
 use std::alloc::Global;
 
-/// What a fault of handing in a letter comes to. A refusal for good of a request's first letter is
-/// told apart: none of the request's letters was accepted then, nor will this one be.
+/// What a fault of handing in a letter comes to. A refusal for good of the first letter of a request
+/// on one log is told apart: none of these letters was accepted then, nor will this one be.
 fn refusal(is_first: bool, fault: HandInFault) -> NotAccepted
     ensures { result ≡ refusal_of is_first fault }
 {

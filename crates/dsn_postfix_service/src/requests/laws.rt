@@ -19,9 +19,10 @@ ghost use Rattle.dsn_text.specs.declared.service.Service.TheVariants.{Bounce, De
 /// At each moment of a request for notices at which a log is removed, the log is that of the request. Before that it did this
 /// alone: it read a log and a file, each letter of each notice that it has of these was accepted, and its recipients were
 /// marked as done where it asks for that. So a crash at any moment of a request without CLEAN leaves the log, or the mail
-/// server has all notices of what was read. The only other removal is the one that CLEAN asks for: it is the last deed of a
-/// request that isn't answered status 0. A request that is answered may do other deeds first: those on the log that is
-/// removed follow them in a row, and the same is true of these.
+/// server has all notices of what was read, or the request was passed on, and the log is left to Postfix's own service. The
+/// only other removal is the one that CLEAN asks for: it is the last deed of a request that isn't answered status 0. A request
+/// that is answered may do other deeds first. Then the log is the service's own, or the bounce log where the request ends its
+/// message; the deeds on it stand in a row right before its removal, and the same is true of these.
 pub fn logs_are_removed_after_acceptance()
     ensures carried_out { (settings : SettingsSaid) (service : Service) (request : PostfixRequest)
         (notice : NoticeRequest) (bytes : List ℕ) (moment serial : ℕ) (answer : RequestAnswer)
@@ -36,7 +37,7 @@ pub fn logs_are_removed_after_acceptance()
         → notice_asked request ≡ Some notice
         → IsAnswered settings service request bytes moment serial answer gained
         → gained ≡ before ++ LogRemoved log named given ∷ after
-        → IsRemovedInTurn settings request notice moment serial answer before after log named }
+        → IsRemovedInTurn settings service request notice moment serial answer before after log named }
 {}
 
 /// A request for notices that hands in any first reads a log and a file. What it hands in are the first letters of the notices

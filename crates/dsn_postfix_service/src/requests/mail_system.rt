@@ -70,7 +70,8 @@ pub trait MailSystem {
         ensures { deeds self.new ≡ with_deeds (deeds self.old)
             (MessageRead queue.now id (answer_as (λ file. file.items) result) ∷ []) };
 
-    /// Hands one notice to the mail server, as [`hand_in_notice`](crate::hand_in_notice) does:
+    /// Hands one notice to the mail server, as [`hand_in_notice`](crate::hand_in_notice) does, in a
+    /// session that is begun for it or was begun for another; one that fails at MAIL may be followed by another:
     /// there is no error only where the server took it, with the reply that the buffer then holds.
     /// Where no connection could be made, that is a greeting that wasn't heard.
     fn hand_in(

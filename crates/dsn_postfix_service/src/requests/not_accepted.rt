@@ -5,7 +5,7 @@
 pub(super) enum NotAccepted {
     /// It was handed in, and the mail server didn't take it.
     Refused,
-    /// It was the first that was handed in, and the mail server refused it for good.
+    /// It was the first of its request on one log, and the mail server refused it for good.
     RefusedForGood,
     /// The memory for its text was refused, and it wasn't handed in.
     NoMemory,

@@ -5,7 +5,7 @@ use dsn_postfix::{NoticeRequest, PostfixRequest};
 /// A request for notices, and the terms on which it is carried out.
 #[derive(Clone, Copy, Debug)]
 pub(super) struct NoticeTask<'a> {
-    /// These terms.
+    /// On which terms it is carried out.
     pub(super) terms: &'a RequestTerms<'a>,
     /// The request.
     pub(super) request: &'a PostfixRequest<'a>,

@@ -1,5 +1,6 @@
 //! The queue folder of a running Postfix as a mail system: its logs, its messages' files, its own
 //! services, and the mail server that notices are handed to.
+mod ascii_text;
 mod connection;
 mod folder_hashing;
 mod hashed_id;
@@ -11,8 +12,8 @@ mod postfix_place;
 mod postfix_system;
 mod queue_path;
 mod service_name;
-mod text_or_empty;
 
+pub(crate) use ascii_text::ascii_text;
 pub(crate) use connection::Connection;
 pub use folder_hashing::FolderHashing;
 pub use own_service::ask_own_service;
@@ -20,4 +21,3 @@ pub use postfix_place::PostfixPlace;
 pub(crate) use postfix_system::PostfixSystem;
 pub use queue_path::path_in_queue;
 pub(crate) use service_name::socket_name;
-pub(crate) use text_or_empty::text_or_empty;

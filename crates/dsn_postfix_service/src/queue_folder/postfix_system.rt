@@ -3,6 +3,7 @@ ghost use Rattle.std.specs.Prelude.{None};
 
 use crate::hand_in::{HandInFault, ReplyBuffer, queue_id_in};
 use crate::mail_server::KeptSessions;
+use crate::queue_folder::ascii_text::ascii_text;
 use crate::queue_folder::connection::Connection;
 use crate::queue_folder::log_file::{
     append_synced, has_bytes, open_locked, open_or_make, read_whole, remove_if_there,
@@ -13,7 +14,6 @@ use crate::queue_folder::own_service::ask_own_service;
 use crate::queue_folder::postfix_place::PostfixPlace;
 use crate::queue_folder::queue_path::path_in_queue;
 use crate::queue_folder::service_name::service_name;
-use crate::queue_folder::text_or_empty::text_or_empty;
 use crate::requests::{DeedFault, MailSystem, queue_id_of};
 use dsn_device::Plain;
 use dsn_postfix::{PostfixRequest, QueueName};
@@ -123,7 +123,7 @@ fn log_notice(rt: &HostRuntime, told: Option<QueueId>, kind: &str, reply: &Reply
     let (Some(told), Some(notice)) = (told, queue_id_in(reply.last_text())) else {
         return;
     };
-    let (told, notice) = (text_or_empty(told.bytes()), text_or_empty(notice.bytes()));
+    let (told, notice) = (ascii_text(told.bytes()), ascii_text(notice.bytes()));
     let _ = eprintln!(rt; "{told}: {kind}: {notice}");
 }
 
@@ -132,10 +132,7 @@ fn log_refusal(rt: &HostRuntime, told: Option<QueueId>, fault: &HandInFault, rep
     let Some(told) = told else {
         return;
     };
-    let (told, reply) = (
-        text_or_empty(told.bytes()),
-        text_or_empty(reply.last_text()),
-    );
+    let (told, reply) = (ascii_text(told.bytes()), ascii_text(reply.last_text()));
     let _ = eprintln!(rt; "{told}: notice not accepted: {fault}: {reply}");
 }
 

@@ -1,6 +1,6 @@
 //! The threads that serve the programs of a Postfix.
 use crate::clients::serve_client;
-use crate::queue_folder::{Connection, PostfixPlace, PostfixSystem, socket_name, text_or_empty};
+use crate::queue_folder::{Connection, PostfixPlace, PostfixSystem, ascii_text, socket_name};
 use crate::requests::ServiceSettings;
 use crate::serving::listeners::{Listeners, wake};
 use crate::serving::postfix_share::PostfixShare;
@@ -84,7 +84,7 @@ fn serve_all<R: Threads + Wait + Sync>(
 /// Prints that the threads listen, unless the run is to end.
 fn print_start(rt: &HostRuntime, share: &PostfixShare<'_>) {
     if !share.is_ending() {
-        let host = text_or_empty(share.settings.site.bytes());
+        let host = ascii_text(share.settings.site.bytes());
         let _ = eprintln!(rt; "listening in {} for {host}", share.place.root);
     }
 }
@@ -175,7 +175,7 @@ fn serve_one<R: Wait>(
 /// Writes the line of a request that wasn't carried out.
 fn print_unserved(rt: &HostRuntime, service: Service, asked: Option<QueueId>, status: u32) {
     let id = match &asked {
-        Some(id) => text_or_empty(id.bytes()),
+        Some(id) => ascii_text(id.bytes()),
         None => "no request",
     };
     let _ = eprintln!(rt;

@@ -27,6 +27,7 @@ LOG_OF = {"failure": "bounce", "delay": "defer", "expired": "defer", "success": 
 PASSED_ON = {"utf8", "utf8-sender", "later-utf8", "asked-before", "long-address", "newer-form-quoted", "quoted", "verp-quoted", "orcpt-utf8"}
 STEPS = ("connect", "EHLO", "MAIL", "RCPT", "DATA", "message")
 THREADS = 32  # clients of one service that are served at once
+AT_ONCE = 4  # notices that are handed in at once
 SECONDS_FOR_CLIENT, SECONDS_FOR_LOCK = 60, 20
 MESSAGES = 150  # that are told of while the program is killed
 WRONG_IDS = ("../bounce/A1", "A/B", ".", "..", "A1.", "", "A" * 33, "A1 ", "Ä1")
@@ -572,8 +573,8 @@ def check_start(checks: Checks):
 
 
 def check_at_once(checks: Checks):
-    """Many clients at once: appends to one log all stand in it; notices are handed in side by side, so many as there are threads; a
-    server that is slow holds up no other service."""
+    """Many clients at once: appends to one log all stand in it; notices are handed in side by side, four and no more, while others wait;
+    a server that is slow holds up no appends, as long as a thread of the service is left."""
     with Postfix() as it:
         found = at_once(*(lambda text=f"550 number {number}": it.ask("bounce", append(ONE, text=text)) for number in range(40)))
         log = it.at(f"bounce/{ONE}").read_text()
@@ -582,7 +583,7 @@ def check_at_once(checks: Checks):
         checks.true("its records are whole", re.sub(r"number \d+", "number", log) == 40 * one)
         go, waiting, most = threading.Event(), [], []
         it.server.waits["message"] = lambda: (waiting.append(1), most.append(len(waiting)), go.wait(30))
-        ids = [f"A{number}" for number in range(THREADS + 8)]
+        ids = [f"A{number}" for number in range(THREADS - 2)]
         queue = (FILES / "one/queue").read_bytes()
         it.at("deferred/A").mkdir()
         for message in ids:
@@ -590,10 +591,10 @@ def check_at_once(checks: Checks):
             it.at(f"bounce/{message}").write_bytes((FILES / "one/bounce").read_bytes())
         asking = threading.Thread(target=lambda: most.append(at_once(*(lambda message=message: it.ask("bounce", notice(1, message)) for message in ids))))
         asking.start()
-        checks.true("notices that are handed in side by side", until(lambda: len(waiting) >= THREADS - 1))
+        checks.true("notices that are handed in side by side", until(lambda: len(waiting) >= AT_ONCE))
         time.sleep(0.5)
-        checks.equal("and no more", len(waiting), THREADS)
-        checks.equal("another service is served", it.ask("defer", append(ONE)), 0)
+        checks.equal("and no more", len(waiting), AT_ONCE)
+        checks.equal("appends are served", [it.ask(service, append(ONE)) for service in ("bounce", "defer")], [0, 0])
         go.set()
         asking.join()
         checks.equal("all are told", (most[-1], len(it.server.taken)), ([0] * len(ids), len(ids)))

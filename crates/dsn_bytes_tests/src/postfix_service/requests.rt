@@ -96,7 +96,6 @@ struct Case<'a> {
     log: Option<&'a [u8]>,
     well: usize,
     fault: DeedFault,
-    refusal: HandInFault,
     postfix: u32,
     status: u32,
     lines: &'a [u8],
@@ -104,7 +103,12 @@ struct Case<'a> {
 
 /// Answers a request, and compares its status and the lines of its deeds. Memory is ample, so
 /// there is a status.
-fn carried_out(rt: &(impl AllocGlobal + Abort), bytes: &[u8], case: Case<'_>) -> Result<(), Fail> {
+fn carried_out_with(
+    rt: &(impl AllocGlobal + Abort),
+    bytes: &[u8],
+    case: Case<'_>,
+    refusal: HandInFault,
+) -> Result<(), Fail> {
     let site = Site::new(rt.alloc(), b"mx.example.net")?;
     let settings = ServiceSettings {
         site: &site,
@@ -117,7 +121,7 @@ fn carried_out(rt: &(impl AllocGlobal + Abort), bytes: &[u8], case: Case<'_>) ->
         file: FILE,
         well: case.well,
         fault: case.fault,
-        refusal: case.refusal,
+        refusal,
         status: case.postfix,
         asked: Vec::new(rt.alloc()),
     };
@@ -134,6 +138,11 @@ fn carried_out(rt: &(impl AllocGlobal + Abort), bytes: &[u8], case: Case<'_>) ->
     Ok(())
 }
 
+/// The same, where a hand-in that fails has no reply.
+fn carried_out(rt: &(impl AllocGlobal + Abort), bytes: &[u8], case: Case<'_>) -> Result<(), Fail> {
+    carried_out_with(rt, bytes, case, UNHEARD)
+}
+
 /// A case of the bounce log in which all goes well.
 fn told<'a>(log: Option<&'a [u8]>, lines: &'a [u8]) -> Case<'a> {
     Case {
@@ -142,7 +151,6 @@ fn told<'a>(log: Option<&'a [u8]>, lines: &'a [u8]) -> Case<'a> {
         log: None,
         well: ALWAYS,
         fault: DeedFault::Failed,
-        refusal: UNHEARD,
         postfix: 7,
         status: 0,
         lines,
@@ -309,17 +317,12 @@ fn a_first_letter_that_is_refused_for_good_is_passed_on(rt: HostRuntime) -> Resu
     let bytes = notice_bytes(rt.alloc(), FLUSH)?;
     let passed = b"log B\nmessage active\nhand-in ann@example.com\nrelease \npass-on B\n";
     let case = Case {
-        refusal: refused(*b"550")?,
         status: 7,
         ..failed(2, passed)
     };
-    carried_out(&rt, &bytes, case)?;
+    carried_out_with(&rt, &bytes, case, refused(*b"550")?)?;
     let put_off = b"log B\nmessage active\nhand-in ann@example.com\nrelease \n";
-    let for_now = Case {
-        refusal: refused(*b"450")?,
-        ..failed(2, put_off)
-    };
-    carried_out(&rt, &bytes, for_now)
+    carried_out_with(&rt, &bytes, failed(2, put_off), refused(*b"450")?)
 }
 
 // Who is told by the first would be told once more.
@@ -333,11 +336,7 @@ fn a_later_letter_that_is_refused_for_good_is_put_off(rt: HostRuntime) -> Result
     let bytes = notice_bytes(rt.alloc(), verp)?;
     let second =
         b"log B\nmessage active\nhand-in ann+no=a.example@example.com\nhand-in ann+no=b.example@example.com\nrelease \n";
-    let case = Case {
-        refusal: refused(*b"550")?,
-        ..failed(3, second)
-    };
-    carried_out(&rt, &bytes, case)
+    carried_out_with(&rt, &bytes, failed(3, second), refused(*b"550")?)
 }
 
 #[test]
@@ -347,18 +346,16 @@ fn a_defer_log_is_told_after_a_bounce_log_that_was_refused(rt: HostRuntime) -> R
         b"seek B\nlog B\nmessage active\nhand-in ann@example.com\nrelease \npass-on B\n".as_slice();
     let both = joined(rt.alloc(), &[first, DEFER])?;
     let case = Case {
-        refusal: refused(*b"554")?,
         postfix: 0,
         status: 0,
         ..stopped(3, &both)
     };
-    carried_out(&rt, &bytes, case)?;
+    carried_out_with(&rt, &bytes, case, refused(*b"554")?)?;
     let failing = Case {
-        refusal: refused(*b"554")?,
         status: 7,
         ..stopped(3, first)
     };
-    carried_out(&rt, &bytes, failing)
+    carried_out_with(&rt, &bytes, failing, refused(*b"554")?)
 }
 
 #[test]

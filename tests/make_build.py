@@ -35,6 +35,11 @@ PROVES = f"""#!/bin/sh
 cat << 'END'
 {SAID}END
 echo "$*"
+echo "$* $RT_JOBS" >> "$CALLS"
+if [ "$*" = "ci low side high" ]; then
+    touch "$GO_ON"
+    exit 0
+fi
 cat crates.txt HANDLES
 find * | LC_ALL=C sort
 while [ ! -e "$GO_ON" ]; do sleep 0.01; done
@@ -46,8 +51,7 @@ mkdir crates/noticed/out
 echo new > crates/noticed/out/noticed
 echo "rt: noticed proved"
 """
-COPY = """ci
-low: thiserror
+COPY = """low: thiserror
 side: thiserror
 high: low # and no more
 noticed may_wait=2: high side itoa
@@ -97,8 +101,9 @@ def built(checks: Checks, status: int):
         room = Path(name)
         prepared(room)
         words = ["make", "build", f"RT={room}/rt"]
+        told = {"STATUS": str(status), "GO_ON": f"{room}/go-on", "CALLS": f"{room}/calls", "RT_JOBS": "3"}
         with open(room / "said", "wb") as said:
-            making = subprocess.Popen(words, cwd=room, stdout=said, stderr=said, env={**os.environ, "STATUS": str(status), "GO_ON": f"{room}/go-on"})
+            making = subprocess.Popen(words, cwd=room, stdout=said, stderr=said, env={**os.environ, **told})
         checks.equal(f"status {status}: named while rt runs", names(early_lines(room, making)), NAMED)
         (room / "go-on").touch()
         ended = making.wait(timeout=PATIENCE)
@@ -106,13 +111,31 @@ def built(checks: Checks, status: int):
         end = "rt: noticed NOT PROVED\n" if status else "rt: noticed proved\n"
         checks.equal(f"status {status}: make's own", ended, 2 if status else 0)
         checks.equal(f"status {status}: all that is named", names(lines), [*NAMED, "noticed"])
-        checks.equal(f"status {status}: the log", (room / "out/noticed.log").read_text(), SAID + COPY + end)
+        checks.equal(f"status {status}: the log", (room / "out/noticed.log").read_text(), f"{SAID}ci\n{COPY}{end}")
         checks.equal(f"status {status}: a failure is told", "noticed could not be proved or built" in lines, status != 0)
         checks.equal(f"status {status}: the log of a failure is shown", SAID.splitlines()[0] in lines, status != 0)
         checks.equal(f"status {status}: the program", (room / "crates/noticed/out/noticed").read_text(), "old\n" if status else "new\n")
         if not status:
             again = subprocess.run(words, cwd=room, capture_output=True, check=False, timeout=PATIENCE)
             checks.equal("what is up to date isn't built again", (again.returncode, names(again.stdout.decode().splitlines())), (0, []))
+
+
+# The build with as many processors as it would have, whatever this machine has.
+BESIDE = "import sys, build; build.has_processors = lambda: True; build.processors = lambda: 6; sys.argv[1:] = ['noticed']; sys.exit(build.main())"
+
+
+def built_beside(checks: Checks, status: int):
+    """A build in two runs of `rt`, of which the one of the program ends with this status."""
+    with tempfile.TemporaryDirectory(prefix="noticed-") as name:
+        room = Path(name)
+        prepared(room)
+        told = {"STATUS": str(status), "GO_ON": f"{room}/go-on", "CALLS": f"{room}/calls", "RT": f"{room}/rt"}
+        told = {**{it: text for it, text in os.environ.items() if it != "RT_JOBS"}, **told}
+        ended = subprocess.run([sys.executable, "-c", BESIDE], cwd=room / "tests/support", env=told, check=False, capture_output=True, timeout=PATIENCE)
+        checks.equal(f"two runs, status {status}: its own", ended.returncode, status)
+        checks.equal(f"two runs, status {status}: each was asked", sorted((room / "calls").read_text().splitlines()), ["ci ", "ci low side high 4"])
+        checks.equal(f"two runs, status {status}: each crate is named once", sorted(names(ended.stdout.decode().splitlines())), sorted([*NAMED, "noticed"]))
+        checks.equal(f"two runs, status {status}: the program", (room / "crates/noticed/out/noticed").read_text(), "old\n" if status else "new\n")
 
 
 def early_lines(room: Path, making: subprocess.Popen) -> list:
@@ -129,6 +152,7 @@ def main():
     checks = Checks("make build: what it proves, what it says meanwhile, and its status")
     for status in (0, 3):
         built(checks, status)
+        built_beside(checks, status)
     checks.done()
 
 

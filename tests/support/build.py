@@ -1,82 +1,38 @@
 #!/usr/bin/env python3
 """What `make build` runs: proves one program and the crates below it, those that don't need each other side by side, and builds
-it. It works in a copy that has these crates alone, without the wrong edits, by `rt ci`, which gives each crate the processors
-and the memory that are free, the longest chain of crates first, and takes over what was proved on this machine before of the
-same text. It tells each crate as it is proved; where it fails, the log is shown.
+it. It works in copies that have these crates alone, without the wrong edits, by `rt ci`, which takes over what was proved on this
+machine before of the same text: the longest chain of crates, and the others beside it (proving.py). It tells each crate as it is
+proved; where it fails, the log is shown.
 
     python3 tests/support/build.py PROGRAM        the program is then crates/PROGRAM/out/PROGRAM, the log out/PROGRAM.log"""
-import os
-import re
 import shutil
 import signal
-import subprocess
 import sys
 import tempfile
-import time
+import threading
 from pathlib import Path
 
 sys.dont_write_bytecode = True
-from kit import RT  # noqa: E402
-
-ROOT = Path(__file__).resolve().parents[2]
-TOLD = re.compile(r"^rt: (\w+)( proved| is kept: | NOT PROVED)")
-WORDS = {" proved": "proved", " is kept: ": "was proved on this machine before", " NOT PROVED": "NOT PROVED"}
+from jobs import processors  # noqa: E402
+from proving import ROOT, Proofs, chain_to, copied, crates_below, has_processors, needed  # noqa: E402
 
 
-def below() -> dict:
-    """Each crate of crates.txt with the line that names it, and what it stands on."""
-    found = {}
-    for line in (ROOT / "crates.txt").read_text().splitlines():
-        name, colon, rest = line.partition("#")[0].partition(":")
-        if colon:
-            found[name.split()[0]] = line, rest.split()
-    return found
-
-
-def needed(program: str, crates: dict) -> list:
-    """The program and the crates of the repository below it, in the order of crates.txt."""
-    wanted, left = set(), [program]
-    while left:
-        name = left.pop()
-        if name in crates and name not in wanted:
-            wanted.add(name)
-            left += crates[name][1]
-    return [it for it in crates if it in wanted]
-
-
-def copied(room: Path, names: list, crates: dict):
-    """A copy of these crates, without what was built here, and without the wrong edits."""
-    left_out = shutil.ignore_patterns("out", "must-fail", "controls", "__pycache__")
-    for it in names:
-        shutil.copytree(ROOT / "crates" / it, room / "crates" / it, ignore=left_out)
-    (room / "crates.txt").write_text("".join(f"{crates[it][0]}\n" for it in names))
-    shutil.copy(ROOT / "HANDLES", room)
-    (room / ".git").mkdir()
-
-
-def tell(line: str, begun: float):
-    """Prints a line of `rt` that says what became of a crate."""
-    found = TOLD.match(line)
-    if found:
-        print(f"  {time.monotonic() - begun:4.0f} s  {found[1]} {WORDS[found[2]]}", flush=True)
-
-
-def proved(room: Path, log: Path) -> int:
-    """Proves and builds what is in the copy, and tells each crate: the status of `rt`."""
-    begun = time.monotonic()
-    # A group of processes, to be stopped as one.
-    running = subprocess.Popen([RT, "ci"], cwd=room, stdin=subprocess.DEVNULL, stdout=subprocess.PIPE, stderr=subprocess.STDOUT, preexec_fn=os.setpgrp)
+def proved(place: Path, names: list, crates: dict, log: Path) -> int:
+    """Proves and builds the last of these crates with those that it stands on, in copies in this place: the status of `rt`."""
+    proofs, room, beside = Proofs(), place / "chain", place / "beside"
+    log.write_bytes(b"")
+    copied(room, names, crates)
     try:
-        with running.stdout, open(log, "wb") as out:
-            for line in running.stdout:
-                out.write(line)
-                out.flush()
-                tell(line.decode(errors="replace"), begun)
-        return running.wait()
+        if not has_processors():
+            return proofs.run(room, [], log)
+        chain = chain_to(names)
+        copied(beside, names, crates)
+        others = [it for it in names if it not in chain]
+        threading.Thread(target=proofs.run, args=(beside, others, log.with_suffix(".beside")), kwargs={"RT_JOBS": str(processors() - 2)}, daemon=True).start()
+        # a run of some crates leaves no program
+        return proofs.run_each(room, [*([it] for it in chain[:-1]), []], log)
     finally:
-        if running.poll() is None:
-            os.killpg(running.pid, signal.SIGKILL)
-            running.wait()
+        proofs.stop()
 
 
 def keep(program: str, room: Path) -> bool:
@@ -93,15 +49,14 @@ def keep(program: str, room: Path) -> bool:
 
 def main() -> int:
     program = sys.argv[1]
-    log, crates = ROOT / "out" / f"{program}.log", below()
+    log, crates = ROOT / "out" / f"{program}.log", crates_below()
     names = needed(program, crates)
     log.parent.mkdir(exist_ok=True)
     signal.signal(signal.SIGTERM, lambda *_: sys.exit(1))
     print(f"proving {program} and the {len(names) - 1} crates below it, and building it (log: {log.relative_to(ROOT)}) ..", flush=True)
     with tempfile.TemporaryDirectory(prefix="noticed-build-", ignore_cleanup_errors=True) as name:
-        copied(Path(name), names, crates)
-        status = proved(Path(name), log)
-        if not status and keep(program, Path(name)):
+        status = proved(Path(name), names, crates, log)
+        if not status and keep(program, Path(name) / "chain"):
             return 0
     print(f"{log.read_text(errors='replace')}{program} could not be proved or built")
     return status or 1

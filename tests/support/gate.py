@@ -4,6 +4,9 @@ and the programs; the scripts of tests/ run on the programs, most of them as soo
 `rt ci` is over. Beside both, with what they leave of the processors, tests/support/refused.py tries the wrong edits over the
 libraries that `rt ci` builds. The last line is 'N passed, M failed', and the status is 1 where anything failed.
 
+Before these, runs of `rt ci` for some crates prove the programs, with two processors for the longest chain (proving.py). They say
+nothing of the verdict: what they proved is kept, and the run over all crates takes it over, or proves what they didn't.
+
 It works in a copy of the repository, so that `rt ci` leaves alone the edits, which refused.py tries in fewer checks, and
 so that what was proved here before is neither used nor lost. What the repository's record has of the wrong edits isn't tried, but
 for a sample; what earlier gates on this machine proved and tried of the same texts is taken from there. With `--anew` all is
@@ -15,6 +18,7 @@ import signal
 import subprocess
 import sys
 import tempfile
+import threading
 import time
 from concurrent.futures import ThreadPoolExecutor
 from dataclasses import dataclass
@@ -23,11 +27,10 @@ from pathlib import Path
 sys.path.insert(0, str(Path(__file__).parent))
 from jobs import free, processors  # noqa: E402
 from kit import RT  # noqa: E402
+from proving import FEW, LONGEST, ROOM, Proofs, chain_to, copied as copied_crates, crates_below, has_processors, needed, stands_on  # noqa: E402
 from running import ROOT  # noqa: E402
 
 PROGRAMS = {"NOTICED": "noticed", "PROBE": "probe"}
-# Where `rt ci` is told to run a proof a processor: with so few of them, and so many KiB of free memory for each.
-FEW, ROOM = 4, 5 * 1024 * 1024
 SIDE_BY_SIDE = 3  # scripts at once, and no more than there are processors
 # Scripts of which one runs at a time, with others beside: those that listen at a port which they found to be free, and which another
 # might be given meanwhile; those that wait for seconds to pass, and are to see that nothing came too early or too late; and those
@@ -194,13 +197,33 @@ def run_scripts(rows: list, most: int, verdict: Verdict):
     verdict.failed += len(failed)
 
 
-def prove_run_and_refuse(place: Path, verdict: Verdict):
+def prove_programs(place: Path, proofs: Proofs):
+    """Proves the programs, and beside them the crates that stand on nothing that takes long, those without tests first."""
+    crates = crates_below()
+    chain = chain_to(needed("noticed", crates)) + ["probe"]
+    late = {*LONGEST[len(LONGEST) // 2 :], "probe"}
+    others = [it for it in crates if it not in chain and not stands_on(it, crates) & late]
+    parts = [[it for it in others if it.endswith("_tests") == tests] for tests in (False, True)]
+    logs = [ROOT / f"out/{name}.log" for name in ("chain", "beside")]
+    for room, log in zip((place / "chain", place / "beside"), logs):
+        copied_crates(room, list(crates), crates)
+        log.write_bytes(b"")
+    print(f"proving the programs first (logs: {', '.join(str(it.relative_to(ROOT)) for it in logs)}) ..", flush=True)
+    beside = {"target": proofs.run_each, "args": (place / "beside", parts, logs[1]), "kwargs": {"RT_JOBS": str(processors() - 2)}}
+    threading.Thread(**beside, daemon=True).start()
+    proofs.run_each(place / "chain", [[it] for it in chain], logs[0])
+
+
+def prove_run_and_refuse(place: Path, verdict: Verdict, proofs: Proofs):
     """Proves a copy of the repository, and runs the scripts on its programs; tries the wrong edits beside both."""
     room, edits, log = place / "repository", place / "edits", ROOT / "out/gate.log"
     anew, record = ([it for it in sys.argv[1:] if it == flag] for flag in ("--anew", "--record"))
     copied(room)
     edits.mkdir()
-    proving = Part("proving every crate and its tests from nothing, rt ci", [RT, "ci", *anew], room, log, **jobs_of_proofs())
+    told = jobs_of_proofs()
+    if has_processors() and not anew:
+        prove_programs(place, proofs)
+    proving = Part("proving every crate and its tests from nothing, rt ci", [RT, "ci", *anew], room, log, **told)
     words = ["nice", "-n", "19", sys.executable, "tests/support/refused.py", "--beside", room, log, *anew, *record]
     refusing = Part("trying the wrong edits beside it", words, ROOT, ROOT / "out/refused.log", TMPDIR=str(edits))
     try:
@@ -226,7 +249,11 @@ def main() -> int:
         verdict.failed = 1
         return verdict.ends()
     with tempfile.TemporaryDirectory(prefix="noticed-gate-", ignore_cleanup_errors=True) as name:
-        prove_run_and_refuse(Path(name), verdict)
+        proofs = Proofs()
+        try:
+            prove_run_and_refuse(Path(name), verdict, proofs)
+        finally:
+            proofs.stop()
     return verdict.ends()
 
 

@@ -72,7 +72,8 @@ HEADER_CHECKS = """
 /^X-Check: prepend/ PREPEND X-Prepended: by a rule
 /^X-Check: bcc/ BCC later.copy@example.org
 """
-# To this server a program in front hands its notices in: nothing there refuses or changes them.
+# To this server a program in front hands its notices in: nothing there refuses or changes them, and, as docs/DEPLOY.md has it, its
+# cleanup(8) doesn't pause where more mail comes in than goes out.
 HAND_IN = """
 127.0.0.1:{hand_in} inet n - n - - smtpd
     -o syslog_name=postfix/hand-in
@@ -80,6 +81,9 @@ HAND_IN = """
     -o smtpd_milters=
     -o content_filter=
     -o receive_override_options=no_header_body_checks,no_milters,no_unknown_recipient_checks,no_address_mappings
+    -o cleanup_service_name=noticed-cleanup
+noticed-cleanup unix n - n - 0 cleanup
+    -o in_flow_delay=0
 """
 # The queue manager is woken often: it puts a message of which the file is locked back to those that came in, for a minute, and looks at
 # these only when it is woken or mail comes.

@@ -197,21 +197,25 @@ def run_scripts(rows: list, most: int, verdict: Verdict):
     verdict.failed += len(failed)
 
 
+def prove_beside(room: Path, crates: dict, chain: list, log: Path, proofs: Proofs):
+    """Proves the crates that aren't on the chain, two at once, and then the tests that don't wait for its last crates, three at once."""
+    others = [it for it in crates if it not in chain and not stands_on(it, crates) & {*LONGEST[-2:], "probe"}]
+    tests = [it for it in others if it.endswith("_tests")]
+    if not proofs.run(room, [it for it in others if it not in tests], log, RT_JOBS=str(processors() - 2)):
+        proofs.run(room, tests, log, RT_JOBS=str(processors() - 1))
+
+
 def prove_programs(place: Path, proofs: Proofs):
-    """Proves the programs, and beside them the crates that stand on nothing that takes long, those without tests first."""
+    """Proves the programs, crate by crate of the longest chain, and beside them what doesn't stand on the last of these."""
     crates = crates_below()
     chain = chain_to(needed("noticed", crates)) + ["probe"]
-    late = {*LONGEST[len(LONGEST) // 2 :], "probe"}
-    others = [it for it in crates if it not in chain and not stands_on(it, crates) & late]
-    parts = [[it for it in others if it.endswith("_tests") == tests] for tests in (False, True)]
-    logs = [ROOT / f"out/{name}.log" for name in ("chain", "beside")]
-    for room, log in zip((place / "chain", place / "beside"), logs):
+    rooms, logs = [place / "chain", place / "beside"], [ROOT / "out/chain.log", ROOT / "out/beside.log"]
+    for room, log in zip(rooms, logs):
         copied_crates(room, list(crates), crates)
         log.write_bytes(b"")
     print(f"proving the programs first (logs: {', '.join(str(it.relative_to(ROOT)) for it in logs)}) ..", flush=True)
-    beside = {"target": proofs.run_each, "args": (place / "beside", parts, logs[1]), "kwargs": {"RT_JOBS": str(processors() - 2)}}
-    threading.Thread(**beside, daemon=True).start()
-    proofs.run_each(place / "chain", [[it] for it in chain], logs[0])
+    threading.Thread(target=prove_beside, args=(rooms[1], crates, chain, logs[1], proofs), daemon=True).start()
+    proofs.run_each(rooms[0], [[it] for it in chain], logs[0])
 
 
 def prove_run_and_refuse(place: Path, verdict: Verdict, proofs: Proofs):
@@ -223,6 +227,8 @@ def prove_run_and_refuse(place: Path, verdict: Verdict, proofs: Proofs):
     told = jobs_of_proofs()
     if has_processors() and not anew:
         prove_programs(place, proofs)
+        # of its jobs, those wait that tests are proved for already
+        told = {it: str(int(number) + 1) for it, number in told.items()}
     proving = Part("proving every crate and its tests from nothing, rt ci", [RT, "ci", *anew], room, log, **told)
     words = ["nice", "-n", "19", sys.executable, "tests/support/refused.py", "--beside", room, log, *anew, *record]
     refusing = Part("trying the wrong edits beside it", words, ROOT, ROOT / "out/refused.log", TMPDIR=str(edits))

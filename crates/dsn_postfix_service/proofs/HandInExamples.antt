@@ -1,12 +1,13 @@
 -- Worked examples of transactions: what is said and heard, and what comes of it.
-use Rattle.std.proofs.Common.{◌≡◌, ℕ, List, [], ◌∷◌, ◌++◌, Option, Some, None, false, true, refl}
+use Rattle.std.proofs.Common.{◌≡◌, ℕ, List, [], ◌∷◌, ◌++◌, Some, None, false, true, refl}
 use Rattle.std.specs.Prelude.{codes}
 use Rattle.dsn_postfix_service.specs.hand_in.CommandLine.{hello_line, recipient_line}
-use Rattle.dsn_postfix_service.specs.hand_in.Dialogue.{Turn, Heard, HeardNone, Said, SaidPart}
-use Rattle.dsn_postfix_service.specs.hand_in.HandIn.{AsksAll, Greets, Leaves, commands_of, may_be_taken}
-use Rattle.dsn_postfix_service.specs.declared.hand_in.hand_in_fault.HandInFault.TheVariants.{Refused, Unheard, Unsaid}
-use Rattle.dsn_postfix_service.specs.declared.hand_in.hand_in_step.HandInStep.TheVariants.{Greeting, Recipient, Data, Message}
-use Rattle.dsn_postfix_service.specs.declared.hand_in.reply_fault.ReplyFault.TheVariants.{CutShort, Read}
+use Rattle.dsn_postfix_service.specs.hand_in.Dialogue.{Turn, Heard, HeardNone, Said}
+use Rattle.dsn_postfix_service.specs.hand_in.HandIn.{AsksAll, Greets, Leaves, commands_of, is_at_sender, may_be_taken}
+use Rattle.dsn_postfix_service.specs.hand_in.Session.{GreetsAndAsks}
+use Rattle.dsn_postfix_service.specs.declared.hand_in.hand_in_fault.HandInFault.TheVariants.{Refused, Unheard}
+use Rattle.dsn_postfix_service.specs.declared.hand_in.hand_in_step.HandInStep.TheVariants.{Greeting, Sender, Recipient, Data, Message}
+use Rattle.dsn_postfix_service.specs.declared.hand_in.reply_fault.ReplyFault.TheVariants.{Nothing, CutShort, Read}
 
 abbrev line : List ℕ → List ℕ
 line text = text ++ 13 ∷ 10 ∷ []
@@ -57,6 +58,19 @@ may_be = refl
 
 may_not : may_be_taken (Refused Message (codes "451")) ≡ false
 may_not = refl
+
+-- a whole dialogue, from the greeting to a recipient that is refused
+whole : GreetsAndAsks (codes "a.example") (commands_of (codes "b@c.example") message)
+    (heard (codes "220") ∷ Said (line (codes "EHLO a.example")) ∷ heard (codes "250") ∷ (to_recipient ++ heard (codes "550") ∷ []))
+    (Some (Refused Recipient (codes "550")))
+whole = (refl, (refl, (refl, (refl, refl))))
+
+-- a session that was kept is followed by a new one where it fails at MAIL, and at no other step
+gone : is_at_sender (Unheard Sender Nothing) ≡ true
+gone = refl
+
+past_sender : is_at_sender (Refused Recipient (codes "421")) ≡ false
+past_sender = refl
 
 -- QUIT after a refusal, and nothing after a device that failed
 quit : Leaves (Some (Refused Recipient (codes "550"))) (Said (line (codes "QUIT")) ∷ [])

@@ -16,5 +16,6 @@ pub mod RequestLetterLemmas
 pub mod ReplyLemmas
 pub mod ReplyReadingLemmas
 pub mod ServedLemmas
+pub mod SessionLemmas
 pub mod TellingParts
 pub mod TransactionLemmas

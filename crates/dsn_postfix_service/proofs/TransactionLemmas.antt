@@ -98,44 +98,71 @@ asked source drain old between new command before after outcome said heard = rec
 abbrev no_fault : Option HandInFault
 no_fault = None
 
-then_bool : (b : Bool) (P : Type 0) (rest : List Turn) (why : HandInFault) (Q : Type 0) → MatchBool b ((rest ≡ []) × (no_fault ≡ no_fault)) ((rest ≡ []) × (no_fault ≡ Some why)) → (rest ≡ [] → P) → MatchBool b P Q
-then_bool true P rest why Q h follow = follow h.0
-then_bool false P rest why Q h follow = absurd (never_some why h.1)
+then_bool : (b : Bool) (P Q : Type 0) (rest : List Turn) (why : HandInFault) (R : Type 0) → (P → Q) → MatchBool b P ((rest ≡ []) × (no_fault ≡ Some why)) → MatchBool b Q R
+then_bool true P Q rest why R follow h = follow h
+then_bool false P Q rest why R follow h = absurd (never_some why h.1)
 
-pub listens_then : (step : HandInStep) (Follow : Goes) (turns after : List Turn) (outcome : Option HandInFault) → Listens step (AsksAll []) turns None → Follow after outcome → Listens step Follow (turns ++ after) outcome
-listens_then step Follow [] after outcome h follow = absurd h
-listens_then step Follow (Heard code bytes ∷ rest) after outcome h follow =
-    then_bool (is_wanted step (class_of code)) (Follow (rest ++ after) outcome) rest (Refused step code) ((rest ++ after ≡ []) × (outcome ≡ Some (Refused step code))) h
-    (λ none. subst (λ (r : List Turn). Follow (r ++ after) outcome) (sym none) follow)
-listens_then step Follow (HeardNone why ∷ rest) after outcome h follow = absurd (never_some (Unheard step why) h.1)
-listens_then step Follow (Said text ∷ rest) after outcome h follow = absurd h
-listens_then step Follow (SaidPart text ∷ rest) after outcome h follow = absurd h
+listens_on : (step : HandInStep) (First Next : Goes) (turns after : List Turn) (outcome : Option HandInFault)
+    → ((rest : List Turn) → First rest None → Next (rest ++ after) outcome) → Listens step First turns None → Listens step Next (turns ++ after) outcome
+listens_on step First Next [] after outcome follow h = absurd h
+listens_on step First Next (Heard code bytes ∷ rest) after outcome follow h =
+    then_bool (is_wanted step (class_of code)) (First rest None) (Next (rest ++ after) outcome) rest (Refused step code) ((rest ++ after ≡ []) × (outcome ≡ Some (Refused step code))) (follow rest) h
+listens_on step First Next (HeardNone why ∷ rest) after outcome follow h = absurd (never_some (Unheard step why) h.1)
+listens_on step First Next (Said text ∷ rest) after outcome follow h = absurd h
+listens_on step First Next (SaidPart text ∷ rest) after outcome follow h = absurd h
 
-pub asks_then : (command : Command) (Follow : Goes) (turns after : List Turn) (outcome : Option HandInFault) → AsksAll (command ∷ []) turns None → Follow after outcome → AsksCommand command Follow (turns ++ after) outcome
-asks_then command Follow [] after outcome h follow = absurd h
-asks_then command Follow (Said text ∷ rest) after outcome h follow = (h.0, listens_then command.step Follow rest after outcome h.1 follow)
-asks_then command Follow (SaidPart text ∷ rest) after outcome h follow = absurd (never_some (Unsaid command.step) h.1.1)
-asks_then command Follow (Heard code bytes ∷ rest) after outcome h follow = absurd h
-asks_then command Follow (HeardNone why ∷ rest) after outcome h follow = absurd h
+asks_on : (command : Command) (First Next : Goes) (turns after : List Turn) (outcome : Option HandInFault)
+    → ((rest : List Turn) → First rest None → Next (rest ++ after) outcome) → AsksCommand command First turns None → AsksCommand command Next (turns ++ after) outcome
+asks_on command First Next [] after outcome follow h = absurd h
+asks_on command First Next (Said text ∷ rest) after outcome follow h = (h.0, listens_on command.step First Next rest after outcome follow h.1)
+asks_on command First Next (SaidPart text ∷ rest) after outcome follow h = absurd (never_some (Unsaid command.step) h.1.1)
+asks_on command First Next (Heard code bytes ∷ rest) after outcome follow h = absurd h
+asks_on command First Next (HeardNone why ∷ rest) after outcome follow h = absurd h
 
-fault_bool : (b : Bool) (P : Type 0) (rest : List Turn) (why : HandInFault) (Q : Type 0) → MatchBool b ((rest ≡ []) × (Some why ≡ None)) Q → MatchBool b P Q
-fault_bool true P rest why Q h = absurd (never_none why h.1)
-fault_bool false P rest why Q h = h
+-- more commands are asked after some that went well
+pub asks_more : (commands more : List Command) (turns after : List Turn) (outcome : Option HandInFault)
+    → AsksAll commands turns None → AsksAll more after outcome → AsksAll (commands ++ more) (turns ++ after) outcome
+asks_more [] more turns after outcome h next = subst (λ (ts : List Turn). AsksAll more (ts ++ after) outcome) (sym h.0) next
+asks_more (command ∷ commands) more turns after outcome h next =
+    asks_on command (AsksAll commands) (AsksAll (commands ++ more)) turns after outcome (λ rest went. asks_more commands more rest after outcome went next) h
 
-pub listens_fault : (step : HandInStep) (Follow : Goes) (turns : List Turn) (why : HandInFault) → Listens step (AsksAll []) turns (Some why) → Listens step Follow turns (Some why)
-listens_fault step Follow [] why h = absurd h
-listens_fault step Follow (Heard code bytes ∷ rest) why h =
-    fault_bool (is_wanted step (class_of code)) (Follow rest (Some why)) rest why ((rest ≡ []) × (Some why ≡ Some (Refused step code))) h
-listens_fault step Follow (HeardNone other ∷ rest) why h = h
-listens_fault step Follow (Said text ∷ rest) why h = absurd h
-listens_fault step Follow (SaidPart text ∷ rest) why h = absurd h
+-- the same, after a reply that was heard before them
+pub listens_more : (step : HandInStep) (commands more : List Command) (turns after : List Turn) (outcome : Option HandInFault)
+    → Listens step (AsksAll commands) turns None → AsksAll more after outcome → Listens step (AsksAll (commands ++ more)) (turns ++ after) outcome
+listens_more step commands more turns after outcome h next =
+    listens_on step (AsksAll commands) (AsksAll (commands ++ more)) turns after outcome (λ rest went. asks_more commands more rest after outcome went next) h
 
-pub asks_fault : (command : Command) (Follow : Goes) (turns : List Turn) (why : HandInFault) → AsksAll (command ∷ []) turns (Some why) → AsksCommand command Follow turns (Some why)
-asks_fault command Follow [] why h = absurd h
-asks_fault command Follow (Said text ∷ rest) why h = (h.0, listens_fault command.step Follow rest why h.1)
-asks_fault command Follow (SaidPart text ∷ rest) why h = h
-asks_fault command Follow (Heard code bytes ∷ rest) why h = absurd h
-asks_fault command Follow (HeardNone other ∷ rest) why h = absurd h
+fault_bool : (b : Bool) (P Q R : Type 0) → (P → Q) → MatchBool b P R → MatchBool b Q R
+fault_bool true P Q R follow h = follow h
+fault_bool false P Q R follow h = h
+
+listens_to_fault : (step : HandInStep) (First Next : Goes) (turns : List Turn) (why : HandInFault)
+    → ((rest : List Turn) → First rest (Some why) → Next rest (Some why)) → Listens step First turns (Some why) → Listens step Next turns (Some why)
+listens_to_fault step First Next [] why follow h = absurd h
+listens_to_fault step First Next (Heard code bytes ∷ rest) why follow h =
+    fault_bool (is_wanted step (class_of code)) (First rest (Some why)) (Next rest (Some why)) ((rest ≡ []) × (Some why ≡ Some (Refused step code))) (follow rest) h
+listens_to_fault step First Next (HeardNone other ∷ rest) why follow h = h
+listens_to_fault step First Next (Said text ∷ rest) why follow h = absurd h
+listens_to_fault step First Next (SaidPart text ∷ rest) why follow h = absurd h
+
+asks_to_fault : (command : Command) (First Next : Goes) (turns : List Turn) (why : HandInFault)
+    → ((rest : List Turn) → First rest (Some why) → Next rest (Some why)) → AsksCommand command First turns (Some why) → AsksCommand command Next turns (Some why)
+asks_to_fault command First Next [] why follow h = absurd h
+asks_to_fault command First Next (Said text ∷ rest) why follow h = (h.0, listens_to_fault command.step First Next rest why follow h.1)
+asks_to_fault command First Next (SaidPart text ∷ rest) why follow h = h
+asks_to_fault command First Next (Heard code bytes ∷ rest) why follow h = absurd h
+asks_to_fault command First Next (HeardNone other ∷ rest) why follow h = absurd h
+
+-- no more commands are asked after a fault
+pub asks_no_more : (commands more : List Command) (turns : List Turn) (why : HandInFault) → AsksAll commands turns (Some why) → AsksAll (commands ++ more) turns (Some why)
+asks_no_more [] more turns why h = absurd (never_none why h.1)
+asks_no_more (command ∷ commands) more turns why h =
+    asks_to_fault command (AsksAll commands) (AsksAll (commands ++ more)) turns why (λ rest went. asks_no_more commands more rest why went) h
+
+pub listens_no_more : (step : HandInStep) (commands more : List Command) (turns : List Turn) (why : HandInFault)
+    → Listens step (AsksAll commands) turns (Some why) → Listens step (AsksAll (commands ++ more)) turns (Some why)
+listens_no_more step commands more turns why h =
+    listens_to_fault step (AsksAll commands) (AsksAll (commands ++ more)) turns why (λ rest went. asks_no_more commands more rest why went) h
 
 -- ---- one command more
 
@@ -154,7 +181,7 @@ GoesOnFrom commands left turns = (after : List Turn) (outcome : Option HandInFau
 pub asked_on : (commands left rest : List Command) (command : Command) (turns more : List Turn) → left ≡ command ∷ rest → GoesOnFrom commands left turns → AsksAll (command ∷ []) more None → GoesOnFrom commands rest (turns ++ more)
 asked_on commands left rest command turns more is goes_on asks after outcome h =
     subst (λ (all : List Turn). AsksAll commands all outcome) (sym (append_assoc turns more after))
-    (goes_on (more ++ after) outcome (subst (λ (l : List Command). AsksAll l (more ++ after) outcome) (sym is) (asks_then command (AsksAll rest) more after outcome asks h)))
+    (goes_on (more ++ after) outcome (subst (λ (l : List Command). AsksAll l (more ++ after) outcome) (sym is) (asks_more (command ∷ []) rest more after outcome asks h)))
 
 pub stopped : {S : Type 0} → (source : Source.Ghosts S) (drain : Drain.Ghosts S) (old between new : S) (commands left rest : List Command) (command : Command) (turns : List Turn) (first before after : List ℕ) (why : HandInFault)
     → left ≡ command ∷ rest → TakesTurns source drain old between turns → GoesOnFrom commands left turns → TurnsOver source drain between new (AsksAll (command ∷ [])) before after (Some why)
@@ -162,7 +189,7 @@ pub stopped : {S : Type 0} → (source : Source.Ghosts S) (drain : Drain.Ghosts 
 stopped source drain old between new commands left rest command turns first before after why is taken goes_on over = record {
   turns = turns ++ over.turns;
   taken = takes_more source drain old between new turns over.turns taken over.taken;
-  go = goes_on over.turns (Some why) (subst (λ (l : List Command). AsksAll l over.turns (Some why)) (sym is) (asks_fault command (AsksAll rest) over.turns why over.go));
+  go = goes_on over.turns (Some why) (subst (λ (l : List Command). AsksAll l over.turns (Some why)) (sym is) (asks_no_more (command ∷ []) rest over.turns why over.go));
   last = λ e. absurd (never_none why e);
 }
 
@@ -182,15 +209,41 @@ last_after_more first between after turns more one two = last-append first turns
 
 -- ---- how a session begins
 
+-- turns that went well, and others after them
+joined : {S : Type 0} → (source : Source.Ghosts S) (drain : Drain.Ghosts S) (old between new : S) (First Second Go : Goes) (first held after : List ℕ) (outcome : Option HandInFault)
+    → ((turns more : List Turn) → First turns None → Second more outcome → Go (turns ++ more) outcome)
+    → TurnsOver source drain old between First first held None → TurnsOver source drain between new Second held after outcome
+    → TurnsOver source drain old new Go first after outcome
+joined source drain old between new First Second Go first held after outcome go one two = record {
+  turns = one.turns ++ two.turns;
+  taken = takes_more source drain old between new one.turns two.turns one.taken two.taken;
+  go = go one.turns two.turns one.go two.go;
+  last = λ e. last_after_more first held after one.turns two.turns (one.last refl) (two.last e);
+}
+
+-- commands that are asked after a reply was heard, and maybe others
+pub asked_after : {S : Type 0} → (source : Source.Ghosts S) (drain : Drain.Ghosts S) (old between new : S) (step : HandInStep) (commands more : List Command) (first held after : List ℕ) (outcome : Option HandInFault)
+    → TurnsOver source drain old between (Listens step (AsksAll commands)) first held None → TurnsOver source drain between new (AsksAll more) held after outcome
+    → TurnsOver source drain old new (Listens step (AsksAll (commands ++ more))) first after outcome
+asked_after source drain old between new step commands more first held after outcome one two =
+    joined source drain old between new (Listens step (AsksAll commands)) (AsksAll more) (Listens step (AsksAll (commands ++ more))) first held after outcome
+    (λ turns others went next. listens_more step commands more turns others outcome went next) one two
+
+-- none is asked after a fault
+pub not_asked_after : {S : Type 0} → (source : Source.Ghosts S) (drain : Drain.Ghosts S) (old new : S) (step : HandInStep) (commands more : List Command) (first after : List ℕ) (why : HandInFault)
+    → TurnsOver source drain old new (Listens step (AsksAll commands)) first after (Some why) → TurnsOver source drain old new (Listens step (AsksAll (commands ++ more))) first after (Some why)
+not_asked_after source drain old new step commands more first after why over = record {
+  turns = over.turns;
+  taken = over.taken;
+  go = listens_no_more step commands more over.turns why over.go;
+  last = λ e. absurd (never_none why e);
+}
+
 pub greeted : {S : Type 0} → (source : Source.Ghosts S) (drain : Drain.Ghosts S) (old between new : S) (line first held after : List ℕ) (outcome : Option HandInFault)
     → TurnsOver source drain old between (Listens Greeting (AsksAll [])) first held None → TurnsOver source drain between new (AsksAll (record { step = Hello; text = line } ∷ [])) held after outcome
     → TurnsOver source drain old new (GreetsWith line) first after outcome
-greeted source drain old between new line first held after outcome heard asks = record {
-  turns = heard.turns ++ asks.turns;
-  taken = takes_more source drain old between new heard.turns asks.turns heard.taken asks.taken;
-  go = listens_then Greeting (AsksAll (record { step = Hello; text = line } ∷ [])) heard.turns asks.turns outcome heard.go asks.go;
-  last = λ e. last_after_more first held after heard.turns asks.turns (heard.last refl) (asks.last e);
-}
+greeted source drain old between new line first held after outcome heard asks =
+    asked_after source drain old between new Greeting [] (record { step = Hello; text = line } ∷ []) first held after outcome heard asks
 
 -- ---- QUIT
 

@@ -7,3 +7,4 @@ pub mod Reply
 pub mod ReplyCode
 pub mod ReplyPlace
 pub mod ReplyReading
+pub mod Session

@@ -14,8 +14,8 @@ mod serving;
 
 pub use clients::{ClientFault, serve_client};
 pub use hand_in::{
-    HandInFault, HandInStep, LONGEST_REPLY, ReplyBuffer, ReplyClass, ReplyCode, ReplyFault, greet,
-    hand_in_notice, leave, queue_id_in,
+    Connect, HandInFault, HandInStep, LONGEST_REPLY, Notice, ReplyBuffer, ReplyClass, ReplyCode,
+    ReplyFault, Session, greet, hand_in_notice, hand_in_over, leave, queue_id_in,
 };
 pub use letters::{LetterFault, ReportedMessage, letter_of_notice};
 pub use queue_folder::{FolderHashing, PostfixPlace, ask_own_service, path_in_queue};

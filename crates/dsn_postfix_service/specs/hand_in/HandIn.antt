@@ -112,6 +112,16 @@ abbrev pub fault_said : {T : Type 0} → Result T HandInFault → Option HandInF
 fault_said (Ok value) = None
 fault_said (Err why) = Some why
 
+abbrev pub is_sender_step : HandInStep → Bool
+is_sender_step Sender = true
+is_sender_step step = false
+
+-- whether a transaction went wrong at its first command
+abbrev pub is_at_sender : HandInFault → Bool
+is_at_sender (Refused step code) = is_sender_step step
+is_at_sender (Unheard step why) = is_sender_step step
+is_at_sender (Unsaid step) = is_sender_step step
+
 abbrev pub is_message_step : HandInStep → Bool
 is_message_step Message = true
 is_message_step step = false

@@ -1,6 +1,6 @@
 //! Why a notice wasn't handed in.
 ghost use Rattle.std.specs.Prelude.{◌≡◌};
-ghost use Rattle.dsn_postfix_service.specs.hand_in.HandIn.{is_broken, may_be_taken, is_refused_for_good};
+ghost use Rattle.dsn_postfix_service.specs.hand_in.HandIn.{is_at_sender, is_broken, may_be_taken, is_refused_for_good};
 
 use crate::hand_in::hand_in_step::HandInStep;
 use crate::hand_in::reply_class::ReplyClass;
@@ -42,6 +42,18 @@ impl HandInFault {
             HandInFault::Refused(_, code) => matches!(code.class(), ReplyClass::RefusedForGood),
             HandInFault::Unheard(..) | HandInFault::Unsaid(_) => false,
         }
+    }
+
+    /// Whether a transaction went wrong at its first command: nothing but MAIL was said in it, if that was.
+    pub fn is_at_sender(&self) -> bool
+        ensures { result ≡ is_at_sender self.now }
+    {
+        matches!(
+            self,
+            HandInFault::Refused(HandInStep::Sender, _)
+                | HandInFault::Unheard(HandInStep::Sender, _)
+                | HandInFault::Unsaid(HandInStep::Sender)
+        )
     }
 
     /// Whether the device failed, so that nothing more is said over it.

@@ -1,23 +1,27 @@
 //! The sessions with the mail server that are kept from one notice to another.
-use crate::hand_in::{HandInFault, HandInStep, ReplyBuffer};
-use crate::mail_server::session::Session;
-use crate::queue_folder::PostfixPlace;
-use dsn_text::Address;
+use crate::hand_in::{HandInFault, Notice, ReplyBuffer, Session, hand_in_over};
+use crate::mail_server::mail_connection::MailServer;
+use crate::queue_folder::Connection;
+use dsn_device::Plain;
 use std::alloc::Global;
 use std::mem;
+use std::net::TcpStream;
 use std::sync::{Condvar, Mutex, Wait};
 
 /// How many notices are handed in at once. Others wait: a notice that was taken is told twice where the process is killed before its log
 /// is removed, and the more go to the server's disk at once, the longer that takes each.
 const MOST_AT_ONCE: u32 = 4;
 
+/// A session over a socket.
+type MailSession = Session<Plain<Connection<TcpStream>>>;
+
 /// Sessions that nobody uses, and how many are used.
 #[derive(Drop)]
 struct IdleSessions {
     /// Those that were used since the last round.
-    fresh: Vec<Session>,
+    fresh: Vec<MailSession>,
     /// Those that were not.
-    stale: Vec<Session>,
+    stale: Vec<MailSession>,
     /// How many notices are handed in just now.
     at_work: u32,
 }
@@ -45,7 +49,7 @@ impl KeptSessions {
     }
 
     /// Waits until another notice may be handed in, and takes the session that was used last.
-    fn take<W: Wait>(&self, waiting: &W) -> Option<Session> {
+    fn take<W: Wait>(&self, waiting: &W) -> Option<MailSession> {
         let guard = self.idle.lock(waiting);
         let mut idle = self
             .ended
@@ -57,19 +61,14 @@ impl KeptSessions {
         }
     }
 
-    /// Says that a notice is no longer handed in, and keeps its session where the notice was accepted. Gives back a session
-    /// that isn't kept.
-    fn put_back<W: Wait>(
-        &self,
-        waiting: &W,
-        session: Option<Session>,
-        is_accepted: bool,
-    ) -> Option<Session> {
+    /// Says that a notice is no longer handed in, and keeps the session in which it was accepted. Gives back a session that
+    /// isn't kept.
+    fn put_back<W: Wait>(&self, waiting: &W, session: Option<MailSession>) -> Option<MailSession> {
         let mut idle = self.idle.lock(waiting);
         idle.at_work = idle.at_work.saturating_sub(1);
         self.ended.notify_one();
         match session {
-            Some(session) if is_accepted && session.may_go_on() => match idle.fresh.push(session) {
+            Some(session) if session.may_go_on() => match idle.fresh.push(session) {
                 Ok(()) => None,
                 Err(refused) => Some(refused.value),
             },
@@ -77,29 +76,30 @@ impl KeptSessions {
         }
     }
 
-    /// Hands a notice to the mail server at a place, in a session that is kept, or else in a new one.
+    /// Hands a notice to a mail server, in a session that is kept, or else in a new one.
     pub(crate) fn hand_in<W: Wait>(
         &self,
-        rt: &HostRuntime,
         waiting: &W,
-        place: &PostfixPlace<'_>,
-        path: &Address,
-        message: &[u8],
+        server: &MailServer<'_>,
+        notice: &Notice<'_>,
         reply: &mut ReplyBuffer,
     ) -> Result<(), HandInFault> {
         let kept = self.take(waiting);
-        let (session, outcome) = hand_in_over(rt, place, kept, path, message, reply);
-        if let Some(left) = self.put_back(waiting, session, outcome.is_ok()) {
-            left.end(&outcome);
+        let (session, handed) = match hand_in_over(server, kept, server.host, notice, reply) {
+            Ok(session) => (Some(session), Ok(())),
+            Err(fault) => (None, Err(fault)),
+        };
+        if let Some(left) = self.put_back(waiting, session) {
+            left.end();
         }
-        outcome
+        handed
     }
 
     /// Ends the sessions that weren't used since the call before this one.
     pub(crate) fn end_stale<W: Wait>(&self, waiting: &W) {
         for _ in 0..MOST_AT_ONCE {
             match self.take_stale(waiting) {
-                Some(session) => session.end(&Ok(())),
+                Some(session) => session.end(),
                 None => break,
             }
         }
@@ -107,7 +107,7 @@ impl KeptSessions {
     }
 
     /// Takes a stale session.
-    fn take_stale<W: Wait>(&self, waiting: &W) -> Option<Session> {
+    fn take_stale<W: Wait>(&self, waiting: &W) -> Option<MailSession> {
         self.idle.lock(waiting).stale.pop()
     }
 
@@ -116,44 +116,5 @@ impl KeptSessions {
         let mut guard = self.idle.lock(waiting);
         let idle: &mut IdleSessions = &mut guard;
         mem::swap(&mut idle.fresh, &mut idle.stale);
-    }
-}
-
-/// Hands a notice in in a session that was kept, if there is one. The server may have ended it: where that shows before it
-/// took the sender, and where there is none, a session is begun for the notice. Gives back the session that was used last.
-fn hand_in_over(
-    rt: &HostRuntime,
-    place: &PostfixPlace<'_>,
-    kept: Option<Session>,
-    path: &Address,
-    message: &[u8],
-    reply: &mut ReplyBuffer,
-) -> (Option<Session>, Result<(), HandInFault>) {
-    if let Some(mut session) = kept {
-        let outcome = session.hand_in(path, message, reply);
-        if !is_at_sender(&outcome) {
-            return (Some(session), outcome);
-        }
-        session.end(&outcome);
-        // none of its replies is left
-        *reply = ReplyBuffer::new();
-    }
-    match Session::begin(rt, place, reply) {
-        Ok(mut session) => {
-            let outcome = session.hand_in(path, message, reply);
-            (Some(session), outcome)
-        }
-        Err(fault) => (None, Err(fault)),
-    }
-}
-
-/// Whether a transaction went wrong at its first command.
-fn is_at_sender(outcome: &Result<(), HandInFault>) -> bool {
-    match outcome {
-        Ok(()) => false,
-        Err(HandInFault::Refused(step, _) | HandInFault::Unheard(step, _)) => {
-            matches!(step, HandInStep::Sender)
-        }
-        Err(HandInFault::Unsaid(step)) => matches!(step, HandInStep::Sender),
     }
 }

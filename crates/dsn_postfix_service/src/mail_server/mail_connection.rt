@@ -1,6 +1,10 @@
-//! A connection to the mail server that notices are handed to.
-use crate::queue_folder::Connection;
+//! Connections to the mail server that notices are handed to.
+use crate::hand_in::{Connect, HandInFault, HandInStep, ReplyFault};
+use crate::queue_folder::{Connection, PostfixPlace};
+use dsn_device::Plain;
+use dsn_text::MtaName;
 use std::io;
+use std::io::Eprint;
 use std::net::{SocketAddr, TcpStream};
 use std::time::Duration;
 
@@ -11,16 +15,48 @@ const SECONDS_TO_CONNECT: u64 = 30;
 /// RFC 5321 section 4.5.3.2 gives the reply to a message's end, the longest there.
 const SECONDS_FOR_PIECE: u64 = 600;
 
-/// Connects to the mail server at an address, with time limits.
-pub(super) fn connect_to_mail_server(
-    rt: &HostRuntime,
-    address: &SocketAddr,
-) -> io::Result<Connection<TcpStream>> {
+/// The mail server beside a Postfix.
+#[derive(Drop)]
+pub(crate) struct MailServer<'a> {
+    rt: &'a HostRuntime,
+    address: &'a SocketAddr,
+    /// The name by which it knows the client.
+    pub(super) host: &'a MtaName,
+}
+
+impl<'a> MailServer<'a> {
+    /// The one at a place.
+    pub(crate) fn new(rt: &'a HostRuntime, place: &'a PostfixPlace<'_>) -> MailServer<'a> {
+        MailServer {
+            rt,
+            address: &place.hand_in,
+            host: place.host,
+        }
+    }
+}
+
+impl Connect<Plain<Connection<TcpStream>>> for MailServer<'_> {
+    ghost gives = { λ _ _. Unit {0} };
+
+    // Where no connection could be made, that is a greeting that wasn't heard, and a line says why.
+    fn connect(&self) -> Result<Plain<Connection<TcpStream>>, HandInFault> {
+        match connect_with_limits(self.rt, self.address) {
+            Ok(stream) => Ok(Plain::new(Connection::new(stream))),
+            Err(error) => {
+                let _ = eprintln!(self.rt; "{}: {error}", self.address);
+                Err(HandInFault::Unheard(HandInStep::Greeting, ReplyFault::Read))
+            }
+        }
+    }
+}
+
+/// Connects to an address, with time limits.
+fn connect_with_limits(rt: &HostRuntime, address: &SocketAddr) -> io::Result<TcpStream> {
     let to_connect = Duration::from_secs(SECONDS_TO_CONNECT);
     let for_piece = Duration::from_secs(SECONDS_FOR_PIECE);
     let stream = TcpStream::connect_timeout(rt, address, to_connect)?;
     stream.set_read_timeout(Some(for_piece))?;
     stream.set_write_timeout(Some(for_piece))?;
     stream.set_nodelay(true)?;
-    Ok(Connection::new(stream))
+    Ok(stream)
 }

@@ -1,8 +1,8 @@
 //! A running Postfix as a mail system.
 ghost use Rattle.std.specs.Prelude.{None};
 
-use crate::hand_in::{HandInFault, ReplyBuffer, queue_id_in};
-use crate::mail_server::KeptSessions;
+use crate::hand_in::{HandInFault, Notice, ReplyBuffer, queue_id_in};
+use crate::mail_server::{KeptSessions, MailServer};
 use crate::queue_folder::ascii_text::ascii_text;
 use crate::queue_folder::connection::Connection;
 use crate::queue_folder::log_file::{
@@ -225,7 +225,8 @@ impl<W: Wait> MailSystem for PostfixSystem<'_, W> {
         let (rt, place): (&HostRuntime, &PostfixPlace<'_>) = (self.rt, self.place);
         let (asked, kind) = (self.asked, self.kind);
         let sessions: &KeptSessions = self.sessions;
-        match sessions.hand_in(rt, self.waiting, place, path, message, reply) {
+        let server = MailServer::new(rt, place);
+        match sessions.hand_in(self.waiting, &server, &Notice { path, message }, reply) {
             Ok(()) => {
                 log_notice(rt, asked, kind, reply);
                 Ok(())

@@ -290,14 +290,18 @@ fn what_is_no_letter_is_passed_on_and_nothing_is_handed_in(rt: HostRuntime) -> R
     Ok(())
 }
 
-#[test]
-fn each_recipient_has_a_path_of_its_own(rt: HostRuntime) -> Result<(), Fail> {
-    let verp = Asked {
+/// A flush whose notices have a return path for each recipient.
+fn verp() -> Asked<'static> {
+    Asked {
         kind: b"3",
         own: b"verp_delimiters\0+=\0",
         ..FLUSH
-    };
-    let bytes = notice_bytes(rt.alloc(), verp)?;
+    }
+}
+
+#[test]
+fn each_recipient_has_a_path_of_its_own(rt: HostRuntime) -> Result<(), Fail> {
+    let bytes = notice_bytes(rt.alloc(), verp())?;
     let all =
         b"log B\nmessage active\nhand-in ann+no=a.example@example.com\nhand-in ann+no=b.example@example.com\nremove B\nrelease \n";
     carried_out(&rt, &bytes, told(Some(LOG), all))?;
@@ -328,12 +332,7 @@ fn a_first_letter_that_is_refused_for_good_is_passed_on(rt: HostRuntime) -> Resu
 // Who is told by the first would be told once more.
 #[test]
 fn a_later_letter_that_is_refused_for_good_is_put_off(rt: HostRuntime) -> Result<(), Fail> {
-    let verp = Asked {
-        kind: b"3",
-        own: b"verp_delimiters\0+=\0",
-        ..FLUSH
-    };
-    let bytes = notice_bytes(rt.alloc(), verp)?;
+    let bytes = notice_bytes(rt.alloc(), verp())?;
     let second =
         b"log B\nmessage active\nhand-in ann+no=a.example@example.com\nhand-in ann+no=b.example@example.com\nrelease \n";
     carried_out_with(&rt, &bytes, failed(3, second), refused(*b"550")?)
@@ -494,12 +493,7 @@ fn a_bounce_log_that_postfix_tells_comes_first(rt: HostRuntime) -> Result<(), Fa
 
 #[test]
 fn a_flush_with_a_path_for_each_tells_the_bounce_log_first(rt: HostRuntime) -> Result<(), Fail> {
-    let verp = Asked {
-        kind: b"3",
-        own: b"verp_delimiters\0+=\0",
-        ..FLUSH
-    };
-    let bytes = notice_bytes(rt.alloc(), verp)?;
+    let bytes = notice_bytes(rt.alloc(), verp())?;
     let both =
         b"seek B\nlog B\nmessage active\nhand-in ann+no=a.example@example.com\nhand-in ann+no=b.example@example.com\nremove B\nrelease \nlog D\nmessage active\nhand-in ann+no=a.example@example.com\nremove D\nrelease \n";
     carried_out(&rt, &bytes, flushed(Some(LOG), both))

@@ -197,24 +197,19 @@ def run_scripts(rows: list, most: int, verdict: Verdict):
     verdict.failed += len(failed)
 
 
-def prove_beside(room: Path, crates: dict, chain: list, log: Path, proofs: Proofs):
-    """Proves the crates that aren't on the chain, two at once, and then the tests that don't wait for its last crates, three at once."""
-    others = [it for it in crates if it not in chain and not stands_on(it, crates) & {*LONGEST[-2:], "probe"}]
-    tests = [it for it in others if it.endswith("_tests")]
-    if not proofs.run(room, [it for it in others if it not in tests], log, RT_JOBS=str(processors() - 2)):
-        proofs.run(room, tests, log, RT_JOBS=str(processors() - 1))
-
-
 def prove_programs(place: Path, proofs: Proofs):
-    """Proves the programs, crate by crate of the longest chain, and beside them what doesn't stand on the last of these."""
+    """Proves the programs, crate by crate of the longest chain. Beside them, with what they leave of the processors, go the crates and
+    the tests that don't stand on the chain's last ones; these go on when the programs are there."""
     crates = crates_below()
     chain = chain_to(needed("noticed", crates)) + ["probe"]
+    others = [it for it in crates if it not in chain and not stands_on(it, crates) & {*LONGEST[-2:], "probe"}]
     rooms, logs = [place / "chain", place / "beside"], [ROOT / "out/chain.log", ROOT / "out/beside.log"]
     for room, log in zip(rooms, logs):
         copied_crates(room, list(crates), crates)
         log.write_bytes(b"")
     print(f"proving the programs first (logs: {', '.join(str(it.relative_to(ROOT)) for it in logs)}) ..", flush=True)
-    threading.Thread(target=prove_beside, args=(rooms[1], crates, chain, logs[1], proofs), daemon=True).start()
+    beside = {"before": ("nice", "-n", "5"), "RT_JOBS": str(processors() - 1)}
+    threading.Thread(target=proofs.run, args=(rooms[1], others, logs[1]), kwargs=beside, daemon=True).start()
     proofs.run_each(rooms[0], [[it] for it in chain], logs[0])
 
 

@@ -82,12 +82,12 @@ class Proofs:
                     self.told.add(found[1])
                     print(f"  {time.monotonic() - self.begun:4.0f} s  {found[1]} {WORDS[found[2]]}", flush=True)
 
-    def run(self, room: Path, names: list, log: Path, **more) -> int:
+    def run(self, room: Path, names: list, log: Path, before: tuple = (), **more) -> int:
         """Proves these crates of a copy and those below them, in a copy of `rt`'s own; with no names, all of the copy, and builds its
-        programs there. What is said is added to a log: the status of `rt`."""
+        programs there. What is said is added to a log, and some words may stand before the command: the status of `rt`."""
         # A group of processes, to be stopped as one.
         words = {"stdin": subprocess.DEVNULL, "stdout": subprocess.PIPE, "stderr": subprocess.STDOUT, "preexec_fn": os.setpgrp}
-        running = subprocess.Popen([RT, "ci", *names], cwd=room, env={**os.environ, **more}, **words)
+        running = subprocess.Popen([*before, RT, "ci", *names], cwd=room, env={**os.environ, **more}, **words)
         self.running.append(running)
         with running.stdout, open(log, "ab") as out:
             for line in running.stdout:

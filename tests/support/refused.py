@@ -263,6 +263,8 @@ def main() -> int:
     room, libraries = ROOT, Built()
     if words[:1] == ["--beside"]:
         room, libraries, words = Path(words[1]), Proving(Path(words[2])), words[3:]
+        # where memory runs out, the system is to end a check of an edit, which is tried again, before the proof of a crate
+        Path("/proc/self/oom_score_adj").write_text("1000", encoding="ascii")
     os.chdir(room)
     known = kit.crates_below(room)
     with tempfile.TemporaryDirectory(prefix="noticed-edits-", ignore_cleanup_errors=True) as place:

@@ -35,9 +35,9 @@ PROVES = f"""#!/bin/sh
 cat << 'END'
 {SAID}END
 echo "$*"
-echo "$* $RT_JOBS" >> "$CALLS"
-if [ "$*" = "ci low side high" ]; then
-    touch "$GO_ON"
+echo $(cut -d: -f1 crates.txt) $RT_JOBS >> "$CALLS"
+if ! grep -q ^noticed crates.txt; then
+    [ -z "$RT_JOBS" ] || touch "$GO_ON"
     exit 0
 fi
 cat crates.txt HANDLES
@@ -120,8 +120,12 @@ def built(checks: Checks, status: int):
             checks.equal("what is up to date isn't built again", (again.returncode, names(again.stdout.decode().splitlines())), (0, []))
 
 
-# The build with as many processors as it would have, whatever this machine has.
-BESIDE = "import sys, build; build.has_processors = lambda: True; build.processors = lambda: 6; sys.argv[1:] = ['noticed']; sys.exit(build.main())"
+# The build with as many processors as it would have, whatever this machine has, and a chain of the made-up crates.
+BESIDE = """import sys, build, proving
+build.has_processors, build.processors, build.jobs, proving.LONGEST = lambda: True, lambda: 6, str, ("low", "noticed")
+sys.argv[1:] = ["noticed"]
+sys.exit(build.main())"""
+CALLS = ["low", "low side high 4", "low side high noticed may_wait=2"]
 
 
 def built_beside(checks: Checks, status: int):
@@ -133,7 +137,7 @@ def built_beside(checks: Checks, status: int):
         told = {**{it: text for it, text in os.environ.items() if it != "RT_JOBS"}, **told}
         ended = subprocess.run([sys.executable, "-c", BESIDE], cwd=room / "tests/support", env=told, check=False, capture_output=True, timeout=PATIENCE)
         checks.equal(f"two runs, status {status}: its own", ended.returncode, status)
-        checks.equal(f"two runs, status {status}: each was asked", sorted((room / "calls").read_text().splitlines()), ["ci ", "ci low side high 4"])
+        checks.equal(f"two runs, status {status}: each was asked", sorted((room / "calls").read_text().splitlines()), CALLS)
         checks.equal(f"two runs, status {status}: each crate is named once", sorted(names(ended.stdout.decode().splitlines())), sorted([*NAMED, "noticed"]))
         checks.equal(f"two runs, status {status}: the program", (room / "crates/noticed/out/noticed").read_text(), "old\n" if status else "new\n")
 

@@ -4,7 +4,8 @@ it. It works in copies that have these crates alone, without the wrong edits, by
 machine before of the same text: the longest chain of crates, and the others beside it (proving.py). It tells each crate as it is
 proved; where it fails, the log is shown.
 
-    python3 tests/support/build.py PROGRAM        the program is then crates/PROGRAM/out/PROGRAM, the log out/PROGRAM.log"""
+    python3 tests/support/build.py PROGRAM        the program is then crates/PROGRAM/out/PROGRAM, the log out/PROGRAM.log, and that of
+                                                  the run beside the chain out/PROGRAM.beside.log"""
 import shutil
 import signal
 import sys
@@ -14,23 +15,22 @@ from pathlib import Path
 
 sys.dont_write_bytecode = True
 from jobs import processors  # noqa: E402
-from proving import ROOT, Proofs, chain_to, copied, crates_below, has_processors, needed  # noqa: E402
+from proving import ROOT, Proofs, chain_to, copied, copied_chain, crates_below, has_processors, jobs, needed  # noqa: E402
 
 
 def proved(place: Path, names: list, crates: dict, log: Path) -> int:
     """Proves and builds the last of these crates with those that it stands on, in copies in this place: the status of `rt`."""
-    proofs, room, beside = Proofs(), place / "chain", place / "beside"
+    proofs, beside = Proofs(), log.with_suffix(".beside.log")
     log.write_bytes(b"")
-    copied(room, names, crates)
+    chain = chain_to(names) if has_processors() else names[-1:]
+    rooms = copied_chain(place, chain, crates)
     try:
-        if not has_processors():
-            return proofs.run(room, [], log)
-        chain = chain_to(names)
-        copied(beside, names, crates)
-        others = [it for it in names if it not in chain]
-        threading.Thread(target=proofs.run, args=(beside, others, log.with_suffix(".beside")), kwargs={"RT_JOBS": str(processors() - 2)}, daemon=True).start()
-        # a run of some crates leaves no program
-        return proofs.run_each(room, [*([it] for it in chain[:-1]), []], log)
+        if len(chain) > 1:
+            beside.write_bytes(b"")
+            others = [it for it in names if it not in chain]
+            copied(place / "beside", [it for it in names if any(it in needed(other, crates) for other in others)], crates)
+            threading.Thread(target=proofs.run, args=(place / "beside", beside), kwargs={"RT_JOBS": jobs(processors() - 2)}, daemon=True).start()
+        return proofs.run_chain(rooms, log)
     finally:
         proofs.stop()
 
@@ -56,7 +56,7 @@ def main() -> int:
     print(f"proving {program} and the {len(names) - 1} crates below it, and building it (log: {log.relative_to(ROOT)}) ..", flush=True)
     with tempfile.TemporaryDirectory(prefix="noticed-build-", ignore_cleanup_errors=True) as name:
         status = proved(Path(name), names, crates, log)
-        if not status and keep(program, Path(name) / "chain"):
+        if not status and keep(program, Path(name) / program):
             return 0
     print(f"{log.read_text(errors='replace')}{program} could not be proved or built")
     return status or 1

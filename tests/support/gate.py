@@ -27,7 +27,7 @@ from pathlib import Path
 sys.path.insert(0, str(Path(__file__).parent))
 from jobs import free, processors  # noqa: E402
 from kit import RT  # noqa: E402
-from proving import FEW, LONGEST, ROOM, Proofs, chain_to, copied as copied_crates, crates_below, has_processors, needed, stands_on  # noqa: E402
+from proving import FEW, LONGEST, ROOM, Proofs, chain_to, copied as copied_crates, copied_chain, crates_below, has_processors, jobs, needed, stands_on  # noqa: E402
 from running import ROOT  # noqa: E402
 
 PROGRAMS = {"NOTICED": "noticed", "PROBE": "probe"}
@@ -203,14 +203,15 @@ def prove_programs(place: Path, proofs: Proofs):
     crates = crates_below()
     chain = chain_to(needed("noticed", crates)) + ["probe"]
     others = [it for it in crates if it not in chain and not stands_on(it, crates) & {*LONGEST[-2:], "probe"}]
-    rooms, logs = [place / "chain", place / "beside"], [ROOT / "out/chain.log", ROOT / "out/beside.log"]
-    for room, log in zip(rooms, logs):
-        copied_crates(room, list(crates), crates)
+    logs = [ROOT / "out/chain.log", ROOT / "out/beside.log"]
+    for log in logs:
         log.write_bytes(b"")
+    copied_crates(place / "beside", [it for it in crates if any(it in stands_on(other, crates) for other in others)], crates)
+    rooms = copied_chain(place, chain, crates)
     print(f"proving the programs first (logs: {', '.join(str(it.relative_to(ROOT)) for it in logs)}) ..", flush=True)
-    beside = {"before": ("nice", "-n", "5"), "RT_JOBS": str(processors() - 1)}
-    threading.Thread(target=proofs.run, args=(rooms[1], others, logs[1]), kwargs=beside, daemon=True).start()
-    proofs.run_each(rooms[0], [[it] for it in chain], logs[0])
+    beside = {"before": ("nice", "-n", "5"), "RT_JOBS": jobs(processors() - 1)}
+    threading.Thread(target=proofs.run, args=(place / "beside", logs[1]), kwargs=beside, daemon=True).start()
+    proofs.run_chain(rooms, logs[0])
 
 
 def prove_run_and_refuse(place: Path, verdict: Verdict, proofs: Proofs):
@@ -232,6 +233,7 @@ def prove_run_and_refuse(place: Path, verdict: Verdict, proofs: Proofs):
             keep_programs(room)
             run_scripts(rows_beside(), min(SIDE_BY_SIDE, processors()), verdict)
         verdict.count(*proving.ends())
+        proofs.stop()
         if verdict.failed:
             return
         run_scripts([[it] for it in ALONE], 1, verdict)

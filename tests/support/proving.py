@@ -1,9 +1,10 @@
-"""Proves the crates below a program by more than one run of `rt ci`, each in a copy of the repository of its own.
+"""Proves the crates below a program by more than one run of `rt ci`, each over a copy of some crates of the repository.
 
 `rt ci` gives a proof one processor where it is told how many jobs to run, and two where it isn't and one crate alone is left to
 prove. So the crates of the longest chain, which each wait for the one before, are proved one run after another, with two
 processors each; beside them one more run, told its number of jobs, proves the others. Runs that come to the same crate wait for
-each other, and take over what the other one proved."""
+each other, and take over what the other one proved: `rt` keeps it beside the kit."""
+import contextlib
 import os
 import re
 import shutil
@@ -17,8 +18,10 @@ from jobs import free, processors
 from kit import RT
 
 ROOT = Path(__file__).resolve().parents[2]
-# With so many processors, and so many KiB of free memory for each, the chain has two of them; with fewer, one run proves all.
-FEW, ROOM = 4, 5 * 1024 * 1024
+# With so many processors, and so many KiB of free memory for each, the chain has two of them; with fewer, one run proves all. So it
+# does where `rt` can't keep what is proved, for which it leaves so many bytes of the disk.
+FEW, ROOM, DISK = 4, 5 * 1024 * 1024, 8_000_000_000
+STORE = Path(RT).resolve().parents[2] / "rattle-kept"
 # The chain of crates that takes longest, as runs of the gate were seen to take.
 LONGEST = ("dsn_text", "dsn_outcome", "dsn_frame", "dsn_crew", "noticed_lib", "noticed")
 TOLD = re.compile(r"^rt: (\w+)( proved| is kept: | NOT PROVED)")
@@ -57,7 +60,7 @@ def chain_to(names: list) -> list:
     return [it for it in LONGEST if it in names[:-1]] + names[-1:]
 
 
-def copied(room: Path, names: list, crates: dict):
+def copied(room: Path, names, crates: dict):
     """A copy of these crates, without what was built here, and without the wrong edits."""
     left_out = shutil.ignore_patterns("out", "must-fail", "controls", "__pycache__")
     for it in names:
@@ -71,7 +74,7 @@ class Proofs:
     """Runs of `rt ci` side by side. Each crate is told once, with the seconds since the first began, as it is proved."""
 
     def __init__(self):
-        self.begun, self.told, self.running, self.turn = time.monotonic(), set(), [], threading.Lock()
+        self.begun, self.told, self.running, self.turn, self.is_over = time.monotonic(), set(), [], threading.Lock(), False
 
     def tell(self, line: str):
         """Prints a line of `rt` that says what became of a crate."""
@@ -82,13 +85,15 @@ class Proofs:
                     self.told.add(found[1])
                     print(f"  {time.monotonic() - self.begun:4.0f} s  {found[1]} {WORDS[found[2]]}", flush=True)
 
-    def run(self, room: Path, names: list, log: Path, before: tuple = (), **more) -> int:
-        """Proves these crates of a copy and those below them, in a copy of `rt`'s own; with no names, all of the copy, and builds its
-        programs there. What is said is added to a log, and some words may stand before the command: the status of `rt`."""
+    def run(self, room: Path, log: Path, before: tuple = (), **more) -> int:
+        """Proves and builds all crates of a copy. What is said goes into a log, and words may stand before the command: the status of `rt`."""
         # A group of processes, to be stopped as one.
         words = {"stdin": subprocess.DEVNULL, "stdout": subprocess.PIPE, "stderr": subprocess.STDOUT, "preexec_fn": os.setpgrp}
-        running = subprocess.Popen([*before, RT, "ci", *names], cwd=room, env={**os.environ, **more}, **words)
-        self.running.append(running)
+        with self.turn:
+            if self.is_over:
+                return 1
+            running = subprocess.Popen([*before, RT, "ci"], cwd=room, env={**os.environ, **more}, **words)
+            self.running.append(running)
         with running.stdout, open(log, "ab") as out:
             for line in running.stdout:
                 out.write(line)
@@ -96,21 +101,42 @@ class Proofs:
                 self.tell(line.decode(errors="replace"))
         return running.wait()
 
-    def run_each(self, room: Path, parts: list, log: Path, **more) -> int:
-        """Proves parts of a copy, one run after another, until one fails: the status of the last run."""
+    def run_chain(self, rooms: list, log: Path) -> int:
+        """Proves copies, one run after another, until one fails: the status of the last run."""
         status = 0
-        for names in parts:
-            status = status or self.run(room, names, log, **more)
+        for room in rooms:
+            status = status or self.run(room, log)
         return status
 
     def stop(self):
-        """Ends what runs."""
+        """Ends what runs, and lets no other one run."""
+        with self.turn:
+            self.is_over = True
         for it in self.running:
             if it.poll() is None:
-                os.killpg(it.pid, signal.SIGKILL)
+                with contextlib.suppress(ProcessLookupError):
+                    os.killpg(it.pid, signal.SIGKILL)
                 it.wait()
+
+
+def copied_chain(place: Path, chain: list, crates: dict) -> list:
+    """A copy for each crate of a chain, with the crates that it stands on: their folders."""
+    for it in chain:
+        copied(place / it, needed(it, crates), crates)
+    return [place / it for it in chain]
+
+
+def jobs(most: int) -> str:
+    """How many jobs a run beside the chain may have, so many at most: each needs memory."""
+    return str(max(1, min(most, free() // ROOM - 1)))
+
+
+def keeps() -> bool:
+    """Whether `rt` can keep what is proved."""
+    place = STORE if STORE.is_dir() else STORE.parent
+    return place.is_dir() and os.access(place, os.W_OK) and shutil.disk_usage(place).free >= DISK
 
 
 def has_processors() -> bool:
     """Whether the chain of crates may have two processors."""
-    return "RT_JOBS" not in os.environ and processors() >= FEW and free() >= FEW * ROOM
+    return "RT_JOBS" not in os.environ and processors() >= FEW and free() >= FEW * ROOM and keeps()

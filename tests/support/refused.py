@@ -19,6 +19,7 @@ are tried. With `--record` the record is written: what stood in it and still sta
 The last lines count those that were recorded, kept and tried, the weak refusals, and the edits that were refused and what failed:
 an edit that wasn't, a control that wasn't accepted, one that came to another end than the record has, a crate that isn't proved
 as it stands, a difference between the weak ones and the list. The status is 1 where anything failed."""
+import contextlib
 import math
 import os
 import sys
@@ -264,7 +265,8 @@ def main() -> int:
     if words[:1] == ["--beside"]:
         room, libraries, words = Path(words[1]), Proving(Path(words[2])), words[3:]
         # where memory runs out, the system is to end a check of an edit, which is tried again, before the proof of a crate
-        Path("/proc/self/oom_score_adj").write_text("1000", encoding="ascii")
+        with contextlib.suppress(OSError):
+            Path("/proc/self/oom_score_adj").write_text("1000", encoding="ascii")
     os.chdir(room)
     known = kit.crates_below(room)
     with tempfile.TemporaryDirectory(prefix="noticed-edits-", ignore_cleanup_errors=True) as place:

@@ -54,6 +54,8 @@ MAIN = {
     " { glad@example.org = ok.one@example.org, ok.two@example.org } }",
     "transport_maps": "inline:{ { gone.example.org = error:5.1.6 the domain has moved } { silent.example.org = error:5.7.1 }"
     " { paused.example.org = retry:4.3.2 deliveries are paused } { closed.example.org = smtp:[127.0.0.1]:9 } }",
+    # nobody pauses where more mail comes in than goes out, neither a program in front nor bounce(8)
+    "in_flow_delay": "0",
     "milter_default_action": "tempfail",
     "smtp_destination_concurrency_limit": "20",
     "smtp_connection_cache_on_demand": "no",
@@ -72,17 +74,20 @@ HEADER_CHECKS = """
 /^X-Check: prepend/ PREPEND X-Prepended: by a rule
 /^X-Check: bcc/ BCC later.copy@example.org
 """
-# To this server a program in front hands its notices in: nothing there refuses or changes them, and, as docs/DEPLOY.md has it, its
-# cleanup(8) doesn't pause where more mail comes in than goes out.
+# To this server a program in front hands its notices in: nothing there refuses or changes them. Its cleanup(8) is that of docs/DEPLOY.md.
 HAND_IN = """
 127.0.0.1:{hand_in} inet n - n - - smtpd
     -o syslog_name=postfix/hand-in
     -o smtpd_recipient_restrictions=permit_mynetworks,reject
     -o smtpd_milters=
     -o content_filter=
-    -o receive_override_options=no_header_body_checks,no_milters,no_unknown_recipient_checks,no_address_mappings
+    -o receive_override_options=no_header_body_checks,no_milters,no_unknown_recipient_checks
     -o cleanup_service_name=noticed-cleanup
 noticed-cleanup unix n - n - 0 cleanup
+    -o always_bcc=
+    -o sender_bcc_maps=
+    -o recipient_bcc_maps=
+    -o message_size_limit=0
     -o in_flow_delay=0
 """
 # The queue manager is woken often: it puts a message of which the file is locked back to those that came in, for a minute, and looks at

@@ -218,7 +218,7 @@ class Postfix:
         words = ["sh", "-c", f'exec "$@" {closed}', "sh", program(), "postfix", *self.options, str(self.folder), HOST, self.hand_in]
         with open(self.errors, "ab") as errors:
             self.running = subprocess.Popen(words, stdin=subprocess.DEVNULL, stdout=errors, stderr=errors, umask=umask, preexec_fn=self.limits, close_fds=self.close_fds)
-        if not until(lambda: is_listened_on(self.at("private/noticed-trace")) or self.running.poll() is not None):
+        if not until(lambda: is_listened_on(self.at("private/noticed-trace")) and (closed or self.has_said()) or self.running.poll() is not None):
             raise TimeoutError(self.lines())
 
     def kill(self, how: int = signal.SIGKILL) -> int:
@@ -226,6 +226,10 @@ class Postfix:
         if self.running and self.running.poll() is None:
             self.running.send_signal(how)
         return self.running.wait(timeout=PATIENCE) if self.running else 0
+
+    def has_said(self) -> bool:
+        """Whether its first line is there, which it writes once it listens: a request may be served before."""
+        return any(line.startswith("listening in ") for line in self.lines())
 
     def lines(self) -> list:
         """What was written to standard error."""

@@ -37,7 +37,7 @@ cat << 'END'
 echo "$*"
 echo $(cut -d: -f1 crates.txt) $RT_JOBS >> "$CALLS"
 if ! grep -q ^noticed crates.txt; then
-    [ -z "$RT_JOBS" ] || touch "$GO_ON"
+    [ "$(grep -c ' 4$' "$CALLS")" -lt 2 ] || touch "$GO_ON"
     exit 0
 fi
 cat crates.txt HANDLES
@@ -125,21 +125,21 @@ BESIDE = """import sys, build, proving
 build.has_processors, build.processors, build.jobs, proving.LONGEST = lambda: True, lambda: 6, str, ("low", "noticed")
 sys.argv[1:] = ["noticed"]
 sys.exit(build.main())"""
-CALLS = ["low", "low side high 4", "low side high noticed may_wait=2"]
+CALLS = ["low", "low high 4", "low side high noticed may_wait=2", "side 4"]
 
 
 def built_beside(checks: Checks, status: int):
-    """A build in two runs of `rt`, of which the one of the program ends with this status."""
+    """A build in runs of `rt` beside one another, of which the one of the program ends with this status."""
     with tempfile.TemporaryDirectory(prefix="noticed-") as name:
         room = Path(name)
         prepared(room)
         told = {"STATUS": str(status), "GO_ON": f"{room}/go-on", "CALLS": f"{room}/calls", "RT": f"{room}/rt"}
         told = {**{it: text for it, text in os.environ.items() if it != "RT_JOBS"}, **told}
         ended = subprocess.run([sys.executable, "-c", BESIDE], cwd=room / "tests/support", env=told, check=False, capture_output=True, timeout=PATIENCE)
-        checks.equal(f"two runs, status {status}: its own", ended.returncode, status)
-        checks.equal(f"two runs, status {status}: each was asked", sorted((room / "calls").read_text().splitlines()), CALLS)
-        checks.equal(f"two runs, status {status}: each crate is named once", sorted(names(ended.stdout.decode().splitlines())), sorted([*NAMED, "noticed"]))
-        checks.equal(f"two runs, status {status}: the program", (room / "crates/noticed/out/noticed").read_text(), "old\n" if status else "new\n")
+        checks.equal(f"runs beside, status {status}: its own", ended.returncode, status)
+        checks.equal(f"runs beside, status {status}: each was asked", sorted((room / "calls").read_text().splitlines()), CALLS)
+        checks.equal(f"runs beside, status {status}: each crate is named once", sorted(names(ended.stdout.decode().splitlines())), sorted([*NAMED, "noticed"]))
+        checks.equal(f"runs beside, status {status}: the program", (room / "crates/noticed/out/noticed").read_text(), "old\n" if status else "new\n")
 
 
 def early_lines(room: Path, making: subprocess.Popen) -> list:

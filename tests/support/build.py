@@ -10,27 +10,21 @@ import shutil
 import signal
 import sys
 import tempfile
-import threading
 from pathlib import Path
 
 sys.dont_write_bytecode = True
 from jobs import processors  # noqa: E402
-from proving import ROOT, Proofs, chain_to, copied, copied_chain, crates_below, has_processors, jobs, needed  # noqa: E402
+from proving import ROOT, Proofs, chain_to, crates_below, has_processors, jobs, needed, prove_in_stages  # noqa: E402
 
 
-def proved(place: Path, names: list, crates: dict, log: Path) -> int:
+def proved(place: Path, names: list, log: Path) -> int:
     """Proves and builds the last of these crates with those that it stands on, in copies in this place: the status of `rt`."""
-    proofs, beside = Proofs(), log.with_suffix(".beside.log")
-    log.write_bytes(b"")
-    chain = chain_to(names) if has_processors() else names[-1:]
-    rooms = copied_chain(place, chain, crates)
+    proofs, logs = Proofs(), (log, log.with_suffix(".beside.log"))
     try:
-        if len(chain) > 1:
-            beside.write_bytes(b"")
-            others = [it for it in names if it not in chain]
-            copied(place / "beside", [it for it in names if any(it in needed(other, crates) for other in others)], crates)
-            threading.Thread(target=proofs.run, args=(place / "beside", beside), kwargs={"RT_JOBS": jobs(processors() - 2)}, daemon=True).start()
-        return proofs.run_chain(rooms, log)
+        if not has_processors():
+            return prove_in_stages(place, names[-1:], [], logs, proofs)
+        chain = chain_to(names)
+        return prove_in_stages(place, chain, [it for it in names if it not in chain], logs, proofs, RT_JOBS=jobs(processors() - 2))
     finally:
         proofs.stop()
 
@@ -49,13 +43,13 @@ def keep(program: str, room: Path) -> bool:
 
 def main() -> int:
     program = sys.argv[1]
-    log, crates = ROOT / "out" / f"{program}.log", crates_below()
-    names = needed(program, crates)
+    log = ROOT / "out" / f"{program}.log"
+    names = needed(program, crates_below())
     log.parent.mkdir(exist_ok=True)
     signal.signal(signal.SIGTERM, lambda *_: sys.exit(1))
     print(f"proving {program} and the {len(names) - 1} crates below it, and building it (log: {log.relative_to(ROOT)}) ..", flush=True)
     with tempfile.TemporaryDirectory(prefix="noticed-build-", ignore_cleanup_errors=True) as name:
-        status = proved(Path(name), names, crates, log)
+        status = proved(Path(name), names, log)
         if not status and keep(program, Path(name) / program):
             return 0
     print(f"{log.read_text(errors='replace')}{program} could not be proved or built")

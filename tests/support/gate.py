@@ -18,7 +18,6 @@ import signal
 import subprocess
 import sys
 import tempfile
-import threading
 import time
 from concurrent.futures import ThreadPoolExecutor
 from dataclasses import dataclass
@@ -27,7 +26,7 @@ from pathlib import Path
 sys.path.insert(0, str(Path(__file__).parent))
 from jobs import free, processors  # noqa: E402
 from kit import RT  # noqa: E402
-from proving import FEW, LONGEST, ROOM, Proofs, chain_to, copied as copied_crates, copied_chain, crates_below, has_processors, jobs, needed, stands_on  # noqa: E402
+from proving import FEW, LONGEST, ROOM, Proofs, chain_to, crates_below, has_processors, jobs, needed, prove_in_stages, stands_on  # noqa: E402
 from running import ROOT  # noqa: E402
 
 PROGRAMS = {"NOTICED": "noticed", "PROBE": "probe"}
@@ -203,15 +202,9 @@ def prove_programs(place: Path, proofs: Proofs):
     crates = crates_below()
     chain = chain_to(needed("noticed", crates)) + ["probe"]
     others = [it for it in crates if it not in chain and not stands_on(it, crates) & {*LONGEST[-2:], "probe"}]
-    logs = [ROOT / "out/chain.log", ROOT / "out/beside.log"]
-    for log in logs:
-        log.write_bytes(b"")
-    copied_crates(place / "beside", [it for it in crates if any(it in stands_on(other, crates) for other in others)], crates)
-    rooms = copied_chain(place, chain, crates)
+    logs = (ROOT / "out/chain.log", ROOT / "out/beside.log")
     print(f"proving the programs first (logs: {', '.join(str(it.relative_to(ROOT)) for it in logs)}) ..", flush=True)
-    beside = {"before": ("nice", "-n", "5"), "RT_JOBS": jobs(processors() - 1)}
-    threading.Thread(target=proofs.run, args=(place / "beside", logs[1]), kwargs=beside, daemon=True).start()
-    proofs.run_chain(rooms, logs[0])
+    prove_in_stages(place, chain, others, logs, proofs, before=("nice", "-n", "5"), RT_JOBS=jobs(processors() - 2))
 
 
 def prove_run_and_refuse(place: Path, verdict: Verdict, proofs: Proofs):

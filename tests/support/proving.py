@@ -2,8 +2,8 @@
 
 `rt ci` gives a proof one processor where it is told how many jobs to run, and two where it isn't and one crate alone is left to
 prove. So the crates of the longest chain, which each wait for the one before, are proved one run after another, with two
-processors each; beside them one more run, told its number of jobs, proves the others. Runs that come to the same crate wait for
-each other, and take over what the other one proved: `rt` keeps it beside the kit."""
+processors each. Beside the run of each crate goes one of those others that need nothing more of the chain, told its number of
+jobs. A run takes over what others proved, since `rt` keeps it beside the kit, and waits for what another one is proving."""
 import contextlib
 import os
 import re
@@ -101,13 +101,6 @@ class Proofs:
                 self.tell(line.decode(errors="replace"))
         return running.wait()
 
-    def run_chain(self, rooms: list, log: Path) -> int:
-        """Proves copies, one run after another, until one fails: the status of the last run."""
-        status = 0
-        for room in rooms:
-            status = status or self.run(room, log)
-        return status
-
     def stop(self):
         """Ends what runs, and lets no other one run."""
         with self.turn:
@@ -119,11 +112,31 @@ class Proofs:
                 it.wait()
 
 
-def copied_chain(place: Path, chain: list, crates: dict) -> list:
-    """A copy for each crate of a chain, with the crates that it stands on: their folders."""
-    for it in chain:
-        copied(place / it, needed(it, crates), crates)
-    return [place / it for it in chain]
+def stages(chain: list, others: list, crates: dict) -> list:
+    """For each crate of a chain, the others that need of the chain only what stands before it, and that don't belong to one before."""
+    found = []
+    for at in range(len(chain)):
+        late = {*chain[at:], *sum(found, [])}
+        found.append([it for it in others if it not in late and not stands_on(it, crates) & {*chain[at:]}])
+    return found
+
+
+def prove_in_stages(place: Path, chain: list, others: list, logs: tuple, proofs: Proofs, **beside) -> int:
+    """Proves a chain of crates, one after another until one fails, and the others beside it: the status of the last run of the chain.
+    The logs are the chain's, and that of the others, which may go on after it."""
+    crates = crates_below()
+    for log in logs:
+        log.write_bytes(b"")
+    for crate, some in zip(chain, stages(chain, others, crates)):
+        if some:
+            room = place / f"beside-{crate}"
+            copied(room, [it for it in crates if any(it in stands_on(other, crates) for other in some)], crates)
+            threading.Thread(target=proofs.run, args=(room, logs[1]), kwargs=beside, daemon=True).start()
+        copied(place / crate, needed(crate, crates), crates)
+        status = proofs.run(place / crate, logs[0])
+        if status:
+            return status
+    return 0
 
 
 def jobs(most: int) -> str:

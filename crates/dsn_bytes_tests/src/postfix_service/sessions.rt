@@ -87,9 +87,9 @@ struct Place<'a> {
 }
 
 impl<'a> Connect<Plain<NotingServer<'a>>> for Place<'a> {
-    ghost gives = { λ _ _. Unit {0} };
+    ghost gives = { λ _ _ _. Unit {0} };
 
-    fn connect(&self) -> Result<Plain<NotingServer<'a>>, HandInFault> {
+    fn connect(&mut self) -> Result<Plain<NotingServer<'a>>, HandInFault> {
         match self.script {
             Some(script) => Ok(NotingServer::stream(self.alloc, script, self.heard)),
             None => Err(HandInFault::Unheard(HandInStep::Greeting, ReplyFault::Read)),
@@ -227,7 +227,7 @@ struct Heard {
 fn handed_in(alloc: Global, case: &Case, heard: &Heard) -> Result<Result<(), HandInFault>, Fail> {
     let host = MtaName::new(alloc, b"mail.example.net")?;
     let path = Address::new(alloc, b"ann@example.org")?;
-    let place = Place {
+    let mut place = Place {
         alloc,
         script: case.new,
         heard: &heard.over_new,
@@ -237,7 +237,7 @@ fn handed_in(alloc: Global, case: &Case, heard: &Heard) -> Result<Result<(), Han
         message: MESSAGE,
     };
     let kept = kept_session(alloc, case.kept, &host, &heard.over_kept)?;
-    match hand_in_over(&place, kept, &host, &notice, &mut ReplyBuffer::new()) {
+    match hand_in_over(&mut place, kept, &host, &notice, &mut ReplyBuffer::new()) {
         Ok(_) => Ok(Ok(())),
         Err(fault) => Ok(Err(fault)),
     }

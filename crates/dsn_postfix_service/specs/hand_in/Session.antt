@@ -42,14 +42,14 @@ abbrev pub GreetsAndAsks : List ℕ → List Command → List Turn → Option Ha
 GreetsAndAsks host commands turns outcome =
     Listens Greeting (AsksAll (record { step = Hello; text = hello_line host } ∷ commands)) turns outcome
 
--- a new session was begun over a stream that a server may give, and the commands were asked in it; or the server gave none
-pub data AsksAnew {S : Type 0} (source : Source.Ghosts S) (drain : Drain.Ghosts S) (gives : Result S HandInFault → Type 0)
-    (host : List ℕ) (commands : List Command) (before after : List ℕ) (result : Result S HandInFault) : Type 0 where
-  connected : (begun : S) → gives (Ok begun)
+-- A server was asked for one stream. A new session was begun over what it gave, and the commands were asked in it; or it gave none.
+pub data AsksAnew {S C : Type 0} (source : Source.Ghosts S) (drain : Drain.Ghosts S) (gives : C → C → Result S HandInFault → Type 0)
+    (old new : C) (host : List ℕ) (commands : List Command) (before after : List ℕ) (result : Result S HandInFault) : Type 0 where
+  connected : (begun : S) → gives old new (Ok begun)
       → Continues source drain begun (GreetsAndAsks host commands) before after result
-      → AsksAnew source drain gives host commands before after result
-  unconnected : (why : HandInFault) → gives (Err why) → result ≡ Err why → after ≡ before
-      → AsksAnew source drain gives host commands before after result
+      → AsksAnew source drain gives old new host commands before after result
+  unconnected : (why : HandInFault) → gives old new (Err why) → result ≡ Err why → after ≡ before
+      → AsksAnew source drain gives old new host commands before after result
 
 -- a session failed at MAIL, and ended
 pub record FailsAtSender {S : Type 0} (source : Source.Ghosts S) (drain : Drain.Ghosts S) (session : S) (commands : List Command)
@@ -65,13 +65,14 @@ GivesWay source drain None commands before after = after ≡ before
 GivesWay source drain (Some session) commands before after = FailsAtSender source drain session commands before × (after ≡ [])
 
 -- A transaction's commands are asked in the session that was kept, and what comes of that is the result, unless it is a fault
--- at MAIL: then, and where none was kept, they are asked in a new one, once.
-pub data AsksOver {S : Type 0} (source : Source.Ghosts S) (drain : Drain.Ghosts S) (gives : Result S HandInFault → Type 0)
-    (kept : Option S) (host : List ℕ) (commands : List Command) (before after : List ℕ) (result : Result S HandInFault) : Type 0 where
-  over_kept : (session : S) → kept ≡ Some session
+-- at MAIL; the server isn't asked for a stream then. After such a fault, and where none was kept, they are asked in a new
+-- session, and the server was asked for one stream.
+pub data AsksOver {S C : Type 0} (source : Source.Ghosts S) (drain : Drain.Ghosts S) (gives : C → C → Result S HandInFault → Type 0)
+    (old new : C) (kept : Option S) (host : List ℕ) (commands : List Command) (before after : List ℕ) (result : Result S HandInFault) : Type 0 where
+  over_kept : (session : S) → kept ≡ Some session → new ≡ old
       → Continues source drain session (AsksAll commands) before after result
       → IfErr result (λ why. is_at_sender why ≡ false)
-      → AsksOver source drain gives kept host commands before after result
+      → AsksOver source drain gives old new kept host commands before after result
   anew : (between : List ℕ) → GivesWay source drain kept commands before between
-      → AsksAnew source drain gives host commands between after result
-      → AsksOver source drain gives kept host commands before after result
+      → AsksAnew source drain gives old new host commands between after result
+      → AsksOver source drain gives old new kept host commands before after result

@@ -6,10 +6,11 @@ pub trait Connect<S> {
     ghost use Rattle.std.specs.Prelude.{Result};
     ghost use Rattle.dsn_postfix_service.specs.declared.hand_in.hand_in_fault.HandInFault.{HandInFault};
 
-    // What it may give where it is asked for a connection: no contract can tell what comes of asking a socket for one.
-    ghost gives: { Self → Result S HandInFault → Type 0 };
+    // What it may give where it is asked once for a connection, and what becomes of it: no contract can tell what comes of
+    // asking a socket for one.
+    ghost gives: { Self → Self → Result S HandInFault → Type 0 };
 
     /// A new connection, over which nothing was said or heard.
-    fn connect(&self) -> Result<S, HandInFault>
-        ensures { gives self.now result };
+    fn connect(&mut self) -> Result<S, HandInFault>
+        ensures { gives self.old self.new result };
 }

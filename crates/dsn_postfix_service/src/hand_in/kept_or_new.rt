@@ -15,13 +15,13 @@ use dsn_text::MtaName;
 /// took the sender, and where there is none, a session is begun for the notice. Gives back the session that was used last,
 /// if nothing went wrong in it.
 pub fn hand_in_over<S: Stream + Drop, C: Connect<S>>(
-    server: &C,
+    server: &mut C,
     kept: Option<Session<S>>,
     host: &MtaName,
     notice: &Notice<'_>,
     buffer: &mut ReplyBuffer,
 ) -> Result<Session<S>, HandInFault>
-    ensures over { AsksOver S.Source S.Drain (C.gives server.now) kept host.now
+    ensures over { AsksOver S.Source S.Drain C.gives server.old server.new kept host.now
         (commands_of notice.now.path.now notice.now.message.now) buffer.old buffer.new result }
     ensures begun { IfSome kept (IsBegun S.Source S.Drain) }
 {
@@ -41,12 +41,12 @@ pub fn hand_in_over<S: Stream + Drop, C: Connect<S>>(
 
 /// Begins a session, and hands in a notice in it.
 fn hand_in_anew<S: Stream + Drop, C: Connect<S>>(
-    server: &C,
+    server: &mut C,
     host: &MtaName,
     notice: &Notice<'_>,
     buffer: &mut ReplyBuffer,
 ) -> Result<Session<S>, HandInFault>
-    ensures { AsksAnew S.Source S.Drain (C.gives server.now) host.now
+    ensures { AsksAnew S.Source S.Drain C.gives server.old server.new host.now
         (commands_of notice.now.path.now notice.now.message.now) buffer.old buffer.new result }
 {
     let stream = server.connect()?;

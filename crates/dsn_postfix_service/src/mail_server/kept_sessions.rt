@@ -80,12 +80,13 @@ impl KeptSessions {
     pub(crate) fn hand_in<W: Wait>(
         &self,
         waiting: &W,
-        server: &MailServer<'_>,
+        server: &mut MailServer<'_>,
         notice: &Notice<'_>,
         reply: &mut ReplyBuffer,
     ) -> Result<(), HandInFault> {
         let kept = self.take(waiting);
-        let (session, handed) = match hand_in_over(server, kept, server.host, notice, reply) {
+        let host = server.host;
+        let (session, handed) = match hand_in_over(server, kept, host, notice, reply) {
             Ok(session) => (Some(session), Ok(())),
             Err(fault) => (None, Err(fault)),
         };

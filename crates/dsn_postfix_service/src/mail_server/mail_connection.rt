@@ -36,10 +36,10 @@ impl<'a> MailServer<'a> {
 }
 
 impl Connect<Plain<Connection<TcpStream>>> for MailServer<'_> {
-    ghost gives = { λ _ _. Unit {0} };
+    ghost gives = { λ _ _ _. Unit {0} };
 
     // Where no connection could be made, that is a greeting that wasn't heard, and a line says why.
-    fn connect(&self) -> Result<Plain<Connection<TcpStream>>, HandInFault> {
+    fn connect(&mut self) -> Result<Plain<Connection<TcpStream>>, HandInFault> {
         match connect_with_limits(self.rt, self.address) {
             Ok(stream) => Ok(Plain::new(Connection::new(stream))),
             Err(error) => {

@@ -225,8 +225,8 @@ impl<W: Wait> MailSystem for PostfixSystem<'_, W> {
         let (rt, place): (&HostRuntime, &PostfixPlace<'_>) = (self.rt, self.place);
         let (asked, kind) = (self.asked, self.kind);
         let sessions: &KeptSessions = self.sessions;
-        let server = MailServer::new(rt, place);
-        match sessions.hand_in(self.waiting, &server, &Notice { path, message }, reply) {
+        let mut server = MailServer::new(rt, place);
+        match sessions.hand_in(self.waiting, &mut server, &Notice { path, message }, reply) {
             Ok(()) => {
                 log_notice(rt, asked, kind, reply);
                 Ok(())

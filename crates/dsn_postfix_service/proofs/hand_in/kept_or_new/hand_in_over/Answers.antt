@@ -8,7 +8,7 @@ returns-in_default-clause-over g c = rw c.in_default.is (anew c.args.buffer.now 
 
 -- all went well over the one that was
 pub returns-in-Ok-clause-over : goal.returns-in-Ok-clause-over
-returns-in-Ok-clause-over g c = over_kept c.in-Some.session c.in-Some.is c.in-Ok.ensures.over tt
+returns-in-Ok-clause-over g c = over_kept c.in-Some.session c.in-Some.is refl c.in-Ok.ensures.over tt
 
 -- it failed at MAIL
 pub returns-in-Err-clause-over : goal.returns-in-Err-clause-over
@@ -27,4 +27,4 @@ returns-in-Err-clause-over g c =
 -- it failed past MAIL
 pub returns-in-Err-2-clause-over : goal.returns-in-Err-2-clause-over
 returns-in-Err-2-clause-over g c =
-    over_kept c.in-Some.session c.in-Some.is c.in-Err.ensures.over (sym c.is_at_sender.ensures ∙ c.if-is_at_sender.false)
+    over_kept c.in-Some.session c.in-Some.is refl c.in-Err.ensures.over (sym c.is_at_sender.ensures ∙ c.if-is_at_sender.false)

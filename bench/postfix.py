@@ -2,7 +2,8 @@
 """Measures a Postfix at load, of this script's own on loopback: messages of one failing recipient each, from the first that is sent to
 the last notice that arrives. One side makes the notices by bounce(8), the other by `noticed postfix` in front of it; they take turns, since
 a disk's rates swing, and the median of the runs is shown with the bounds between which they lay. The processor time is that of all of
-Postfix's processes, and the service's own apart. It needs root and Debian's postfix.
+Postfix's processes, and the service's own apart. Postfix's own smtp-sink takes the place of the servers that refuse the messages and take
+the notices, so that these cost little. It needs root and Debian's postfix.
 
     python3 bench/postfix.py [MESSAGES [RUNS]]      so many messages a run, 2,000 unless said, and so many runs of each side, 3
 """
@@ -11,16 +12,44 @@ import re
 import statistics
 import subprocess
 import sys
+import tempfile
 import time
 from pathlib import Path
 
 sys.path.insert(0, str(Path(__file__).resolve().parents[1] / "tests" / "support"))
 sys.dont_write_bytecode = True
-from private_postfix import Mailbox, Postfix, comes_true, lacks  # noqa: E402
+from private_postfix import Postfix, comes_true, free_ports, is_open, lacks  # noqa: E402
 from running import program, run  # noqa: E402
 
-SOURCE, CLIENTS, PATIENCE = "/usr/sbin/smtp-source", 8, 300
+SOURCE, SINK, CLIENTS, PATIENCE = "/usr/sbin/smtp-source", "/usr/sbin/smtp-sink", 8, 300
 TICK = os.sysconf("SC_CLK_TCK")
+# What smtp-sink counts: sessions, QUITs, and the messages that it took.
+COUNTED = re.compile(rb"mesg=\s*(\d+)")
+
+
+class Sink:
+    """A server that takes all messages, or refuses each recipient, and counts what it took."""
+
+    def __init__(self, refuses=False):
+        self.port, self.said = free_ports(1)[0], tempfile.TemporaryFile()
+        words = [SINK, "-c", "-u", "nobody", *(["-f", "RCPT"] if refuses else []), f"127.0.0.1:{self.port}", "1000"]
+        self.running = subprocess.Popen(words, stdin=subprocess.DEVNULL, stdout=self.said, stderr=subprocess.DEVNULL)
+
+    def taken(self) -> int:
+        """How many messages it took so far."""
+        self.said.seek(max(0, self.said.seek(0, os.SEEK_END) - 200))
+        found = COUNTED.findall(self.said.read())
+        return int(found[-1]) if found else 0
+
+    def __enter__(self):
+        if not comes_true(lambda: is_open(self.port)):
+            raise RuntimeError("smtp-sink doesn't listen")
+        return self
+
+    def __exit__(self, *_):
+        self.running.kill()
+        self.running.wait()
+        self.said.close()
 
 
 def processor_time(process: int) -> tuple:
@@ -41,20 +70,20 @@ def of_front(postfix: Postfix) -> float:
 
 def one_run(serves, messages: int) -> tuple:
     """One run of a side: messages a second, and milliseconds of processor a message of Postfix and of the program in front."""
-    with Mailbox() as box, Postfix(box, serves) as postfix:
+    with Sink() as box, Sink(refuses=True) as refusing, Postfix(box, serves, transport_maps=f"inline:{{ {{ example.org = smtp:[127.0.0.1]:{refusing.port} }} }}") as postfix:
         postfix.start()
         before, began = (of_postfix(postfix), of_front(postfix)), time.monotonic()
         words = [SOURCE, "-d", "-s", str(CLIENTS), "-m", str(messages), "-l", "1000", "-f", "ann@example.com", "-t", "no.bob@example.org", f"127.0.0.1:{postfix.smtp}"]
         subprocess.run(words, check=True, timeout=PATIENCE, stdout=subprocess.DEVNULL)
-        if not comes_true(lambda: len(box.notices) >= messages, PATIENCE, 0.02):
-            raise RuntimeError(f"{len(box.notices)} notices of {messages}")
+        if not comes_true(lambda: box.taken() >= messages, PATIENCE, 0.02):
+            raise RuntimeError(f"{box.taken()} notices of {messages}")
         took = time.monotonic() - began
         spent = [(after - first) * 1000 / messages for after, first in zip((of_postfix(postfix), of_front(postfix)), before)]
         left = postfix.left(30, empty=True)
         if postfix.front and re.search(r"VmSize:\s+\d{10}", Path(f"/proc/{postfix.front.running.pid}/status").read_text()):
             print("  the program was built with a sanitizer: its figures say little", flush=True)
-        if left or len(box.notices) != messages:
-            raise RuntimeError(f"{len(box.notices)} notices of {messages}; left {left[:5]}")
+        if left or box.taken() != messages:
+            raise RuntimeError(f"{box.taken()} notices of {messages}; left {left[:5]}")
         return (messages / took, *spent)
 
 
@@ -64,8 +93,9 @@ def shown(figures: list) -> str:
 
 
 def main():
-    if lacks() or not os.access(SOURCE, os.X_OK):
-        sys.exit(f"it needs {lacks() or SOURCE}")
+    missing = lacks() or next((it for it in (SOURCE, SINK) if not os.access(it, os.X_OK)), None)
+    if missing:
+        sys.exit(f"it needs {missing}")
     messages, runs = (int(it) for it in (sys.argv[1:] + ["2000", "3"][len(sys.argv) - 1 :])[:2])
     sides = {"bounce(8)": None}
     if b"postfix" in run(["postfix"]).notes:

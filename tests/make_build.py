@@ -36,10 +36,7 @@ cat << 'END'
 {SAID}END
 echo "$*"
 echo $(cut -d: -f1 crates.txt) $RT_JOBS >> "$CALLS"
-if ! grep -q ^noticed crates.txt; then
-    [ "$(grep -c ' 4$' "$CALLS")" -lt 2 ] || touch "$GO_ON"
-    exit 0
-fi
+grep -q ^noticed crates.txt || exit 0
 cat crates.txt HANDLES
 find * | LC_ALL=C sort
 while [ ! -e "$GO_ON" ]; do sleep 0.01; done
@@ -111,7 +108,7 @@ def built(checks: Checks, status: int):
         end = "rt: noticed NOT PROVED\n" if status else "rt: noticed proved\n"
         checks.equal(f"status {status}: make's own", ended, 2 if status else 0)
         checks.equal(f"status {status}: all that is named", names(lines), [*NAMED, "noticed"])
-        checks.equal(f"status {status}: the log", (room / "out/noticed.log").read_text(), f"{SAID}ci\n{COPY}{end}")
+        checks.equal(f"status {status}: the log", (room / "out/noticed/noticed.log").read_text(), f"{SAID}ci\n{COPY}{end}")
         checks.equal(f"status {status}: a failure is told", "noticed could not be proved or built" in lines, status != 0)
         checks.equal(f"status {status}: the log of a failure is shown", SAID.splitlines()[0] in lines, status != 0)
         checks.equal(f"status {status}: the program", (room / "crates/noticed/out/noticed").read_text(), "old\n" if status else "new\n")
@@ -120,26 +117,30 @@ def built(checks: Checks, status: int):
             checks.equal("what is up to date isn't built again", (again.returncode, names(again.stdout.decode().splitlines())), (0, []))
 
 
-# The build with as many processors as it would have, whatever this machine has, and a chain of the made-up crates.
-BESIDE = """import sys, build, proving
-build.has_processors, build.processors, build.jobs, proving.LONGEST = lambda: True, lambda: 6, str, ("low", "noticed")
+# The build with as many processors as it would have, whatever this machine has.
+BESIDE = """import sys, build
+build.has_processors = lambda: True
 sys.argv[1:] = ["noticed"]
 sys.exit(build.main())"""
-CALLS = ["low", "low high 4", "low side high noticed may_wait=2", "side 4"]
+CALLS = ["low", "low high", "low side high noticed may_wait=2", "side"]
 
 
-def built_beside(checks: Checks, status: int):
-    """A build in runs of `rt` beside one another, of which the one of the program ends with this status."""
+def built_by_crate(checks: Checks, status: int):
+    """A build in a run of `rt` for each crate, of which the one of the program ends with this status."""
     with tempfile.TemporaryDirectory(prefix="noticed-") as name:
         room = Path(name)
         prepared(room)
+        (room / "go-on").touch()
         told = {"STATUS": str(status), "GO_ON": f"{room}/go-on", "CALLS": f"{room}/calls", "RT": f"{room}/rt"}
         told = {**{it: text for it, text in os.environ.items() if it != "RT_JOBS"}, **told}
         ended = subprocess.run([sys.executable, "-c", BESIDE], cwd=room / "tests/support", env=told, check=False, capture_output=True, timeout=PATIENCE)
-        checks.equal(f"runs beside, status {status}: its own", ended.returncode, status)
-        checks.equal(f"runs beside, status {status}: each was asked", sorted((room / "calls").read_text().splitlines()), CALLS)
-        checks.equal(f"runs beside, status {status}: each crate is named once", sorted(names(ended.stdout.decode().splitlines())), sorted([*NAMED, "noticed"]))
-        checks.equal(f"runs beside, status {status}: the program", (room / "crates/noticed/out/noticed").read_text(), "old\n" if status else "new\n")
+        calls, lines = (room / "calls").read_text().splitlines(), ended.stdout.decode().splitlines()
+        checks.equal(f"by crate, status {status}: its own", ended.returncode, status)
+        checks.equal(f"by crate, status {status}: each was asked", sorted(calls), CALLS)
+        checks.equal(f"by crate, status {status}: what stands on others after these", (calls.index("low") < calls.index("low high"), calls[-1]), (True, CALLS[2]))
+        checks.equal(f"by crate, status {status}: each crate is named once", sorted(names(lines)), sorted([*NAMED, "noticed"]))
+        checks.equal(f"by crate, status {status}: the log of a failure is shown", "rt: noticed NOT PROVED" in lines, status != 0)
+        checks.equal(f"by crate, status {status}: the program", (room / "crates/noticed/out/noticed").read_text(), "old\n" if status else "new\n")
 
 
 def early_lines(room: Path, making: subprocess.Popen) -> list:
@@ -156,7 +157,7 @@ def main():
     checks = Checks("make build: what it proves, what it says meanwhile, and its status")
     for status in (0, 3):
         built(checks, status)
-        built_beside(checks, status)
+        built_by_crate(checks, status)
     checks.done()
 
 

@@ -1,11 +1,11 @@
 #!/usr/bin/env python3
 """What `make build` runs: proves one program and the crates below it, those that don't need each other side by side, and builds
 it. It works in copies that have these crates alone, without the wrong edits, by `rt ci`, which takes over what was proved on this
-machine before of the same text: the longest chain of crates, and the others beside it (proving.py). It tells each crate as it is
-proved; where it fails, the log is shown.
+machine before of the same text: a run for each crate, where there are processors for that (proving.py), else one for all. It tells
+each crate as it is proved; where it fails, the log is shown.
 
-    python3 tests/support/build.py PROGRAM        the program is then crates/PROGRAM/out/PROGRAM, the log out/PROGRAM.log, and that of
-                                                  the run beside the chain out/PROGRAM.beside.log"""
+    python3 tests/support/build.py PROGRAM        the program is then crates/PROGRAM/out/PROGRAM, and the log of a run that of its crate
+                                                  in out/PROGRAM/"""
 import shutil
 import signal
 import sys
@@ -13,18 +13,21 @@ import tempfile
 from pathlib import Path
 
 sys.dont_write_bytecode = True
-from jobs import processors  # noqa: E402
-from proving import ROOT, Proofs, chain_to, crates_below, has_processors, jobs, needed, prove_in_stages  # noqa: E402
+from proving import ROOT, Proofs, Queue, copied, crates_below, has_processors, needed  # noqa: E402
 
 
-def proved(place: Path, names: list, log: Path) -> int:
-    """Proves and builds the last of these crates with those that it stands on, in copies in this place: the status of `rt`."""
-    proofs, logs = Proofs(), (log, log.with_suffix(".beside.log"))
+def proved(place: Path, names: list, logs: Path) -> tuple:
+    """Proves and builds the last of these crates with those that it stands on, in copies in this place: the status of `rt`, and the log
+    that says why."""
+    proofs, program = Proofs(), names[-1]
     try:
-        if not has_processors():
-            return prove_in_stages(place, names[-1:], [], logs, proofs)
-        chain = chain_to(names)
-        return prove_in_stages(place, chain, [it for it in names if it not in chain], logs, proofs, RT_JOBS=jobs(processors() - 2))
+        if has_processors():
+            queue = Queue(place, names, logs, proofs)
+            status = queue.prove()
+            return status, logs / f"{queue.failed or program}.log"
+        logs.mkdir(parents=True, exist_ok=True)
+        copied(place / program, names, crates_below())
+        return proofs.run(place / program, logs / f"{program}.log"), logs / f"{program}.log"
     finally:
         proofs.stop()
 
@@ -43,13 +46,11 @@ def keep(program: str, room: Path) -> bool:
 
 def main() -> int:
     program = sys.argv[1]
-    log = ROOT / "out" / f"{program}.log"
-    names = needed(program, crates_below())
-    log.parent.mkdir(exist_ok=True)
+    logs, names = ROOT / "out" / program, needed(program, crates_below())
     signal.signal(signal.SIGTERM, lambda *_: sys.exit(1))
-    print(f"proving {program} and the {len(names) - 1} crates below it, and building it (log: {log.relative_to(ROOT)}) ..", flush=True)
+    print(f"proving {program} and the {len(names) - 1} crates below it, and building it (logs: {logs.relative_to(ROOT)}/) ..", flush=True)
     with tempfile.TemporaryDirectory(prefix="noticed-build-", ignore_cleanup_errors=True) as name:
-        status = proved(Path(name), names, log)
+        status, log = proved(Path(name), names, logs)
         if not status and keep(program, Path(name) / program):
             return 0
     print(f"{log.read_text(errors='replace')}{program} could not be proved or built")

@@ -4,8 +4,8 @@ and the programs; the scripts of tests/ run on the programs, most of them as soo
 `rt ci` is over. Beside both, with what they leave of the processors, tests/support/refused.py tries the wrong edits over the
 libraries that `rt ci` builds. The last line is 'N passed, M failed', and the status is 1 where anything failed.
 
-Before these, runs of `rt ci` for some crates prove the programs, with two processors for the longest chain (proving.py). They say
-nothing of the verdict: what they proved is kept, and the run over all crates takes it over, or proves what they didn't.
+Before these, runs of `rt ci` prove each crate by itself, a few side by side (proving.py). They say nothing of the verdict: what they
+proved is kept, and the run over all crates, which begins once the last of them has begun, takes it over, or proves what they didn't.
 
 It works in a copy of the repository, so that `rt ci` leaves alone the edits, which refused.py tries in fewer checks, and
 so that what was proved here before is neither used nor lost. What the repository's record has of the wrong edits isn't tried, but
@@ -18,6 +18,7 @@ import signal
 import subprocess
 import sys
 import tempfile
+import threading
 import time
 from concurrent.futures import ThreadPoolExecutor
 from dataclasses import dataclass
@@ -26,7 +27,7 @@ from pathlib import Path
 sys.path.insert(0, str(Path(__file__).parent))
 from jobs import free, processors  # noqa: E402
 from kit import RT  # noqa: E402
-from proving import FEW, LONGEST, ROOM, Proofs, chain_to, crates_below, has_processors, jobs, needed, prove_in_stages, stands_on  # noqa: E402
+from proving import FEW, ROOM, Proofs, Queue, crates_below, has_processors  # noqa: E402
 from running import ROOT  # noqa: E402
 
 PROGRAMS = {"NOTICED": "noticed", "PROBE": "probe"}
@@ -196,15 +197,13 @@ def run_scripts(rows: list, most: int, verdict: Verdict):
     verdict.failed += len(failed)
 
 
-def prove_programs(place: Path, proofs: Proofs):
-    """Proves the programs, crate by crate of the longest chain. Beside them, with what they leave of the processors, go the crates and
-    the tests that don't stand on the chain's last ones; these go on when the programs are there."""
-    crates = crates_below()
-    chain = chain_to(needed("noticed", crates)) + ["probe"]
-    others = [it for it in crates if it not in chain and not stands_on(it, crates) & {*LONGEST[-2:], "probe"}]
-    logs = (ROOT / "out/chain.log", ROOT / "out/beside.log")
-    print(f"proving the programs first (logs: {', '.join(str(it.relative_to(ROOT)) for it in logs)}) ..", flush=True)
-    prove_in_stages(place, chain, others, logs, proofs, before=("nice", "-n", "5"), RT_JOBS=jobs(processors() - 2))
+def begin_proofs(place: Path, proofs: Proofs):
+    """Proves crates by runs of their own, until the last of them has begun; what runs then goes on."""
+    logs = ROOT / "out/proofs"
+    print(f"proving each crate by itself (logs: {logs.relative_to(ROOT)}/) ..", flush=True)
+    queue = Queue(place, [*crates_below()], logs, proofs, ("nice", "-n", "5"))
+    threading.Thread(target=queue.prove, daemon=True).start()
+    queue.all_begun.wait()
 
 
 def prove_run_and_refuse(place: Path, verdict: Verdict, proofs: Proofs):
@@ -215,9 +214,9 @@ def prove_run_and_refuse(place: Path, verdict: Verdict, proofs: Proofs):
     edits.mkdir()
     told = jobs_of_proofs()
     if has_processors() and not anew:
-        prove_programs(place, proofs)
-        # of its jobs, those wait that tests are proved for already
-        told = {it: str(int(number) + 1) for it, number in told.items()}
+        begin_proofs(place, proofs)
+        # so many of its jobs wait for what is proved there
+        told = {it: str(int(number) + proofs.going_on()) for it, number in told.items()}
     proving = Part("proving every crate and its tests from nothing, rt ci", [RT, "ci", *anew], room, log, **told)
     words = ["nice", "-n", "19", sys.executable, "tests/support/refused.py", "--beside", room, log, *anew, *record]
     refusing = Part("trying the wrong edits beside it", words, ROOT, ROOT / "out/refused.log", TMPDIR=str(edits))

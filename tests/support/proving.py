@@ -1,9 +1,8 @@
 """Proves the crates below a program by more than one run of `rt ci`, each over a copy of some crates of the repository.
 
 `rt ci` gives a proof one processor where it is told how many jobs to run, and two where it isn't and one crate alone is left to
-prove. So the crates of the longest chain, which each wait for the one before, are proved one run after another, with two
-processors each. Beside the run of each crate goes one of those others that need nothing more of the chain, told its number of
-jobs. A run takes over what others proved, since `rt` keeps it beside the kit, and waits for what another one is proving."""
+prove. So each crate is proved by a run of its own, with two processors, as soon as those below it are, and a few such runs go on side
+by side: first those with the most behind them. A run takes over what others proved, since `rt` keeps it beside the kit."""
 import contextlib
 import os
 import re
@@ -12,18 +11,19 @@ import signal
 import subprocess
 import threading
 import time
+from concurrent.futures import FIRST_COMPLETED, ThreadPoolExecutor, wait
 from pathlib import Path
 
 from jobs import free, processors
 from kit import RT
 
 ROOT = Path(__file__).resolve().parents[2]
-# With so many processors, and so many KiB of free memory for each, the chain has two of them; with fewer, one run proves all. So it
+# With so many processors, and so many KiB of free memory for each, crates have runs of their own; with fewer, one run proves all. So it
 # does where `rt` can't keep what is proved, for which it leaves so many bytes of the disk.
 FEW, ROOM, DISK = 4, 5 * 1024 * 1024, 8_000_000_000
 STORE = Path(RT).resolve().parents[2] / "rattle-kept"
-# The chain of crates that takes longest, as runs of the gate were seen to take.
-LONGEST = ("dsn_text", "dsn_outcome", "dsn_frame", "dsn_crew", "noticed_lib", "noticed")
+# Runs at once. Of its two processors a run uses one and a half, so three of them keep four busy.
+AT_ONCE = 3
 TOLD = re.compile(r"^rt: (\w+)( proved| is kept: | NOT PROVED)")
 WORDS = {" proved": "proved", " is kept: ": "was proved on this machine before", " NOT PROVED": "NOT PROVED"}
 
@@ -55,9 +55,15 @@ def needed(program: str, crates: dict) -> list:
     return [it for it in crates if it in wanted]
 
 
-def chain_to(names: list) -> list:
-    """The crates of the longest chain among these, and the last of these, each standing on the one before."""
-    return [it for it in LONGEST if it in names[:-1]] + names[-1:]
+def lines_behind(names: list, crates: dict) -> dict:
+    """Each of these crates with its lines of code, and those of the longest chain of these that stand each on the one before, from it
+    on. The lines of a program count twice, since the scripts wait for it."""
+    found = {}
+    for it in reversed(names):
+        texts = [path.read_text(errors="replace") for path in (ROOT / "crates" / it / "src").rglob("*.rt")]
+        own = sum(text.count("\n") for text in texts) * (2 if (ROOT / "crates" / it / "src/main.rt").exists() else 1)
+        found[it] = own + max((many for name, many in found.items() if it in crates[name][1]), default=0)
+    return found
 
 
 def copied(room: Path, names, crates: dict):
@@ -85,21 +91,25 @@ class Proofs:
                     self.told.add(found[1])
                     print(f"  {time.monotonic() - self.begun:4.0f} s  {found[1]} {WORDS[found[2]]}", flush=True)
 
-    def run(self, room: Path, log: Path, before: tuple = (), **more) -> int:
+    def run(self, room: Path, log: Path, before: tuple = ()) -> int:
         """Proves and builds all crates of a copy. What is said goes into a log, and words may stand before the command: the status of `rt`."""
         # A group of processes, to be stopped as one.
         words = {"stdin": subprocess.DEVNULL, "stdout": subprocess.PIPE, "stderr": subprocess.STDOUT, "preexec_fn": os.setpgrp}
         with self.turn:
             if self.is_over:
                 return 1
-            running = subprocess.Popen([*before, RT, "ci"], cwd=room, env={**os.environ, **more}, **words)
+            running = subprocess.Popen([*before, RT, "ci"], cwd=room, **words)
             self.running.append(running)
-        with running.stdout, open(log, "ab") as out:
+        with running.stdout, open(log, "wb") as out:
             for line in running.stdout:
                 out.write(line)
                 out.flush()
                 self.tell(line.decode(errors="replace"))
         return running.wait()
+
+    def going_on(self) -> int:
+        """How many of them haven't ended."""
+        return sum(it.poll() is None for it in self.running)
 
     def stop(self):
         """Ends what runs, and lets no other one run."""
@@ -112,36 +122,56 @@ class Proofs:
                 it.wait()
 
 
-def stages(chain: list, others: list, crates: dict) -> list:
-    """For each crate of a chain, the others that need of the chain only what stands before it, and that don't belong to one before."""
-    found = []
-    for at in range(len(chain)):
-        late = {*chain[at:], *sum(found, [])}
-        found.append([it for it in others if it not in late and not stands_on(it, crates) & {*chain[at:]}])
-    return found
+class Queue:
+    """Crates that are proved by runs of their own, each once those below it are. A run's log has its crate's name."""
 
+    def __init__(self, place: Path, names: list, logs: Path, proofs: Proofs, before: tuple = ()):
+        self.place, self.logs, self.proofs, self.before, self.crates = place, logs, proofs, before, crates_below()
+        behind = lines_behind(names, self.crates)
+        self.left, self.proved, self.failed = sorted(names, key=lambda it: -behind[it]), set(), ""
+        self.all_begun = threading.Event()
 
-def prove_in_stages(place: Path, chain: list, others: list, logs: tuple, proofs: Proofs, **beside) -> int:
-    """Proves a chain of crates, one after another until one fails, and the others beside it: the status of the last run of the chain.
-    The logs are the chain's, and that of the others, which may go on after it."""
-    crates = crates_below()
-    for log in logs:
-        log.write_bytes(b"")
-    for crate, some in zip(chain, stages(chain, others, crates)):
-        if some:
-            room = place / f"beside-{crate}"
-            copied(room, [it for it in crates if any(it in stands_on(other, crates) for other in some)], crates)
-            threading.Thread(target=proofs.run, args=(room, logs[1]), kwargs=beside, daemon=True).start()
-        copied(place / crate, needed(crate, crates), crates)
-        status = proofs.run(place / crate, logs[0])
-        if status:
-            return status
-    return 0
+    def prove_one(self, name: str) -> int:
+        """Proves one of them, over a copy of it and what it stands on: the status of `rt`."""
+        copied(self.place / name, needed(name, self.crates), self.crates)
+        return self.proofs.run(self.place / name, self.logs / f"{name}.log", self.before)
 
+    def ready(self) -> list:
+        """Those that wait for no other one, the first ones first."""
+        return [it for it in self.left if stands_on(it, self.crates) - {it} <= self.proved]
 
-def jobs(most: int) -> str:
-    """How many jobs a run beside the chain may have, so many at most: each needs memory."""
-    return str(max(1, min(most, free() // ROOM - 1)))
+    def begin(self, pool, running: dict):
+        """Begins as many as may run."""
+        for it in self.ready()[: AT_ONCE - len(running)]:
+            self.left.remove(it)
+            running[pool.submit(self.prove_one, it)] = it
+        if not self.left:
+            self.all_begun.set()
+
+    def end(self, running: dict) -> int:
+        """Waits for the first that ends: the status of its run, and of those that ended with it."""
+        status = 0
+        for ended in wait(running, return_when=FIRST_COMPLETED).done:
+            name = running.pop(ended)
+            self.proved.add(name)
+            if ended.result():
+                self.failed, status = name, ended.result()
+        return status
+
+    def prove(self) -> int:
+        """Proves all of them, up to the first that fails, which ends the others: the status of its run, or 0."""
+        self.logs.mkdir(parents=True, exist_ok=True)
+        running, status = {}, 0
+        with ThreadPoolExecutor(AT_ONCE) as pool:
+            try:
+                while not status and (self.left or running):
+                    self.begin(pool, running)
+                    status = self.end(running)
+            finally:
+                if status or self.left or running:
+                    self.proofs.stop()
+                self.all_begun.set()
+        return status
 
 
 def keeps() -> bool:
@@ -151,5 +181,5 @@ def keeps() -> bool:
 
 
 def has_processors() -> bool:
-    """Whether the chain of crates may have two processors."""
+    """Whether crates may have runs of their own, with two processors each."""
     return "RT_JOBS" not in os.environ and processors() >= FEW and free() >= FEW * ROOM and keeps()

@@ -27,7 +27,7 @@ LOG_OF = {"failure": "bounce", "delay": "defer", "expired": "defer", "success": 
 PASSED_ON = {"utf8", "utf8-sender", "later-utf8", "asked-before", "long-address", "newer-form-quoted", "quoted", "verp-quoted", "orcpt-utf8"}
 STEPS = ("connect", "EHLO", "MAIL", "RCPT", "DATA", "message")
 THREADS = 32  # clients of one service that are served at once
-AT_ONCE = 4  # notices that are handed in at once
+AT_ONCE = 2  # notices that are handed in at once
 SECONDS_FOR_CLIENT, SECONDS_FOR_LOCK = 60, 20
 MESSAGES = 150  # that are told of while the program is killed
 WRONG_IDS = ("../bounce/A1", "A/B", ".", "..", "A1.", "", "A" * 33, "A1 ", "Ä1")
@@ -573,7 +573,7 @@ def check_start(checks: Checks):
 
 
 def check_at_once(checks: Checks):
-    """Many clients at once: appends to one log all stand in it; notices are handed in side by side, four and no more, while others wait;
+    """Many clients at once: appends to one log all stand in it; notices are handed in side by side, two and no more, while others wait;
     a server that is slow holds up no appends, as long as a thread of the service is left."""
     with Postfix() as it:
         found = at_once(*(lambda text=f"550 number {number}": it.ask("bounce", append(ONE, text=text)) for number in range(40)))

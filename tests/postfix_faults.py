@@ -137,12 +137,12 @@ def killed(serves, kills: int, checks: Checks, name: str, most) -> tuple:
 
 
 def kills(checks: Checks, serves, full: bool):
-    """Killed at load: none is lost, and few are told twice: those of the notices that were taken at a kill, of four in hand at most, and
+    """Killed at load: none is lost, and few are told twice: those of the notices that were taken at a kill, of two in hand at most, and
     whose log was still there. A notice of these messages tells of up to three."""
     count = 50 if full else 12
     twice, _ = killed(None, count, checks, "bounce(8)", None)
     if serves:
-        killed(serves, count, checks, "noticed", max(twice, 6 * count))
+        killed(serves, count, checks, "noticed", max(twice, 3 * count))
 
 
 def hand_in_fails(checks: Checks, serves, full: bool):

@@ -10,7 +10,7 @@ use std::sync::{Condvar, Mutex, Wait};
 
 /// How many notices are handed in at once. Others wait: a notice that was taken is told twice where the process is killed before its log
 /// is removed, and the more go to the server's disk at once, the longer that takes each.
-const MOST_AT_ONCE: u32 = 4;
+const MOST_AT_ONCE: u32 = 2;
 
 /// A session over a socket.
 type MailSession = Session<Plain<Connection<TcpStream>>>;

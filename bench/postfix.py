@@ -5,10 +5,11 @@ a disk's rates swing, and the median of the runs is shown with the bounds betwee
 Postfix's processes, and the service's own apart. Postfix's own smtp-sink takes the place of the servers that refuse the messages and take
 the notices, so that these cost little. It needs root and Debian's postfix.
 
-    python3 bench/postfix.py [MESSAGES [RUNS]]      so many messages a run, 2,000 unless said, and so many runs of each side, 3
-"""
+    python3 bench/postfix.py [MESSAGES [RUNS [FOLDER]]]      so many messages a run, 2,000 unless said, and so many runs of each side, 3.
+                                                             The queue stands in FOLDER: /dev/shm leaves out the disk"""
 import os
 import re
+import signal
 import statistics
 import subprocess
 import sys
@@ -23,6 +24,8 @@ from running import program, run  # noqa: E402
 
 SOURCE, SINK, CLIENTS, PATIENCE = "/usr/sbin/smtp-source", "/usr/sbin/smtp-sink", 8, 300
 TICK = os.sysconf("SC_CLK_TCK")
+# Where the messages go that are refused; all other mail goes to the sink that takes it.
+REFUSED_BY = "inline:{{ {{ example.org = smtp:[127.0.0.1]:{} }} }}"
 # What smtp-sink counts: sessions, QUITs, and the messages that it took.
 COUNTED = re.compile(rb"mesg=\s*(\d+)")
 
@@ -37,12 +40,14 @@ class Sink:
 
     def taken(self) -> int:
         """How many messages it took so far."""
-        self.said.seek(max(0, self.said.seek(0, os.SEEK_END) - 200))
-        found = COUNTED.findall(self.said.read())
+        # (no seek: the sink writes at the same place of the file)
+        size = os.fstat(self.said.fileno()).st_size
+        found = COUNTED.findall(os.pread(self.said.fileno(), 200, max(0, size - 200)))
         return int(found[-1]) if found else 0
 
     def __enter__(self):
         if not comes_true(lambda: is_open(self.port)):
+            self.__exit__()
             raise RuntimeError("smtp-sink doesn't listen")
         return self
 
@@ -68,9 +73,9 @@ def of_front(postfix: Postfix) -> float:
     return sum(processor_time(postfix.front.running.pid)) if postfix.front else 0.0
 
 
-def one_run(serves, messages: int) -> tuple:
+def one_run(serves, messages: int, place) -> tuple:
     """One run of a side: messages a second, and milliseconds of processor a message of Postfix and of the program in front."""
-    with Sink() as box, Sink(refuses=True) as refusing, Postfix(box, serves, transport_maps=f"inline:{{ {{ example.org = smtp:[127.0.0.1]:{refusing.port} }} }}") as postfix:
+    with Sink() as box, Sink(refuses=True) as refusing, Postfix(box, serves, place=place, transport_maps=REFUSED_BY.format(refusing.port)) as postfix:
         postfix.start()
         before, began = (of_postfix(postfix), of_front(postfix)), time.monotonic()
         words = [SOURCE, "-d", "-s", str(CLIENTS), "-m", str(messages), "-l", "1000", "-f", "ann@example.com", "-t", "no.bob@example.org", f"127.0.0.1:{postfix.smtp}"]
@@ -96,14 +101,15 @@ def main():
     missing = lacks() or next((it for it in (SOURCE, SINK) if not os.access(it, os.X_OK)), None)
     if missing:
         sys.exit(f"it needs {missing}")
-    messages, runs = (int(it) for it in (sys.argv[1:] + ["2000", "3"][len(sys.argv) - 1 :])[:2])
+    signal.signal(signal.SIGTERM, lambda *_: sys.exit(1))
+    messages, runs, place = [*sys.argv[1:], *("2000", "3", None)[len(sys.argv) - 1 :]]
     sides = {"bounce(8)": None}
     if b"postfix" in run(["postfix"]).notes:
         sides["noticed"] = program()
     figures = {name: [] for name in sides}
-    for _ in range(runs):
+    for _ in range(int(runs)):
         for name, serves in sides.items():
-            figures[name].append(one_run(serves, messages))
+            figures[name].append(one_run(serves, int(messages), place))
     print(f"{messages} messages of one failing recipient each, {CLIENTS} clients, {runs} runs of each side: the median, and the bounds")
     for name, all_of_it in figures.items():
         rate, postfix, front = (shown([it[at] for it in all_of_it]) for at in range(3))

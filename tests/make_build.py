@@ -36,6 +36,10 @@ cat << 'END'
 {SAID}END
 echo "$*"
 echo $(cut -d: -f1 crates.txt) $RT_JOBS >> "$CALLS"
+case "$(cut -d: -f1 crates.txt | tail -1)" in
+    low) while [ "$(wc -l < "$CALLS")" -lt 2 ]; do sleep 0.01; done ;;
+    side) exit "$SIDE" ;;
+esac
 grep -q ^noticed crates.txt || exit 0
 cat crates.txt HANDLES
 find * | LC_ALL=C sort
@@ -98,7 +102,7 @@ def built(checks: Checks, status: int):
         room = Path(name)
         prepared(room)
         words = ["make", "build", f"RT={room}/rt"]
-        told = {"STATUS": str(status), "GO_ON": f"{room}/go-on", "CALLS": f"{room}/calls", "RT_JOBS": "3"}
+        told = {"STATUS": str(status), "SIDE": "0", "GO_ON": f"{room}/go-on", "CALLS": f"{room}/calls", "RT_JOBS": "3"}
         with open(room / "said", "wb") as said:
             making = subprocess.Popen(words, cwd=room, stdout=said, stderr=said, env={**os.environ, **told})
         checks.equal(f"status {status}: named while rt runs", names(early_lines(room, making)), NAMED)
@@ -118,29 +122,34 @@ def built(checks: Checks, status: int):
 
 
 # The build with as many processors as it would have, whatever this machine has.
-BESIDE = """import sys, build
-build.has_processors = lambda: True
+BY_CRATE = """import sys, build, proving
+build.has_processors, proving.at_once = lambda: True, lambda: 2
 sys.argv[1:] = ["noticed"]
 sys.exit(build.main())"""
-CALLS = ["low", "low high", "low side high noticed may_wait=2", "side"]
+CALLS = ["low", "side", "low high", "low side high noticed may_wait=2"]
+FAILED = ["rt: low proved", "noticed could not be proved or built"]
 
 
-def built_by_crate(checks: Checks, status: int):
-    """A build in a run of `rt` for each crate, of which the one of the program ends with this status."""
+def built_by_crate(checks: Checks, status: int, side=0):
+    """A build in a run of `rt` for each crate, two at once, of which the one of the program ends with this status, and an early one with
+    that one."""
     with tempfile.TemporaryDirectory(prefix="noticed-") as name:
         room = Path(name)
         prepared(room)
         (room / "go-on").touch()
-        told = {"STATUS": str(status), "GO_ON": f"{room}/go-on", "CALLS": f"{room}/calls", "RT": f"{room}/rt"}
+        told = {"STATUS": str(status), "SIDE": str(side), "GO_ON": f"{room}/go-on", "CALLS": f"{room}/calls", "RT": f"{room}/rt"}
         told = {**{it: text for it, text in os.environ.items() if it != "RT_JOBS"}, **told}
-        ended = subprocess.run([sys.executable, "-c", BESIDE], cwd=room / "tests/support", env=told, check=False, capture_output=True, timeout=PATIENCE)
-        calls, lines = (room / "calls").read_text().splitlines(), ended.stdout.decode().splitlines()
-        checks.equal(f"by crate, status {status}: its own", ended.returncode, status)
-        checks.equal(f"by crate, status {status}: each was asked", sorted(calls), CALLS)
-        checks.equal(f"by crate, status {status}: what stands on others after these", (calls.index("low") < calls.index("low high"), calls[-1]), (True, CALLS[2]))
-        checks.equal(f"by crate, status {status}: each crate is named once", sorted(names(lines)), sorted([*NAMED, "noticed"]))
-        checks.equal(f"by crate, status {status}: the log of a failure is shown", "rt: noticed NOT PROVED" in lines, status != 0)
-        checks.equal(f"by crate, status {status}: the program", (room / "crates/noticed/out/noticed").read_text(), "old\n" if status else "new\n")
+        ended = subprocess.run([sys.executable, "-c", BY_CRATE], cwd=room / "tests/support", env=told, check=False, capture_output=True, timeout=PATIENCE)
+        calls, lines, what = (room / "calls").read_text().splitlines(), ended.stdout.decode().splitlines(), f"by crate, status {status or side}"
+        checks.equal(f"{what}: its own", ended.returncode, status or side)
+        checks.equal(f"{what}: the program", (room / "crates/noticed/out/noticed").read_text(), "old\n" if status or side else "new\n")
+        checks.equal(f"{what}: the log of a failure is shown", [it for it in ("rt: low proved", "noticed could not be proved or built") if it in lines], FAILED if status or side else [])
+        if side:
+            checks.true(f"{what}: what stands on what failed isn't asked", CALLS[-1] not in calls)
+            return
+        checks.equal(f"{what}: each was asked", sorted(calls), sorted(CALLS))
+        checks.equal(f"{what}: what stands on others after these", (calls.index("low") < calls.index("low high"), calls[-1]), (True, CALLS[-1]))
+        checks.equal(f"{what}: each crate is named once", sorted(names(lines)), sorted([*NAMED, "noticed"]))
 
 
 def early_lines(room: Path, making: subprocess.Popen) -> list:
@@ -158,6 +167,7 @@ def main():
     for status in (0, 3):
         built(checks, status)
         built_by_crate(checks, status)
+    built_by_crate(checks, 0, side=4)
     checks.done()
 
 

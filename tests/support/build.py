@@ -1,8 +1,8 @@
 #!/usr/bin/env python3
-"""What `make build` runs: proves one program and the crates below it, those that don't need each other side by side, and builds
-it. It works in copies that have these crates alone, without the wrong edits, by `rt ci`, which takes over what was proved on this
-machine before of the same text: a run for each crate, where there are processors for that (proving.py), else one for all. It tells
-each crate as it is proved; where it fails, the log is shown.
+"""What `make build` runs: proves one program and the crates below it, and builds it. It works in copies that have these crates alone,
+without the wrong edits, by `rt ci`, which takes over what was proved on this machine before of the same text. Where there are
+processors for that, each crate has a run of its own (proving.py); else one run proves all. It tells each crate as it is proved. Where
+one fails, its log is shown.
 
     python3 tests/support/build.py PROGRAM        the program is then crates/PROGRAM/out/PROGRAM, and the log of a run that of its crate
                                                   in out/PROGRAM/"""
@@ -13,7 +13,7 @@ import tempfile
 from pathlib import Path
 
 sys.dont_write_bytecode = True
-from proving import ROOT, Proofs, Queue, copied, crates_below, has_processors, needed  # noqa: E402
+from proving import ROOT, CrateRuns, Proofs, copied, crates_below, has_processors, needed  # noqa: E402
 
 
 def proved(place: Path, names: list, logs: Path) -> tuple:
@@ -22,9 +22,9 @@ def proved(place: Path, names: list, logs: Path) -> tuple:
     proofs, program = Proofs(), names[-1]
     try:
         if has_processors():
-            queue = Queue(place, names, logs, proofs)
-            status = queue.prove()
-            return status, logs / f"{queue.failed or program}.log"
+            runs = CrateRuns(place, names, logs, proofs)
+            status = runs.prove()
+            return status, logs / f"{runs.failed or program}.log"
         logs.mkdir(parents=True, exist_ok=True)
         copied(place / program, names, crates_below())
         return proofs.run(place / program, logs / f"{program}.log"), logs / f"{program}.log"

@@ -1,11 +1,11 @@
 #!/usr/bin/env python3
 """The gate (`make check`), in three parts: `rt ci` proves every crate and its tests from nothing, builds and runs the tests
-and the programs; the scripts of tests/ run on the programs, most of them as soon as these are built, and those that run alone once
-`rt ci` is over. Beside both, with what they leave of the processors, tests/support/refused.py tries the wrong edits over the
+and the programs; the scripts of tests/ run on the programs, most of them as soon as these are built, and those that want quiet once
+`rt ci` is over. Beside both, at a lower priority, tests/support/refused.py tries the wrong edits over the
 libraries that `rt ci` builds. The last line is 'N passed, M failed', and the status is 1 where anything failed.
 
-Before these, runs of `rt ci` prove each crate by itself, a few side by side (proving.py). They say nothing of the verdict: what they
-proved is kept, and the run over all crates, which begins once the last of them has begun, takes it over, or proves what they didn't.
+Before these, runs of `rt ci` prove each crate by itself, a few side by side (proving.py). They say nothing of the verdict. What they
+proved is kept, and the run over all crates takes it over, or proves what they didn't; it begins once the last of them has begun.
 
 It works in a copy of the repository, so that `rt ci` leaves alone the edits, which refused.py tries in fewer checks, and
 so that what was proved here before is neither used nor lost. What the repository's record has of the wrong edits isn't tried, but
@@ -27,11 +27,14 @@ from pathlib import Path
 sys.path.insert(0, str(Path(__file__).parent))
 from jobs import free, processors  # noqa: E402
 from kit import RT  # noqa: E402
-from proving import FEW, ROOM, Proofs, Queue, crates_below, has_processors  # noqa: E402
+from proving import FEW, ROOM, CrateRuns, Proofs, crates_below, has_processors  # noqa: E402
 from running import ROOT  # noqa: E402
 
 PROGRAMS = {"NOTICED": "noticed", "PROBE": "probe"}
 SIDE_BY_SIDE = 3  # scripts at once, and no more than there are processors
+QUIET_AT_ONCE = 2
+# What goes behind the scripts, since these wait for moments to pass: proofs, and then wrong edits.
+NICE, NICER = ("nice", "-n", "5"), ("nice", "-n", "7")
 # Scripts of which one runs at a time, with others beside: those that listen at a port which they found to be free, and which another
 # might be given meanwhile; those that wait for seconds to pass, and are to see that nothing came too early or too late; and those
 # that keep all processors busy.
@@ -41,9 +44,9 @@ ROWS = (
     ("daemon_limits.py", "changed_bytes.py", "limits.py", "refused_bodies.py"),
     ("postfix_beside.py", "postfix_faults.py"),
 )
-# Scripts that run with nothing beside but wrong edits: they look at what a process keeps of memory or takes of time, try as much as they can in a
-# given time, or end daemons after some moments of work.
-ALONE = ("forgetting.py", "fuzz_batch.py", "fuzz_serve.py", "journal_kills.py", "journal_stops.py", "memory.py", "postfix_notices.py")
+# Scripts that run with little beside: wrong edits, and one other of these. They look at what a process keeps of memory or takes of time, try as
+# much as they can in a given time, or end daemons after some moments of work.
+QUIET = ("forgetting.py", "fuzz_batch.py", "fuzz_serve.py", "journal_kills.py", "journal_stops.py", "memory.py", "postfix_notices.py")
 COUNT = re.compile(r"^(\d+) (?:passed|refused), (\d+) failed$", re.M)
 
 
@@ -183,7 +186,7 @@ def rows_beside() -> list:
     """The rows of scripts that others may run beside."""
     names = sorted(it.name for it in (ROOT / "tests").glob("*.py"))
     in_rows = [[it for it in row if it in names] for row in ROWS]
-    return in_rows + [[it] for it in names if it not in sum(ROWS, ALONE)]
+    return in_rows + [[it] for it in names if it not in sum(ROWS, QUIET)]
 
 
 def run_scripts(rows: list, most: int, verdict: Verdict):
@@ -201,9 +204,9 @@ def begin_proofs(place: Path, proofs: Proofs):
     """Proves crates by runs of their own, until the last of them has begun; what runs then goes on."""
     logs = ROOT / "out/proofs"
     print(f"proving each crate by itself (logs: {logs.relative_to(ROOT)}/) ..", flush=True)
-    queue = Queue(place, [*crates_below()], logs, proofs, ("nice", "-n", "5"))
-    threading.Thread(target=queue.prove, daemon=True).start()
-    queue.all_begun.wait()
+    runs = CrateRuns(place, [*crates_below()], logs, proofs, NICE)
+    threading.Thread(target=runs.prove, args=(True,), daemon=True).start()
+    runs.all_begun.wait()
 
 
 def prove_run_and_refuse(place: Path, verdict: Verdict, proofs: Proofs):
@@ -218,7 +221,7 @@ def prove_run_and_refuse(place: Path, verdict: Verdict, proofs: Proofs):
         # so many of its jobs wait for what is proved there
         told = {it: str(int(number) + proofs.going_on()) for it, number in told.items()}
     proving = Part("proving every crate and its tests from nothing, rt ci", [RT, "ci", *anew], room, log, **told)
-    words = ["nice", "-n", "19", sys.executable, "tests/support/refused.py", "--beside", room, log, *anew, *record]
+    words = [*NICER, sys.executable, "tests/support/refused.py", "--beside", room, log, *anew, *record]
     refusing = Part("trying the wrong edits beside it", words, ROOT, ROOT / "out/refused.log", TMPDIR=str(edits))
     try:
         if proving.comes_to(PROGRAMS.values()):
@@ -228,7 +231,7 @@ def prove_run_and_refuse(place: Path, verdict: Verdict, proofs: Proofs):
         proofs.stop()
         if verdict.failed:
             return
-        run_scripts([[it] for it in ALONE], 1, verdict)
+        run_scripts([[it] for it in QUIET], min(QUIET_AT_ONCE, processors()), verdict)
         verdict.count(*refusing.ends())
     finally:
         proving.stop()

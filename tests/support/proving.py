@@ -1,8 +1,8 @@
-"""Proves the crates below a program by more than one run of `rt ci`, each over a copy of some crates of the repository.
+"""Proves crates by more than one run of `rt ci`, each over a copy of some crates of the repository.
 
 `rt ci` gives a proof one processor where it is told how many jobs to run, and two where it isn't and one crate alone is left to
-prove. So each crate is proved by a run of its own, with two processors, as soon as those below it are, and a few such runs go on side
-by side: first those with the most behind them. A run takes over what others proved, since `rt` keeps it beside the kit."""
+prove. So each crate is proved by a run of its own as soon as those below it are, and a few such runs go on side by side. A run takes
+over what others proved, since `rt` keeps it beside the kit."""
 import contextlib
 import os
 import re
@@ -22,8 +22,6 @@ ROOT = Path(__file__).resolve().parents[2]
 # does where `rt` can't keep what is proved, for which it leaves so many bytes of the disk.
 FEW, ROOM, DISK = 4, 5 * 1024 * 1024, 8_000_000_000
 STORE = Path(RT).resolve().parents[2] / "rattle-kept"
-# Runs at once. Of its two processors a run uses one and a half, so three of them keep four busy.
-AT_ONCE = 3
 TOLD = re.compile(r"^rt: (\w+)( proved| is kept: | NOT PROVED)")
 WORDS = {" proved": "proved", " is kept: ": "was proved on this machine before", " NOT PROVED": "NOT PROVED"}
 
@@ -55,14 +53,20 @@ def needed(program: str, crates: dict) -> list:
     return [it for it in crates if it in wanted]
 
 
+def is_program(name: str) -> bool:
+    return (ROOT / "crates" / name / "src/main.rt").exists()
+
+
+def lines_of(name: str) -> int:
+    """The lines of a crate's code."""
+    return sum(it.read_text(errors="replace").count("\n") for it in (ROOT / "crates" / name / "src").rglob("*.rt"))
+
+
 def lines_behind(names: list, crates: dict) -> dict:
-    """Each of these crates with its lines of code, and those of the longest chain of these that stand each on the one before, from it
-    on. The lines of a program count twice, since the scripts wait for it."""
+    """Each of these crates, with the lines of the longest chain of them that begins with it, and goes on with what stands on it."""
     found = {}
     for it in reversed(names):
-        texts = [path.read_text(errors="replace") for path in (ROOT / "crates" / it / "src").rglob("*.rt")]
-        own = sum(text.count("\n") for text in texts) * (2 if (ROOT / "crates" / it / "src/main.rt").exists() else 1)
-        found[it] = own + max((many for name, many in found.items() if it in crates[name][1]), default=0)
+        found[it] = lines_of(it) + max((many for name, many in found.items() if it in crates[name][1]), default=0)
     return found
 
 
@@ -91,8 +95,9 @@ class Proofs:
                     self.told.add(found[1])
                     print(f"  {time.monotonic() - self.begun:4.0f} s  {found[1]} {WORDS[found[2]]}", flush=True)
 
-    def run(self, room: Path, log: Path, before: tuple = ()) -> int:
-        """Proves and builds all crates of a copy. What is said goes into a log, and words may stand before the command: the status of `rt`."""
+    def run(self, room: Path, log: Path, before: tuple = (), begun=lambda: None) -> int:
+        """Proves and builds all crates of a copy. What is said goes into a log, and words may stand before the command: the status of `rt`.
+        `begun` is called once it runs."""
         # A group of processes, to be stopped as one.
         words = {"stdin": subprocess.DEVNULL, "stdout": subprocess.PIPE, "stderr": subprocess.STDOUT, "preexec_fn": os.setpgrp}
         with self.turn:
@@ -100,6 +105,7 @@ class Proofs:
                 return 1
             running = subprocess.Popen([*before, RT, "ci"], cwd=room, **words)
             self.running.append(running)
+        begun()
         with running.stdout, open(log, "wb") as out:
             for line in running.stdout:
                 out.write(line)
@@ -109,7 +115,8 @@ class Proofs:
 
     def going_on(self) -> int:
         """How many of them haven't ended."""
-        return sum(it.poll() is None for it in self.running)
+        with self.turn:
+            return sum(it.poll() is None for it in self.running)
 
     def stop(self):
         """Ends what runs, and lets no other one run."""
@@ -122,56 +129,76 @@ class Proofs:
                 it.wait()
 
 
-class Queue:
-    """Crates that are proved by runs of their own, each once those below it are. A run's log has its crate's name."""
+def at_once() -> int:
+    """How many runs go on at once: of its two processors each uses one and a half."""
+    return max(1, min(processors() * 3 // 4, free() // ROOM))
+
+
+class CrateRuns:
+    """Crates that are proved by runs of their own, each once those below it are: programs first, since scripts wait for them, and then
+    those with the most lines behind them. A run's log has its crate's name."""
 
     def __init__(self, place: Path, names: list, logs: Path, proofs: Proofs, before: tuple = ()):
         self.place, self.logs, self.proofs, self.before, self.crates = place, logs, proofs, before, crates_below()
         behind = lines_behind(names, self.crates)
-        self.left, self.proved, self.failed = sorted(names, key=lambda it: -behind[it]), set(), ""
-        self.all_begun = threading.Event()
+        self.left, self.proved, self.running = sorted(names, key=lambda it: (not is_program(it), -behind[it])), set(), {}
+        self.failed, self.status, self.most = "", 0, at_once()
+        self.unbegun, self.all_begun = {*names}, threading.Event()
 
     def prove_one(self, name: str) -> int:
         """Proves one of them, over a copy of it and what it stands on: the status of `rt`."""
+        if self.proofs.is_over:
+            return 1
         copied(self.place / name, needed(name, self.crates), self.crates)
-        return self.proofs.run(self.place / name, self.logs / f"{name}.log", self.before)
+        return self.proofs.run(self.place / name, self.logs / f"{name}.log", self.before, lambda: self.note_begun(name))
 
-    def ready(self) -> list:
-        """Those that wait for no other one, the first ones first."""
-        return [it for it in self.left if stands_on(it, self.crates) - {it} <= self.proved]
-
-    def begin(self, pool, running: dict):
-        """Begins as many as may run."""
-        for it in self.ready()[: AT_ONCE - len(running)]:
-            self.left.remove(it)
-            running[pool.submit(self.prove_one, it)] = it
-        if not self.left:
+    def note_begun(self, name: str):
+        """Notes that the run of a crate goes on."""
+        self.unbegun.discard(name)
+        if not self.unbegun:
             self.all_begun.set()
 
-    def end(self, running: dict) -> int:
-        """Waits for the first that ends: the status of its run, and of those that ended with it."""
-        status = 0
-        for ended in wait(running, return_when=FIRST_COMPLETED).done:
-            name = running.pop(ended)
-            self.proved.add(name)
-            if ended.result():
-                self.failed, status = name, ended.result()
-        return status
+    def may_begin(self) -> bool:
+        """Whether there is room for one more run."""
+        return not self.running or len(self.running) < self.most and free() >= ROOM
 
-    def prove(self) -> int:
-        """Proves all of them, up to the first that fails, which ends the others: the status of its run, or 0."""
-        self.logs.mkdir(parents=True, exist_ok=True)
-        running, status = {}, 0
-        with ThreadPoolExecutor(AT_ONCE) as pool:
-            try:
-                while not status and (self.left or running):
-                    self.begin(pool, running)
-                    status = self.end(running)
-            finally:
-                if status or self.left or running:
-                    self.proofs.stop()
-                self.all_begun.set()
-        return status
+    def begin(self, pool):
+        """Begins as many as may run."""
+        for it in [it for it in self.left if stands_on(it, self.crates) - {it} <= self.proved]:
+            if self.may_begin():
+                self.left.remove(it)
+                self.running[pool.submit(self.prove_one, it)] = it
+
+    def end(self):
+        """Waits for the first that ends, and notes what came of it."""
+        for ended in wait(self.running, return_when=FIRST_COMPLETED).done:
+            name, status = self.running.pop(ended), ended.result()
+            if status:
+                self.failed, self.status = name, status
+            else:
+                self.proved.add(name)
+
+    def prove_all(self, pool, goes_on: bool):
+        """Proves them, up to the first that fails, or without those that stand on one that failed."""
+        self.begin(pool)
+        while self.running and (goes_on or not self.status):
+            self.end()
+            self.begin(pool)
+
+    def prove(self, goes_on=False) -> int:
+        """Proves all of them: 0, or the status of a run that failed. One that fails ends the others, unless these are to go on."""
+        try:
+            shutil.rmtree(self.logs, ignore_errors=True)
+            self.logs.mkdir(parents=True)
+            with ThreadPoolExecutor(self.most) as pool:
+                try:
+                    self.prove_all(pool, goes_on)
+                finally:
+                    if self.left or self.running:
+                        self.proofs.stop()
+        finally:
+            self.all_begun.set()
+        return self.status or int(bool(self.left))
 
 
 def keeps() -> bool:

@@ -1,8 +1,9 @@
 """Proves crates by more than one run of `rt ci`, each over a copy of some crates of the repository.
 
 `rt ci` gives a proof one processor where it is told how many jobs to run, and two where it isn't and one crate alone is left to
-prove. So each crate is proved by a run of its own as soon as those below it are, and a few such runs go on side by side. A run takes
-over what others proved, since `rt` keeps it beside the kit."""
+prove. So each crate is proved by a run of its own as soon as those below it are, and a few such runs go on side by side. Tests have one
+processor: with two, each takes up anew what the other has loaded, which costs tests half as much again. A run takes over what others
+proved, since `rt` keeps it beside the kit."""
 import contextlib
 import os
 import re
@@ -57,16 +58,22 @@ def is_program(name: str) -> bool:
     return (ROOT / "crates" / name / "src/main.rt").exists()
 
 
-def lines_of(name: str) -> int:
-    """The lines of a crate's code."""
-    return sum(it.read_text(errors="replace").count("\n") for it in (ROOT / "crates" / name / "src").rglob("*.rt"))
+def texts_of(name: str) -> list:
+    """A crate's code."""
+    return [it.read_text(errors="replace") for it in (ROOT / "crates" / name / "src").rglob("*.rt")]
+
+
+def jobs_of(name: str) -> dict:
+    """The variable that has `rt ci` give the proof of a crate and that of its tests a processor each, for a crate that has tests."""
+    return {"RT_JOBS": "2"} if any("#[test]" in text for text in texts_of(name)) else {}
 
 
 def lines_behind(names: list, crates: dict) -> dict:
     """Each of these crates, with the lines of the longest chain of them that begins with it, and goes on with what stands on it."""
     found = {}
     for it in reversed(names):
-        found[it] = lines_of(it) + max((many for name, many in found.items() if it in crates[name][1]), default=0)
+        own = sum(text.count("\n") for text in texts_of(it))
+        found[it] = own + max((many for name, many in found.items() if it in crates[name][1]), default=0)
     return found
 
 
@@ -95,15 +102,15 @@ class Proofs:
                     self.told.add(found[1])
                     print(f"  {time.monotonic() - self.begun:4.0f} s  {found[1]} {WORDS[found[2]]}", flush=True)
 
-    def run(self, room: Path, log: Path, before: tuple = (), begun=lambda: None) -> int:
-        """Proves and builds all crates of a copy. What is said goes into a log, and words may stand before the command: the status of `rt`.
-        `begun` is called once it runs."""
+    def run(self, room: Path, log: Path, before: tuple = (), begun=lambda: None, **more) -> int:
+        """Proves and builds all crates of a copy. What is said goes into a log, words may stand before the command, and more variables may
+        be set: the status of `rt`. `begun` is called once it runs."""
         # A group of processes, to be stopped as one.
         words = {"stdin": subprocess.DEVNULL, "stdout": subprocess.PIPE, "stderr": subprocess.STDOUT, "preexec_fn": os.setpgrp}
         with self.turn:
             if self.is_over:
                 return 1
-            running = subprocess.Popen([*before, RT, "ci"], cwd=room, **words)
+            running = subprocess.Popen([*before, RT, "ci"], cwd=room, env={**os.environ, **more}, **words)
             self.running.append(running)
         begun()
         with running.stdout, open(log, "wb") as out:
@@ -150,7 +157,7 @@ class CrateRuns:
         if self.proofs.is_over:
             return 1
         copied(self.place / name, needed(name, self.crates), self.crates)
-        return self.proofs.run(self.place / name, self.logs / f"{name}.log", self.before, lambda: self.note_begun(name))
+        return self.proofs.run(self.place / name, self.logs / f"{name}.log", self.before, lambda: self.note_begun(name), **jobs_of(name))
 
     def note_begun(self, name: str):
         """Notes that the run of a crate goes on."""

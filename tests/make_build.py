@@ -35,7 +35,7 @@ PROVES = f"""#!/bin/sh
 cat << 'END'
 {SAID}END
 echo "$*"
-echo $(cut -d: -f1 crates.txt) $RT_JOBS >> "$CALLS"
+echo $(cut -d: -f1 crates.txt) >> "$CALLS"
 case "$(cut -d: -f1 crates.txt | tail -1)" in
     low) while [ "$(wc -l < "$CALLS")" -lt 2 ]; do sleep 0.01; done ;;
     side) exit "$SIDE" ;;

@@ -1,8 +1,8 @@
 """Proves crates by more than one run of `rt ci`, each over a copy of some crates of the repository.
 
-`rt ci` gives a proof one processor where it is told how many jobs to run, and two where it isn't and one crate alone is left to
-prove. So each crate is proved by a run of its own as soon as those below it are, and a few such runs go on side by side. Tests have one
-processor: with two, each takes up anew what the other has loaded, which costs tests half as much again. A run takes over what others
+Each crate is proved by a run of its own as soon as those below it are, and as many such runs go on side by side as there are
+processors. A proof has one processor, and two where there are enough for all that wait: with two, each loads anew what the other has,
+so it is done sooner, but takes a fifth more of processor time, and of tests nearly twice as much. A run takes over what others
 proved, since `rt` keeps it beside the kit."""
 import contextlib
 import os
@@ -23,6 +23,8 @@ ROOT = Path(__file__).resolve().parents[2]
 # does where `rt` can't keep what is proved, for which it leaves so many bytes of the disk.
 FEW, ROOM, DISK = 4, 5 * 1024 * 1024, 8_000_000_000
 STORE = Path(RT).resolve().parents[2] / "rattle-kept"
+# Crates with tests that are proved at once: a proof of tests takes 5 to 7 GB at its end.
+MOST_TESTS = 3
 TOLD = re.compile(r"^rt: (\w+)( proved| is kept: | NOT PROVED)")
 WORDS = {" proved": "proved", " is kept: ": "was proved on this machine before", " NOT PROVED": "NOT PROVED"}
 
@@ -63,9 +65,8 @@ def texts_of(name: str) -> list:
     return [it.read_text(errors="replace") for it in (ROOT / "crates" / name / "src").rglob("*.rt")]
 
 
-def jobs_of(name: str) -> dict:
-    """The variable that has `rt ci` give the proof of a crate and that of its tests a processor each, for a crate that has tests."""
-    return {"RT_JOBS": "2"} if any("#[test]" in text for text in texts_of(name)) else {}
+def has_tests(name: str) -> bool:
+    return any("#[test]" in text for text in texts_of(name))
 
 
 def lines_behind(names: list, crates: dict) -> dict:
@@ -137,8 +138,8 @@ class Proofs:
 
 
 def at_once() -> int:
-    """How many runs go on at once: of its two processors each uses one and a half."""
-    return max(1, min(processors() * 3 // 4, free() // ROOM))
+    """How many runs go on at once."""
+    return max(1, min(processors(), free() // ROOM))
 
 
 class CrateRuns:
@@ -149,15 +150,15 @@ class CrateRuns:
         self.place, self.logs, self.proofs, self.before, self.crates = place, logs, proofs, before, crates_below()
         behind = lines_behind(names, self.crates)
         self.left, self.proved, self.running = sorted(names, key=lambda it: (not is_program(it), -behind[it])), set(), {}
-        self.failed, self.status, self.most = "", 0, at_once()
+        self.failed, self.status, self.most, self.with_tests = "", 0, at_once(), {it for it in names if has_tests(it)}
         self.unbegun, self.all_begun = {*names}, threading.Event()
 
-    def prove_one(self, name: str) -> int:
-        """Proves one of them, over a copy of it and what it stands on: the status of `rt`."""
+    def prove_one(self, name: str, jobs: dict) -> int:
+        """Proves one of them, over a copy of it and what it stands on, with a variable that says how many jobs: the status of `rt`."""
         if self.proofs.is_over:
             return 1
         copied(self.place / name, needed(name, self.crates), self.crates)
-        return self.proofs.run(self.place / name, self.logs / f"{name}.log", self.before, lambda: self.note_begun(name), **jobs_of(name))
+        return self.proofs.run(self.place / name, self.logs / f"{name}.log", self.before, lambda: self.note_begun(name), **jobs)
 
     def note_begun(self, name: str):
         """Notes that the run of a crate goes on."""
@@ -165,16 +166,26 @@ class CrateRuns:
         if not self.unbegun:
             self.all_begun.set()
 
-    def may_begin(self) -> bool:
-        """Whether there is room for one more run."""
-        return not self.running or len(self.running) < self.most and free() >= ROOM
+    def may_begin(self, name: str) -> bool:
+        """Whether there is room for the run of a crate."""
+        tests = sum(it in self.with_tests for it in self.running.values())
+        has_room = len(self.running) < self.most and free() >= ROOM
+        return not self.running or has_room and (name not in self.with_tests or tests < MOST_TESTS)
+
+    def jobs(self, name: str, many: int) -> dict:
+        """The variable that has `rt ci` prove a crate, or it and its tests, with a processor each; none where there are two for each of so
+        many."""
+        if name in self.with_tests:
+            return {"RT_JOBS": "2"}
+        return {} if 2 * many <= self.most else {"RT_JOBS": "1"}
 
     def begin(self, pool):
         """Begins as many as may run."""
-        for it in [it for it in self.left if stands_on(it, self.crates) - {it} <= self.proved]:
-            if self.may_begin():
-                self.left.remove(it)
-                self.running[pool.submit(self.prove_one, it)] = it
+        ready = [it for it in self.left if stands_on(it, self.crates) - {it} <= self.proved]
+        many = len(self.running) + len(ready)
+        for it in filter(self.may_begin, ready):
+            self.left.remove(it)
+            self.running[pool.submit(self.prove_one, it, self.jobs(it, many))] = it
 
     def end(self):
         """Waits for the first that ends, and notes what came of it."""

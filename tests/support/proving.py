@@ -226,5 +226,5 @@ def keeps() -> bool:
 
 
 def has_processors() -> bool:
-    """Whether crates may have runs of their own, with two processors each."""
+    """Whether crates may have runs of their own."""
     return "RT_JOBS" not in os.environ and processors() >= FEW and free() >= FEW * ROOM and keeps()

@@ -35,7 +35,7 @@ PROVES = f"""#!/bin/sh
 cat << 'END'
 {SAID}END
 echo "$*"
-echo $(cut -d: -f1 crates.txt) >> "$CALLS"
+echo "$(echo $(cut -d: -f1 crates.txt)): ${{RT_JOBS:-none}}" >> "$CALLS"
 case "$(cut -d: -f1 crates.txt | tail -1)" in
     low) while [ "$(wc -l < "$CALLS")" -lt 2 ]; do sleep 0.01; done ;;
     side) exit "$SIDE" ;;
@@ -123,15 +123,17 @@ def built(checks: Checks, status: int):
 
 # The build with as many processors as it would have, whatever this machine has.
 BY_CRATE = """import sys, build, proving
-build.has_processors, proving.at_once = lambda: True, lambda: 2
+build.has_processors, proving.at_once = lambda: True, lambda: 3
 sys.argv[1:] = ["noticed"]
 sys.exit(build.main())"""
-CALLS = ["low", "side", "low high", "low side high noticed may_wait=2"]
+# What each run is asked to prove, and the processors that it is told: none are two. The longest chain is low, high; the first that
+# ends leaves high alone, or beside side.
+CALLS = ["low: none", "side: 1", "low high: none", "low side high noticed may_wait=2: none"]
 FAILED = ["rt: low proved", "noticed could not be proved or built"]
 
 
 def built_by_crate(checks: Checks, status: int, side=0):
-    """A build in a run of `rt` for each crate, two at once, of which the one of the program ends with this status, and an early one with
+    """A build in a run of `rt` for each crate, on three processors, of which the one of the program ends with this status, and an early one with
     that one."""
     with tempfile.TemporaryDirectory(prefix="noticed-") as name:
         room = Path(name)
@@ -148,7 +150,7 @@ def built_by_crate(checks: Checks, status: int, side=0):
             checks.true(f"{what}: what stands on what failed isn't asked", CALLS[-1] not in calls)
             return
         checks.equal(f"{what}: each was asked", sorted(calls), sorted(CALLS))
-        checks.equal(f"{what}: what stands on others after these", (calls.index("low") < calls.index("low high"), calls[-1]), (True, CALLS[-1]))
+        checks.equal(f"{what}: what stands on others after these", (calls.index(CALLS[0]) < calls.index(CALLS[2]), calls[-1]), (True, CALLS[-1]))
         checks.equal(f"{what}: each crate is named once", sorted(names(lines)), sorted([*NAMED, "noticed"]))
 
 

@@ -36,7 +36,7 @@ def check_what_stands(checks: Checks, place: Place):
     came = place.run(anew=True)
     checks.equal("all lines stand", (came.stand, came.stale), (6, 0))
     checks.equal("nothing but a sample is tried", (came.tried - came.sampled, came.recorded + came.sampled, came.refused, came.failed), (0, 6, 5, 0))
-    checks.true("of one group, after a check of its crate as it stands", came.sampled in (1, 2) and came.checks == 2)
+    checks.true("of one group, without a check of its crate as it stands", came.sampled in (1, 2) and came.checks == 1)
     again = place.run(anew=True)
     checks.equal("the same sample in the same state", again.said, came.said)
     came = place.run("--anew", anew=True)
@@ -86,16 +86,17 @@ def check_a_false_record(checks: Checks, place: Place):
     """Checks that what the prover says otherwise than the record is found: by the sample of some state, and at once with --anew."""
     drawn, found, number = set(), {"": 0, "lax": 0, "other": 0}, 0
     (place.top / "docs").mkdir()
-    while number < STATES and (len(drawn) < 3 or found["lax"] < 3 or found["other"] < 3):
+    while number < STATES and (len(drawn) < 4 or found["lax"] < 3 or found["other"] < 3):
         (place.top / "docs/state").write_text(f"{number}\n")
         how = [*found][number % 3]
-        came = place.run(anew=True, how=how)
+        came = place.run(anew=True, first=how, how=how)
         tried = [line.split(":")[0] for line in came.said.splitlines() if " checks, " in line]
-        drawn.add((*tried, came.sampled))
+        drawn.add((*tried, came.sampled, *came.only))
         found[how] += came.failed > 0 and "THE RECORD IS FALSE" in came.said
         checks.equal(f"state {number}: one group of one crate", (len(tried), came.sampled in (1, 2), new_tries(came)[0]), (1, True, 0))
         number += 1
-    checks.equal("each crate was drawn, and groups of one and of two", drawn, {("aside", 1), ("high", 1), ("high", 2)})
+    wanted = {("aside", 1, "one"), ("high", 1, "one"), ("high", 1), ("high", 2, "one", "two")}
+    checks.equal("each crate was drawn, and edits of one function, of two and of none, of which nothing else is checked", drawn, wanted)
     checks.true("edits that aren't refused were found", found["lax"])
     checks.true("edits that another clause refuses were found", found["other"])
     checks.equal("nothing was found of a true record", found[""], 0)

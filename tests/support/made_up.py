@@ -84,7 +84,7 @@ def crates_below(top):
     return [base, low, Crate(top, "high", [low]), Crate(top, "aside", [base])]
 """,
     "kit/bin/rattle": r"""#!/bin/sh
-echo "$PWD" >> "$CALLS"
+echo "$PWD $*" >> "$CALLS"
 [ "$(wc -l < "$CALLS")" = 1 ] && HOW=$FIRST
 status=0
 refuses() {
@@ -116,7 +116,7 @@ exit $status
 class Came:
     """What a run came to: how many lines of the record stood, were stale, and were written (none where it wasn't); of how many edits
     and controls the verdict was recorded, kept and tried for, and how many of the latter two were recorded; how many edits were
-    refused and what failed; how many checks it made; and what it said."""
+    refused and what failed; how many checks it made, and of which functions alone; and what it said."""
 
     stand: int
     stale: int
@@ -128,6 +128,7 @@ class Came:
     refused: int
     failed: int
     checks: int
+    only: list
     said: str
 
 
@@ -174,4 +175,6 @@ class Place:
         found = SAYS.search(ran.stdout)
         if not found or (ran.returncode != 0) != (found["failed"] != "0"):
             raise ValueError(f"status {ran.returncode}: {ran.stdout[-1500:]}{ran.stderr[-1500:]}")
-        return Came(**{name: int(it or 0) for name, it in found.groupdict().items()}, checks=len(self.calls.read_text().splitlines()), said=ran.stdout)
+        calls = self.calls.read_text()
+        numbers = {name: int(it or 0) for name, it in found.groupdict().items()}
+        return Came(**numbers, checks=len(calls.splitlines()), only=sorted({*re.findall(r"--only (\S+)", calls)}), said=ran.stdout)

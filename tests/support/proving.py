@@ -1,9 +1,9 @@
 """Proves crates by more than one run of `rt ci`, each over a copy of some crates of the repository.
 
-Each crate is proved by a run of its own as soon as those below it are, and as many such runs go on side by side as there are
-processors. A proof has one processor, and two where there are enough for all that wait: with two, each loads anew what the other has,
-so it is done sooner, but takes a fifth more of processor time, and of tests nearly twice as much. A run takes over what others
-proved, since `rt` keeps it beside the kit."""
+Each crate is proved by a run of its own as soon as those below it are, as many side by side as there are processors. A proof has two
+processors on the longest chain of crates, which all others wait for, and where nothing else waits; else it has one. With two, each loads
+anew what the other has, so it is done sooner, but takes a fifth more of processor time, and of tests nearly twice as much. A run takes
+over what others proved, since `rt` keeps it beside the kit."""
 import contextlib
 import os
 import re
@@ -23,8 +23,10 @@ ROOT = Path(__file__).resolve().parents[2]
 # does where `rt` can't keep what is proved, for which it leaves so many bytes of the disk.
 FEW, ROOM, DISK = 4, 5 * 1024 * 1024, 8_000_000_000
 STORE = Path(RT).resolve().parents[2] / "rattle-kept"
-# Crates with tests that are proved at once: a proof of tests takes 5 to 7 GB at its end.
+# Crates of tests that are proved at once: a proof of tests takes 5 to 7 GB at its end.
 MOST_TESTS = 3
+# A chain of crates is as good as the longest if it has so much of its lines.
+NEARLY = 0.97
 TOLD = re.compile(r"^rt: (\w+)( proved| is kept: | NOT PROVED)")
 WORDS = {" proved": "proved", " is kept: ": "was proved on this machine before", " NOT PROVED": "NOT PROVED"}
 
@@ -60,6 +62,11 @@ def is_program(name: str) -> bool:
     return (ROOT / "crates" / name / "src/main.rt").exists()
 
 
+def has_tests_alone(name: str, crates: dict) -> bool:
+    """Whether a crate is no program, and none stands on it."""
+    return not is_program(name) and not any(name in below for _, below in crates.values())
+
+
 def texts_of(name: str) -> list:
     """A crate's code."""
     return [it.read_text(errors="replace") for it in (ROOT / "crates" / name / "src").rglob("*.rt")]
@@ -69,13 +76,29 @@ def has_tests(name: str) -> bool:
     return any("#[test]" in text for text in texts_of(name))
 
 
-def lines_behind(names: list, crates: dict) -> dict:
-    """Each of these crates, with the lines of the longest chain of them that begins with it, and goes on with what stands on it."""
-    found = {}
-    for it in reversed(names):
-        own = sum(text.count("\n") for text in texts_of(it))
-        found[it] = own + max((many for name, many in found.items() if it in crates[name][1]), default=0)
-    return found
+def lines_of(name: str) -> int:
+    return sum(text.count("\n") for text in texts_of(name))
+
+
+class Chains:
+    """The chains of crates, each of which stands on the one before it, by their lines of code. Those of tests alone are in none."""
+
+    def __init__(self, names: list, crates: dict):
+        within = [it for it in names if not has_tests_alone(it, crates)]
+        lines, below = {it: lines_of(it) for it in names}, {}
+        # the lines of the longest chain that begins with a crate; of one with tests alone its own
+        self.behind = {it: lines[it] for it in names}
+        for it in reversed(within):
+            self.behind[it] += max((self.behind[name] for name in within if it in crates[name][1]), default=0)
+        for it in within:
+            below[it] = max((below[name] + lines[name] for name in crates[it][1] if name in below), default=0)
+        longest = max((below[it] + self.behind[it] for it in within), default=0)
+        self.longest = {it for it in within if below[it] + self.behind[it] >= NEARLY * longest}
+        self.within = within
+
+    def turn(self, name: str) -> tuple:
+        """When a crate's turn is, among those that may be proved: the one with the most lines behind it is first."""
+        return name not in self.within, -self.behind[name]
 
 
 def copied(room: Path, names, crates: dict):
@@ -143,22 +166,24 @@ def at_once() -> int:
 
 
 class CrateRuns:
-    """Crates that are proved by runs of their own, each once those below it are: programs first, since scripts wait for them, and then
-    those with the most lines behind them. A run's log has its crate's name."""
+    """Crates that are proved by runs of their own, each once those below it are: first those with the most lines behind them, and last those
+    with tests alone. A run's log has its crate's name."""
 
     def __init__(self, place: Path, names: list, logs: Path, proofs: Proofs, before: tuple = ()):
         self.place, self.logs, self.proofs, self.before, self.crates = place, logs, proofs, before, crates_below()
-        behind = lines_behind(names, self.crates)
-        self.left, self.proved, self.running = sorted(names, key=lambda it: (not is_program(it), -behind[it])), set(), {}
-        self.failed, self.status, self.most, self.with_tests = "", 0, at_once(), {it for it in names if has_tests(it)}
+        self.chains, self.with_tests = Chains(names, self.crates), {it for it in names if has_tests(it)}
+        self.left, self.proved, self.running = sorted(names, key=self.chains.turn), set(), {}
+        self.failed, self.status, self.most, self.jobs = "", 0, at_once(), {}
         self.unbegun, self.all_begun = {*names}, threading.Event()
 
-    def prove_one(self, name: str, jobs: dict) -> int:
-        """Proves one of them, over a copy of it and what it stands on, with a variable that says how many jobs: the status of `rt`."""
+    def prove_one(self, name: str) -> int:
+        """Proves one of them, over a copy of it and what it stands on: the status of `rt`."""
         if self.proofs.is_over:
             return 1
         copied(self.place / name, needed(name, self.crates), self.crates)
-        return self.proofs.run(self.place / name, self.logs / f"{name}.log", self.before, lambda: self.note_begun(name), **jobs)
+        # Told none, `rt` has two for a proof. Told two, it has one, and another for the proof with tests.
+        told = {"RT_JOBS": "2"} if name in self.with_tests else {"RT_JOBS": "1"} if self.jobs[name] == 1 else {}
+        return self.proofs.run(self.place / name, self.logs / f"{name}.log", self.before, lambda: self.note_begun(name), **told)
 
     def note_begun(self, name: str):
         """Notes that the run of a crate goes on."""
@@ -166,26 +191,25 @@ class CrateRuns:
         if not self.unbegun:
             self.all_begun.set()
 
-    def may_begin(self, name: str) -> bool:
-        """Whether there is room for the run of a crate."""
-        tests = sum(it in self.with_tests for it in self.running.values())
-        has_room = len(self.running) < self.most and free() >= ROOM
-        return not self.running or has_room and (name not in self.with_tests or tests < MOST_TESTS)
-
-    def jobs(self, name: str, many: int) -> dict:
-        """The variable that has `rt ci` prove a crate, or it and its tests, with a processor each; none where there are two for each of so
-        many."""
-        if name in self.with_tests:
-            return {"RT_JOBS": "2"}
-        return {} if 2 * many <= self.most else {"RT_JOBS": "1"}
+    def processors_for(self, name: str, is_alone: bool) -> int:
+        """How many processors the run of a crate has, which may be the only one that waits: none where it may not begin."""
+        free_ones = self.most - sum(self.jobs[it] for it in self.running.values())
+        if not self.running:
+            return min(free_ones, 2)
+        if not free_ones or free() < ROOM:
+            return 0
+        if name not in self.chains.within:
+            return int(sum(it not in self.chains.within for it in self.running.values()) < MOST_TESTS)
+        return min(free_ones, 2 if is_alone or name in self.chains.longest else 1)
 
     def begin(self, pool):
         """Begins as many as may run."""
         ready = [it for it in self.left if stands_on(it, self.crates) - {it} <= self.proved]
-        many = len(self.running) + len(ready)
-        for it in filter(self.may_begin, ready):
-            self.left.remove(it)
-            self.running[pool.submit(self.prove_one, it, self.jobs(it, many))] = it
+        for it in ready:
+            self.jobs[it] = self.processors_for(it, len(ready) == 1)
+            if self.jobs[it]:
+                self.left.remove(it)
+                self.running[pool.submit(self.prove_one, it)] = it
 
     def end(self):
         """Waits for the first that ends, and notes what came of it."""

@@ -9,7 +9,7 @@ another sum, and so has a line that was damaged. Of a group all lines count or n
 line stands for them), and the libraries as they were built (the texts stand for them).
 
 A record can be false all the same, by a hand that wrote it or by a kit that isn't what its line says. So each run tries some of what
-is recorded once more: a sample, of one crate, which another state of the repository draws anew. Where one of it comes to another
+is recorded once more: a sample, of one group, which another state of the repository draws anew. Where one of it comes to another
 end than its line, the run fails."""
 import hashlib
 import json
@@ -33,7 +33,7 @@ STATE = ("crates", "docs", "examples", "tests", "README.md", "Makefile", "crates
 NO_TEXTS = ("out", "__pycache__")
 # What says what comes of an edit: keeping.py only keeps it.
 JUDGES = [(name, text) for name, text in keeping.JUDGES if name != "keeping.py"]
-MOST = 6  # groups of a sample, and a quarter of those that its crate has recorded
+MOST = 6  # edits of a sample, all of one group
 
 
 @dataclass(frozen=True)
@@ -132,10 +132,13 @@ def write(lines: list):
     PLACE.write_text(HEAD + "".join(f"{text}\n" for text in texts), encoding="utf-8")
 
 
-def sample_of(recorded: list) -> list:
-    """Of these recorded groups, each as (crate, group), those that are tried once more: of one crate, a quarter of its groups, and
-    no more than MOST. Each group has the same chance to be the first one, by the state of the repository."""
+def sample_of(recorded: list) -> tuple:
+    """Of these recorded groups, each as (crate, group), what is tried once more: a crate, its group, and of that no more than MOST edits;
+    nothing of none. Each edit has the same chance to be the first one, by the state of the repository."""
     drawn = state()
-    ranked = sorted(recorded, key=lambda it: keeping.sum_of(drawn, it[0], [named(edit) for edit in it[1]]))
-    of_first = [it for it in ranked if it[0] == ranked[0][0]]
-    return of_first[: min(MOST, -(-len(of_first) // 4))]
+    ranked = sorted((keeping.sum_of(drawn, crate, named(edit)), at, edit) for at, (crate, group) in enumerate(recorded) for edit in group)
+    if not ranked:
+        return "", [], []
+    first = ranked[0][1]
+    crate, group = recorded[first]
+    return crate, group, [edit for _, at, edit in ranked if at == first][:MOST]

@@ -40,7 +40,6 @@ from judging import Edit, Trial, Verdict  # noqa: E402
 from keeping import Kept  # noqa: E402
 from running import ROOT  # noqa: E402
 
-ENOUGH = 300  # seconds of processor time, after which no further check of a sample is begun
 POLL = 2  # seconds between two looks at what was built
 KNOWN = ROOT / "tests/support/weak_edits.txt"
 
@@ -122,6 +121,41 @@ def tally_of(trial: Trial) -> Tally:
     tally.failed += len(controls)
     tally.compare(trial)
     return tally
+
+
+class Recorded(Trial):
+    """The edits of a crate, of which most are recorded. Where no other is left than a sample of these, the crate as it stands isn't proved
+    first, which would take most of the time: of edits of functions these alone are checked, and what they call, from nothing."""
+
+    drawn = None  # the sample, where there is one
+
+    def take_all_but(self, group: list, sample: list):
+        """Takes what is recorded, but for a sample of one group."""
+        self.drawn = sample
+        for at, (other, lines) in enumerate(self.recorded):
+            if other == group:
+                both = [*zip(group, lines)]
+                self.found |= {edit.path: Verdict.of(line.verdict()) for edit, line in both if edit not in sample}
+                self.recorded[at] = sample, [line for edit, line in both if edit in sample]
+                self.left[self.left.index(group)] = sample
+        self.take_recorded([sample], math.inf)
+
+    @property
+    def is_sample(self) -> bool:
+        """Whether nothing is left but the sample."""
+        return self.left == [self.drawn]
+
+    def prove(self):
+        """Proves the crate as it stands, but for a sample alone."""
+        if self.is_sample:
+            self.begin_with(None)
+        else:
+            super().prove()
+
+    def over_seed(self, edits: list, only: list) -> str:
+        """What a check of these functions, or of all, says of the crate with these edits; of a sample, of those that they change."""
+        changed = sorted(set().union(*(it.functions for it in edits))) if self.is_sample else []
+        return super().over_seed(edits, only or changed)
 
 
 class Proving:
@@ -226,12 +260,17 @@ def compare(weak: set, known: set) -> int:
     return len(weak ^ known)
 
 
-def draw(trials: list, wanted: list, anew: bool):
-    """Has the crates of this run take what is recorded of them, but for the sample, or for nothing with `anew`."""
-    recorded = [(it.crate.name, group) for it in trials for group, _ in it.recorded]
-    sample = recorded if anew else recording.sample_of(recorded)
+def draw(trials: list, wanted: list, anew: bool, writes: bool):
+    """Has the crates of this run take what is recorded of them, but for the sample, or for nothing with `anew`. Where the record is written,
+    a whole group is the sample, since its lines stand together."""
+    if anew:
+        for trial in wanted:
+            trial.take_recorded([group for group, _ in trial.recorded], math.inf)
+        return
+    name, group, sample = recording.sample_of([(it.crate.name, group) for it in trials for group, _ in it.recorded])
     for trial in wanted:
-        trial.take_recorded([group for name, group in sample if name == trial.crate.name], math.inf if anew else ENOUGH)
+        of_sample = trial.crate.name == name
+        trial.take_all_but(group if of_sample else [], (group if writes else sample) if of_sample else [])
 
 
 def lines_to_record(trials: list, whole: Tally, known: set) -> list:
@@ -271,10 +310,10 @@ def main() -> int:
     known = kit.crates_below(room)
     with tempfile.TemporaryDirectory(prefix="noticed-edits-", ignore_cleanup_errors=True) as place:
         names = [it for it in reversed(crates()) if (ROOT / "crates" / it / "must-fail").is_dir()]
-        trials = {it: Trial(known[it], Path(place), kept, record) for it in names}
+        trials = {it: Recorded(known[it], Path(place), kept, record) for it in names}
         stand = sum(len(lines) for it in trials.values() for _, lines in it.recorded)
         wanted = [trials[it.name] for it in map(known.__getitem__, words or names) if it.name in trials]
-        draw([*trials.values()], wanted, anew)
+        draw([*trials.values()], wanted, anew, writes)
         whole = try_and_tell(wanted, libraries)
     kept.shrink()
     print(f"{stand} lines of {recording.PLACE.relative_to(ROOT)} stand, {record.many - stand} are stale")

@@ -121,9 +121,9 @@ def built(checks: Checks, status: int):
             checks.equal("what is up to date isn't built again", (again.returncode, names(again.stdout.decode().splitlines())), (0, []))
 
 
-# The build with as many processors as it would have, whatever this machine has.
+# The build with as many processors and as much memory as it would have, whatever this machine has.
 BY_CRATE = """import sys, build, proving
-build.has_processors, proving.at_once = lambda: True, lambda: 3
+build.has_processors, proving.at_once, proving.free = lambda: True, lambda: 3, lambda: proving.ROOM
 sys.argv[1:] = ["noticed"]
 sys.exit(build.main())"""
 # What each run is asked to prove, and the processors that it is told: none are two. The longest chain is low, high; the first that

@@ -1,10 +1,7 @@
-//! Tests of whole runs over what `noticed_lib` makes public, and of some parts of a crew: what goes over
-//! a lane to another thread, what an agent serves, and the post. They stand in a crate of their own, so
-//! that they are proved beside the wrong edits of these, and without their proofs.
+//! Tests of whole runs over what `noticed_lib` makes public, and of a crew's post. They stand in a crate
+//! of their own, so that they are proved beside the wrong edits of these, and without their proofs.
 #![tactic(auto)]
 
-#[cfg(test)]
-mod agents;
 #[cfg(test)]
 mod assert_same;
 #[cfg(test)]
@@ -17,8 +14,6 @@ mod fake_devices;
 mod input;
 #[cfg(test)]
 mod journal_files;
-#[cfg(test)]
-mod lane;
 #[cfg(test)]
 mod listings;
 #[cfg(test)]

@@ -28,45 +28,26 @@ impl Read for PieceReader<'_> {
     }
 }
 
-/// A reader that gives one frame for ever, a byte a call; each time with the next number, from 0.
+/// A reader that gives the frame of one byte, which is 0, for ever, a byte a call.
 #[derive(Drop)]
-pub struct EndlessFrames<'a> {
-    pub frame: &'a [u8],
-    pub number: u32,
-    pub given: usize,
+pub struct EndlessFrames {
+    pub given: u8,
 }
 
-/// Where a frame has its number: after the length, the version and the kind.
-const NUMBER: usize = 6;
-
-impl EndlessFrames<'_> {
-    /// The byte at this place of the frame that is being given.
-    fn byte(&self) -> u8 {
-        let number = self.number.to_be_bytes();
-        let within = self
-            .given
-            .checked_sub(NUMBER)
-            .and_then(|at| number.get(at).copied());
-        within
-            .or_else(|| self.frame.get(self.given).copied())
-            .unwrap_or(0)
-    }
-}
-
-impl Read for EndlessFrames<'_> {
+impl Read for EndlessFrames {
     ghost remaining = { λ _. None };
 
     fn read(&mut self, buffer: &mut [u8]) -> io::Result<usize> {
-        let byte = self.byte();
         let Some(first) = buffer.first_mut() else {
             return Ok(0);
         };
-        *first = byte;
-        self.given = self.given.wrapping_add(1);
-        if self.given >= self.frame.len() {
-            self.given = 0;
-            self.number = self.number.wrapping_add(1);
-        }
+        // A length of four bytes, the last of which is 1, and then the byte.
+        *first = u8::from(self.given == 3);
+        self.given = if self.given == 4 {
+            0
+        } else {
+            self.given.wrapping_add(1)
+        };
         Ok(1)
     }
 }

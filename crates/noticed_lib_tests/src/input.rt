@@ -27,8 +27,6 @@ pub(super) struct AppendFields<'a> {
     pub(super) action: u8,
     pub(super) status: &'a [u8],
     pub(super) mta: &'a [u8],
-    pub(super) diagnostic: &'a [u8],
-    pub(super) reason: &'a [u8],
 }
 
 /// A failed recipient without optional texts.
@@ -38,8 +36,6 @@ pub(super) const FAILED: AppendFields<'static> = AppendFields {
     action: 1,
     status: b"5.0.0",
     mta: b"",
-    diagnostic: b"",
-    reason: b"",
 };
 
 /// The failed recipient of [`ONE_MESSAGE`].
@@ -49,174 +45,128 @@ pub(super) const BOB: AppendFields<'static> = AppendFields {
     ..FAILED
 };
 
-/// The texts of a flush.
-#[derive(Clone, Copy)]
-pub(super) struct FlushTexts<'a> {
-    pub(super) return_path: &'a [u8],
-    pub(super) envelope_id: &'a [u8],
-    pub(super) header: &'a [u8],
-}
-
-/// A flush to the sender alone.
-pub(super) const TO_ANN: FlushTexts<'static> = FlushTexts {
-    return_path: b"ann@example.com",
-    envelope_id: b"",
-    header: b"",
-};
+/// The return path of [`ONE_MESSAGE`].
+pub(super) const ANN: &[u8] = b"ann@example.com";
 
 /// A request of an input: the byte of its service, its queue id, and what it says.
 #[derive(Clone, Copy)]
 pub(super) enum Ask<'a> {
     /// Logs an outcome.
     Append(u8, &'a [u8], AppendFields<'a>),
-    /// Seals a log, at 1700000000 for a message that came at 1699996400.
-    Flush(u8, &'a [u8], FlushTexts<'a>),
-    /// The same for the sender alone, of a log that is to have so many outcomes.
+    /// Seals a log for this return path, at 1700000000 for a message that came at 1699996400.
+    Flush(u8, &'a [u8], &'a [u8]),
+    /// The same for [`ANN`], of a log that is to have so many outcomes.
     FlushOf(u8, &'a [u8], u32),
     /// Discards a log.
     Discard(u8, &'a [u8]),
     /// Lets a closed log's key go.
     Forget(u8, &'a [u8]),
-    /// Lets this many numbers pass, and has no frame.
-    Skip(u32),
+    /// Has no frame: the next one has this number.
+    Number(u32),
 }
 
-/// An input that grows frame by frame.
-#[derive(Drop)]
-pub(super) struct Input {
-    pub(super) bytes: Vec<u8>,
-    /// The number of the next frame's request.
-    next: u32,
-}
-
-/// The frames of these requests, numbered from 0.
-pub(super) fn input_of(alloc: Global, asks: &[Ask<'_>]) -> Result<Input, Fail> {
-    let mut input = Input::new(alloc);
+/// The frames of these requests, numbered from 0 on.
+pub(super) fn input_of(alloc: Global, asks: &[Ask<'_>]) -> Result<Vec<u8>, Fail> {
+    let mut input = Vec::new(alloc);
+    let mut number = 0;
     for ask in asks {
-        input.push(alloc, ask)?;
+        number = push_ask(alloc, &mut input, number, ask)?;
     }
     Ok(input)
 }
 
-impl Input {
-    /// An empty input.
-    pub(super) fn new(alloc: Global) -> Input {
-        Input {
-            bytes: Vec::new(alloc),
-            next: 0,
-        }
+/// Adds the frame of this request with this number, and gives the number of the next one.
+fn push_ask(alloc: Global, input: &mut Vec<u8>, number: u32, ask: &Ask<'_>) -> Result<u32, Fail> {
+    if let Ask::Number(next) = ask {
+        return Ok(*next);
     }
-
-    /// A frame of this request.
-    pub(super) fn push(&mut self, alloc: Global, ask: &Ask<'_>) -> Result<(), Fail> {
-        match ask {
-            Ask::Append(service, id, parts) => self.append(alloc, *service, id, parts),
-            Ask::Flush(service, id, texts) => self.flush(alloc, *service, id, texts),
-            Ask::FlushOf(service, id, count) => self.flush_of(alloc, *service, id, *count),
-            Ask::Discard(service, id) => self.discard(alloc, *service, id),
-            Ask::Forget(service, id) => self.forget(alloc, *service, id),
-            Ask::Skip(numbers) => {
-                self.next = self.next.wrapping_add(*numbers);
-                Ok(())
-            }
-        }
-    }
-
-    fn append(
-        &mut self,
-        alloc: Global,
-        service: u8,
-        id: &[u8],
-        parts: &AppendFields<'_>,
-    ) -> Result<(), Fail> {
-        let mut body = self.head(alloc, [1, 1], service, id)?;
-        push_texts(&mut body, &[parts.original, parts.recipient])?;
-        body.push(parts.action)?;
-        push_texts(
-            &mut body,
-            &[parts.status, parts.mta, parts.diagnostic, parts.reason],
-        )?;
-        self.push_frame(&body)
-    }
-
-    fn flush(
-        &mut self,
-        alloc: Global,
-        service: u8,
-        id: &[u8],
-        texts: &FlushTexts<'_>,
-    ) -> Result<(), Fail> {
-        let mut body = self.head(alloc, [1, 2], service, id)?;
-        push_draft(&mut body, texts)?;
-        self.push_frame(&body)
-    }
-
-    fn flush_of(&mut self, alloc: Global, service: u8, id: &[u8], count: u32) -> Result<(), Fail> {
-        let mut body = self.head(alloc, [3, 2], service, id)?;
-        push_draft(&mut body, &TO_ANN)?;
-        body.extend_from_slice(&count.to_be_bytes())?;
-        // A header is returned, the words are by the service, and the message has no extension field.
-        body.extend_from_slice(&[0, 0])?;
-        push_text(&mut body, b"")?;
-        self.push_frame(&body)
-    }
-
-    fn discard(&mut self, alloc: Global, service: u8, id: &[u8]) -> Result<(), Fail> {
-        let body = self.head(alloc, [1, 3], service, id)?;
-        self.push_frame(&body)
-    }
-
-    fn forget(&mut self, alloc: Global, service: u8, id: &[u8]) -> Result<(), Fail> {
-        let body = self.head(alloc, [2, 4], service, id)?;
-        self.push_frame(&body)
-    }
-
-    /// What a body begins with: its version and kind, its number, and the key.
-    fn head(
-        &mut self,
-        alloc: Global,
-        kind: [u8; 2],
-        service: u8,
-        id: &[u8],
-    ) -> Result<Vec<u8>, Fail> {
-        let mut body = Vec::new(alloc);
-        body.extend_from_slice(&kind)?;
-        body.extend_from_slice(&self.next.to_be_bytes())?;
-        body.push(service)?;
-        push_text(&mut body, id)?;
-        self.next = self.next.wrapping_add(1);
-        Ok(body)
-    }
-
-    fn push_frame(&mut self, body: &[u8]) -> Result<(), Fail> {
-        let size = u32::try_from(body.len())
-            .ok()
-            .ok_or("the body is too long")?;
-        self.bytes.extend_from_slice(&size.to_be_bytes())?;
-        self.bytes.extend_from_slice(body)?;
-        Ok(())
-    }
+    push_frame(input, &body_of(alloc, number, ask)?)?;
+    Ok(number.wrapping_add(1))
 }
 
-fn push_text(body: &mut Vec<u8>, text: &[u8]) -> Result<(), Fail> {
-    let size = u16::try_from(text.len())
-        .ok()
-        .ok_or("the text is too long")?;
-    body.extend_from_slice(&size.to_be_bytes())?;
-    body.extend_from_slice(text)?;
+fn push_frame(input: &mut Vec<u8>, body: &[u8]) -> Result<(), Fail> {
+    // Every body is shorter.
+    let size = (body.len() % 65_536) as u32;
+    input.extend_from_slice(&size.to_be_bytes())?;
+    input.extend_from_slice(body)?;
     Ok(())
 }
 
-/// The two moments of a flush, and its texts.
-fn push_draft(body: &mut Vec<u8>, texts: &FlushTexts<'_>) -> Result<(), Fail> {
+/// The body of this request with this number.
+pub(super) fn body_of(alloc: Global, number: u32, ask: &Ask<'_>) -> Result<Vec<u8>, Fail> {
+    let mut body = Vec::new(alloc);
+    push_body(&mut body, number, ask)?;
+    Ok(body)
+}
+
+/// Adds what a request says behind its head, which has its version and kind, its number, and its key.
+fn push_body(body: &mut Vec<u8>, number: u32, ask: &Ask<'_>) -> Result<(), Fail> {
+    match ask {
+        Ask::Append(service, id, parts) => {
+            push_head(body, [1, 1], number, *service, id)?;
+            push_outcome(body, parts)
+        }
+        Ask::Flush(service, id, return_path) => {
+            push_head(body, [1, 2], number, *service, id)?;
+            push_draft(body, return_path)
+        }
+        Ask::FlushOf(service, id, count) => {
+            push_head(body, [3, 2], number, *service, id)?;
+            push_counted_draft(body, *count)
+        }
+        Ask::Discard(service, id) => push_head(body, [1, 3], number, *service, id),
+        Ask::Forget(service, id) => push_head(body, [2, 4], number, *service, id),
+        Ask::Number(_) => Ok(()),
+    }
+}
+
+fn push_head(
+    body: &mut Vec<u8>,
+    kind: [u8; 2],
+    number: u32,
+    service: u8,
+    id: &[u8],
+) -> Result<(), Fail> {
+    body.extend_from_slice(&kind)?;
+    body.extend_from_slice(&number.to_be_bytes())?;
+    body.push(service)?;
+    push_texts(body, &[id])
+}
+
+/// Adds the fields of an outcome, without a diagnostic and a reason.
+fn push_outcome(body: &mut Vec<u8>, parts: &AppendFields<'_>) -> Result<(), Fail> {
+    push_texts(body, &[parts.original, parts.recipient])?;
+    body.push(parts.action)?;
+    push_texts(body, &[parts.status, parts.mta, b"", b""])
+}
+
+/// Adds the two moments of a flush, its return path, no envelope id and no header.
+fn push_draft(body: &mut Vec<u8>, return_path: &[u8]) -> Result<(), Fail> {
     body.extend_from_slice(&1_700_000_000u64.to_be_bytes())?;
     body.extend_from_slice(&1_699_996_400u64.to_be_bytes())?;
-    push_texts(body, &[texts.return_path, texts.envelope_id, texts.header])
+    push_texts(body, &[return_path, b"", b""])
+}
+
+/// Adds the same with how many outcomes the log is to have.
+fn push_counted_draft(body: &mut Vec<u8>, count: u32) -> Result<(), Fail> {
+    push_draft(body, ANN)?;
+    body.extend_from_slice(&count.to_be_bytes())?;
+    // A header is returned, the words are by the service, and the message has no extension field.
+    body.extend_from_slice(&[0, 0])?;
+    push_texts(body, &[b""])
 }
 
 fn push_texts(body: &mut Vec<u8>, texts: &[&[u8]]) -> Result<(), Fail> {
     for text in texts {
         push_text(body, text)?;
     }
+    Ok(())
+}
+
+fn push_text(body: &mut Vec<u8>, text: &[u8]) -> Result<(), Fail> {
+    // Every text is shorter.
+    let size = (text.len() % 65_536) as u16;
+    body.extend_from_slice(&size.to_be_bytes())?;
+    body.extend_from_slice(text)?;
     Ok(())
 }

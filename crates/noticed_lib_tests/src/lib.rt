@@ -1,5 +1,6 @@
-//! Tests of whole runs over what `noticed_lib` makes public, and of a crew's post. They stand in a crate
-//! of their own, so that they are proved beside the wrong edits of these, and without their proofs.
+//! Tests of whole runs over what `noticed_lib` makes public, and of a crew's post where its lane is
+//! lost. They stand in a crate of their own, so that they are proved beside the wrong edits of these,
+//! and without their proofs.
 #![tactic(auto)]
 
 #[cfg(test)]
@@ -16,8 +17,6 @@ mod input;
 mod journal_files;
 #[cfg(test)]
 mod listings;
-#[cfg(test)]
-mod notices;
 #[cfg(test)]
 mod order;
 #[cfg(test)]

@@ -1,13 +1,13 @@
 //! The order in which a run calls its three devices.
 ghost use Rattle.std.specs.Prelude.{Some};
 
+use super::assert_same::same;
 use super::input::ONE_MESSAGE;
-use super::runs::{PROGRAM, limits_of};
-use crate::assert_same::same;
-use dsn_outcome::Plain;
-use noticed_lib::{Site, batch};
+use super::runs::{Devices, PROGRAM, run_over};
+use std::alloc::Global;
 use std::io;
 use std::io::{ErrorKind, Read, Write};
+use std::process::Abort;
 use std::sync::atomic::{AtomicU64, Ordering};
 use std::test::Fail;
 
@@ -19,10 +19,10 @@ struct Calls<'a> {
 }
 
 impl<'a> Calls<'a> {
-    fn new(rt: &HostRuntime, clock: &'a AtomicU64) -> Calls<'a> {
+    fn new(alloc: Global, clock: &'a AtomicU64) -> Calls<'a> {
         Calls {
             clock,
-            at: Vec::new(rt.alloc()),
+            at: Vec::new(alloc),
         }
     }
 
@@ -74,10 +74,10 @@ impl Write for NotedWriter<'_> {
     }
 }
 
-fn writer<'a>(rt: &HostRuntime, clock: &'a AtomicU64) -> NotedWriter<'a> {
+fn writer<'a>(alloc: Global, clock: &'a AtomicU64) -> NotedWriter<'a> {
     NotedWriter {
-        held: Vec::new(rt.alloc()),
-        calls: Calls::new(rt, clock),
+        held: Vec::new(alloc),
+        calls: Calls::new(alloc, clock),
     }
 }
 
@@ -90,20 +90,10 @@ fn mark(happened: &mut [u8], letter: u8, calls: &[u64]) -> Result<(), Fail> {
     Ok(())
 }
 
-/// What happened, with one letter for each row of calls of one device: `r` for the reader, `o` for
-/// the outbox, `n` for the notes.
-fn in_order(
-    rt: &HostRuntime,
-    reader: &[u64],
-    outbox: &[u64],
-    notes: &[u64],
-) -> Result<Vec<u8>, Fail> {
-    let mut happened = vec![in rt.alloc(); b'?'; 200]?;
-    mark(&mut happened, b'r', reader)?;
-    mark(&mut happened, b'o', outbox)?;
-    mark(&mut happened, b'n', notes)?;
-    let mut rows = Vec::new(rt.alloc());
-    for letter in happened.as_slice() {
+/// These letters without `?`, where each row of the same letter is one.
+fn rows_of(alloc: Global, letters: &[u8]) -> Result<Vec<u8>, Fail> {
+    let mut rows = Vec::new(alloc);
+    for letter in letters {
         if *letter != b'?' && rows.last() != Some(letter) {
             rows.push(*letter)?;
         }
@@ -111,49 +101,62 @@ fn in_order(
     Ok(rows)
 }
 
-/// Runs over [`ONE_MESSAGE`], and gives what happened in order, and how many reads there were.
-fn run_noted(rt: &HostRuntime, good: usize) -> Result<(Vec<u8>, usize), Fail> {
-    let clock = AtomicU64::new(0);
-    let site = Site::new(rt.alloc(), b"mx.example.net")?;
-    let mut source = Plain::new(NotedReader {
-        rest: ONE_MESSAGE,
-        good,
-        calls: Calls::new(rt, &clock),
-    });
-    let mut notes = Plain::new(writer(rt, &clock));
-    let outbox = Plain::new(writer(rt, &clock));
-    let end = batch(
-        rt.alloc(),
-        &limits_of(PROGRAM)?,
-        site,
-        &mut source,
-        outbox,
-        &mut notes,
-    );
-    let source = source.into_inner();
-    let outbox = end.outbox.into_inner();
-    let notes = notes.into_inner();
-    let rows = in_order(rt, &source.calls.at, &outbox.calls.at, &notes.calls.at)?;
-    Ok((rows, source.calls.at.len()))
+/// What happened, with one letter for each row of calls of one device: `r` for the reader, `o` for
+/// the outbox, `n` for the notes.
+fn in_order(alloc: Global, reader: &[u64], outbox: &[u64], notes: &[u64]) -> Result<Vec<u8>, Fail> {
+    let mut happened = [b'?'; 200];
+    mark(&mut happened, b'r', reader)?;
+    mark(&mut happened, b'o', outbox)?;
+    mark(&mut happened, b'n', notes)?;
+    rows_of(alloc, &happened)
 }
 
-#[test]
-fn a_letter_then_its_line_then_the_next_frame(rt: HostRuntime) -> Result<(), Fail> {
-    let (rows, reads) = run_noted(&rt, usize::MAX)?;
-    // Two reads a frame, and one that finds the end.
-    same(&rt, reads, 5);
-    // The append and its line; the flush, its letter and its line; the end, and QUIT.
-    same(&rt, rows.as_slice(), b"rnronro".as_slice());
+/// Runs over [`ONE_MESSAGE`], and gives what happened in order, and how many reads there were.
+fn run_noted(alloc: Global, good: usize) -> Result<(Vec<u8>, usize), Fail> {
+    let clock = AtomicU64::new(0);
+    let devices = Devices {
+        input: NotedReader {
+            rest: ONE_MESSAGE,
+            good,
+            calls: Calls::new(alloc, &clock),
+        },
+        outbox: writer(alloc, &clock),
+        notes: writer(alloc, &clock),
+    };
+    let (left, _) = run_over(alloc, PROGRAM, devices)?;
+    let reads = &left.input.calls.at;
+    let rows = in_order(alloc, reads, &left.outbox.calls.at, &left.notes.calls.at)?;
+    Ok((rows, reads.len()))
+}
+
+/// Asserts what happens, and how many reads there are, where so many reads don't fail.
+fn expect(
+    rt: &impl Abort,
+    alloc: Global,
+    good: usize,
+    rows: &[u8],
+    reads: usize,
+) -> Result<(), Fail> {
+    let (happened, found) = run_noted(alloc, good)?;
+    same(rt, (good, found), (good, reads));
+    same(rt, (good, happened.as_slice()), (good, rows));
     Ok(())
 }
 
 #[test]
+fn a_letter_then_its_line_then_the_next_frame(rt: HostRuntime) -> Result<(), Fail> {
+    // Two reads a frame, and one that finds the end. The append and its line; the flush, its letter
+    // and its line; the end, and QUIT.
+    expect(&rt, rt.alloc(), usize::MAX, b"rnronro", 5)
+}
+
+/// What happens where the read fails after so many: the end and its lines follow what was answered.
+const FAILED_READS: [&[u8]; 5] = [b"ron", b"ron", b"rnron", b"rnron", b"rnronron"];
+
+#[test]
 fn nothing_is_read_after_a_failed_read(rt: HostRuntime) -> Result<(), Fail> {
-    for good in 0..5 {
-        let (_, reads) = run_noted(&rt, good)?;
-        same(&rt, (good, reads), (good, good + 1));
+    for (good, rows) in FAILED_READS.iter().enumerate() {
+        expect(&rt, rt.alloc(), good, rows, good.wrapping_add(1))?;
     }
-    let (rows, _) = run_noted(&rt, 2)?;
-    same(&rt, rows.as_slice(), b"rnron".as_slice());
     Ok(())
 }

@@ -2,6 +2,7 @@
 use super::fake_devices::{PieceReader, PieceWriter};
 use super::input::ONE_MESSAGE;
 use super::peer::Peer;
+use super::runs::same_text;
 use crate::assert_same::same;
 use dsn_outcome::Plain;
 use noticed_lib::{SendEnd, send};
@@ -65,7 +66,7 @@ type Sent = ((u32, u8, u32), Vec<u8>, Vec<u8>);
 
 /// The first bytes of [`ONE_MESSAGE`].
 fn front(size: usize) -> &'static [u8] {
-    ONE_MESSAGE.split_at(size.min(ONE_MESSAGE.len())).0
+    ONE_MESSAGE.get(..size).unwrap_or(ONE_MESSAGE)
 }
 
 /// Sends over the devices of a case.
@@ -91,20 +92,8 @@ fn expect_send(rt: &(impl Wait + Abort), alloc: Global, want: &Case<'_>, case: u
     let (end, held, lines) = sent(rt, alloc, want);
     let status = u8::from(want.fault != 0);
     same(rt, (case, end), (case, (want.fault, status, want.writes)));
-    same(rt, (case, held.as_slice()), (case, front(want.sent)));
-    same(rt, (case, lines.as_slice()), (case, want.lines));
-}
-
-/// Asserts what sends come to whose first answer has these bytes: this fault, and no line.
-fn expect_refused(rt: &(impl Wait + Abort), alloc: Global, answers: &[(&[u8], u32)]) {
-    for (case, (bytes, fault)) in answers.iter().enumerate() {
-        let want = Case {
-            answers: bytes,
-            fault: *fault,
-            ..FIRST_SENT
-        };
-        expect_send(rt, alloc, &want, case);
-    }
+    same_text(rt, case, &held, front(want.sent));
+    same_text(rt, case, &lines, want.lines);
 }
 
 /// Asserts what each of these sends comes to.
@@ -114,98 +103,109 @@ fn expect_sends(rt: &(impl Wait + Abort), alloc: Global, wanted: &[Case<'_>]) {
     }
 }
 
+/// Sends whose answers are noted.
+const NOTED: [Case<'static>; 3] = [
+    WHOLE,
+    // Nothing is sent of an empty input.
+    Case {
+        input: 0,
+        sent: 0,
+        writes: 0,
+        lines: b"",
+        ..WHOLE
+    },
+    Case {
+        input: 52,
+        ..FIRST_TOLD
+    },
+];
+
 #[test]
 fn answers_are_noted(rt: HostRuntime) {
-    let wanted = [
-        WHOLE,
-        // Nothing is sent of an empty input.
-        Case {
-            input: 0,
-            sent: 0,
-            writes: 0,
-            lines: b"",
-            ..WHOLE
-        },
-        Case {
-            input: 52,
-            ..FIRST_TOLD
-        },
-    ];
-    expect_sends(&rt, rt.alloc(), &wanted);
+    expect_sends(&rt, rt.alloc(), &NOTED);
 }
+
+/// First answers that are none, and the fault of each.
+const REFUSED: [(&[u8], u32); 11] = [
+    (b"", 48),
+    (b"\0\0\0\x0a\x01\x01\0\0\0\x05\0\0\0\0", 46),
+    (b"\0\0\0\x0a\x01\x01", 13),
+    (b"\0\0", 13),
+    (b"\0\0\0\0", 12),
+    (b"\0\x01\0\x01", 11),
+    (b"\0\0\0\x0a\x02\x01\0\0\0\0\0\0\0\0", 21),
+    (b"\0\0\0\x0a\x01\x0e\0\0\0\0\0\0\0\0", 22),
+    (b"\0\0\0\x09\x01\x01\0\0\0\0\0\0\0", 23),
+    (b"\0\0\0\x0b\x01\x01\0\0\0\0\0\0\0\0\0", 24),
+    (b"\0\0\0\x0a\x01\x02\0\0\0\0\0\0\0\x01", 34),
+];
 
 #[test]
 fn client_faults(rt: HostRuntime) {
-    expect_refused(
-        &rt,
-        rt.alloc(),
-        &[
-            (b"".as_slice(), 48),
-            (b"\0\0\0\x0a\x01\x01\0\0\0\x05\0\0\0\0".as_slice(), 46),
-            (b"\0\0\0\x0a\x01\x01".as_slice(), 13),
-            (b"\0\0".as_slice(), 13),
-            (b"\0\0\0\0".as_slice(), 12),
-            (b"\0\x01\0\x01".as_slice(), 11),
-            (b"\0\0\0\x0a\x02\x01\0\0\0\0\0\0\0\0".as_slice(), 21),
-            (b"\0\0\0\x0a\x01\x0e\0\0\0\0\0\0\0\0".as_slice(), 22),
-            (b"\0\0\0\x09\x01\x01\0\0\0\0\0\0\0".as_slice(), 23),
-            (b"\0\0\0\x0b\x01\x01\0\0\0\0\0\0\0\0\0".as_slice(), 24),
-            (b"\0\0\0\x0a\x01\x02\0\0\0\0\0\0\0\x01".as_slice(), 34),
-        ],
-    );
+    for (case, (answers, fault)) in REFUSED.iter().enumerate() {
+        let want = Case {
+            answers,
+            fault: *fault,
+            ..FIRST_SENT
+        };
+        expect_send(&rt, rt.alloc(), &want, case);
+    }
 }
+
+/// Sends whose input or notes fail.
+const DEVICES_FAIL: [Case<'static>; 3] = [
+    // The input is cut, and fails.
+    Case {
+        input: 60,
+        fault: 13,
+        ..FIRST_TOLD
+    },
+    Case {
+        good: 2,
+        fault: 14,
+        ..FIRST_TOLD
+    },
+    // A line is lost in part.
+    Case {
+        lines_room: 4,
+        lines: b"0 lo",
+        fault: 33,
+        ..FIRST_SENT
+    },
+];
 
 #[test]
 fn inputs_and_notes_that_fail(rt: HostRuntime) {
-    let wanted = [
-        // The input is cut, and fails.
-        Case {
-            input: 60,
-            fault: 13,
-            ..FIRST_TOLD
-        },
-        Case {
-            good: 2,
-            fault: 14,
-            ..FIRST_TOLD
-        },
-        // A line is lost in part.
-        Case {
-            lines_room: 4,
-            lines: b"0 lo",
-            fault: 33,
-            ..FIRST_SENT
-        },
-    ];
-    expect_sends(&rt, rt.alloc(), &wanted);
+    expect_sends(&rt, rt.alloc(), &DEVICES_FAIL);
 }
+
+/// Sends to daemons that leave.
+const DAEMONS_LEAVE: [Case<'static>; 3] = [
+    // The daemon takes ten bytes; and the first frame, and ten bytes.
+    Case {
+        room: 10,
+        sent: 10,
+        fault: 35,
+        ..FIRST_SENT
+    },
+    Case {
+        room: 62,
+        sent: 62,
+        writes: 2,
+        fault: 35,
+        ..FIRST_TOLD
+    },
+    // It leaves after one answer.
+    Case {
+        answers: b"\0\0\0\x0a\x01\x01\0\0\0\0\0\0\0\0",
+        sent: 108,
+        writes: 2,
+        fault: 48,
+        ..FIRST_TOLD
+    },
+];
 
 #[test]
 fn daemons_that_leave(rt: HostRuntime) {
-    let (first_answer, _) = LOGGED_SEALED.split_at(14);
-    let wanted = [
-        // The daemon takes ten bytes; and the first frame, and ten bytes.
-        Case {
-            room: 10,
-            sent: 10,
-            fault: 35,
-            ..FIRST_SENT
-        },
-        Case {
-            room: 62,
-            sent: 62,
-            writes: 2,
-            fault: 35,
-            ..FIRST_TOLD
-        },
-        // It leaves after one answer.
-        Case {
-            answers: first_answer,
-            sent: 108,
-            writes: 2,
-            fault: 48,
-            ..FIRST_TOLD
-        },
-    ];
-    expect_sends(&rt, rt.alloc(), &wanted);
+    expect_sends(&rt, rt.alloc(), &DAEMONS_LEAVE);
 }

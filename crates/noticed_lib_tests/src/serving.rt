@@ -1,12 +1,14 @@
-//! The daemon's runs over ports in memory: what their notes say, and their statuses.
+//! The daemon's runs over ports in memory: what their notes say, their outboxes, and their statuses.
+use super::devices::{three_letters, up_to_second_letter};
 use super::fake_devices::PieceWriter;
 use super::input::ONE_MESSAGE;
 use super::outboxes::{EMPTY, ONE_NOTICE};
+use super::runs::{same_text, site};
 use super::text_port::TextPort;
 use crate::assert_same::same;
 use dsn_crew::NoGate;
 use dsn_device::Plain;
-use noticed_lib::{Limits, ServeEnd, Site, serve_ports};
+use noticed_lib::{Limits, ServeEnd, serve_ports};
 use std::alloc::Global;
 use std::process::Abort;
 use std::sync::Wait;
@@ -38,12 +40,47 @@ const NO_PORT: Case<'static> = Case {
 };
 
 /// The append of [`ONE_MESSAGE`] alone.
-fn one_append() -> &'static [u8] {
-    &ONE_MESSAGE[..52]
-}
+const ONE_APPEND: &[u8] = b"\
+\0\0\0\x30\x01\x01\0\0\0\0\x01\0\x06A1B2C3\0\0\
+\0\x0fbob@example.org\x01\0\x055.1.1\0\0\0\0\0\0";
+
+/// Two agents side by side, one of whose connections fails.
+const SIDE_BY_SIDE: Case<'static> = Case {
+    ports: &[(&[ONE_APPEND], false), (&[b"", b"\0\0\0\0"], false)],
+    outbox: EMPTY,
+    notes: b"agent 0 requests 1 connections 1 faults 0\nagent 1 requests 0 connections 2 faults 1\nopen B A1B2C3 1\n",
+    status: 0,
+    ..NO_PORT
+};
+
+/// Ports that fail.
+const PORTS_FAIL: Case<'static> = Case {
+    ports: &[(&[ONE_MESSAGE], true), (&[], true)],
+    outbox: ONE_NOTICE,
+    notes: b"agent 0 requests 2 connections 1 faults 0\nagent 1 requests 0 connections 0 faults 0\nfault 61\n",
+    ..NO_PORT
+};
+
+/// An outbox that fails behind its greeting.
+const OUTBOX_FAILS: Case<'static> = Case {
+    ports: &[(&[ONE_MESSAGE], false)],
+    outbox_room: 21,
+    outbox: b"EHLO mx.example.net\r\n",
+    notes: b"agent 0 requests 2 connections 1 faults 0\nfault 31\nunsent B A1B2C3\n",
+    ..NO_PORT
+};
+
+/// Notes that fail within a line.
+const NOTES_FAIL: Case<'static> = Case {
+    ports: &[(&[], false), (&[], false)],
+    notes_room: 50,
+    outbox: EMPTY,
+    notes: b"agent 0 requests 0 connections 0 faults 0\nagent 1 ",
+    ..NO_PORT
+};
 
 /// A writer with so much room.
-fn writer(alloc: Global, room: usize) -> Plain<PieceWriter> {
+pub(super) fn writer(alloc: Global, room: usize) -> Plain<PieceWriter> {
     Plain::new(PieceWriter {
         held: Vec::new(alloc),
         most: usize::MAX,
@@ -63,79 +100,90 @@ fn port_of<'a>(alloc: Global, texts: &Texts<'a>) -> Result<TextPort<'a>, Fail> {
     })
 }
 
-/// Asserts what comes of a run.
+/// Ports with these connections.
+fn ports_of<'a>(alloc: Global, ports: &[Texts<'a>]) -> Result<Vec<TextPort<'a>>, Fail> {
+    let mut all = Vec::new(alloc);
+    for texts in ports {
+        all.push(port_of(alloc, texts)?)?;
+    }
+    Ok(all)
+}
+
+/// What comes of a run over these ports: its outbox, its notes, and its status.
+fn served<R: Threads + Wait + Sync>(
+    rt: &R,
+    alloc: Global,
+    ports: Vec<TextPort<'_>>,
+    outbox: Plain<PieceWriter>,
+    notes: Plain<PieceWriter>,
+) -> Result<(Vec<u8>, Vec<u8>, u8), Fail> {
+    let site = site(alloc)?;
+    let limits = Limits::of_program();
+    let mut notes = notes;
+    let end = serve_ports(rt, alloc, site, limits, ports, outbox, &NoGate, &mut notes);
+    let ServeEnd { outbox, status } = end;
+    Ok((outbox.into_inner().held, notes.into_inner().held, status))
+}
+
+/// Asserts what comes of a run; the case is named where something else does.
 fn expect<R: Threads + Wait + Sync + Abort>(
     rt: &R,
     alloc: Global,
-    case: &Case<'_>,
+    case: usize,
+    want: &Case<'_>,
 ) -> Result<(), Fail> {
-    let mut ports = Vec::new(alloc);
-    for texts in case.ports {
-        ports.push(port_of(alloc, texts)?)?;
-    }
-    let site = Site::new(alloc, b"mx.example.net")?;
-    let limits = Limits::of_program();
-    let outbox = writer(alloc, case.outbox_room);
-    let mut notes = writer(alloc, case.notes_room);
-    let end = serve_ports(rt, alloc, site, limits, ports, outbox, &NoGate, &mut notes);
-    let ServeEnd { outbox, status } = end;
-    same(rt, notes.into_inner().held.as_slice(), case.notes);
-    same(rt, outbox.into_inner().held.as_slice(), case.outbox);
-    same(rt, status, case.status);
+    let ports = ports_of(alloc, want.ports)?;
+    let devices = (
+        writer(alloc, want.outbox_room),
+        writer(alloc, want.notes_room),
+    );
+    let (outbox, notes, status) = served(rt, alloc, ports, devices.0, devices.1)?;
+    same_text(rt, case, &notes, want.notes);
+    same_text(rt, case, &outbox, want.outbox);
+    same(rt, (case, status), (case, want.status));
     Ok(())
 }
 
 #[test]
-fn no_port(rt: HostRuntime) -> Result<(), Fail> {
-    expect(&rt, rt.alloc(), &NO_PORT)
+fn ports_side_by_side(rt: HostRuntime) -> Result<(), Fail> {
+    for (case, want) in [NO_PORT, SIDE_BY_SIDE].iter().enumerate() {
+        expect(&rt, rt.alloc(), case, want)?;
+    }
+    Ok(())
 }
 
 #[test]
-fn agents_side_by_side(rt: HostRuntime) -> Result<(), Fail> {
+fn ports_and_devices_that_fail(rt: HostRuntime) -> Result<(), Fail> {
+    for (case, want) in [PORTS_FAIL, OUTBOX_FAILS, NOTES_FAIL].iter().enumerate() {
+        expect(&rt, rt.alloc(), case, want)?;
+    }
+    Ok(())
+}
+
+/// A daemon's outbox is that of a run on one thread.
+#[test]
+fn letters_in_order(rt: HostRuntime) -> Result<(), Fail> {
+    let (input, outbox) = three_letters(rt.alloc())?;
     let case = Case {
-        ports: &[
-            (&[one_append()], false),
-            (&[b"".as_slice(), b"\0\0\0\0".as_slice()], false),
-        ],
-        outbox: EMPTY,
-        notes: b"agent 0 requests 1 connections 1 faults 0\nagent 1 requests 0 connections 2 faults 1\nopen B A1B2C3 1\n",
+        ports: &[(&[input.as_slice()], false)],
+        outbox: &outbox,
+        notes: b"agent 0 requests 6 connections 1 faults 0\n",
         status: 0,
         ..NO_PORT
     };
-    expect(&rt, rt.alloc(), &case)
+    expect(&rt, rt.alloc(), 0, &case)
 }
 
 #[test]
-fn ports_that_fail(rt: HostRuntime) -> Result<(), Fail> {
+fn outbox_fails_in_second_letter(rt: HostRuntime) -> Result<(), Fail> {
+    let (input, outbox) = three_letters(rt.alloc())?;
+    let front = up_to_second_letter(&rt, &outbox)?;
     let case = Case {
-        ports: &[(&[ONE_MESSAGE.as_slice()], true), (&[], true)],
-        outbox: ONE_NOTICE,
-        notes: b"agent 0 requests 2 connections 1 faults 0\nagent 1 requests 0 connections 0 faults 0\nfault 61\n",
+        ports: &[(&[input.as_slice()], false)],
+        outbox_room: front.len(),
+        outbox: front,
+        notes: b"agent 0 requests 6 connections 1 faults 0\nfault 31\nunsent B K2\nunsent B K3\n",
         ..NO_PORT
     };
-    expect(&rt, rt.alloc(), &case)
-}
-
-#[test]
-fn outbox_that_fails(rt: HostRuntime) -> Result<(), Fail> {
-    let case = Case {
-        ports: &[(&[ONE_MESSAGE.as_slice()], false)],
-        outbox_room: 21,
-        outbox: b"EHLO mx.example.net\r\n",
-        notes: b"agent 0 requests 2 connections 1 faults 0\nfault 31\nunsent B A1B2C3\n",
-        ..NO_PORT
-    };
-    expect(&rt, rt.alloc(), &case)
-}
-
-#[test]
-fn notes_that_fail(rt: HostRuntime) -> Result<(), Fail> {
-    let case = Case {
-        ports: &[(&[], false), (&[], false)],
-        notes_room: 50,
-        outbox: EMPTY,
-        notes: b"agent 0 requests 0 connections 0 faults 0\nagent 1 ",
-        ..NO_PORT
-    };
-    expect(&rt, rt.alloc(), &case)
+    expect(&rt, rt.alloc(), 0, &case)
 }

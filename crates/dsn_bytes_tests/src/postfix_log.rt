@@ -5,6 +5,8 @@ use dsn_postfix::{
     logged_as,
 };
 use dsn_text::Service;
+use std::alloc::{AllocGlobal, Global};
+use std::process::Abort;
 use std::test::Fail;
 
 /// `append-bounce.bin` of tests/postfix/, but for the original recipient, which an alias had.
@@ -23,63 +25,77 @@ const TO_BE_QUOTED: &[u8] =
 const DAMAGED: &[u8] =
     b"\n<a@example.com>: no\nrecipient=a@example.com\nsta\n<b@example.com>: busy\nrecipient=b@example.com\nreason=busy\n\n\n<c@example.com>: n";
 
-#[test]
-fn an_append_is_logged_as_bounce_logs_it(rt: HostRuntime) -> Result<(), Fail> {
-    let request = decode_postfix_request(PostfixVersion::V3_7, APPEND).map_err(|_| "a request")?;
-    if let PostfixRequest::Append(append) = request {
-        let found = logged_as(Service::Bounce, &append).map_err(|_| "a record")?;
-        let bytes = found.log_bytes(rt.alloc()).map_err(|_| "bytes")?;
-        same(&rt, bytes.as_slice(), LOGGED);
+/// What bounce(8) logs of a recipient whose transport is `error:5.7.1`, without words.
+const WITHOUT_WORDS: &[u8] =
+    b"\n<bob@silent.example.org>: \nrecipient=bob@silent.example.org\noffset=669\nstatus=5.7.1\naction=failed\n\n";
+
+/// What an append becomes in a log of a service: the bytes of its record, or the field that keeps it from being logged.
+fn logged(
+    alloc: Global,
+    service: Service,
+    bytes: &[u8],
+) -> Result<Result<Vec<u8>, LogField>, Fail> {
+    let PostfixRequest::Append(append) = decode_postfix_request(PostfixVersion::V3_7, bytes)? else {
+        return Err("an append".into());
+    };
+    match logged_as(service, &append) {
+        Ok(record) => Ok(Ok(record.log_bytes(alloc)?)),
+        Err(field) => Ok(Err(field)),
+    }
+}
+
+/// An append becomes this in a log of a service.
+fn expect_logged(
+    rt: &(impl AllocGlobal + Abort),
+    service: Service,
+    bytes: &[u8],
+    want: Result<&[u8], LogField>,
+) -> Result<(), Fail> {
+    match logged(rt.alloc(), service, bytes)? {
+        Ok(record) => same(rt, Ok(record.as_slice()), want),
+        Err(field) => same(rt, Err(field), want),
     }
     Ok(())
 }
 
-/// The field that keeps an append from being logged.
-fn unlogged(bytes: &[u8]) -> Option<LogField> {
-    match decode_postfix_request(PostfixVersion::V3_7, bytes) {
-        Ok(PostfixRequest::Append(append)) => logged_as(Service::Defer, &append).err(),
-        _ => None,
-    }
-}
-
 #[test]
-fn an_address_to_be_quoted_is_told(rt: HostRuntime) {
-    same(&rt, unlogged(APPEND), None);
-    same(&rt, unlogged(TO_BE_QUOTED), Some(LogField::Recipient));
+fn an_append_is_logged_as_bounce_logs_it(rt: HostRuntime) -> Result<(), Fail> {
+    expect_logged(&rt, Service::Bounce, APPEND, Ok(LOGGED))?;
+    expect_logged(&rt, Service::Defer, APPEND, Ok(LOGGED))?;
+    let unlogged = Err(LogField::Recipient);
+    expect_logged(&rt, Service::Defer, TO_BE_QUOTED, unlogged)
 }
 
-/// The recipient of an entry that is a record, or the place of one that is damaged.
-fn told(entry: Option<LogEntry<'_>>) -> (&[u8], Option<u64>) {
-    match entry {
-        Some(LogEntry::Said(found)) => (found.recipient, None),
-        Some(LogEntry::Damaged(lines)) => (b"", Some(lines.place)),
-        None => (b"", None),
-    }
+/// The next entry of a log is a record of this recipient with this reason, a damaged one at this place, or none.
+fn expect_entry(
+    rt: &impl Abort,
+    reader: &mut LogReader<'_>,
+    want: Option<Result<(&[u8], &[u8]), u64>>,
+) {
+    let found = match reader.next_entry() {
+        Some(LogEntry::Said(record)) => Some(Ok((record.recipient, record.reason))),
+        Some(LogEntry::Damaged(lines)) => Some(Err(lines.place)),
+        None => None,
+    };
+    same(rt, found, want);
 }
 
 #[test]
 fn recipients_of_a_damaged_log_stay_apart(rt: HostRuntime) {
     let mut reader = LogReader::new(Service::Bounce, DAMAGED);
-    for want in [
-        (b"".as_slice(), Some(1)),
-        (b"b@example.com".as_slice(), None),
-        (b"".as_slice(), Some(109)),
-        (b"".as_slice(), None),
-    ] {
-        same(&rt, told(reader.next_entry()), want);
-    }
+    expect_entry(&rt, &mut reader, Some(Err(1)));
+    let second = (b"b@example.com".as_slice(), b"busy".as_slice());
+    expect_entry(&rt, &mut reader, Some(Ok(second)));
+    expect_entry(&rt, &mut reader, Some(Err(109)));
+    expect_entry(&rt, &mut reader, None);
 }
-
-/// What bounce(8) logs of a recipient whose transport is `error:5.7.1`, without words.
-const WITHOUT_WORDS: &[u8] =
-    b"\n<bob@silent.example.org>: \nrecipient=bob@silent.example.org\noffset=669\nstatus=5.7.1\naction=failed\n\n";
 
 #[test]
 fn a_record_without_a_reason_has_one_in_its_place(rt: HostRuntime) {
     let mut reader = LogReader::new(Service::Bounce, WITHOUT_WORDS);
-    let reason = match reader.next_entry() {
-        Some(LogEntry::Said(found)) => found.reason,
-        _ => b"",
-    };
-    same(&rt, reason, b"(description unavailable)".as_slice());
+    let want = (
+        b"bob@silent.example.org".as_slice(),
+        b"(description unavailable)".as_slice(),
+    );
+    expect_entry(&rt, &mut reader, Some(Ok(want)));
 }

@@ -4,6 +4,7 @@ use dsn_postfix::{
     MessageFacts, QueueBroken, QueueReader, QueuedRecipient, RecipientState, header_of_message,
     text_of_message,
 };
+use std::process::Abort;
 use std::test::Fail;
 
 /// Some records of `queue-mixed` of tests/postfix/, in their order, up to the last one.
@@ -19,56 +20,56 @@ const TEXT: &[u8] =
     b"Received: from client.example.com (localhost [127.0.0.1])\n\tby mx.example.net (Postfix) with ESMTP id 334A2A7C7AF;\n\tThu, 26 Nov 2026 05:36:03 +0000 (UTC)\nFrom: Ann <ann@example.com>\nTo: someone@mx.example.net\nSubject: mixed\nMessage-ID: <mixed@client.example.com>\nDate: Thu, 26 Nov 2026 05:36:03 +0000 (UTC)\n\nHello.\n";
 
 /// The place, the address, the flags and the state of a recipient.
-fn told<'a>(found: Option<QueuedRecipient<'a>>) -> Option<(u64, &'a [u8], u8, RecipientState)> {
-    let it = found?;
-    Some((it.place, it.address, it.notify_flags, it.state))
+type Told<'a> = (u64, &'a [u8], u8, RecipientState);
+
+/// The next recipient of a queue file is this one, or there is none, or it can't be read on.
+fn expect_recipient(
+    rt: &impl Abort,
+    reader: &mut QueueReader<'_>,
+    want: Result<Option<Told<'_>>, QueueBroken>,
+) {
+    let found = match reader.next_recipient() {
+        Ok(Some(it)) => Ok(Some((it.place, it.address, it.notify_flags, it.state))),
+        Ok(None) => Ok(None),
+        Err(broken) => Err(broken),
+    };
+    same(rt, found, want);
 }
 
+/// The two recipients.
+const RECIPIENTS: [Result<Option<Told<'static>>, QueueBroken>; 2] = [
+    Ok(Some((108, b"no-one@example.org", 12, RecipientState::Done))),
+    Ok(Some((128, b"later@example.org", 0, RecipientState::Waiting))),
+];
+
 #[test]
-fn a_message_is_read_with_its_recipients(rt: HostRuntime) -> Result<(), Fail> {
-    let facts = MessageFacts::read(QUEUED).map_err(|_| "a queue file")?;
-    same(&rt, facts.arrival, Some(1_795_671_363));
-    same(&rt, facts.sender, Some(b"ann@example.com".as_slice()));
-    same(&rt, facts.envelope_id, Some(b"QQ314159".as_slice()));
-    same(&rt, facts.return_flags, Some(2));
-    let mut reader = QueueReader::new(QUEUED);
-    for want in [
-        Some((
-            108,
-            b"no-one@example.org".as_slice(),
-            12,
-            RecipientState::Done,
-        )),
-        Some((
-            128,
-            b"later@example.org".as_slice(),
-            0,
-            RecipientState::Waiting,
-        )),
-        None,
-        None,
-    ] {
-        let found = reader.next_recipient().map_err(|_| "a recipient")?;
-        same(&rt, told(found), want);
+fn a_queue_file_has_its_recipients(rt: HostRuntime) {
+    let mut whole = QueueReader::new(QUEUED);
+    let mut cut = QueueReader::new(&QUEUED[..QUEUED.len() - 2]);
+    for want in RECIPIENTS {
+        expect_recipient(&rt, &mut whole, want);
+        expect_recipient(&rt, &mut cut, want);
     }
-    Ok(())
+    expect_recipient(&rt, &mut whole, Ok(None));
+    expect_recipient(&rt, &mut whole, Ok(None));
+    expect_recipient(&rt, &mut cut, Err(QueueBroken));
+}
+
+/// A message's arrival, sender, envelope id, and flags of what is given back.
+fn expect_facts(rt: &impl Abort, facts: &MessageFacts<'_>) {
+    same(rt, facts.arrival, Some(1_795_671_363));
+    same(rt, facts.sender, Some(b"ann@example.com".as_slice()));
+    same(rt, facts.envelope_id, Some(b"QQ314159".as_slice()));
+    same(rt, facts.return_flags, Some(2));
 }
 
 #[test]
-fn a_queue_file_cut_short_has_what_came_before(rt: HostRuntime) -> Result<(), Fail> {
+fn a_queue_file_says_what_its_message_is(rt: HostRuntime) -> Result<(), Fail> {
+    let facts = MessageFacts::read(QUEUED).map_err(|_| "a queue file")?;
+    expect_facts(&rt, &facts);
     let cut = &QUEUED[..QUEUED.len() - 2];
     let broken = MessageFacts::read(cut).err().ok_or("a break")?;
-    same(&rt, broken.before.arrival, Some(1_795_671_363));
-    same(
-        &rt,
-        broken.before.sender,
-        Some(b"ann@example.com".as_slice()),
-    );
-    let mut reader = QueueReader::new(cut);
-    for want in [Ok(true), Ok(true), Err(QueueBroken)] {
-        let found = reader.next_recipient();
-        same(&rt, found.map(|found| found.is_some()), want);
-    }
+    expect_facts(&rt, &broken.before);
     Ok(())
 }
 
@@ -81,18 +82,23 @@ fn the_text_of_a_message_is_its_lines(rt: HostRuntime) -> Result<(), Fail> {
     Ok(())
 }
 
+/// Texts, and their headers.
+const HEADERS: [(&[u8], &[u8]); 3] = [
+    (b"A: 1\n\t2\nB : 3\nno field\nC: 4\n", b"A: 1\n\t2\nB : 3\n"),
+    (b"A: 1", b"A: 1"),
+    (b"\nA: 1\n", b""),
+];
+
+/// A text has this header.
+fn expect_header(rt: &impl Abort, &(text, header): &(&[u8], &[u8])) {
+    same(rt, header_of_message(text), header);
+}
+
 #[test]
 fn a_header_ends_where_no_field_goes_on(rt: HostRuntime) {
     let header = &TEXT[..TEXT.len() - b"\nHello.\n".len()];
-    same(&rt, header_of_message(TEXT), header);
-    for (text, want) in [
-        (
-            b"A: 1\n\t2\nB : 3\nno field\nC: 4\n".as_slice(),
-            b"A: 1\n\t2\nB : 3\n".as_slice(),
-        ),
-        (b"A: 1".as_slice(), b"A: 1".as_slice()),
-        (b"\nA: 1\n".as_slice(), b"".as_slice()),
-    ] {
-        same(&rt, header_of_message(text), want);
+    expect_header(&rt, &(TEXT, header));
+    for case in &HEADERS {
+        expect_header(&rt, case);
     }
 }

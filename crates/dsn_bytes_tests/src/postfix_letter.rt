@@ -4,7 +4,8 @@ use dsn_outcome::{DraftFault, Letter, OutcomeFault, QueueId, Service, Stamp};
 use dsn_postfix::{LogRecord, PlannedNotice, ReturnedPart};
 use dsn_postfix_service::{LetterFault, ReportedMessage, letter_of_notice};
 use dsn_report::{Site, notice};
-use std::alloc::Global;
+use std::alloc::{AllocGlobal, Global};
+use std::process::Abort;
 use std::test::Fail;
 
 /// A record of a recipient that a remote system refused, as bounce(8) logs it.
@@ -39,69 +40,63 @@ const UNREACHED: LogRecord<'static> = LogRecord {
     reason: b"connect to 127.0.0.1:25: Connection refused",
 };
 
-/// A message from Ann, which came an hour before its notice.
-fn from_ann<'a>(queue_id: QueueId) -> ReportedMessage<'a> {
-    ReportedMessage {
-        queue_id,
-        arrival: Some(1_699_996_400),
+/// A planned notice of a message from Ann, which came an hour before it: what is odd in it, and the records of which it tells.
+#[derive(Clone, Copy)]
+struct Planned {
+    arrival: Option<u64>,
+    envelope_id: &'static [u8],
+    to: &'static [u8],
+    service: Service,
+    records: &'static [LogRecord<'static>],
+}
+
+/// A notice of failure to Ann.
+const PLANNED: Planned = Planned {
+    arrival: Some(1_699_996_400),
+    envelope_id: b"",
+    to: b"ann@example.com",
+    service: Service::Bounce,
+    records: &[REFUSED],
+};
+
+/// The letter of a notice that gives the header back, made an hour after the message came.
+fn letter_of(alloc: Global, it: &Planned) -> Result<Result<Letter, LetterFault>, Fail> {
+    let about = ReportedMessage {
+        queue_id: QueueId::new(b"090B8A85C9C").ok_or("the queue id")?,
+        arrival: it.arrival,
         sender: b"ann@example.com",
-        envelope_id: b"",
+        envelope_id: it.envelope_id,
         text: b"Subject: hello\n\nHello.\n",
         lifetime: 432_000,
-    }
-}
-
-/// To whom a notice goes, its kind, and the records of which it tells.
-#[derive(Clone, Copy)]
-struct Plan<'b, 'a> {
-    to: &'a [u8],
-    service: Service,
-    records: &'b [LogRecord<'a>],
-}
-
-/// The letter of a notice that gives the header back, made at a moment.
-fn letter_of(
-    alloc: Global,
-    about: &ReportedMessage<'_>,
-    plan: Plan<'_, '_>,
-    moment: u64,
-) -> Result<Result<Letter, LetterFault>, Fail> {
-    let mut outcomes = Vec::new(alloc);
-    outcomes.extend_from_slice(plan.records)?;
-    let planned = PlannedNotice {
-        to: plan.to,
-        delimiters: None,
-        service: plan.service,
-        returned: ReturnedPart::Header,
-        outcomes,
     };
-    let moment = Stamp::new(moment).ok_or("the moment")?;
-    Ok(letter_of_notice(alloc, about, &planned, moment, 7))
+    let moment = Stamp::new(1_700_000_000).ok_or("the moment")?;
+    let planned = PlannedNotice {
+        to: it.to,
+        delimiters: None,
+        service: it.service,
+        returned: ReturnedPart::Header,
+        outcomes: it.records.to_vec(alloc)?,
+    };
+    Ok(letter_of_notice(alloc, &about, &planned, moment, 7))
 }
 
-/// The text of the notice that a plan becomes.
-fn text(alloc: Global, about: &ReportedMessage<'_>, plan: Plan<'_, '_>) -> Result<Vec<u8>, Fail> {
-    let letter = letter_of(alloc, about, plan, 1_700_000_000)??;
-    let site = Site::new(alloc, b"mx.example.net")?;
-    Ok(notice(alloc, &site, &letter)?)
+/// A planned notice becomes a letter whose text ends so.
+fn expect_text(rt: &(impl AllocGlobal + Abort), planned: &Planned, end: &[u8]) -> Result<(), Fail> {
+    let letter = letter_of(rt.alloc(), planned)??;
+    let site = Site::new(rt.alloc(), b"mx.example.net")?;
+    let text = notice(rt.alloc(), &site, &letter)?;
+    assert!(rt; text.ends_with(end));
+    Ok(())
 }
 
-/// Why a plan becomes no letter.
-fn fault(
-    alloc: Global,
-    about: &ReportedMessage<'_>,
-    plan: Plan<'_, '_>,
-) -> Result<Option<LetterFault>, Fail> {
-    Ok(letter_of(alloc, about, plan, 0)?.err())
-}
-
-/// A plan of a notice to Ann.
-fn to_ann<'b, 'a>(service: Service, records: &'b [LogRecord<'a>]) -> Plan<'b, 'a> {
-    Plan {
-        to: b"ann@example.com",
-        service,
-        records,
-    }
+/// A planned notice becomes no letter, for this reason.
+fn expect_fault(
+    rt: &(impl AllocGlobal + Abort),
+    planned: &Planned,
+    fault: LetterFault,
+) -> Result<(), Fail> {
+    same(rt, letter_of(rt.alloc(), planned)?.err(), Some(fault));
+    Ok(())
 }
 
 /// The parts for programs of a notice of failure.
@@ -126,14 +121,6 @@ Subject: hello\r\n\
 \r\n\
 --B.090B8A85C9C.1700000000.0000--\r\n";
 
-#[test]
-fn a_record_becomes_an_outcome(rt: HostRuntime) -> Result<(), Fail> {
-    let about = from_ann(QueueId::new(b"090B8A85C9C").ok_or("the queue id")?);
-    let text = text(rt.alloc(), &about, to_ann(Service::Bounce, &[REFUSED]))?;
-    assert!(rt; text.as_slice().ends_with(REFUSED_STATUS));
-    Ok(())
-}
-
 /// The group of a recipient whose delivery is tried again, with the mail system's own reason.
 const UNREACHED_GROUP: &[u8] = b"\r\n\r\n\
 Final-Recipient: rfc822; carol@example.org\r\n\
@@ -151,62 +138,68 @@ Subject: hello\r\n\
 --D.090B8A85C9C.1700000000.0000--\r\n";
 
 #[test]
-fn a_reason_stands_for_a_diagnostic(rt: HostRuntime) -> Result<(), Fail> {
-    let about = from_ann(QueueId::new(b"090B8A85C9C").ok_or("the queue id")?);
-    let text = text(rt.alloc(), &about, to_ann(Service::Defer, &[UNREACHED]))?;
-    assert!(rt; text.as_slice().ends_with(UNREACHED_GROUP));
-    Ok(())
+fn a_record_becomes_an_outcome(rt: HostRuntime) -> Result<(), Fail> {
+    expect_text(&rt, &PLANNED, REFUSED_STATUS)
 }
 
 #[test]
+fn a_reason_stands_for_a_diagnostic(rt: HostRuntime) -> Result<(), Fail> {
+    let delayed = Planned {
+        service: Service::Defer,
+        records: &[UNREACHED],
+        ..PLANNED
+    };
+    expect_text(&rt, &delayed, UNREACHED_GROUP)
+}
+
+/// A record of a remote system that stands behind a socket.
+const BEHIND_A_SOCKET: LogRecord<'static> = LogRecord {
+    mta_type: b"unix",
+    ..REFUSED
+};
+
+/// A record of a recipient with a space.
+const SPACED: LogRecord<'static> = LogRecord {
+    recipient: b"a b@example.org",
+    ..REFUSED
+};
+
+#[test]
 fn what_no_letter_says(rt: HostRuntime) -> Result<(), Fail> {
-    let about = from_ann(QueueId::new(b"090B8A85C9C").ok_or("the queue id")?);
-    let none = to_ann(Service::Bounce, &[]);
-    same(
-        &rt,
-        fault(rt.alloc(), &about, none)?,
-        Some(LetterFault::Count),
-    );
-    let plan = to_ann(Service::Bounce, &[REFUSED]);
-    let unknown = ReportedMessage {
+    let none = Planned {
+        records: &[],
+        ..PLANNED
+    };
+    expect_fault(&rt, &none, LetterFault::Count)?;
+    let unknown = Planned {
         arrival: None,
-        ..about
+        ..PLANNED
     };
-    let wanted = Some(LetterFault::Arrival);
-    same(&rt, fault(rt.alloc(), &unknown, plan)?, wanted);
-    let tabbed = ReportedMessage {
+    expect_fault(&rt, &unknown, LetterFault::Arrival)?;
+    let tabbed = Planned {
         envelope_id: b"a\tb",
-        ..about
+        ..PLANNED
     };
-    let wanted = Some(LetterFault::Draft(DraftFault::EnvelopeId));
-    same(&rt, fault(rt.alloc(), &tabbed, plan)?, wanted);
-    Ok(())
+    let fault = LetterFault::Draft(DraftFault::EnvelopeId);
+    expect_fault(&rt, &tabbed, fault)
 }
 
 #[test]
 fn whom_no_letter_tells(rt: HostRuntime) -> Result<(), Fail> {
-    let about = from_ann(QueueId::new(b"090B8A85C9C").ok_or("the queue id")?);
-    let quoted = Plan {
+    let quoted = Planned {
         to: b"a..b@example.com",
-        ..to_ann(Service::Bounce, &[REFUSED])
+        ..PLANNED
     };
-    let wanted = Some(LetterFault::Quotes);
-    same(&rt, fault(rt.alloc(), &about, quoted)?, wanted);
-    let socket = LogRecord {
-        mta_type: b"unix",
-        ..REFUSED
+    expect_fault(&rt, &quoted, LetterFault::Quotes)?;
+    let socket = Planned {
+        records: &[BEHIND_A_SOCKET],
+        ..PLANNED
     };
-    let wanted = Some(LetterFault::RemoteType);
-    let records = [socket];
-    let plan = to_ann(Service::Bounce, &records);
-    same(&rt, fault(rt.alloc(), &about, plan)?, wanted);
-    let spaced = LogRecord {
-        recipient: b"a b@example.org",
-        ..REFUSED
+    expect_fault(&rt, &socket, LetterFault::RemoteType)?;
+    let spaced = Planned {
+        records: &[REFUSED, SPACED],
+        ..PLANNED
     };
-    let wanted = Some(LetterFault::Outcome(OutcomeFault::BadRecipient));
-    let records = [REFUSED, spaced];
-    let plan = to_ann(Service::Bounce, &records);
-    same(&rt, fault(rt.alloc(), &about, plan)?, wanted);
-    Ok(())
+    let fault = LetterFault::Outcome(OutcomeFault::BadRecipient);
+    expect_fault(&rt, &spaced, fault)
 }

@@ -1,16 +1,30 @@
 //! Lists of attributes, and requests, from readers that give them in pieces, end anywhere and fail anywhere.
 use crate::assert_same::same;
-use crate::frame::frames::source;
-use crate::postfix_request::{FLUSH_BOUNCE, VERP, WARN};
+use crate::frame::frames::{PieceReader, source};
+use crate::postfix_request::{FLUSH_BOUNCE, VERP, WARN, joined};
+use dsn_outcome::Plain;
 use dsn_postfix::{
     LONGEST_LIST, ListBuffer, ListFault, PostfixRequest, PostfixVersion, ReceiveFault,
     RequestFault, receive_postfix_request,
 };
 use std::alloc::{AllocError, AllocGlobal};
+use std::process::Abort;
 use std::test::Fail;
 
 /// Calls that never fail.
 const ALWAYS: usize = 1_000_000;
+
+/// The next list of a reader is this one, and a buffer holds it; or there is none, for this reason, and it holds none.
+fn expect_next(
+    rt: &impl Abort,
+    buffer: &mut ListBuffer,
+    source: &mut Plain<PieceReader<'_>>,
+    want: Result<&[u8], ListFault>,
+) {
+    let read = buffer.read_next(source);
+    same(rt, read.err(), want.err());
+    same(rt, buffer.list(), want.ok());
+}
 
 /// How many bytes the list has that is read, at most so many bytes a call, where the call after `good` calls fails.
 fn list_size(
@@ -21,31 +35,43 @@ fn list_size(
 ) -> Result<usize, ListFault> {
     let mut buffer = ListBuffer::new(rt.alloc());
     buffer.read_next(&mut source(input, most, good))?;
-    Ok(buffer.list().map_or(0, |list| list.len()))
+    match buffer.list() {
+        Some(list) => Ok(list.len()),
+        None => Ok(0),
+    }
+}
+
+/// A list that is read so has this size, or is none.
+fn expect_size(
+    rt: &(impl Abort + AllocGlobal),
+    input: &[u8],
+    (most, good): (usize, usize),
+    want: Result<usize, ListFault>,
+) {
+    let size = input.len();
+    let found = list_size(rt, input, most, good);
+    same(rt, (size, most, good, found), (size, most, good, want));
 }
 
 #[test]
-fn a_list_in_pieces_of_each_size(rt: HostRuntime) -> Result<(), Fail> {
+fn a_list_in_pieces_of_each_size(rt: HostRuntime) {
     let mut buffer = ListBuffer::new(rt.alloc());
     for most in 1..FLUSH_BOUNCE.len() + 2 {
-        buffer
-            .read_next(&mut source(FLUSH_BOUNCE, most, ALWAYS))
-            .map_err(|_| "a list")?;
-        same(&rt, buffer.list(), Some(FLUSH_BOUNCE));
+        let mut source = source(FLUSH_BOUNCE, most, ALWAYS);
+        expect_next(&rt, &mut buffer, &mut source, Ok(FLUSH_BOUNCE));
     }
-    Ok(())
 }
 
 #[test]
 fn a_list_that_ends_at_each_byte(rt: HostRuntime) {
-    same(&rt, list_size(&rt, b"", 1, ALWAYS), Err(ListFault::Nothing));
+    expect_size(&rt, b"", (1, ALWAYS), Err(ListFault::Nothing));
+    expect_size(&rt, b"\0", (1, ALWAYS), Ok(1));
     for end in 1..FLUSH_BOUNCE.len() {
         for most in [1, 7, 4_096] {
-            let found = list_size(&rt, &FLUSH_BOUNCE[..end], most, ALWAYS);
-            same(&rt, (end, found), (end, Err(ListFault::CutShort)));
+            let cut = &FLUSH_BOUNCE[..end];
+            expect_size(&rt, cut, (most, ALWAYS), Err(ListFault::CutShort));
         }
     }
-    same(&rt, list_size(&rt, b"\0", 1, ALWAYS), Ok(1));
 }
 
 #[test]
@@ -53,17 +79,14 @@ fn a_reader_that_fails_at_each_byte(rt: HostRuntime) {
     // once the list's end is there the reader isn't asked again
     let whole = FLUSH_BOUNCE.len();
     for good in 0..whole {
-        let found = list_size(&rt, FLUSH_BOUNCE, 1, good);
-        same(&rt, (good, found), (good, Err(ListFault::Read)));
+        expect_size(&rt, FLUSH_BOUNCE, (1, good), Err(ListFault::Read));
     }
-    same(&rt, list_size(&rt, FLUSH_BOUNCE, 1, whole), Ok(whole));
+    expect_size(&rt, FLUSH_BOUNCE, (1, whole), Ok(whole));
 }
 
 #[test]
 fn bytes_behind_a_list(rt: HostRuntime) -> Result<(), Fail> {
-    let mut input = Vec::new(rt.alloc());
-    input.extend_from_slice(WARN)?;
-    input.extend_from_slice(VERP)?;
+    let input = joined(rt.alloc(), &[WARN, VERP])?;
     // in one piece with the list's end, but for pieces that end where the list does
     for most in 2..input.len() + 1 {
         let want = if WARN.len() % most == 0 {
@@ -71,20 +94,19 @@ fn bytes_behind_a_list(rt: HostRuntime) -> Result<(), Fail> {
         } else {
             Err(ListFault::Trailing)
         };
-        same(
-            &rt,
-            (most, list_size(&rt, &input, most, ALWAYS)),
-            (most, want),
-        );
+        expect_size(&rt, &input, (most, ALWAYS), want);
     }
+    Ok(())
+}
+
+#[test]
+fn lists_one_after_another(rt: HostRuntime) -> Result<(), Fail> {
+    let input = joined(rt.alloc(), &[WARN, VERP])?;
     let mut source = source(&input, 1, ALWAYS);
     let mut buffer = ListBuffer::new(rt.alloc());
-    for want in [WARN, VERP] {
-        buffer.read_next(&mut source).map_err(|_| "a list")?;
-        same(&rt, buffer.list(), Some(want));
+    for want in [Ok(WARN), Ok(VERP), Err(ListFault::Nothing)] {
+        expect_next(&rt, &mut buffer, &mut source, want);
     }
-    same(&rt, buffer.read_next(&mut source), Err(ListFault::Nothing));
-    same(&rt, buffer.list(), None);
     Ok(())
 }
 
@@ -97,18 +119,30 @@ fn list_of(rt: &impl AllocGlobal, size: usize) -> Result<Vec<u8>, AllocError> {
     Ok(list)
 }
 
+/// How long lists are, and what is read of them.
+const LENGTHS: [(usize, Result<usize, ListFault>); 4] = [
+    (LONGEST_LIST - 1, Ok(LONGEST_LIST - 1)),
+    (LONGEST_LIST, Ok(LONGEST_LIST)),
+    (LONGEST_LIST + 1, Err(ListFault::TooLong)),
+    (2 * LONGEST_LIST, Err(ListFault::TooLong)),
+];
+
+/// A list of so many bytes is read so in pieces of each size.
+fn expect_long(
+    rt: &(impl Abort + AllocGlobal),
+    &(size, want): &(usize, Result<usize, ListFault>),
+) -> Result<(), Fail> {
+    let list = list_of(rt, size)?;
+    for most in [1_000, 4_095, 65_536, 100_000] {
+        expect_size(rt, &list, (most, ALWAYS), want);
+    }
+    Ok(())
+}
+
 #[test]
 fn the_longest_list(rt: HostRuntime) -> Result<(), Fail> {
-    for most in [1_000, 4_095, 65_536, 100_000] {
-        for (size, want) in [
-            (LONGEST_LIST - 1, Ok(LONGEST_LIST - 1)),
-            (LONGEST_LIST, Ok(LONGEST_LIST)),
-            (LONGEST_LIST + 1, Err(ListFault::TooLong)),
-            (2 * LONGEST_LIST, Err(ListFault::TooLong)),
-        ] {
-            let found = list_size(&rt, &list_of(&rt, size)?, most, ALWAYS);
-            same(&rt, (most, size, found), (most, size, want));
-        }
+    for case in &LENGTHS {
+        expect_long(&rt, case)?;
     }
     Ok(())
 }
@@ -129,30 +163,44 @@ fn received(
     }
 }
 
+/// A request that is received so asks this, or is none.
+fn expect_received(
+    rt: &(impl Abort + AllocGlobal),
+    input: &[u8],
+    (most, good): (usize, usize),
+    want: Result<&'static str, ReceiveFault>,
+) {
+    let found = received(rt, input, most, good);
+    same(rt, (input, most, good, found), (input, most, good, want));
+}
+
+/// What is no request where so many calls of one byte go well, and why.
+const NO_REQUESTS: [(&[u8], usize, ReceiveFault); 4] = [
+    (b"", ALWAYS, ReceiveFault::List(ListFault::Nothing)),
+    (FLUSH_BOUNCE, 3, ReceiveFault::List(ListFault::Read)),
+    (b"\0", ALWAYS, ReceiveFault::Request(RequestFault::Missing)),
+    (
+        b"status\x000\0\0",
+        ALWAYS,
+        ReceiveFault::Request(RequestFault::Name),
+    ),
+];
+
+/// No request is received, for this reason.
+fn expect_none(
+    rt: &(impl Abort + AllocGlobal),
+    &(input, good, fault): &(&[u8], usize, ReceiveFault),
+) {
+    expect_received(rt, input, (1, good), Err(fault));
+}
+
 #[test]
 fn requests_are_received_in_pieces(rt: HostRuntime) {
     for most in 1..FLUSH_BOUNCE.len() + 2 {
-        same(&rt, received(&rt, FLUSH_BOUNCE, most, ALWAYS), Ok("flush"));
-        same(&rt, received(&rt, WARN, most, ALWAYS), Ok("warn"));
+        expect_received(&rt, FLUSH_BOUNCE, (most, ALWAYS), Ok("flush"));
+        expect_received(&rt, WARN, (most, ALWAYS), Ok("warn"));
     }
-    for (input, good, want) in [
-        (
-            b"".as_slice(),
-            ALWAYS,
-            ReceiveFault::List(ListFault::Nothing),
-        ),
-        (FLUSH_BOUNCE, 3, ReceiveFault::List(ListFault::Read)),
-        (
-            b"\0".as_slice(),
-            ALWAYS,
-            ReceiveFault::Request(RequestFault::Missing),
-        ),
-        (
-            b"status\x000\0\0".as_slice(),
-            ALWAYS,
-            ReceiveFault::Request(RequestFault::Name),
-        ),
-    ] {
-        same(&rt, received(&rt, input, 1, good), Err(want));
+    for case in &NO_REQUESTS {
+        expect_none(&rt, case);
     }
 }

@@ -1,14 +1,15 @@
 //! Which notices requests of Postfix have of logs that Postfix wrote.
 use crate::assert_same::same;
 use crate::postfix_request::{
-    FLUSH_BOUNCE, FLUSH_DEFER, FLUSH_NULL, FLUSH_UTF8, TRACE, VERP, WARN,
+    FLUSH_BOUNCE, FLUSH_DEFER, FLUSH_NULL, FLUSH_UTF8, TRACE, VERP, WARN, append_all, joined,
 };
 use dsn_postfix::{
-    CantSay, PlanFault, PlannedNotice, PostfixVersion, QueuedRecipient, RecipientState,
+    CantSay, LogRecord, PlanFault, PlannedNotice, PostfixVersion, QueuedRecipient, RecipientState,
     ReturnedPart, decode_postfix_request, plan_notices,
 };
 use dsn_text::Service;
-use std::alloc::Global;
+use std::alloc::{AllocError, AllocGlobal, Global};
+use std::process::Abort;
 use std::test::Fail;
 
 /// `bounce-mixed` of tests/postfix/.
@@ -34,7 +35,48 @@ const LATER: &[u8] =
 /// What a log has of one recipient in the form of versions before 2.3.
 const OLD_RECORD: &[u8] = b"<a@example.org>: no\n\n";
 
-const ANN: &[u8] = b"ann@example.com";
+/// Writes to whom a notice goes, its address, its kind, and what it gives back.
+fn write_head(
+    told: &mut Vec<u8>,
+    notice: &PlannedNotice<'_>,
+    address: &[u8],
+) -> Result<(), AllocError> {
+    let returned = match notice.returned {
+        ReturnedPart::Header => b" header\n".as_slice(),
+        ReturnedPart::Whole => b" whole\n",
+    };
+    let kind = [notice.service.letter()];
+    append_all(told, &[notice.to, b" at ", address, b" ", &kind, returned])
+}
+
+/// Writes the recipient, the status and the action of an outcome.
+fn write_outcome(told: &mut Vec<u8>, outcome: &LogRecord<'_>) -> Result<(), AllocError> {
+    append_all(told, &[b"- ", outcome.recipient, b" ", outcome.status])?;
+    append_all(told, &[b" ", outcome.action, b"\n"])
+}
+
+/// Writes a line for a notice, and after it one for each outcome.
+fn write_notice(
+    told: &mut Vec<u8>,
+    notice: &PlannedNotice<'_>,
+    address: &[u8],
+) -> Result<(), AllocError> {
+    write_head(told, notice, address)?;
+    for outcome in notice.outcomes.iter() {
+        write_outcome(told, outcome)?;
+    }
+    Ok(())
+}
+
+/// Planned notices, as a text.
+fn told(alloc: Global, notices: &[PlannedNotice<'_>]) -> Result<Vec<u8>, Fail> {
+    let mut told = Vec::new(alloc);
+    for notice in notices {
+        let address = notice.address(alloc)?;
+        write_notice(&mut told, notice, &address)?;
+    }
+    Ok(told)
+}
 
 /// The notices of a request's bytes.
 fn planned<'a>(
@@ -43,188 +85,150 @@ fn planned<'a>(
     request: &'a [u8],
     queued: &[QueuedRecipient<'_>],
     log: Option<&'a [u8]>,
-) -> Result<Vec<PlannedNotice<'a>>, PlanFault> {
-    match decode_postfix_request(PostfixVersion::V3_7, request) {
-        Ok(request) => {
-            let double_bounce = b"double-bounce@mx.example.net".as_slice();
-            plan_notices(alloc, double_bounce, service, &request, queued, log)
+) -> Result<Result<Vec<PlannedNotice<'a>>, PlanFault>, Fail> {
+    let request = decode_postfix_request(PostfixVersion::V3_7, request)?;
+    let double_bounce = b"double-bounce@mx.example.net".as_slice();
+    Ok(plan_notices(alloc, double_bounce, service, &request, queued, log))
+}
+
+/// The notices of a request, with the log that there is, in pieces, and with the recipients that the queue file has: their text,
+/// or why they can't be said.
+fn expect_plan(
+    rt: &(impl AllocGlobal + Abort),
+    (service, request): (Service, &[u8]),
+    log: Option<&[&[u8]]>,
+    queued: &[QueuedRecipient<'_>],
+    want: Result<&[u8], PlanFault>,
+) -> Result<(), Fail> {
+    let bytes = joined(rt.alloc(), log.unwrap_or(&[]))?;
+    let log = if log.is_some() {
+        Some(bytes.as_slice())
+    } else {
+        None
+    };
+    match planned(rt.alloc(), service, request, queued, log)? {
+        Ok(notices) => {
+            let told = told(rt.alloc(), &notices)?;
+            same(rt, Ok(told.as_slice()), want);
         }
-        Err(_) => Err(PlanFault::NoMemory),
+        Err(fault) => same(rt, Err(fault), want),
     }
+    Ok(())
 }
 
-/// To whom a notice goes, its kind, what it gives back, and of how many it tells.
-fn head<'a>(
-    notices: &[PlannedNotice<'a>],
-    at: usize,
-) -> Option<(&'a [u8], Service, ReturnedPart, usize)> {
-    let it = notices.get(at)?;
-    Some((it.to, it.service, it.returned, it.outcomes.len()))
-}
-
-/// The recipient, the status and the action of an outcome of a notice.
-fn outcome<'a>(
-    notices: &[PlannedNotice<'a>],
-    notice: usize,
-    at: usize,
-) -> Option<(&'a [u8], &'a [u8], &'a [u8])> {
-    let it = notices.get(notice)?.outcomes.get(at)?;
-    Some((it.recipient, it.status, it.action))
-}
-
-/// An outcome, as it is compared.
-fn became(
-    recipient: &'static [u8],
-    status: &'static [u8],
-    action: &'static [u8],
-) -> Option<(&'static [u8], &'static [u8], &'static [u8])> {
-    Some((recipient, status, action))
-}
-
-/// A log, and one more record.
-fn with_record(alloc: Global, log: &[u8], more: &[u8]) -> Result<Vec<u8>, Fail> {
-    let mut all = log.to_vec(alloc)?;
-    all.extend_from_slice(more)?;
-    Ok(all)
+/// A request's notices, of a log, have this text.
+fn expect_told(
+    rt: &(impl AllocGlobal + Abort),
+    request: (Service, &[u8]),
+    log: &[&[u8]],
+    want: &[u8],
+) -> Result<(), Fail> {
+    expect_plan(rt, request, Some(log), &[], Ok(want))
 }
 
 #[test]
 fn those_who_want_failures_are_told(rt: HostRuntime) -> Result<(), Fail> {
-    let alloc = rt.alloc();
-    let log = with_record(alloc, BOUNCED, OF_SUCCESS)?;
-    let log = Some(log.as_slice());
-    let notices = planned(alloc, Service::Bounce, FLUSH_BOUNCE, &[], log).map_err(|_| "notices")?;
-    same(&rt, notices.len(), 1);
-    let want = Some((ANN, Service::Bounce, ReturnedPart::Header, 2));
-    same(&rt, head(&notices, 0), want);
-    let first = became(b"no-two@example.com", b"5.1.1", b"failed");
-    same(&rt, outcome(&notices, 0, 0), first);
-    let second = became(b"no-one@example.org", b"5.1.1", b"failed");
-    same(&rt, outcome(&notices, 0, 1), second);
-    Ok(())
+    let flush = (Service::Bounce, FLUSH_BOUNCE);
+    let want =
+        b"ann@example.com at ann@example.com B header\n- no-two@example.com 5.1.1 failed\n- no-one@example.org 5.1.1 failed\n";
+    expect_told(&rt, flush, &[BOUNCED, OF_SUCCESS], want)
 }
 
 #[test]
 fn a_recipient_who_is_logged_twice_is_told_once(rt: HostRuntime) -> Result<(), Fail> {
-    let alloc = rt.alloc();
-    let log = with_record(alloc, DEFERRED, LATER)?;
-    let log = Some(log.as_slice());
-    let notices = planned(alloc, Service::Defer, WARN, &[], log).map_err(|_| "notices")?;
-    same(&rt, notices.len(), 1);
-    let want = Some((ANN, Service::Defer, ReturnedPart::Header, 2));
-    same(&rt, head(&notices, 0), want);
-    let first = became(b"later@example.org", b"4.2.1", b"delayed");
-    same(&rt, outcome(&notices, 0, 0), first);
-    let second = became(b"later-added@example.org", b"4.2.2", b"delayed");
-    same(&rt, outcome(&notices, 0, 1), second);
-    Ok(())
+    let want =
+        b"ann@example.com at ann@example.com D header\n- later@example.org 4.2.1 delayed\n- later-added@example.org 4.2.2 delayed\n";
+    expect_told(&rt, (Service::Defer, WARN), &[DEFERRED, LATER], want)
 }
 
 #[test]
 fn deliveries_are_reported(rt: HostRuntime) -> Result<(), Fail> {
-    let notices = planned(rt.alloc(), Service::Trace, TRACE, &[], Some(RELAYED)).map_err(
-        |_| "notices",
-    )?;
-    same(&rt, notices.len(), 1);
-    let want = Some((ANN, Service::Trace, ReturnedPart::Header, 2));
-    same(&rt, head(&notices, 0), want);
-    let first = became(b"ok@trace.example.org", b"2.0.0", b"relayed");
-    same(&rt, outcome(&notices, 0, 0), first);
-    Ok(())
-}
-
-#[test]
-fn an_expired_message_has_failed(rt: HostRuntime) -> Result<(), Fail> {
-    let notices = planned(rt.alloc(), Service::Defer, FLUSH_DEFER, &[], Some(DEFERRED)).map_err(
-        |_| "notices",
-    )?;
-    same(&rt, notices.len(), 1);
-    let want = Some((ANN, Service::Bounce, ReturnedPart::Whole, 1));
-    same(&rt, head(&notices, 0), want);
-    let first = became(b"later@example.org", b"4.2.1", b"failed");
-    same(&rt, outcome(&notices, 0, 0), first);
-    Ok(())
-}
-
-/// What the queue file says of the one recipient of `DEFERRED` who wants to hear of failure.
-fn queued(state: RecipientState) -> QueuedRecipient<'static> {
-    QueuedRecipient {
-        place: 889,
-        address: b"later@example.org",
-        original: b"later@example.org",
-        dsn_original: b"rfc822;later@example.org",
-        notify_flags: 0,
-        state,
-    }
-}
-
-#[test]
-fn a_done_recipient_is_not_told_again(rt: HostRuntime) -> Result<(), Fail> {
-    for (state, want) in [
-        (RecipientState::Waiting, 1usize),
-        (RecipientState::Done, 0),
-        (RecipientState::Removed, 0),
-    ] {
-        let queued = [queued(state)];
-        let log = Some(DEFERRED);
-        let notices = planned(rt.alloc(), Service::Defer, FLUSH_DEFER, &queued, log).map_err(
-            |_| "notices",
-        )?;
-        same(&rt, notices.len(), want);
-    }
-    Ok(())
+    let want =
+        b"ann@example.com at ann@example.com T header\n- ok@trace.example.org 2.0.0 relayed\n- second@trace.example.org 2.0.0 relayed\n";
+    expect_told(&rt, (Service::Trace, TRACE), &[RELAYED], want)
 }
 
 #[test]
 fn a_return_path_of_its_own_has_one_recipient(rt: HostRuntime) -> Result<(), Fail> {
-    let notices = planned(rt.alloc(), Service::Bounce, VERP, &[], Some(BOUNCED)).map_err(
-        |_| "notices",
-    )?;
-    same(&rt, notices.len(), 2);
-    let to = b"list@example.com".as_slice();
-    let want = Some((to, Service::Bounce, ReturnedPart::Whole, 1));
-    same(&rt, head(&notices, 0), want);
-    same(&rt, head(&notices, 1), want);
-    let second = became(b"no-one@example.org", b"5.1.1", b"failed");
-    same(&rt, outcome(&notices, 1, 0), second);
-    for (at, want) in [
-        b"list+no-two=example.com@example.com".as_slice(),
-        b"list+no-one=example.org@example.com".as_slice(),
-    ]
-    .into_iter()
-    .enumerate()
-    {
-        let notice = notices.get(at).ok_or("a notice")?;
-        let address = notice.address(rt.alloc())?;
-        same(&rt, address.as_slice(), want);
-    }
-    Ok(())
-}
-
-/// Of how many recipients a request's notices tell, or why they can't be said.
-fn answer(
-    alloc: Global,
-    service: Service,
-    request: &[u8],
-    log: Option<&[u8]>,
-) -> Result<usize, PlanFault> {
-    let notices = planned(alloc, service, request, &[], log)?;
-    Ok(notices.len())
+    let want =
+        b"list@example.com at list+no-two=example.com@example.com B whole\n- no-two@example.com 5.1.1 failed\nlist@example.com at list+no-one=example.org@example.com B whole\n- no-one@example.org 5.1.1 failed\n";
+    expect_told(&rt, (Service::Bounce, VERP), &[BOUNCED], want)
 }
 
 #[test]
-fn what_cannot_be_said_has_a_reason(rt: HostRuntime) {
-    let alloc = rt.alloc();
-    let none = answer(alloc, Service::Bounce, FLUSH_BOUNCE, None);
-    same(&rt, none, Err(PlanFault::Unsaid(CantSay::NoLog)));
-    same(&rt, answer(alloc, Service::Defer, WARN, None), Ok(0));
-    same(&rt, answer(alloc, Service::Bounce, FLUSH_NULL, None), Ok(0));
-    let utf8 = answer(alloc, Service::Bounce, FLUSH_UTF8, Some(BOUNCED));
-    same(&rt, utf8, Err(PlanFault::Unsaid(CantSay::NeedsSmtputf8)));
+fn nobody_is_told_or_it_is_said_why(rt: HostRuntime) -> Result<(), Fail> {
+    let flush = (Service::Bounce, FLUSH_BOUNCE);
+    let no_log = Err(PlanFault::Unsaid(CantSay::NoLog));
+    expect_plan(&rt, flush, None, &[], no_log)?;
+    expect_plan(&rt, (Service::Defer, WARN), None, &[], Ok(b""))?;
+    expect_plan(&rt, (Service::Bounce, FLUSH_NULL), None, &[], Ok(b""))?;
+    let utf8 = (Service::Bounce, FLUSH_UTF8);
+    let needs = Err(PlanFault::Unsaid(CantSay::NeedsSmtputf8));
+    expect_plan(&rt, utf8, Some(&[BOUNCED]), &[], needs)?;
     let cut = &BOUNCED[..BOUNCED.len() - 1];
-    let damaged = answer(alloc, Service::Bounce, FLUSH_BOUNCE, Some(cut));
-    let place = PlanFault::Unsaid(CantSay::DamagedPart(450));
-    same(&rt, damaged, Err(place));
+    let damaged = Err(PlanFault::Unsaid(CantSay::DamagedPart(450)));
+    expect_plan(&rt, flush, Some(&[cut]), &[], damaged)
+}
+
+/// What the queue file says of the one recipient of `DEFERRED` who wants to hear of failure.
+const WAITING: QueuedRecipient<'static> = QueuedRecipient {
+    place: 889,
+    address: b"later@example.org",
+    original: b"later@example.org",
+    dsn_original: b"rfc822;later@example.org",
+    notify_flags: 0,
+    state: RecipientState::Waiting,
+};
+
+/// The same once the recipient is done.
+const DONE: QueuedRecipient<'static> = QueuedRecipient {
+    state: RecipientState::Done,
+    ..WAITING
+};
+
+/// The same where the recipient was taken away.
+const REMOVED: QueuedRecipient<'static> = QueuedRecipient {
+    state: RecipientState::Removed,
+    ..WAITING
+};
+
+/// What is told where an expired message has failed, of which the queue file has these recipients.
+fn expect_expired(
+    rt: &(impl AllocGlobal + Abort),
+    queued: &[QueuedRecipient<'_>],
+    want: &[u8],
+) -> Result<(), Fail> {
+    let flush = (Service::Defer, FLUSH_DEFER);
+    expect_plan(rt, flush, Some(&[DEFERRED]), queued, Ok(want))
+}
+
+#[test]
+fn an_expired_message_has_failed_unless_it_is_done(rt: HostRuntime) -> Result<(), Fail> {
+    let failed = b"ann@example.com at ann@example.com B whole\n- later@example.org 4.2.1 failed\n";
+    expect_expired(&rt, &[], failed)?;
+    expect_expired(&rt, &[WAITING], failed)?;
+    expect_expired(&rt, &[DONE], b"")?;
+    expect_expired(&rt, &[REMOVED], b"")
+}
+
+/// A notice goes to Ann, and tells of so many recipients.
+fn expect_portion(rt: &impl Abort, notice: &PlannedNotice<'_>, size: usize) {
+    same(rt, notice.to, b"ann@example.com".as_slice());
+    same(rt, notice.outcomes.len(), size);
+}
+
+/// There are two notices to Ann, of so many recipients.
+fn expect_portions(
+    rt: &impl Abort,
+    notices: &[PlannedNotice<'_>],
+    (first_size, second_size): (usize, usize),
+) -> Result<(), Fail> {
+    let [first, second] = notices else {
+        return Err("two notices".into());
+    };
+    expect_portion(rt, first, first_size);
+    expect_portion(rt, second, second_size);
+    Ok(())
 }
 
 #[test]
@@ -233,13 +237,6 @@ fn more_than_a_thousand_have_two_notices(rt: HostRuntime) -> Result<(), Fail> {
     for _ in 0..1001 {
         log.extend_from_slice(OLD_RECORD)?;
     }
-    let notices = planned(rt.alloc(), Service::Bounce, FLUSH_BOUNCE, &[], Some(&log)).map_err(
-        |_| "notices",
-    )?;
-    same(&rt, notices.len(), 2);
-    let first = Some((ANN, Service::Bounce, ReturnedPart::Header, 1000));
-    same(&rt, head(&notices, 0), first);
-    let second = Some((ANN, Service::Bounce, ReturnedPart::Header, 1));
-    same(&rt, head(&notices, 1), second);
-    Ok(())
+    let notices = planned(rt.alloc(), Service::Bounce, FLUSH_BOUNCE, &[], Some(&log))??;
+    expect_portions(&rt, &notices, (1000, 1))
 }

@@ -3,7 +3,7 @@ use crate::assert_same::same;
 use dsn_postfix::{
     PostfixRequest, PostfixVersion, RequestFault, decode_postfix_request, encode_postfix_request,
 };
-use std::alloc::AllocGlobal;
+use std::alloc::{AllocError, AllocGlobal, Global};
 use std::process::Abort;
 use std::test::Fail;
 
@@ -99,71 +99,121 @@ const NEWER_VERP: &[u8] =
 const NEWER_TRACE: &[u8] =
     b"nrequest\05\0flags\00\0queue_name\0active\0queue_id\0B7B42A7C1C4\0encoding\0\0sendopts\00\0sender\0ann@example.com\0envelope_id\0\0ret_flags\01\0\0";
 
-/// What is asked, as a word.
-fn asked(request: &PostfixRequest<'_>) -> &'static str {
-    match request {
-        PostfixRequest::Append(_) => "append",
-        PostfixRequest::Flush(_) => "flush",
-        PostfixRequest::Warn(_) => "warn",
-        PostfixRequest::Verp(..) => "verp",
-        PostfixRequest::One(..) => "one",
-        PostfixRequest::Trace(_) => "trace",
-    }
-}
-
-#[test]
-fn what_postfix_sent_is_read_and_written_again(rt: HostRuntime) -> Result<(), Fail> {
-    for (bytes, want) in [
-        (APPEND_BOUNCE, "append"),
-        (APPEND_DEFER, "append"),
-        (APPEND_LONG, "append"),
-        (APPEND_TRACE, "append"),
-        (APPEND_UTF8, "append"),
-        (APPEND_VERIFY, "append"),
-        (FLUSH_BOUNCE, "flush"),
-        (FLUSH_CLEAN, "flush"),
-        (FLUSH_DEFER, "flush"),
-        (FLUSH_NULL, "flush"),
-        (FLUSH_UTF8, "flush"),
-        (WARN, "warn"),
-        (VERP, "verp"),
-        (TRACE, "trace"),
-    ] {
-        is_as_sent(&rt, PostfixVersion::V3_7, bytes, want)?;
+/// Appends texts, one after another.
+pub(crate) fn append_all(all: &mut Vec<u8>, texts: &[&[u8]]) -> Result<(), AllocError> {
+    for text in texts {
+        all.extend_from_slice(text)?;
     }
     Ok(())
 }
 
-/// A request of a version asks this, and is written again as it was sent.
-fn is_as_sent(
+/// Texts one after another.
+pub(crate) fn joined(alloc: Global, texts: &[&[u8]]) -> Result<Vec<u8>, AllocError> {
+    let mut all = Vec::new(alloc);
+    append_all(&mut all, texts)?;
+    Ok(all)
+}
+
+/// What is asked, as a word, and what a message that is to be told of needs.
+fn asked(request: &PostfixRequest<'_>) -> (&'static str, u32) {
+    match request {
+        PostfixRequest::Append(_) => ("append", 0),
+        PostfixRequest::Flush(notice) => ("flush", notice.send_options),
+        PostfixRequest::Warn(notice) => ("warn", notice.send_options),
+        PostfixRequest::Verp(notice, ..) => ("verp", notice.send_options),
+        PostfixRequest::One(notice, ..) => ("one", notice.send_options),
+        PostfixRequest::Trace(notice) => ("trace", notice.send_options),
+    }
+}
+
+/// What bytes ask in a version, and the bytes that are written of it; or why they are no request.
+fn read_and_written(
+    alloc: Global,
+    version: PostfixVersion,
+    bytes: &[u8],
+) -> Result<Result<((&'static str, u32), Vec<u8>), RequestFault>, Fail> {
+    match decode_postfix_request(version, bytes) {
+        Ok(request) => {
+            let written = encode_postfix_request(alloc, version, &request)?;
+            Ok(Ok((asked(&request), written)))
+        }
+        Err(fault) => Ok(Err(fault)),
+    }
+}
+
+/// A request of a version asks this, and is written again as it was sent; or it is none, for this reason.
+fn expect_request(
     rt: &(impl Abort + AllocGlobal),
     version: PostfixVersion,
     bytes: &[u8],
-    want: &str,
+    want: Result<(&str, u32), RequestFault>,
 ) -> Result<(), Fail> {
-    let request = decode_postfix_request(version, bytes).map_err(|_| "a request")?;
-    same(rt, asked(&request), want);
-    let written = encode_postfix_request(rt.alloc(), version, &request).map_err(|_| "memory")?;
-    same(rt, written.as_slice(), bytes);
+    match read_and_written(rt.alloc(), version, bytes)? {
+        Ok((asked, written)) => {
+            same(rt, Ok(asked), want);
+            same(rt, written.as_slice(), bytes);
+        }
+        Err(fault) => same(rt, (bytes, Err(fault)), (bytes, want)),
+    }
     Ok(())
 }
 
+/// A request was sent by a version, asks this, and says this of what its message needs.
+fn expect_sent(
+    rt: &(impl Abort + AllocGlobal),
+    version: PostfixVersion,
+    &(bytes, kind, needs): &(&[u8], &str, u32),
+) -> Result<(), Fail> {
+    expect_request(rt, version, bytes, Ok((kind, needs)))
+}
+
+/// Requests of 3.7, what they ask, and what their messages need.
+const OLDER_SENT: [(&[u8], &str, u32); 14] = [
+    (APPEND_BOUNCE, "append", 0),
+    (APPEND_DEFER, "append", 0),
+    (APPEND_LONG, "append", 0),
+    (APPEND_TRACE, "append", 0),
+    (APPEND_UTF8, "append", 0),
+    (APPEND_VERIFY, "append", 0),
+    (FLUSH_BOUNCE, "flush", 0),
+    (FLUSH_CLEAN, "flush", 0),
+    (FLUSH_DEFER, "flush", 0),
+    (FLUSH_NULL, "flush", 0),
+    (FLUSH_UTF8, "flush", 7),
+    (WARN, "warn", 0),
+    (VERP, "verp", 0),
+    (TRACE, "trace", 0),
+];
+
 #[test]
-fn what_a_newer_postfix_sent_is_read_and_written_again(rt: HostRuntime) -> Result<(), Fail> {
-    for (bytes, want) in [
-        (NEWER_APPEND, "append"),
-        (NEWER_FLUSH, "flush"),
-        (NEWER_NULL, "flush"),
-        (NEWER_UTF8, "flush"),
-        (NEWER_TLS, "flush"),
-        (NEWER_DEFER, "flush"),
-        (NEWER_WARN, "warn"),
-        (NEWER_VERP, "verp"),
-        (NEWER_TRACE, "trace"),
-    ] {
-        is_as_sent(&rt, PostfixVersion::V3_10, bytes, want)?;
+fn what_postfix_sent_is_read_and_written_again(rt: HostRuntime) -> Result<(), Fail> {
+    for request in &OLDER_SENT {
+        expect_sent(&rt, PostfixVersion::V3_7, request)?;
     }
     Ok(())
+}
+
+/// Requests of 3.10.
+const NEWER_SENT: [(&[u8], &str, u32); 10] = [
+    (NEWER_APPEND, "append", 0),
+    (APPEND_BOUNCE, "append", 0),
+    (NEWER_FLUSH, "flush", 0),
+    (NEWER_NULL, "flush", 0),
+    (NEWER_UTF8, "flush", 7),
+    (NEWER_TLS, "flush", 16),
+    (NEWER_DEFER, "flush", 0),
+    (NEWER_WARN, "warn", 0),
+    (NEWER_VERP, "verp", 0),
+    (NEWER_TRACE, "trace", 0),
+];
+
+#[test]
+fn what_a_newer_postfix_sent_is_read_and_written_again(rt: HostRuntime) -> Result<(), Fail> {
+    for request in &NEWER_SENT {
+        expect_sent(&rt, PostfixVersion::V3_10, request)?;
+    }
+    let other_layout = Err(RequestFault::Name);
+    expect_request(&rt, PostfixVersion::V3_10, VERP, other_layout)
 }
 
 /// The versions that name the fifth attribute of a notice `smtputf8`.
@@ -177,56 +227,48 @@ const OLDER: [PostfixVersion; 4] = [
 #[test]
 fn a_notice_is_read_in_the_layout_of_its_version(rt: HostRuntime) -> Result<(), Fail> {
     for version in OLDER {
-        is_as_sent(&rt, version, VERP, "verp")?;
-        is_as_sent(&rt, version, NEWER_APPEND, "append")?;
-        let newer = decode_postfix_request(version, NEWER_VERP).err();
-        same(&rt, newer, Some(RequestFault::Name));
-    }
-    is_as_sent(&rt, PostfixVersion::V3_10, APPEND_BOUNCE, "append")?;
-    let older = decode_postfix_request(PostfixVersion::V3_10, VERP).err();
-    same(&rt, older, Some(RequestFault::Name));
-    Ok(())
-}
-
-#[test]
-fn what_a_message_needs_is_told(rt: HostRuntime) -> Result<(), Fail> {
-    for (bytes, want) in [(NEWER_FLUSH, 0), (NEWER_UTF8, 7), (NEWER_TLS, 16)] {
-        match decode_postfix_request(PostfixVersion::V3_10, bytes) {
-            Ok(PostfixRequest::Flush(notice)) => same(&rt, notice.send_options, want),
-            _ => return Err("a request for a notice".into()),
-        }
+        expect_request(&rt, version, VERP, Ok(("verp", 0)))?;
+        expect_request(&rt, version, NEWER_APPEND, Ok(("append", 0)))?;
+        expect_request(&rt, version, NEWER_VERP, Err(RequestFault::Name))?;
     }
     Ok(())
 }
 
-/// Why bytes are refused, if they are.
-fn refused(bytes: &[u8]) -> Option<RequestFault> {
-    decode_postfix_request(PostfixVersion::V3_7, bytes).err()
+/// Bytes that are no request, and why.
+const NO_REQUESTS: [(&[u8], RequestFault); 9] = [
+    (b"", RequestFault::Unended),
+    (b"\0", RequestFault::Missing),
+    (b"nrequest\0", RequestFault::Unended),
+    (b"request\x001\0\0", RequestFault::Name),
+    (b"nrequest\0-1\0\0", RequestFault::Number),
+    (b"nrequest\x006\0\0", RequestFault::Command),
+    (
+        b"nrequest\x001\0flags\x004294967296\0\0",
+        RequestFault::Number,
+    ),
+    (
+        b"nrequest\x001\0flags\x000\0queue_name\0a/b\0\0",
+        RequestFault::QueueName,
+    ),
+    (
+        b"nrequest\x000\0flags\x000\0queue_id\0..\0\0",
+        RequestFault::QueueId,
+    ),
+];
+
+/// Bytes are no request of 3.7, for this reason.
+fn expect_none(
+    rt: &(impl Abort + AllocGlobal),
+    &(bytes, fault): &(&[u8], RequestFault),
+) -> Result<(), Fail> {
+    expect_request(rt, PostfixVersion::V3_7, bytes, Err(fault))
 }
 
 #[test]
-fn what_is_no_request_is_refused(rt: HostRuntime) {
-    for (bytes, want) in [
-        (b"".as_slice(), RequestFault::Unended),
-        (b"\0".as_slice(), RequestFault::Missing),
-        (b"nrequest\0".as_slice(), RequestFault::Unended),
-        (b"request\x001\0\0".as_slice(), RequestFault::Name),
-        (b"nrequest\0-1\0\0".as_slice(), RequestFault::Number),
-        (b"nrequest\x006\0\0".as_slice(), RequestFault::Command),
-        (
-            b"nrequest\x001\0flags\x004294967296\0\0".as_slice(),
-            RequestFault::Number,
-        ),
-        (
-            b"nrequest\x001\0flags\x000\0queue_name\0a/b\0\0".as_slice(),
-            RequestFault::QueueName,
-        ),
-        (
-            b"nrequest\x000\0flags\x000\0queue_id\0..\0\0".as_slice(),
-            RequestFault::QueueId,
-        ),
-        (&WARN[..WARN.len() - 1], RequestFault::Unended),
-    ] {
-        same(&rt, refused(bytes), Some(want));
+fn what_is_no_request_is_refused(rt: HostRuntime) -> Result<(), Fail> {
+    for case in &NO_REQUESTS {
+        expect_none(&rt, case)?;
     }
+    let cut = &WARN[..WARN.len() - 1];
+    expect_none(&rt, &(cut, RequestFault::Unended))
 }

@@ -7,64 +7,79 @@ use std::alloc::AllocGlobal;
 use std::process::Abort;
 use std::test::Fail;
 
-/// Compares the path of a message's file.
-fn has_path(
+/// The queue, how deep it is hashed, the queue id, and the path of the message's file below the root.
+const PATHS: [(&[u8], u32, &[u8], &[u8]); 8] = [
+    // a queue that isn't hashed has its files itself
+    (b"active", 0, b"4F9D195432C", b"active/4F9D195432C"),
+    // a short id names its folders itself
+    (b"defer", 1, b"4F9D195432C", b"defer/4/4F9D195432C"),
+    (b"defer", 4, b"AB", b"defer/A/B/_/_/AB"),
+    // a long id names its folders by its microseconds; a Postfix with long queue ids made the first two
+    (
+        b"defer",
+        1,
+        b"4jZlfk4Kjfz1btWg",
+        b"defer/9/4jZlfk4Kjfz1btWg",
+    ),
+    (
+        b"deferred",
+        1,
+        b"4jZlfk4Kjfz1btWg",
+        b"deferred/9/4jZlfk4Kjfz1btWg",
+    ),
+    (
+        b"defer",
+        6,
+        b"0000007777z2",
+        b"defer/F/5/0/2/3/_/0000007777z2",
+    ),
+    (
+        b"defer",
+        7,
+        b"4C1hTbzzzzz1",
+        b"defer/6/F/9/0/F/F/_/4C1hTbzzzzz1",
+    ),
+    // microseconds that are no number count as none
+    (b"defer", 2, b"4C1hTbaaaaz1", b"defer/0/0/4C1hTbaaaaz1"),
+];
+
+/// A message's file has this path.
+fn expect_path(
     rt: &(impl AllocGlobal + Abort),
-    queue: &[u8],
-    depth: u32,
-    id: &[u8],
-    path: &[u8],
+    &(queue, depth, id, path): &(&[u8], u32, &[u8], &[u8]),
 ) -> Result<(), Fail> {
     let id = QueueId::new(id).ok_or("the queue id")?;
     let found = path_in_queue(rt.alloc(), b"/var/spool/postfix", queue, depth, id)?;
-    same(rt, found.as_slice(), path);
+    let below = found.strip_prefix(b"/var/spool/postfix/".as_slice());
+    same(rt, below, Some(path));
     Ok(())
 }
 
 #[test]
-fn a_queue_that_is_not_hashed_has_its_files_itself(rt: HostRuntime) -> Result<(), Fail> {
-    let path = b"/var/spool/postfix/active/4F9D195432C";
-    has_path(&rt, b"active", 0, b"4F9D195432C", path)
+fn files_have_their_paths(rt: HostRuntime) -> Result<(), Fail> {
+    for path in &PATHS {
+        expect_path(&rt, path)?;
+    }
+    Ok(())
 }
 
-#[test]
-fn a_short_id_names_its_folders_itself(rt: HostRuntime) -> Result<(), Fail> {
-    let path = b"/var/spool/postfix/defer/4/4F9D195432C";
-    has_path(&rt, b"defer", 1, b"4F9D195432C", path)?;
-    let path = b"/var/spool/postfix/defer/A/B/_/_/AB";
-    has_path(&rt, b"defer", 4, b"AB", path)
-}
-
-// The first two are names of files that a Postfix with long queue ids made.
-#[test]
-fn a_long_id_names_its_folders_by_its_microseconds(rt: HostRuntime) -> Result<(), Fail> {
-    let path = b"/var/spool/postfix/defer/9/4jZlfk4Kjfz1btWg";
-    has_path(&rt, b"defer", 1, b"4jZlfk4Kjfz1btWg", path)?;
-    let path = b"/var/spool/postfix/deferred/9/4jZlfk4Kjfz1btWg";
-    has_path(&rt, b"deferred", 1, b"4jZlfk4Kjfz1btWg", path)?;
-    let path = b"/var/spool/postfix/defer/F/5/0/2/3/_/0000007777z2";
-    has_path(&rt, b"defer", 6, b"0000007777z2", path)?;
-    let path = b"/var/spool/postfix/defer/6/F/9/0/F/F/_/4C1hTbzzzzz1";
-    has_path(&rt, b"defer", 7, b"4C1hTbzzzzz1", path)
-}
-
-#[test]
-fn microseconds_that_are_no_number_count_as_none(rt: HostRuntime) -> Result<(), Fail> {
-    let path = b"/var/spool/postfix/defer/0/0/4C1hTbaaaaz1";
-    has_path(&rt, b"defer", 2, b"4C1hTbaaaaz1", path)
-}
-
-#[test]
-fn queues_are_hashed_by_their_names(rt: HostRuntime) -> Result<(), Fail> {
-    let deferred = QueueName::new(b"deferred").ok_or("the queue")?;
-    let defer = QueueName::new(b"Defer").ok_or("the queue")?;
-    let queues = [deferred, defer];
+/// How deep a queue is hashed where `deferred` and `Defer` are, by two.
+fn depth(queue: &[u8]) -> Result<u32, Fail> {
+    let queues = [
+        QueueName::new(b"deferred").ok_or("the queue")?,
+        QueueName::new(b"Defer").ok_or("the queue")?,
+    ];
     let hashing = FolderHashing {
         queues: &queues,
         depth: 2,
     };
-    same(&rt, hashing.depth_of(b"defer"), 2);
-    same(&rt, hashing.depth_of(b"deferred"), 2);
-    same(&rt, hashing.depth_of(b"active"), 0);
+    Ok(hashing.depth_of(queue))
+}
+
+#[test]
+fn queues_are_hashed_by_their_names(rt: HostRuntime) -> Result<(), Fail> {
+    same(&rt, depth(b"defer")?, 2);
+    same(&rt, depth(b"deferred")?, 2);
+    same(&rt, depth(b"active")?, 0);
     Ok(())
 }

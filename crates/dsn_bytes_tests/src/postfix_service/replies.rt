@@ -5,6 +5,7 @@ use dsn_postfix_service::{
     LONGEST_REPLY, ReplyBuffer, ReplyClass, ReplyCode, ReplyFault, queue_id_in,
 };
 use std::alloc::{AllocError, AllocGlobal};
+use std::process::Abort;
 use std::test::Fail;
 
 /// Calls that never fail.
@@ -22,24 +23,40 @@ fn code(input: &[u8], most: usize, good: usize) -> Result<[u8; 3], ReplyFault> {
     }
 }
 
+/// A reply that is read so has this code, or is none.
+fn expect_code(
+    rt: &impl Abort,
+    input: &[u8],
+    (most, good): (usize, usize),
+    want: Result<[u8; 3], ReplyFault>,
+) {
+    let found = code(input, most, good);
+    same(rt, (input, most, good, found), (input, most, good, want));
+}
+
+/// A reply that is read into a buffer, at most so many bytes a call, is the one of three lines.
+fn expect_extensions(rt: &impl Abort, buffer: &mut ReplyBuffer, most: usize) {
+    let read = buffer.read_next(&mut source(EXTENSIONS, most, ALWAYS));
+    same(rt, read.is_ok(), true);
+    same(rt, buffer.bytes(), EXTENSIONS);
+    same(rt, buffer.last_text(), b"8BITMIME".as_slice());
+}
+
 #[test]
 fn a_reply_in_pieces_of_each_size(rt: HostRuntime) {
     let mut buffer = ReplyBuffer::new();
     for most in 1..EXTENSIONS.len() + 2 {
-        let read = buffer.read_next(&mut source(EXTENSIONS, most, ALWAYS));
-        same(&rt, read.is_ok(), true);
-        same(&rt, buffer.bytes(), EXTENSIONS);
-        same(&rt, buffer.last_text(), b"8BITMIME".as_slice());
+        expect_extensions(&rt, &mut buffer, most);
     }
 }
 
 #[test]
 fn a_reply_that_ends_at_each_byte(rt: HostRuntime) {
-    same(&rt, code(b"", 1, ALWAYS), Err(ReplyFault::Nothing));
+    expect_code(&rt, b"", (1, ALWAYS), Err(ReplyFault::Nothing));
     for end in 1..EXTENSIONS.len() {
         for most in [1, 7, 4_096] {
-            let found = code(&EXTENSIONS[..end], most, ALWAYS);
-            same(&rt, (end, found), (end, Err(ReplyFault::CutShort)));
+            let cut = &EXTENSIONS[..end];
+            expect_code(&rt, cut, (most, ALWAYS), Err(ReplyFault::CutShort));
         }
     }
 }
@@ -49,49 +66,58 @@ fn a_reader_that_fails_at_each_byte(rt: HostRuntime) {
     // once the reply's end is there the reader isn't asked again
     let whole = EXTENSIONS.len();
     for good in 0..whole {
-        let found = code(EXTENSIONS, 1, good);
-        same(&rt, (good, found), (good, Err(ReplyFault::Read)));
+        expect_code(&rt, EXTENSIONS, (1, good), Err(ReplyFault::Read));
     }
-    same(&rt, code(EXTENSIONS, 1, whole), Ok(*b"250"));
+    expect_code(&rt, EXTENSIONS, (1, whole), Ok(*b"250"));
+}
+
+/// Bytes that are a reply, and bytes that are none.
+const REPLIES: [(&[u8], Result<[u8; 3], ReplyFault>); 15] = [
+    (b"220 mx.example.org ESMTP\r\n", Ok(*b"220")),
+    (b"354\r\n", Ok(*b"354")),
+    (b"354 \r\n", Ok(*b"354")),
+    (b"550 5.1.1 \xc3\xa4: unknown\r\n", Ok(*b"550")),
+    (b"250-a\r\n250-\r\n250\r\n", Ok(*b"250")),
+    (b"250-a\r\n251 b\r\n", Err(ReplyFault::NoReply)),
+    (b"250-a\r\n550 b\r\n", Err(ReplyFault::NoReply)),
+    (b"120 a\r\n", Err(ReplyFault::NoReply)),
+    (b"620 a\r\n", Err(ReplyFault::NoReply)),
+    (b"260 a\r\n", Err(ReplyFault::NoReply)),
+    (b"25a a\r\n", Err(ReplyFault::NoReply)),
+    (b"250_a\r\n", Err(ReplyFault::NoReply)),
+    (b"250 a\n", Err(ReplyFault::NoReply)),
+    (b"250 a\r\r\n", Err(ReplyFault::NoReply)),
+    (b"\r\n", Err(ReplyFault::NoReply)),
+];
+
+/// How much a call gives of two replies, and what is read: the end of the first comes with bytes behind it, but in pieces that
+/// end with it.
+const PIECES_OF_TWO: [(usize, Result<[u8; 3], ReplyFault>); 5] = [
+    (1, Ok(*b"250")),
+    (7, Ok(*b"250")),
+    (6, Err(ReplyFault::Trailing)),
+    (8, Err(ReplyFault::Trailing)),
+    (100, Err(ReplyFault::Trailing)),
+];
+
+/// Bytes are read so by one byte a call, and at once.
+fn expect_reply(rt: &impl Abort, &(input, want): &(&[u8], Result<[u8; 3], ReplyFault>)) {
+    expect_code(rt, input, (1, ALWAYS), want);
+    expect_code(rt, input, (4_096, ALWAYS), want);
+}
+
+/// Two replies are read so by so many bytes a call.
+fn expect_first(rt: &impl Abort, &(most, want): &(usize, Result<[u8; 3], ReplyFault>)) {
+    expect_code(rt, b"250 a\r\n550 b\r\n", (most, ALWAYS), want);
 }
 
 #[test]
 fn bytes_that_are_a_reply_and_bytes_that_are_none(rt: HostRuntime) {
-    for (input, want) in [
-        (b"220 mx.example.org ESMTP\r\n".as_slice(), Ok(*b"220")),
-        (b"354\r\n", Ok(*b"354")),
-        (b"354 \r\n", Ok(*b"354")),
-        (b"550 5.1.1 \xc3\xa4: unknown\r\n", Ok(*b"550")),
-        (b"250-a\r\n250-\r\n250\r\n", Ok(*b"250")),
-        (b"250-a\r\n251 b\r\n", Err(ReplyFault::NoReply)),
-        (b"250-a\r\n550 b\r\n", Err(ReplyFault::NoReply)),
-        (b"120 a\r\n", Err(ReplyFault::NoReply)),
-        (b"620 a\r\n", Err(ReplyFault::NoReply)),
-        (b"260 a\r\n", Err(ReplyFault::NoReply)),
-        (b"25a a\r\n", Err(ReplyFault::NoReply)),
-        (b"250_a\r\n", Err(ReplyFault::NoReply)),
-        (b"250 a\n", Err(ReplyFault::NoReply)),
-        (b"250 a\r\r\n", Err(ReplyFault::NoReply)),
-        (b"\r\n", Err(ReplyFault::NoReply)),
-    ] {
-        for most in [1, 4_096] {
-            same(&rt, (input, code(input, most, ALWAYS)), (input, want));
-        }
+    for case in &REPLIES {
+        expect_reply(&rt, case);
     }
-}
-
-#[test]
-fn two_replies_at_once(rt: HostRuntime) {
-    let both = b"250 a\r\n550 b\r\n";
-    // the end of the first comes with bytes behind it, but in pieces that end with it
-    for (most, want) in [
-        (1, Ok(*b"250")),
-        (7, Ok(*b"250")),
-        (6, Err(ReplyFault::Trailing)),
-        (8, Err(ReplyFault::Trailing)),
-        (100, Err(ReplyFault::Trailing)),
-    ] {
-        same(&rt, (most, code(both, most, ALWAYS)), (most, want));
+    for case in &PIECES_OF_TWO {
+        expect_first(&rt, case);
     }
 }
 
@@ -104,60 +130,88 @@ fn reply_of(rt: &impl AllocGlobal, size: usize) -> Result<Vec<u8>, AllocError> {
     Ok(reply)
 }
 
-#[test]
-fn the_longest_reply(rt: HostRuntime) -> Result<(), Fail> {
+/// How long replies are, and what is read of them.
+const LENGTHS: [(usize, Result<[u8; 3], ReplyFault>); 4] = [
+    (LONGEST_REPLY - 1, Ok(*b"250")),
+    (LONGEST_REPLY, Ok(*b"250")),
+    (LONGEST_REPLY + 1, Err(ReplyFault::TooLong)),
+    (2 * LONGEST_REPLY, Err(ReplyFault::TooLong)),
+];
+
+/// A reply of so many bytes is read so in pieces of each size.
+fn expect_long(
+    rt: &(impl AllocGlobal + Abort),
+    &(size, want): &(usize, Result<[u8; 3], ReplyFault>),
+) -> Result<(), Fail> {
+    let reply = reply_of(rt, size)?;
     for most in [1_000, 4_095, 100_000] {
-        for (size, want) in [
-            (LONGEST_REPLY - 1, Ok(*b"250")),
-            (LONGEST_REPLY, Ok(*b"250")),
-            (LONGEST_REPLY + 1, Err(ReplyFault::TooLong)),
-            (2 * LONGEST_REPLY, Err(ReplyFault::TooLong)),
-        ] {
-            let found = code(&reply_of(&rt, size)?, most, ALWAYS);
-            same(&rt, (most, size, found), (most, size, want));
-        }
+        expect_code(rt, &reply, (most, ALWAYS), want);
     }
     Ok(())
 }
 
 #[test]
-fn what_codes_say(rt: HostRuntime) {
-    for (digits, want) in [
-        (*b"250", Some(ReplyClass::Positive)),
-        (*b"354", Some(ReplyClass::Intermediate)),
-        (*b"451", Some(ReplyClass::RefusedForNow)),
-        (*b"559", Some(ReplyClass::RefusedForGood)),
-        (*b"199", None),
-        (*b"600", None),
-        (*b"260", None),
-        (*b"25x", None),
-    ] {
-        let class = ReplyCode::new(digits).map(|code| code.class());
-        same(&rt, (digits, class), (digits, want));
+fn the_longest_reply(rt: HostRuntime) -> Result<(), Fail> {
+    for case in &LENGTHS {
+        expect_long(&rt, case)?;
     }
+    Ok(())
+}
+
+/// What codes say, and what is no code.
+const CLASSES: [([u8; 3], Option<ReplyClass>); 8] = [
+    (*b"250", Some(ReplyClass::Positive)),
+    (*b"354", Some(ReplyClass::Intermediate)),
+    (*b"451", Some(ReplyClass::RefusedForNow)),
+    (*b"559", Some(ReplyClass::RefusedForGood)),
+    (*b"199", None),
+    (*b"600", None),
+    (*b"260", None),
+    (*b"25x", None),
+];
+
+/// A code says this, or the digits are none.
+fn expect_class(rt: &impl Abort, &(digits, want): &([u8; 3], Option<ReplyClass>)) {
+    let class = match ReplyCode::new(digits) {
+        Some(code) => Some(code.class()),
+        None => None,
+    };
+    same(rt, (digits, class), (digits, want));
+}
+
+#[test]
+fn what_codes_say(rt: HostRuntime) {
+    for case in &CLASSES {
+        expect_class(&rt, case);
+    }
+}
+
+/// Texts of replies, and the queue ids in them.
+const TEXTS: [(&[u8], Option<&[u8]>); 9] = [
+    (b"2.0.0 Ok: queued as 4F9D195432C", Some(b"4F9D195432C")),
+    (b"queued as 3pt2mN2VXxznll", Some(b"3pt2mN2VXxznll")),
+    (b"2.0.0 Ok: queued as ", None),
+    (b"2.0.0 Ok: queued as 4F9D195432C.", None),
+    (b"2.0.0 Ok: Queued as 4F9D195432C", None),
+    (b"2.0.0 Ok: queued as 4F9D195432C ", None),
+    (b"4F9D195432C", None),
+    (b"", None),
+    (b"queued as 123456789012345678901234567890123", None),
+];
+
+/// A text of a reply has this queue id at its end, or none.
+fn expect_queue_id(rt: &impl Abort, &(text, want): &(&[u8], Option<&[u8]>)) {
+    let found = queue_id_in(text);
+    same(
+        rt,
+        (text, found.as_ref().map(|id| id.bytes())),
+        (text, want),
+    );
 }
 
 #[test]
 fn queue_ids_in_texts(rt: HostRuntime) {
-    for (text, want) in [
-        (
-            b"2.0.0 Ok: queued as 4F9D195432C".as_slice(),
-            Some(b"4F9D195432C".as_slice()),
-        ),
-        (b"queued as 3pt2mN2VXxznll", Some(b"3pt2mN2VXxznll")),
-        (b"2.0.0 Ok: queued as ", None),
-        (b"2.0.0 Ok: queued as 4F9D195432C.", None),
-        (b"2.0.0 Ok: Queued as 4F9D195432C", None),
-        (b"2.0.0 Ok: queued as 4F9D195432C ", None),
-        (b"4F9D195432C", None),
-        (b"", None),
-        (b"queued as 123456789012345678901234567890123", None),
-    ] {
-        let found = queue_id_in(text);
-        same(
-            &rt,
-            (text, found.as_ref().map(|id| id.bytes())),
-            (text, want),
-        );
+    for case in &TEXTS {
+        expect_queue_id(&rt, case);
     }
 }

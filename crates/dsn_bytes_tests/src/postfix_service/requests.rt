@@ -1,6 +1,7 @@
 //! Requests that are answered over a mail system in memory: what is done for each, in which order, and what it is
 //! answered, with a failure at each deed.
 use crate::assert_same::same;
+use crate::postfix_request::joined;
 use crate::postfix_service::memory_system::{MemorySystem, UNHEARD};
 use dsn_postfix::{PostfixVersion, decode_postfix_request};
 use dsn_postfix_service::{
@@ -8,15 +9,12 @@ use dsn_postfix_service::{
 };
 use dsn_report::Site;
 use dsn_text::{Service, Stamp};
-use std::alloc::{AllocGlobal, Global};
+use std::alloc::{AllocError, AllocGlobal, Global};
 use std::process::Abort;
 use std::test::Fail;
 
 /// The status of a request that wasn't carried out.
 const NOT_DONE: u32 = 4_294_967_295;
-
-/// Deeds that all go well.
-const ALWAYS: usize = 1_000;
 
 /// A message from Ann to two recipients.
 const FILE: &[u8] =
@@ -30,471 +28,420 @@ const LOG: &[u8] =
 const DELAYS: &[u8] =
     b"\n<no@a.example>: later\nrecipient=no@a.example\noffset=31\nstatus=4.2.1\naction=delayed\nreason=later\n\n";
 
-/// A request for notices: its number, its flags, the message's sender, and attributes of its own.
+/// What a program of Postfix asks.
 #[derive(Clone, Copy)]
-struct Asked<'a> {
-    kind: &'a [u8],
-    flags: &'a [u8],
-    sender: &'a [u8],
-    own: &'a [u8],
+enum Asked {
+    /// To log what became of a recipient: the flags, and the recipient.
+    Append(&'static [u8], &'static [u8]),
+    /// For notices: the number of the request, its flags, the message's sender, and attributes of its own.
+    Notices(&'static [u8], &'static [u8], &'static [u8], &'static [u8]),
 }
 
-/// A request for a notice of a log, and its removal, from Ann.
-const FLUSH: Asked<'static> = Asked {
-    kind: b"1",
-    flags: b"0",
-    sender: b"ann@example.com",
-    own: b"",
+/// The message's sender.
+const ANN: &[u8] = b"ann@example.com";
+
+/// Notices of a log, and its removal.
+const FLUSH: Asked = Asked::Notices(b"1", b"0", ANN, b"");
+
+/// The same with CLEAN.
+const CLEAN: Asked = Asked::Notices(b"1", b"1", ANN, b"");
+
+/// The same where the recipients are to be marked as done.
+const MARKING: Asked = Asked::Notices(b"1", b"2", ANN, b"");
+
+/// Notices to a sender whose address has to be quoted.
+const FROM_QUOTED: Asked = Asked::Notices(b"1", b"0", b"a b@example.com", b"");
+
+/// Notices that have a return path for each recipient.
+const VERP: Asked = Asked::Notices(b"3", b"0", ANN, b"verp_delimiters\0+=\0");
+
+/// An append of a recipient whom a line can say.
+const APPEND: Asked = Asked::Append(b"0", b"no@a.example");
+
+/// The same with CLEAN.
+const CLEAN_APPEND: Asked = Asked::Append(b"1", b"no@a.example");
+
+/// The bytes of a request.
+fn request_bytes(alloc: Global, asked: Asked) -> Result<Vec<u8>, AllocError> {
+    match asked {
+        Asked::Append(flags, recipient) => joined(
+            alloc,
+            &[
+                b"nrequest\00\0flags\0".as_slice(),
+                flags,
+                b"\0queue_id\06BB87A7E6A1\0original_recipient\0\0recipient\0",
+                recipient,
+                b"\0offset\031\0dsn_orig_rcpt\0\0notify_flags\00\0status\05.1.1\0diag_type\0\0diag_text\0\0mta_type\0\0mta_mname\0\0action\0failed\0reason\0no\0\0",
+            ],
+        ),
+        Asked::Notices(kind, flags, sender, own) => joined(
+            alloc,
+            &[
+                b"nrequest\0".as_slice(),
+                kind,
+                b"\0flags\0",
+                flags,
+                b"\0queue_name\0active\0queue_id\06BB87A7E6A1\0encoding\0\0smtputf8\00\0sender\0",
+                sender,
+                b"\0envelope_id\0\0ret_flags\00\0",
+                own,
+                b"\0",
+            ],
+        ),
+    }
+}
+
+/// Over what a request is answered: the logs that its message has, and what goes wrong.
+#[derive(Clone, Copy)]
+struct Given {
+    service: Service,
+    bounce_log: Option<&'static [u8]>,
+    /// The log of each other service.
+    log: Option<&'static [u8]>,
+    /// How many deeds go well before one fails.
+    well: usize,
+    /// What comes of the deed that fails, where it hands in nothing.
+    fault: DeedFault,
+    /// The code by which a notice is refused where that is the deed that fails; without one no reply is heard.
+    refusal: Option<[u8; 3]>,
+    /// What Postfix's own service answers.
+    postfix: u32,
+}
+
+/// A request to the service of bounce logs, of a message with one, where all goes well.
+const BOUNCES: Given = Given {
+    service: Service::Bounce,
+    bounce_log: Some(LOG),
+    log: None,
+    well: 1_000,
+    fault: DeedFault::Failed,
+    refusal: None,
+    postfix: 7,
 };
 
-/// Texts one after another.
-fn joined(alloc: Global, texts: &[&[u8]]) -> Result<Vec<u8>, Fail> {
-    let mut all = Vec::new(alloc);
-    for text in texts {
-        all.extend_from_slice(text)?;
+/// A request to the service of defer logs, of a message with both logs, where all goes well.
+const BOTH: Given = Given {
+    service: Service::Defer,
+    log: Some(DELAYS),
+    ..BOUNCES
+};
+
+/// The same, but the deed after so many fails.
+fn failing(given: Given, well: usize) -> Given {
+    Given { well, ..given }
+}
+
+/// The same, but the deed after so many hands in a notice that is refused by this code.
+fn refusing(given: Given, well: usize, digits: [u8; 3]) -> Given {
+    Given {
+        well,
+        refusal: Some(digits),
+        ..given
     }
-    Ok(all)
 }
 
-/// The bytes of a request for notices.
-fn notice_bytes(alloc: Global, asked: Asked<'_>) -> Result<Vec<u8>, Fail> {
-    joined(
-        alloc,
-        &[
-            b"nrequest\0".as_slice(),
-            asked.kind,
-            b"\0flags\0".as_slice(),
-            asked.flags,
-            b"\0queue_name\0active\0queue_id\06BB87A7E6A1\0encoding\0\0smtputf8\00\0sender\0".as_slice(),
-            asked.sender,
-            b"\0envelope_id\0\0ret_flags\00\0".as_slice(),
-            asked.own,
-            b"\0".as_slice(),
-        ],
-    )
+/// The same with another bounce log, or none.
+fn with_bounce_log(given: Given, bounce_log: Option<&'static [u8]>) -> Given {
+    Given {
+        bounce_log,
+        ..given
+    }
 }
 
-/// The bytes of a request to log what became of a recipient.
-fn append_bytes(alloc: Global, flags: &[u8], recipient: &[u8]) -> Result<Vec<u8>, Fail> {
-    joined(
-        alloc,
-        &[
-            b"nrequest\00\0flags\0".as_slice(),
-            flags,
-            b"\0queue_id\06BB87A7E6A1\0original_recipient\0\0recipient\0".as_slice(),
-            recipient,
-            b"\0offset\031\0dsn_orig_rcpt\0\0notify_flags\00\0status\05.1.1\0diag_type\0\0diag_text\0\0mta_type\0\0mta_mname\0\0action\0failed\0reason\0no\0\0".as_slice(),
-        ],
-    )
+/// The same where Postfix's own service answers 0.
+fn passed_on_well(given: Given) -> Given {
+    Given {
+        postfix: 0,
+        ..given
+    }
 }
 
-/// What a request is given, and what must come of it.
-#[derive(Clone, Copy)]
-struct Case<'a> {
+/// What comes of a notice that is refused by this code, or has no reply.
+fn refusal_of(digits: Option<[u8; 3]>) -> HandInFault {
+    let Some(digits) = digits else {
+        return UNHEARD;
+    };
+    match ReplyCode::new(digits) {
+        Some(code) => HandInFault::Refused(HandInStep::Recipient, code),
+        None => UNHEARD,
+    }
+}
+
+/// The status that answers a request to a service. Memory is ample, so there is one.
+fn answered(
+    alloc: Global,
     service: Service,
-    bounce_log: Option<&'a [u8]>,
-    log: Option<&'a [u8]>,
-    well: usize,
-    fault: DeedFault,
-    postfix: u32,
-    status: u32,
-    lines: &'a [u8],
-}
-
-/// Answers a request, and compares its status and the lines of its deeds. Memory is ample, so
-/// there is a status.
-fn carried_out_with(
-    rt: &(impl AllocGlobal + Abort),
     bytes: &[u8],
-    case: Case<'_>,
-    refusal: HandInFault,
-) -> Result<(), Fail> {
-    let site = Site::new(rt.alloc(), b"mx.example.net")?;
+    system: &mut MemorySystem<'_>,
+) -> Result<u32, Fail> {
+    let request = decode_postfix_request(PostfixVersion::V3_7, bytes)?;
+    let moment = Stamp::new(1_700_000_000).ok_or("the moment")?;
+    let site = Site::new(alloc, b"mx.example.net")?;
     let settings = ServiceSettings {
         site: &site,
         double_bounce: b"double-bounce@mx.example.net",
         lifetime: 432_000,
     };
-    let mut system = MemorySystem {
-        bounce_log: case.bounce_log,
-        log: case.log,
-        file: FILE,
-        well: case.well,
-        fault: case.fault,
-        refusal,
-        status: case.postfix,
-        asked: Vec::new(rt.alloc()),
-    };
-    let request = decode_postfix_request(PostfixVersion::V3_7, bytes)?;
     let terms = RequestTerms {
         settings: &settings,
-        service: case.service,
-        moment: Stamp::new(1_700_000_000).ok_or("the moment")?,
+        service,
+        moment,
         first_serial: 0,
     };
-    let status = answer_request(rt.alloc(), &terms, &request, bytes, &mut system)?;
-    same(rt, system.asked.as_slice(), case.lines);
-    same(rt, status, case.status);
+    Ok(answer_request(alloc, &terms, &request, bytes, system)?)
+}
+
+/// A request is answered by this status, and its deeds have these lines.
+fn expect_answer(
+    rt: &(impl AllocGlobal + Abort),
+    asked: Asked,
+    given: Given,
+    status: u32,
+    lines: &[u8],
+) -> Result<(), Fail> {
+    let bytes = request_bytes(rt.alloc(), asked)?;
+    let mut system = MemorySystem {
+        bounce_log: given.bounce_log,
+        log: given.log,
+        file: FILE,
+        well: given.well,
+        fault: given.fault,
+        refusal: refusal_of(given.refusal),
+        status: given.postfix,
+        asked: Vec::new(rt.alloc()),
+    };
+    let found = answered(rt.alloc(), given.service, &bytes, &mut system)?;
+    same(rt, system.asked.as_slice(), lines);
+    same(rt, found, status);
     Ok(())
 }
 
-/// The same, where a hand-in that fails has no reply.
-fn carried_out(rt: &(impl AllocGlobal + Abort), bytes: &[u8], case: Case<'_>) -> Result<(), Fail> {
-    carried_out_with(rt, bytes, case, UNHEARD)
+/// All goes well: the status is 0.
+fn expect_done(
+    rt: &(impl AllocGlobal + Abort),
+    asked: Asked,
+    given: Given,
+    lines: &[u8],
+) -> Result<(), Fail> {
+    expect_answer(rt, asked, given, 0, lines)
 }
 
-/// A case of the bounce log in which all goes well.
-fn told<'a>(log: Option<&'a [u8]>, lines: &'a [u8]) -> Case<'a> {
-    Case {
-        service: Service::Bounce,
-        bounce_log: log,
-        log: None,
-        well: ALWAYS,
-        fault: DeedFault::Failed,
-        postfix: 7,
-        status: 0,
-        lines,
-    }
-}
-
-/// A case of the bounce log in which a deed fails.
-fn failed<'a>(well: usize, lines: &'a [u8]) -> Case<'a> {
-    Case {
-        well,
-        status: NOT_DONE,
-        ..told(Some(LOG), lines)
-    }
+/// The deed after so many fails, and the request wasn't carried out.
+fn expect_failure(
+    rt: &(impl AllocGlobal + Abort),
+    asked: Asked,
+    (given, well): (Given, usize),
+    lines: &[u8],
+) -> Result<(), Fail> {
+    expect_answer(rt, asked, failing(given, well), NOT_DONE, lines)
 }
 
 /// The line of a record that is appended.
 const RECORD: &[u8] =
     b"append \n<no@a.example>: no\nrecipient=no@a.example\noffset=31\nstatus=5.1.1\naction=failed\nreason=no\n\n\n";
 
+/// The same, and the log's removal.
+const RECORD_REMOVED: &[u8] =
+    b"append \n<no@a.example>: no\nrecipient=no@a.example\noffset=31\nstatus=5.1.1\naction=failed\nreason=no\n\n\nremove B\n";
+
 #[test]
 fn an_append_is_answered_0_once_it_stands(rt: HostRuntime) -> Result<(), Fail> {
-    let bytes = append_bytes(rt.alloc(), b"0", b"no@a.example")?;
-    carried_out(&rt, &bytes, told(None, RECORD))?;
-    carried_out(&rt, &bytes, failed(0, RECORD))
+    let no_log = with_bounce_log(BOUNCES, None);
+    expect_done(&rt, APPEND, no_log, RECORD)?;
+    expect_failure(&rt, APPEND, (BOUNCES, 0), RECORD)?;
+    // with CLEAN it leaves no log where it fails
+    expect_done(&rt, CLEAN_APPEND, no_log, RECORD)?;
+    expect_failure(&rt, CLEAN_APPEND, (BOUNCES, 0), RECORD_REMOVED)
 }
 
 #[test]
 fn memory_that_a_deed_lacks_is_answered_by_a_status(rt: HostRuntime) -> Result<(), Fail> {
-    let bytes = append_bytes(rt.alloc(), b"0", b"no@a.example")?;
-    let refused = Case {
+    let refused = Given {
         fault: DeedFault::NoMemory,
-        ..failed(0, RECORD)
+        ..BOUNCES
     };
-    carried_out(&rt, &bytes, refused)
-}
-
-#[test]
-fn an_append_with_clean_leaves_no_log_where_it_fails(rt: HostRuntime) -> Result<(), Fail> {
-    let bytes = append_bytes(rt.alloc(), b"1", b"no@a.example")?;
-    carried_out(&rt, &bytes, told(None, RECORD))?;
-    let lines = joined(rt.alloc(), &[RECORD, b"remove B\n".as_slice()])?;
-    carried_out(&rt, &bytes, failed(0, &lines))
+    expect_failure(&rt, APPEND, (refused, 0), RECORD)
 }
 
 #[test]
 fn an_append_that_no_line_says_is_passed_on(rt: HostRuntime) -> Result<(), Fail> {
-    let bytes = append_bytes(rt.alloc(), b"0", b"no a@a.example")?;
-    let passed = Case {
-        status: 7,
-        ..told(None, b"pass-on B\n")
-    };
-    carried_out(&rt, &bytes, passed)?;
-    carried_out(&rt, &bytes, failed(0, b"pass-on B\n"))
+    let spaced = Asked::Append(b"0", b"no a@a.example");
+    let no_log = with_bounce_log(BOUNCES, None);
+    expect_answer(&rt, spaced, no_log, 7, b"pass-on B\n")?;
+    expect_failure(&rt, spaced, (BOUNCES, 0), b"pass-on B\n")
 }
+
+/// The lines of a flush of the bounce log alone.
+const TOLD: &[u8] = b"log B\nmessage active\nhand-in ann@example.com\nremove B\nrelease \n";
+
+/// The same up to a notice that isn't taken.
+const UNTOLD: &[u8] = b"log B\nmessage active\nhand-in ann@example.com\nrelease \n";
 
 #[test]
 fn a_flush_tells_of_two_and_removes_the_log(rt: HostRuntime) -> Result<(), Fail> {
-    let bytes = notice_bytes(rt.alloc(), FLUSH)?;
-    let all = b"log B\nmessage active\nhand-in ann@example.com\nremove B\nrelease \n";
-    carried_out(&rt, &bytes, told(Some(LOG), all))?;
-    carried_out(&rt, &bytes, failed(0, b"log B\nrelease \n"))?;
-    carried_out(&rt, &bytes, failed(1, b"log B\nmessage active\nrelease \n"))?;
-    let refused = b"log B\nmessage active\nhand-in ann@example.com\nrelease \n";
-    carried_out(&rt, &bytes, failed(2, refused))?;
-    carried_out(&rt, &bytes, failed(3, all))
+    expect_done(&rt, FLUSH, BOUNCES, TOLD)?;
+    expect_failure(&rt, FLUSH, (BOUNCES, 0), b"log B\nrelease \n")?;
+    let unread = b"log B\nmessage active\nrelease \n";
+    expect_failure(&rt, FLUSH, (BOUNCES, 1), unread)?;
+    expect_failure(&rt, FLUSH, (BOUNCES, 2), UNTOLD)?;
+    expect_failure(&rt, FLUSH, (BOUNCES, 3), TOLD)
 }
 
 #[test]
 fn recipients_are_marked_before_the_log_is_removed(rt: HostRuntime) -> Result<(), Fail> {
-    let bytes = notice_bytes(
-        rt.alloc(),
-        Asked {
-            flags: b"3",
-            ..FLUSH
-        },
-    )?;
+    let marking = Asked::Notices(b"1", b"3", ANN, b"");
+    let given = Given {
+        bounce_log: None,
+        log: Some(LOG),
+        ..BOTH
+    };
     let all =
         b"seek B\nlog D\nmessage active\nhand-in ann@example.com\nmark 031\nmark 045\nremove D\nrelease \n";
-    let case = Case {
-        log: Some(LOG),
-        ..flushed(None, all)
-    };
-    carried_out(&rt, &bytes, case)?;
+    expect_done(&rt, marking, given, all)?;
     let unmarked =
         b"seek B\nlog D\nmessage active\nhand-in ann@example.com\nmark 031\nmark 045\nrelease \nremove D\n";
-    let failing = Case {
-        well: 5,
-        status: NOT_DONE,
-        lines: unmarked,
-        ..case
-    };
-    carried_out(&rt, &bytes, failing)
+    expect_failure(&rt, marking, (given, 5), unmarked)
 }
 
 // A recipient of the defer log may have the record of one that bounced.
 #[test]
 fn recipients_of_a_bounce_log_are_not_marked(rt: HostRuntime) -> Result<(), Fail> {
-    let bytes = notice_bytes(
-        rt.alloc(),
-        Asked {
-            flags: b"2",
-            ..FLUSH
-        },
-    )?;
-    let own = b"log D\nmessage active\nhand-in ann@example.com\nmark 031\nremove D\nrelease \n";
-    let both = joined(rt.alloc(), &[BOUNCE, own.as_slice()])?;
-    carried_out(&rt, &bytes, flushed(Some(LOG), &both))?;
-    let alone = b"log B\nmessage active\nhand-in ann@example.com\nremove B\nrelease \n";
-    carried_out(&rt, &bytes, told(Some(LOG), alone))
+    let both =
+        b"seek B\nlog B\nmessage active\nhand-in ann@example.com\nremove B\nrelease \nlog D\nmessage active\nhand-in ann@example.com\nmark 031\nremove D\nrelease \n";
+    expect_done(&rt, MARKING, BOTH, both)?;
+    expect_done(&rt, MARKING, BOUNCES, TOLD)
 }
 
 #[test]
 fn nobody_is_told_of_a_message_from_nobody(rt: HostRuntime) -> Result<(), Fail> {
-    for sender in [b"".as_slice(), b"Double-Bounce@mx.example.net"] {
-        let bytes = notice_bytes(rt.alloc(), Asked { sender, ..FLUSH })?;
-        let lines = b"log B\nmessage active\nremove B\nrelease \n";
-        carried_out(&rt, &bytes, told(Some(LOG), lines))?;
-    }
-    Ok(())
+    let untold = b"log B\nmessage active\nremove B\nrelease \n";
+    let from_nobody = Asked::Notices(b"1", b"0", b"", b"");
+    expect_done(&rt, from_nobody, BOUNCES, untold)?;
+    let double = Asked::Notices(b"1", b"0", b"Double-Bounce@mx.example.net", b"");
+    expect_done(&rt, double, BOUNCES, untold)
 }
+
+/// The lines of a flush of the bounce log that is passed on.
+const PASSED_ON: &[u8] = b"log B\nmessage active\nrelease \npass-on B\n";
 
 #[test]
 fn what_is_no_letter_is_passed_on_and_nothing_is_handed_in(rt: HostRuntime) -> Result<(), Fail> {
-    let quoted = Asked {
-        sender: b"a b@example.com",
-        ..FLUSH
-    };
-    let lines = b"log B\nmessage active\nrelease \npass-on B\n";
-    for (asked, log) in [(quoted, Some(LOG)), (FLUSH, None)] {
-        let bytes = notice_bytes(rt.alloc(), asked)?;
-        let passed = Case {
-            status: 7,
-            ..told(log, lines)
-        };
-        carried_out(&rt, &bytes, passed)?;
-    }
-    Ok(())
+    expect_answer(&rt, FROM_QUOTED, BOUNCES, 7, PASSED_ON)?;
+    let no_log = with_bounce_log(BOUNCES, None);
+    expect_answer(&rt, FLUSH, no_log, 7, PASSED_ON)
 }
 
-/// A flush whose notices have a return path for each recipient.
-fn verp() -> Asked<'static> {
-    Asked {
-        kind: b"3",
-        own: b"verp_delimiters\0+=\0",
-        ..FLUSH
-    }
-}
+/// The lines of a flush of the bounce log whose second notice isn't taken.
+const SECOND_UNTOLD: &[u8] =
+    b"log B\nmessage active\nhand-in ann+no=a.example@example.com\nhand-in ann+no=b.example@example.com\nrelease \n";
 
 #[test]
 fn each_recipient_has_a_path_of_its_own(rt: HostRuntime) -> Result<(), Fail> {
-    let bytes = notice_bytes(rt.alloc(), verp())?;
     let all =
         b"log B\nmessage active\nhand-in ann+no=a.example@example.com\nhand-in ann+no=b.example@example.com\nremove B\nrelease \n";
-    carried_out(&rt, &bytes, told(Some(LOG), all))?;
-    let second =
-        b"log B\nmessage active\nhand-in ann+no=a.example@example.com\nhand-in ann+no=b.example@example.com\nrelease \n";
-    carried_out(&rt, &bytes, failed(3, second))
-}
-
-/// A refusal of a recipient, by these digits.
-fn refused(digits: [u8; 3]) -> Result<HandInFault, Fail> {
-    let code = ReplyCode::new(digits).ok_or("the code")?;
-    Ok(HandInFault::Refused(HandInStep::Recipient, code))
+    expect_done(&rt, VERP, BOUNCES, all)?;
+    expect_failure(&rt, VERP, (BOUNCES, 3), SECOND_UNTOLD)
 }
 
 #[test]
-fn a_first_letter_that_is_refused_for_good_is_passed_on(rt: HostRuntime) -> Result<(), Fail> {
-    let bytes = notice_bytes(rt.alloc(), FLUSH)?;
+fn a_letter_that_is_refused_for_good_is_passed_on(rt: HostRuntime) -> Result<(), Fail> {
     let passed = b"log B\nmessage active\nhand-in ann@example.com\nrelease \npass-on B\n";
-    let case = Case {
-        status: 7,
-        ..failed(2, passed)
-    };
-    carried_out_with(&rt, &bytes, case, refused(*b"550")?)?;
-    let put_off = b"log B\nmessage active\nhand-in ann@example.com\nrelease \n";
-    carried_out_with(&rt, &bytes, failed(2, put_off), refused(*b"450")?)
-}
-
-// Who is told by the first would be told once more.
-#[test]
-fn a_later_letter_that_is_refused_for_good_is_put_off(rt: HostRuntime) -> Result<(), Fail> {
-    let bytes = notice_bytes(rt.alloc(), verp())?;
-    let second =
-        b"log B\nmessage active\nhand-in ann+no=a.example@example.com\nhand-in ann+no=b.example@example.com\nrelease \n";
-    carried_out_with(&rt, &bytes, failed(3, second), refused(*b"550")?)
+    expect_answer(&rt, FLUSH, refusing(BOUNCES, 2, *b"550"), 7, passed)?;
+    let for_now = refusing(BOUNCES, 2, *b"450");
+    expect_answer(&rt, FLUSH, for_now, NOT_DONE, UNTOLD)?;
+    // a later one is put off: who is told by the first would be told once more
+    let second = refusing(BOUNCES, 3, *b"550");
+    expect_answer(&rt, VERP, second, NOT_DONE, SECOND_UNTOLD)
 }
 
 #[test]
 fn a_defer_log_is_told_after_a_bounce_log_that_was_refused(rt: HostRuntime) -> Result<(), Fail> {
-    let bytes = notice_bytes(rt.alloc(), FLUSH)?;
-    let first =
-        b"seek B\nlog B\nmessage active\nhand-in ann@example.com\nrelease \npass-on B\n".as_slice();
-    let both = joined(rt.alloc(), &[first, DEFER])?;
-    let case = Case {
-        postfix: 0,
-        status: 0,
-        ..stopped(3, &both)
-    };
-    carried_out_with(&rt, &bytes, case, refused(*b"554")?)?;
-    let failing = Case {
-        status: 7,
-        ..stopped(3, first)
-    };
-    carried_out_with(&rt, &bytes, failing, refused(*b"554")?)
+    let refused = refusing(BOTH, 3, *b"554");
+    let both =
+        b"seek B\nlog B\nmessage active\nhand-in ann@example.com\nrelease \npass-on B\nlog D\nmessage active\nhand-in ann@example.com\nremove D\nrelease \n";
+    expect_done(&rt, FLUSH, passed_on_well(refused), both)?;
+    let first = b"seek B\nlog B\nmessage active\nhand-in ann@example.com\nrelease \npass-on B\n";
+    expect_answer(&rt, FLUSH, refused, 7, first)
 }
 
 #[test]
 fn a_warning_keeps_the_log(rt: HostRuntime) -> Result<(), Fail> {
-    let bytes = notice_bytes(
-        rt.alloc(),
-        Asked {
-            kind: b"2",
-            ..FLUSH
-        },
-    )?;
+    let warning = Asked::Notices(b"2", b"0", ANN, b"");
     let lines = b"log D\nmessage active\nhand-in ann@example.com\nrelease \n";
-    let case = Case {
-        service: Service::Defer,
-        bounce_log: Some(LOG),
-        log: Some(DELAYS),
-        ..told(None, lines)
-    };
-    carried_out(&rt, &bytes, case)
+    expect_done(&rt, warning, BOTH, lines)
 }
 
 #[test]
 fn a_trace_without_a_log_tells_nobody(rt: HostRuntime) -> Result<(), Fail> {
-    let bytes = notice_bytes(
-        rt.alloc(),
-        Asked {
-            kind: b"5",
-            ..FLUSH
-        },
-    )?;
-    let case = Case {
+    let given = Given {
         service: Service::Trace,
-        ..told(None, b"log T\nmessage active\nrelease \n")
+        bounce_log: None,
+        ..BOUNCES
     };
-    carried_out(&rt, &bytes, case)
+    let trace = Asked::Notices(b"5", b"0", ANN, b"");
+    expect_done(&rt, trace, given, b"log T\nmessage active\nrelease \n")
 }
 
-/// A case of the defer log, of a message with this bounce log, in which all goes well.
-fn flushed<'a>(bounce_log: Option<&'a [u8]>, lines: &'a [u8]) -> Case<'a> {
-    Case {
-        service: Service::Defer,
-        bounce_log,
-        log: Some(DELAYS),
-        ..told(None, lines)
-    }
-}
-
-/// A case of the defer log, of a message with a bounce log, in which a deed fails.
-fn stopped<'a>(well: usize, lines: &'a [u8]) -> Case<'a> {
-    Case {
-        well,
-        status: NOT_DONE,
-        ..flushed(Some(LOG), lines)
-    }
-}
-
-/// The lines of a flush of the defer log alone.
-const DEFER: &[u8] = b"log D\nmessage active\nhand-in ann@example.com\nremove D\nrelease \n";
-
-/// The lines of a flush of the bounce log that is asked before it.
+/// The lines of a flush of the bounce log that is asked before the defer log.
 const BOUNCE: &[u8] =
     b"seek B\nlog B\nmessage active\nhand-in ann@example.com\nremove B\nrelease \n";
 
+/// The lines of a flush of both.
+const BOUNCE_AND_DEFER: &[u8] =
+    b"seek B\nlog B\nmessage active\nhand-in ann@example.com\nremove B\nrelease \nlog D\nmessage active\nhand-in ann@example.com\nremove D\nrelease \n";
+
 #[test]
 fn a_flush_of_the_defer_log_tells_the_bounce_log_first(rt: HostRuntime) -> Result<(), Fail> {
-    let both = joined(rt.alloc(), &[BOUNCE, DEFER])?;
-    let alone = joined(rt.alloc(), &[b"seek B\n".as_slice(), DEFER])?;
-    let bytes = notice_bytes(rt.alloc(), FLUSH)?;
-    carried_out(&rt, &bytes, flushed(Some(LOG), &both))?;
-    for none in [None, Some(b"".as_slice())] {
-        carried_out(&rt, &bytes, flushed(none, &alone))?;
-    }
-    Ok(())
+    expect_done(&rt, FLUSH, BOTH, BOUNCE_AND_DEFER)?;
+    let alone = b"seek B\nlog D\nmessage active\nhand-in ann@example.com\nremove D\nrelease \n";
+    expect_done(&rt, FLUSH, with_bounce_log(BOTH, None), alone)?;
+    expect_done(&rt, FLUSH, with_bounce_log(BOTH, Some(b"")), alone)
 }
 
 #[test]
 fn a_defer_log_stays_where_the_bounce_log_fails(rt: HostRuntime) -> Result<(), Fail> {
-    let bytes = notice_bytes(rt.alloc(), FLUSH)?;
-    carried_out(&rt, &bytes, stopped(0, b"seek B\n"))?;
-    carried_out(&rt, &bytes, stopped(1, b"seek B\nlog B\nrelease \n"))?;
+    expect_failure(&rt, FLUSH, (BOTH, 0), b"seek B\n")?;
+    expect_failure(&rt, FLUSH, (BOTH, 1), b"seek B\nlog B\nrelease \n")?;
     let unread = b"seek B\nlog B\nmessage active\nrelease \n";
-    carried_out(&rt, &bytes, stopped(2, unread))?;
+    expect_failure(&rt, FLUSH, (BOTH, 2), unread)?;
     let refused = b"seek B\nlog B\nmessage active\nhand-in ann@example.com\nrelease \n";
-    carried_out(&rt, &bytes, stopped(3, refused))?;
-    carried_out(&rt, &bytes, stopped(4, BOUNCE))
+    expect_failure(&rt, FLUSH, (BOTH, 3), refused)?;
+    expect_failure(&rt, FLUSH, (BOTH, 4), BOUNCE)
 }
 
 #[test]
 fn a_bounce_log_is_told_where_the_defer_log_fails(rt: HostRuntime) -> Result<(), Fail> {
-    let bytes = notice_bytes(rt.alloc(), FLUSH)?;
-    let unread = joined(rt.alloc(), &[BOUNCE, b"log D\nrelease \n".as_slice()])?;
-    carried_out(&rt, &bytes, stopped(6, &unread))?;
-    let no_file = b"log D\nmessage active\nrelease \n".as_slice();
-    let no_file = joined(rt.alloc(), &[BOUNCE, no_file])?;
-    carried_out(&rt, &bytes, stopped(7, &no_file))?;
-    let refused = b"log D\nmessage active\nhand-in ann@example.com\nrelease \n".as_slice();
-    let refused = joined(rt.alloc(), &[BOUNCE, refused])?;
-    carried_out(&rt, &bytes, stopped(8, &refused))?;
-    let both = joined(rt.alloc(), &[BOUNCE, DEFER])?;
-    carried_out(&rt, &bytes, stopped(9, &both))
+    let unread =
+        b"seek B\nlog B\nmessage active\nhand-in ann@example.com\nremove B\nrelease \nlog D\nrelease \n";
+    expect_failure(&rt, FLUSH, (BOTH, 6), unread)?;
+    let no_file =
+        b"seek B\nlog B\nmessage active\nhand-in ann@example.com\nremove B\nrelease \nlog D\nmessage active\nrelease \n";
+    expect_failure(&rt, FLUSH, (BOTH, 7), no_file)?;
+    let refused =
+        b"seek B\nlog B\nmessage active\nhand-in ann@example.com\nremove B\nrelease \nlog D\nmessage active\nhand-in ann@example.com\nrelease \n";
+    expect_failure(&rt, FLUSH, (BOTH, 8), refused)?;
+    expect_failure(&rt, FLUSH, (BOTH, 9), BOUNCE_AND_DEFER)
 }
 
 #[test]
 fn clean_removes_no_defer_log_before_its_turn(rt: HostRuntime) -> Result<(), Fail> {
-    let clean = Asked {
-        flags: b"1",
-        ..FLUSH
-    };
-    let bytes = notice_bytes(rt.alloc(), clean)?;
-    carried_out(&rt, &bytes, stopped(0, b"seek B\n"))?;
+    expect_failure(&rt, CLEAN, (BOTH, 0), b"seek B\n")?;
     let unread = b"seek B\nlog B\nrelease \nremove B\n";
-    carried_out(&rt, &bytes, stopped(1, unread))
+    expect_failure(&rt, CLEAN, (BOTH, 1), unread)
 }
 
 #[test]
 fn a_bounce_log_that_postfix_tells_comes_first(rt: HostRuntime) -> Result<(), Fail> {
-    let quoted = Asked {
-        sender: b"a b@example.com",
-        ..FLUSH
-    };
-    let bytes = notice_bytes(rt.alloc(), quoted)?;
-    let first = b"seek B\nlog B\nmessage active\nrelease \npass-on B\n".as_slice();
-    let second = b"log D\nmessage active\nrelease \npass-on D\n".as_slice();
-    let refused = Case {
-        status: 7,
-        ..flushed(Some(LOG), first)
-    };
-    carried_out(&rt, &bytes, refused)?;
-    let both = joined(rt.alloc(), &[first, second])?;
-    let passed = Case {
-        postfix: 0,
-        ..flushed(Some(LOG), &both)
-    };
-    carried_out(&rt, &bytes, passed)
+    let first = b"seek B\nlog B\nmessage active\nrelease \npass-on B\n";
+    expect_answer(&rt, FROM_QUOTED, BOTH, 7, first)?;
+    let both =
+        b"seek B\nlog B\nmessage active\nrelease \npass-on B\nlog D\nmessage active\nrelease \npass-on D\n";
+    expect_done(&rt, FROM_QUOTED, passed_on_well(BOTH), both)
 }
 
 #[test]
 fn a_flush_with_a_path_for_each_tells_the_bounce_log_first(rt: HostRuntime) -> Result<(), Fail> {
-    let bytes = notice_bytes(rt.alloc(), verp())?;
     let both =
         b"seek B\nlog B\nmessage active\nhand-in ann+no=a.example@example.com\nhand-in ann+no=b.example@example.com\nremove B\nrelease \nlog D\nmessage active\nhand-in ann+no=a.example@example.com\nremove D\nrelease \n";
-    carried_out(&rt, &bytes, flushed(Some(LOG), both))
+    expect_done(&rt, VERP, BOTH, both)
 }

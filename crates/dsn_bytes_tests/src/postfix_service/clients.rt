@@ -2,12 +2,13 @@
 use crate::assert_same::same;
 use crate::postfix_service::memory_system::{MemorySystem, UNHEARD};
 use crate::postfix_service::server::Server;
-use dsn_outcome::Plain;
+use dsn_outcome::{Plain, Stream};
 use dsn_postfix::{ListBuffer, ListFault, PostfixVersion};
 use dsn_postfix_service::{ClientFault, DeedFault, ServiceSettings, serve_client};
 use dsn_report::Site;
 use dsn_text::Service;
 use std::alloc::AllocGlobal;
+use std::cell::RefCell;
 use std::process::Abort;
 use std::test::Fail;
 use std::time::Clock;
@@ -26,43 +27,123 @@ const APPEND: &[u8] =
 const APPENDED: &[u8] =
     b"append \n<no@a.example>: no\nrecipient=no@a.example\noffset=31\nstatus=5.1.1\naction=failed\nreason=no\n\n\n";
 
-/// A client: what it says, how many calls of its connection go well, and how many deeds.
-#[derive(Clone, Copy)]
-struct Client<'a> {
-    says: &'a [u8],
+/// A client, and what must come of it.
+struct Client {
+    says: &'static [u8],
+    /// How many calls of its connection go well before one fails.
     calls: usize,
+    /// How many deeds go well before one fails.
     well: usize,
-}
-
-/// A client whose connection, and all that is done for it, goes well.
-fn asking(says: &[u8]) -> Client<'_> {
-    Client {
-        says,
-        calls: ALWAYS,
-        well: ALWAYS,
-    }
-}
-
-/// What must come of a client: how it was served, what it heard, and the lines of the deeds.
-#[derive(Clone, Copy)]
-struct Serving<'a> {
     end: Result<u32, ClientFault>,
-    heard: &'a [u8],
-    lines: &'a [u8],
+    heard: &'static [u8],
+    /// The lines of the deeds.
+    lines: &'static [u8],
 }
 
-/// Serves a client, and compares what comes of it.
-fn served(
-    rt: &(impl AllocGlobal + Abort + Clock),
-    client: Client<'_>,
-    wanted: Serving<'_>,
-) -> Result<(), Fail> {
+/// A client that has one recipient appended.
+const APPENDING: Client = Client {
+    says: APPEND,
+    calls: ALWAYS,
+    well: ALWAYS,
+    end: Ok(0),
+    heard: b"protocol\0delivery_status_protocol\0\0status\00\0\0",
+    lines: APPENDED,
+};
+
+/// Clients that are answered, and such as aren't.
+const CLIENTS: [Client; 7] = [
+    APPENDING,
+    Client {
+        well: 0,
+        end: Ok(4_294_967_295),
+        heard: b"protocol\0delivery_status_protocol\0\0status\04294967295\0\0",
+        ..APPENDING
+    },
+    // a list that is no request is passed on
+    Client {
+        says: b"nrequest\077\0\0",
+        end: Ok(7),
+        heard: b"protocol\0delivery_status_protocol\0\0status\07\0\0",
+        lines: b"pass-on B\n",
+        ..APPENDING
+    },
+    // nothing is done for a client that says no list
+    Client {
+        says: b"",
+        end: Err(ClientFault::NoList(ListFault::Nothing)),
+        heard: ANNOUNCED,
+        lines: b"",
+        ..APPENDING
+    },
+    Client {
+        says: b"nrequest\00\0flags\00\0queue_id\06BB87A7E6A1\0original_recipient\0\0recipient\0no@a.example\0offset\031\0dsn_or",
+        end: Err(ClientFault::NoList(ListFault::CutShort)),
+        heard: ANNOUNCED,
+        lines: b"",
+        ..APPENDING
+    },
+    // nothing is read where the protocol couldn't be announced
+    Client {
+        calls: 0,
+        end: Err(ClientFault::Unannounced),
+        heard: b"",
+        lines: b"",
+        ..APPENDING
+    },
+    // what was done stands where its status couldn't be said: the announcement takes a write and a flush, and the append a read
+    // for each fifty bytes
+    Client {
+        calls: 2 + (APPEND.len() + 49) / 50,
+        end: Err(ClientFault::Unsaid(0)),
+        heard: ANNOUNCED,
+        ..APPENDING
+    },
+];
+
+/// Serves a client over a stream, and says how that ended.
+fn served<R: AllocGlobal + Clock, S: Stream>(
+    rt: &R,
+    stream: &mut S,
+    system: &mut MemorySystem<'_>,
+) -> Result<Result<u32, ClientFault>, Fail> {
     let site = Site::new(rt.alloc(), b"mx.example.net")?;
     let settings = ServiceSettings {
         site: &site,
         double_bounce: b"double-bounce@mx.example.net",
         lifetime: 432_000,
     };
+    Ok(serve_client(
+        rt,
+        rt.alloc(),
+        &settings,
+        PostfixVersion::V3_7,
+        Service::Bounce,
+        stream,
+        &mut ListBuffer::new(rt.alloc()),
+        0,
+        system,
+    ))
+}
+
+/// How a client was served. What it heard is noted.
+fn end_of<R: AllocGlobal + Clock>(
+    rt: &R,
+    client: &Client,
+    system: &mut MemorySystem<'_>,
+    heard: &RefCell<Vec<u8>>,
+) -> Result<Result<u32, ClientFault>, Fail> {
+    let mut stream = Plain::new(Server {
+        script: client.says,
+        most: 50,
+        calls: client.calls,
+        heard,
+    });
+    served(rt, &mut stream, system)
+}
+
+/// A client is served as it must be.
+fn expect_served(rt: &(impl AllocGlobal + Abort + Clock), client: &Client) -> Result<(), Fail> {
+    let heard = RefCell::new(Vec::new(rt.alloc()));
     let mut system = MemorySystem {
         log: None,
         bounce_log: None,
@@ -73,105 +154,16 @@ fn served(
         status: 7,
         asked: Vec::new(rt.alloc()),
     };
-    let mut stream = Plain::new(Server {
-        script: client.says,
-        most: 50,
-        calls: client.calls,
-        heard: Vec::new(rt.alloc()),
-    });
-    let mut buffer = ListBuffer::new(rt.alloc());
-    let end = serve_client(
-        rt,
-        rt.alloc(),
-        &settings,
-        PostfixVersion::V3_7,
-        Service::Bounce,
-        &mut stream,
-        &mut buffer,
-        0,
-        &mut system,
-    );
-    same(rt, end, wanted.end);
-    same(rt, system.asked.as_slice(), wanted.lines);
-    same(rt, stream.into_inner().heard.as_slice(), wanted.heard);
+    same(rt, end_of(rt, client, &mut system, &heard)?, client.end);
+    same(rt, system.asked.as_slice(), client.lines);
+    same(rt, heard.into_inner().as_slice(), client.heard);
     Ok(())
 }
 
 #[test]
-fn an_append_is_done_and_then_answered(rt: HostRuntime) -> Result<(), Fail> {
-    let wanted = Serving {
-        end: Ok(0),
-        heard: b"protocol\0delivery_status_protocol\0\0status\00\0\0",
-        lines: APPENDED,
-    };
-    served(&rt, asking(APPEND), wanted)
-}
-
-#[test]
-fn what_was_not_done_is_answered_so(rt: HostRuntime) -> Result<(), Fail> {
-    let failing = Client {
-        well: 0,
-        ..asking(APPEND)
-    };
-    let wanted = Serving {
-        end: Ok(4_294_967_295),
-        heard: b"protocol\0delivery_status_protocol\0\0status\04294967295\0\0",
-        lines: APPENDED,
-    };
-    served(&rt, failing, wanted)
-}
-
-#[test]
-fn a_list_that_is_no_request_is_passed_on(rt: HostRuntime) -> Result<(), Fail> {
-    let wanted = Serving {
-        end: Ok(7),
-        heard: b"protocol\0delivery_status_protocol\0\0status\07\0\0",
-        lines: b"pass-on B\n",
-    };
-    served(&rt, asking(b"nrequest\077\0\0"), wanted)
-}
-
-#[test]
-fn nothing_is_done_for_a_client_that_says_no_list(rt: HostRuntime) -> Result<(), Fail> {
-    for (says, fault) in [
-        (b"".as_slice(), ListFault::Nothing),
-        (&APPEND[..100], ListFault::CutShort),
-    ] {
-        let wanted = Serving {
-            end: Err(ClientFault::NoList(fault)),
-            heard: ANNOUNCED,
-            lines: b"",
-        };
-        served(&rt, asking(says), wanted)?;
+fn clients_are_served(rt: HostRuntime) -> Result<(), Fail> {
+    for client in &CLIENTS {
+        expect_served(&rt, client)?;
     }
     Ok(())
-}
-
-#[test]
-fn nothing_is_read_where_the_protocol_could_not_be_announced(rt: HostRuntime) -> Result<(), Fail> {
-    let broken = Client {
-        calls: 0,
-        ..asking(APPEND)
-    };
-    let wanted = Serving {
-        end: Err(ClientFault::Unannounced),
-        heard: b"",
-        lines: b"",
-    };
-    served(&rt, broken, wanted)
-}
-
-// The announcement takes a write and a flush, and the append a read for each fifty bytes.
-#[test]
-fn what_was_done_stands_where_its_status_could_not_be_said(rt: HostRuntime) -> Result<(), Fail> {
-    let broken = Client {
-        calls: 2 + APPEND.len().div_ceil(50),
-        ..asking(APPEND)
-    };
-    let wanted = Serving {
-        end: Err(ClientFault::Unsaid(0)),
-        heard: ANNOUNCED,
-        lines: APPENDED,
-    };
-    served(&rt, broken, wanted)
 }

@@ -6,7 +6,9 @@ use dsn_postfix_service::{
     HandInFault, HandInStep, ReplyBuffer, ReplyCode, ReplyFault, greet, hand_in_notice, leave,
 };
 use dsn_text::{Address, MtaName};
-use std::alloc::AllocGlobal;
+use std::alloc::{AllocGlobal, Global};
+use std::cell::RefCell;
+use std::process::Abort;
 use std::test::Fail;
 
 /// Calls that never fail.
@@ -23,11 +25,32 @@ const TAKES: &[u8] =
 const WHOLE: &[u8] =
     b"<EHLO mail.example.net\r\n<MAIL FROM:<>\r\n<RCPT TO:<ann@example.org>\r\n<DATA\r\n<Subject: no\r\n\r\n..\r\n.\r\n<QUIT\r\n";
 
-/// What came of a notice that was handed in, and what the server was sent.
-#[derive(Drop)]
-struct HandedIn {
-    outcome: Result<(), HandInFault>,
-    heard: Vec<u8>,
+/// The replies of a server that takes the message twice in one session.
+const TAKES_TWICE: &[u8] =
+    b"|220 a\r\n|250 a\r\n|250 b\r\n|250 c\r\n|354 d\r\n|250 e\r\n|250 b\r\n|250 c\r\n|354 d\r\n|250 f\r\n";
+
+/// What such a server is sent.
+const WHOLE_TWICE: &[u8] =
+    b"<EHLO mail.example.net\r\n<MAIL FROM:<>\r\n<RCPT TO:<ann@example.org>\r\n<DATA\r\n<Subject: no\r\n\r\n..\r\n.\r\n<MAIL FROM:<>\r\n<RCPT TO:<ann@example.org>\r\n<DATA\r\n<Subject: no\r\n\r\n..\r\n.\r\n<QUIT\r\n";
+
+/// A server's replies, how many bytes a call gives or takes at most, how many calls go well before one fails, and how many
+/// times the message is handed in.
+#[derive(Clone, Copy)]
+struct Dialogue<'a> {
+    script: &'a [u8],
+    most: usize,
+    calls: usize,
+    times: u32,
+}
+
+/// One notice for a server with these replies, where each call goes well.
+fn whole(script: &[u8]) -> Dialogue<'_> {
+    Dialogue {
+        script,
+        most: 1_000,
+        calls: ALWAYS,
+        times: 1,
+    }
 }
 
 /// Begins a session, and hands in the message so many times, up to the first fault.
@@ -45,68 +68,75 @@ fn hand_in_all<S: Stream>(
     Ok(())
 }
 
-/// Hands the message to a server with these replies.
-fn handed_in(
-    rt: &impl AllocGlobal,
-    script: &[u8],
-    most: usize,
-    calls: usize,
-) -> Result<HandedIn, Fail> {
-    let host = MtaName::new(rt.alloc(), b"mail.example.net")?;
-    let path = Address::new(rt.alloc(), b"ann@example.org")?;
+/// What comes of notices that are handed in. What the server is sent is noted.
+fn outcome_of(
+    alloc: Global,
+    dialogue: &Dialogue<'_>,
+    heard: &RefCell<Vec<u8>>,
+) -> Result<Result<(), HandInFault>, Fail> {
+    let host = MtaName::new(alloc, b"mail.example.net")?;
+    let path = Address::new(alloc, b"ann@example.org")?;
     let mut stream = Plain::new(Server {
-        script,
-        most,
-        calls,
-        heard: Vec::new(rt.alloc()),
+        script: dialogue.script,
+        most: dialogue.most,
+        calls: dialogue.calls,
+        heard,
     });
-    let outcome = hand_in_all(&mut stream, &host, &path, 1);
+    let outcome = hand_in_all(&mut stream, &host, &path, dialogue.times);
     leave(&mut stream, &outcome);
-    Ok(HandedIn {
-        outcome,
-        heard: stream.into_inner().heard,
-    })
+    Ok(outcome)
 }
 
-/// The replies of a server that takes the message twice in one session.
-const TAKES_TWICE: &[u8] =
-    b"|220 a\r\n|250 a\r\n|250 b\r\n|250 c\r\n|354 d\r\n|250 e\r\n|250 b\r\n|250 c\r\n|354 d\r\n|250 f\r\n";
+/// What comes of notices that are handed in, and what the server is sent.
+fn handed_in(
+    alloc: Global,
+    dialogue: &Dialogue<'_>,
+) -> Result<(Result<(), HandInFault>, Vec<u8>), Fail> {
+    let heard = RefCell::new(Vec::new(alloc));
+    let outcome = outcome_of(alloc, dialogue, &heard)?;
+    Ok((outcome, heard.into_inner()))
+}
 
-/// What such a server is sent.
-const WHOLE_TWICE: &[u8] =
-    b"<EHLO mail.example.net\r\n<MAIL FROM:<>\r\n<RCPT TO:<ann@example.org>\r\n<DATA\r\n<Subject: no\r\n\r\n..\r\n.\r\n<MAIL FROM:<>\r\n<RCPT TO:<ann@example.org>\r\n<DATA\r\n<Subject: no\r\n\r\n..\r\n.\r\n<";
+/// All notices are taken, and the server is sent this.
+fn expect_taken(
+    rt: &(impl AllocGlobal + Abort),
+    dialogue: &Dialogue<'_>,
+    heard: &[u8],
+) -> Result<(), Fail> {
+    let (outcome, sent) = handed_in(rt.alloc(), dialogue)?;
+    same(rt, (dialogue.most, outcome), (dialogue.most, Ok(())));
+    same(rt, sent.as_slice(), heard);
+    Ok(())
+}
 
-#[test]
-fn two_notices_in_one_session(rt: HostRuntime) -> Result<(), Fail> {
-    let host = MtaName::new(rt.alloc(), b"mail.example.net")?;
-    let path = Address::new(rt.alloc(), b"ann@example.org")?;
-    let mut stream = Plain::new(Server {
-        script: TAKES_TWICE,
-        most: 1_000,
-        calls: ALWAYS,
-        heard: Vec::new(rt.alloc()),
-    });
-    same(&rt, hand_in_all(&mut stream, &host, &path, 2), Ok(()));
-    same(&rt, stream.into_inner().heard.as_slice(), WHOLE_TWICE);
+/// A notice isn't taken, for this reason, and this is the end of what the server is sent, or isn't.
+fn expect_fault(
+    rt: &(impl AllocGlobal + Abort),
+    dialogue: &Dialogue<'_>,
+    fault: HandInFault,
+    (end, is_sent): (&[u8], bool),
+) -> Result<(), Fail> {
+    let (outcome, sent) = handed_in(rt.alloc(), dialogue)?;
+    let calls = dialogue.calls;
+    same(rt, (calls, outcome), (calls, Err(fault)));
+    same(rt, (calls, sent.ends_with(end)), (calls, is_sent));
     Ok(())
 }
 
 #[test]
 fn a_dialogue_in_pieces_of_each_size(rt: HostRuntime) -> Result<(), Fail> {
     for most in 1..60 {
-        let done = handed_in(&rt, TAKES, most, ALWAYS)?;
-        same(&rt, (most, done.outcome), (most, Ok(())));
-        same(&rt, done.heard.as_slice(), WHOLE);
+        let dialogue = Dialogue {
+            most,
+            ..whole(TAKES)
+        };
+        expect_taken(&rt, &dialogue, WHOLE)?;
     }
-    Ok(())
-}
-
-/// A refusal at a step, by this code.
-fn refused(step: HandInStep, digits: [u8; 3]) -> Result<(), HandInFault> {
-    match ReplyCode::new(digits) {
-        Some(code) => Err(HandInFault::Refused(step, code)),
-        None => Ok(()),
-    }
+    let twice = Dialogue {
+        times: 2,
+        ..whole(TAKES_TWICE)
+    };
+    expect_taken(&rt, &twice, WHOLE_TWICE)
 }
 
 /// Scripts of servers that refuse, with the step at which they do, and the code.
@@ -140,81 +170,110 @@ const REFUSALS: [(&[u8], HandInStep, [u8; 3]); 7] = [
     ),
 ];
 
+/// A server refuses so, and is told QUIT then.
+fn expect_refusal(
+    rt: &(impl AllocGlobal + Abort),
+    &(script, step, digits): &(&[u8], HandInStep, [u8; 3]),
+) -> Result<(), Fail> {
+    let code = ReplyCode::new(digits).ok_or("the code")?;
+    let fault = HandInFault::Refused(step, code);
+    expect_fault(rt, &whole(script), fault, (b"<QUIT\r\n", true))
+}
+
 #[test]
 fn a_refusal_at_each_step(rt: HostRuntime) -> Result<(), Fail> {
-    for (script, step, digits) in REFUSALS {
-        let done = handed_in(&rt, script, 1_000, ALWAYS)?;
-        same(&rt, done.outcome, refused(step, digits));
-        same(&rt, done.heard.ends_with(b"<QUIT\r\n"), true);
+    for case in &REFUSALS {
+        expect_refusal(&rt, case)?;
     }
     Ok(())
+}
+
+/// Replies that are cut or come too soon, the step at which they do, and why.
+const NO_REPLIES: [(&[u8], HandInStep, ReplyFault); 6] = [
+    (b"", HandInStep::Greeting, ReplyFault::Nothing),
+    (
+        b"|220 a\r\n250 a\r\n",
+        HandInStep::Greeting,
+        ReplyFault::Trailing,
+    ),
+    (b"|220 a\r\n|250 a", HandInStep::Hello, ReplyFault::CutShort),
+    (
+        b"|220 a\r\n|250-a\r\n550 b\r\n",
+        HandInStep::Hello,
+        ReplyFault::NoReply,
+    ),
+    (
+        b"|220 a\r\n|250 a\r\n|250 b\r\n|250 c\r\n|354 d\r\n250 e\r\n",
+        HandInStep::Data,
+        ReplyFault::Trailing,
+    ),
+    (
+        b"|220 a\r\n|250 a\r\n|250 b\r\n|250 c\r\n|354 d\r\n",
+        HandInStep::Message,
+        ReplyFault::Nothing,
+    ),
+];
+
+/// What a server says is no reply at a step, for this reason.
+fn expect_no_reply(
+    rt: &(impl AllocGlobal + Abort),
+    &(script, step, why): &(&[u8], HandInStep, ReplyFault),
+) -> Result<(), Fail> {
+    let fault = HandInFault::Unheard(step, why);
+    expect_fault(rt, &whole(script), fault, (b"QUIT\r\n", true))
 }
 
 #[test]
 fn replies_that_are_cut_or_come_too_soon(rt: HostRuntime) -> Result<(), Fail> {
-    for (script, step, why) in [
-        (b"".as_slice(), HandInStep::Greeting, ReplyFault::Nothing),
-        (
-            b"|220 a\r\n250 a\r\n",
-            HandInStep::Greeting,
-            ReplyFault::Trailing,
-        ),
-        (b"|220 a\r\n|250 a", HandInStep::Hello, ReplyFault::CutShort),
-        (
-            b"|220 a\r\n|250-a\r\n550 b\r\n",
-            HandInStep::Hello,
-            ReplyFault::NoReply,
-        ),
-        (
-            b"|220 a\r\n|250 a\r\n|250 b\r\n|250 c\r\n|354 d\r\n250 e\r\n",
-            HandInStep::Data,
-            ReplyFault::Trailing,
-        ),
-        (
-            b"|220 a\r\n|250 a\r\n|250 b\r\n|250 c\r\n|354 d\r\n",
-            HandInStep::Message,
-            ReplyFault::Nothing,
-        ),
-    ] {
-        let done = handed_in(&rt, script, 1_000, ALWAYS)?;
-        same(&rt, done.outcome, Err(HandInFault::Unheard(step, why)));
+    for case in &NO_REPLIES {
+        expect_no_reply(&rt, case)?;
     }
     Ok(())
 }
 
+/// The fault where each call fails in turn: a read of the greeting; then a write, a flush and a read for each command.
+const FAILING_CALLS: [HandInFault; 16] = [
+    HandInFault::Unheard(HandInStep::Greeting, ReplyFault::Read),
+    HandInFault::Unsaid(HandInStep::Hello),
+    HandInFault::Unsaid(HandInStep::Hello),
+    HandInFault::Unheard(HandInStep::Hello, ReplyFault::Read),
+    HandInFault::Unsaid(HandInStep::Sender),
+    HandInFault::Unsaid(HandInStep::Sender),
+    HandInFault::Unheard(HandInStep::Sender, ReplyFault::Read),
+    HandInFault::Unsaid(HandInStep::Recipient),
+    HandInFault::Unsaid(HandInStep::Recipient),
+    HandInFault::Unheard(HandInStep::Recipient, ReplyFault::Read),
+    HandInFault::Unsaid(HandInStep::Data),
+    HandInFault::Unsaid(HandInStep::Data),
+    HandInFault::Unheard(HandInStep::Data, ReplyFault::Read),
+    HandInFault::Unsaid(HandInStep::Message),
+    HandInFault::Unsaid(HandInStep::Message),
+    HandInFault::Unheard(HandInStep::Message, ReplyFault::Read),
+];
+
 #[test]
 fn a_device_that_fails_at_each_call(rt: HostRuntime) -> Result<(), Fail> {
-    // a read of the greeting; then a write, a flush and a read for each command
-    let steps = [
-        HandInStep::Hello,
-        HandInStep::Sender,
-        HandInStep::Recipient,
-        HandInStep::Data,
-        HandInStep::Message,
-    ];
-    let first = handed_in(&rt, TAKES, 1_000, 0)?;
-    same(
-        &rt,
-        first.outcome,
-        Err(HandInFault::Unheard(HandInStep::Greeting, ReplyFault::Read)),
-    );
-    let mut call = 1;
-    for step in steps {
-        for want in [
-            HandInFault::Unsaid(step),
-            HandInFault::Unsaid(step),
-            HandInFault::Unheard(step, ReplyFault::Read),
-        ] {
-            let done = handed_in(&rt, TAKES, 1_000, call)?;
-            same(&rt, (call, done.outcome), (call, Err(want)));
-            same(&rt, done.heard.ends_with(b"QUIT\r\n"), false);
-            same(&rt, (call, want.may_be_taken()), (call, call > 12));
-            call = call.saturating_add(1);
-        }
+    for (calls, fault) in FAILING_CALLS.into_iter().enumerate() {
+        let dialogue = Dialogue {
+            calls,
+            ..whole(TAKES)
+        };
+        expect_fault(&rt, &dialogue, fault, (b"QUIT\r\n", false))?;
+        same(&rt, (calls, fault.may_be_taken()), (calls, calls > 12));
     }
-    for call in 16..18 {
-        let done = handed_in(&rt, TAKES, 1_000, call)?;
-        same(&rt, (call, done.outcome), (call, Ok(())));
+    Ok(())
+}
+
+// The notice was taken before QUIT, whose calls are the last two.
+#[test]
+fn a_device_that_fails_at_quit(rt: HostRuntime) -> Result<(), Fail> {
+    let unsaid = &WHOLE[..WHOLE.len() - b"QUIT\r\n".len()];
+    for (calls, heard) in [(16, unsaid), (17, WHOLE)] {
+        let dialogue = Dialogue {
+            calls,
+            ..whole(TAKES)
+        };
+        expect_taken(&rt, &dialogue, heard)?;
     }
     Ok(())
 }

@@ -3,9 +3,9 @@ use crate::assert_same::same;
 use crate::postfix_service::server::Server;
 use dsn_outcome::Plain;
 use dsn_postfix_service::{DeedFault, ask_own_service};
-use std::alloc::AllocGlobal;
+use std::alloc::{AllocGlobal, Global};
+use std::cell::RefCell;
 use std::process::Abort;
-use std::test::Fail;
 
 /// Calls that never fail.
 const ALWAYS: usize = 1_000_000;
@@ -13,63 +13,73 @@ const ALWAYS: usize = 1_000_000;
 /// What a service says that answers 7.
 const ANSWERS: &[u8] = b"|protocol\0delivery_status_protocol\0\0|status\07\0\0";
 
-/// Asks a service, and compares its answer and what it was sent.
-fn asked(
-    rt: &(impl AllocGlobal + Abort),
-    script: &[u8],
-    calls: usize,
-    answer: Result<u32, DeedFault>,
-    heard: &[u8],
-) -> Result<(), Fail> {
-    for most in [1, 5, 1_000] {
-        let mut stream = Plain::new(Server {
-            script,
-            most,
-            calls,
-            heard: Vec::new(rt.alloc()),
-        });
-        let given = ask_own_service(rt.alloc(), &mut stream, b"nrequest\01\0\0");
-        same(rt, given, answer);
-        same(rt, stream.into_inner().heard.as_slice(), heard);
-    }
-    Ok(())
-}
-
-#[test]
-fn a_request_is_said_after_the_announcement(rt: HostRuntime) -> Result<(), Fail> {
-    asked(&rt, ANSWERS, ALWAYS, Ok(7), b"<nrequest\01\0\0<")
-}
-
-#[test]
-fn nothing_is_said_to_another_service(rt: HostRuntime) -> Result<(), Fail> {
-    let failed = Err(DeedFault::Failed);
-    asked(
-        &rt,
+/// What services say, how many calls go well before one fails, the answer, and what the service is sent.
+const SERVICES: [(&[u8], usize, Result<u32, DeedFault>, &[u8]); 7] = [
+    // the request is said after the announcement
+    (ANSWERS, ALWAYS, Ok(7), b"<nrequest\01\0\0<"),
+    // nothing is said to another service
+    (
         b"|protocol\0other\0\0|status\00\0\0",
         ALWAYS,
-        failed,
+        Err(DeedFault::Failed),
         b"<",
-    )?;
-    asked(
-        &rt,
+    ),
+    (
         b"|protocol\0delivery_status_protocol\0",
         ALWAYS,
-        failed,
+        Err(DeedFault::Failed),
         b"<",
-    )?;
-    asked(&rt, b"", ALWAYS, failed, b"")
+    ),
+    (b"", ALWAYS, Err(DeedFault::Failed), b""),
+    // what is no status is no answer
+    (
+        b"|protocol\0delivery_status_protocol\0\0|status\0no\0\0",
+        ALWAYS,
+        Err(DeedFault::Failed),
+        b"<nrequest\01\0\0<",
+    ),
+    (
+        b"|protocol\0delivery_status_protocol\0\0",
+        ALWAYS,
+        Err(DeedFault::Failed),
+        b"<nrequest\01\0\0",
+    ),
+    // a device that fails gives no answer
+    (ANSWERS, 0, Err(DeedFault::Failed), b""),
+];
+
+/// The answer of a service that says this, in pieces of at most so many bytes. What it is sent is noted.
+fn asked(
+    alloc: Global,
+    (script, calls): (&[u8], usize),
+    most: usize,
+    heard: &RefCell<Vec<u8>>,
+) -> Result<u32, DeedFault> {
+    let mut stream = Plain::new(Server {
+        script,
+        most,
+        calls,
+        heard,
+    });
+    ask_own_service(alloc, &mut stream, b"nrequest\01\0\0")
+}
+
+/// A service answers so, and is sent this, where it says what it says in pieces of so many bytes.
+fn expect_answer(
+    rt: &(impl AllocGlobal + Abort),
+    &(script, calls, answer, sent): &(&[u8], usize, Result<u32, DeedFault>, &[u8]),
+    most: usize,
+) {
+    let heard = RefCell::new(Vec::new(rt.alloc()));
+    same(rt, asked(rt.alloc(), (script, calls), most, &heard), answer);
+    same(rt, heard.into_inner().as_slice(), sent);
 }
 
 #[test]
-fn what_is_no_status_is_no_answer(rt: HostRuntime) -> Result<(), Fail> {
-    let failed = Err(DeedFault::Failed);
-    let words = b"|protocol\0delivery_status_protocol\0\0|status\0no\0\0";
-    asked(&rt, words, ALWAYS, failed, b"<nrequest\01\0\0<")?;
-    let silent = b"|protocol\0delivery_status_protocol\0\0";
-    asked(&rt, silent, ALWAYS, failed, b"<nrequest\01\0\0")
-}
-
-#[test]
-fn a_device_that_fails_gives_no_answer(rt: HostRuntime) -> Result<(), Fail> {
-    asked(&rt, ANSWERS, 0, Err(DeedFault::Failed), b"")
+fn services_are_asked(rt: HostRuntime) {
+    for service in &SERVICES {
+        expect_answer(&rt, service, 1);
+        expect_answer(&rt, service, 5);
+        expect_answer(&rt, service, 1_000);
+    }
 }

@@ -1,7 +1,8 @@
 //! A mail server in memory, which gives set replies in pieces, and fails at a set call.
 ghost use Rattle.std.specs.Prelude.{refl};
 
-use dsn_outcome::OpaqueStream;
+use dsn_outcome::{OpaqueStream, Plain};
+use std::cell::RefCell;
 use std::io;
 use std::io::{ErrorKind, Read, Write};
 
@@ -14,11 +15,21 @@ pub(crate) struct Server<'a> {
     pub(crate) most: usize,
     /// How many calls go well before one is interrupted; from then on they do again.
     pub(crate) calls: usize,
-    /// What it was sent, with a `<` where it began a reply.
-    pub(crate) heard: Vec<u8>,
+    /// Where it notes what it was sent, with a `<` where it began a reply.
+    pub(crate) heard: &'a RefCell<Vec<u8>>,
 }
 
-impl Server<'_> {
+impl<'a> Server<'a> {
+    /// A connection to a server with these replies, of which no call fails.
+    pub(crate) fn steady(script: &'a [u8], heard: &'a RefCell<Vec<u8>>) -> Plain<Server<'a>> {
+        Plain::new(Server {
+            script,
+            most: 1_000,
+            calls: usize::MAX,
+            heard,
+        })
+    }
+
     /// Counts a call, and fails where it is the one that is to.
     fn count_call(&mut self) -> io::Result<()> {
         if self.calls == 0 {
@@ -28,6 +39,15 @@ impl Server<'_> {
         self.calls -= 1;
         Ok(())
     }
+
+    /// Notes what it was sent, or that it began a reply.
+    fn note(&self, text: &[u8]) -> io::Result<()> {
+        let Ok(mut heard) = self.heard.try_borrow_mut() else {
+            return Err(io::Error::from(ErrorKind::Other));
+        };
+        heard.extend_from_slice(text)?;
+        Ok(())
+    }
 }
 
 impl Read for Server<'_> {
@@ -35,7 +55,7 @@ impl Read for Server<'_> {
         self.count_call()?;
         if let [b'|', reply @ ..] = self.script {
             self.script = reply;
-            self.heard.push(b'<')?;
+            self.note(b"<")?;
         }
         let end = self.script.iter().position(|&byte| byte == b'|');
         let size = end.unwrap_or(self.script.len()).min(self.most.max(1));
@@ -48,7 +68,7 @@ impl Write for Server<'_> {
     fn write(&mut self, text: &[u8]) -> io::Result<usize> {
         self.count_call()?;
         let taken = text.len().min(self.most.max(1));
-        self.heard.extend_from_slice(&text[..taken])?;
+        self.note(&text[..taken])?;
         Ok(taken)
     }
 

@@ -1,9 +1,7 @@
 //! Notices that are handed in over a session that was kept, or over a new one, and what each server is sent then.
-ghost use Rattle.std.specs.Prelude.{refl};
-
 use crate::assert_same::same;
 use crate::postfix_service::server::Server;
-use dsn_outcome::{OpaqueStream, Plain};
+use dsn_outcome::{Plain, Stream};
 use dsn_postfix_service::{
     Connect, HandInFault, HandInStep, Notice, ReplyBuffer, ReplyCode, ReplyFault, Session,
     hand_in_over,
@@ -11,87 +9,22 @@ use dsn_postfix_service::{
 use dsn_text::{Address, MtaName};
 use std::alloc::{AllocGlobal, Global};
 use std::cell::RefCell;
-use std::io;
-use std::io::{ErrorKind, Read, Write};
 use std::process::Abort;
 use std::test::Fail;
-
-/// A mail server in memory that notes what it is sent where a test reads it.
-#[derive(Drop)]
-struct NotingServer<'a> {
-    server: Server<'static>,
-    heard: &'a RefCell<Vec<u8>>,
-}
-
-impl<'a> NotingServer<'a> {
-    /// One with these replies, whose calls all go well.
-    fn stream(
-        alloc: Global,
-        script: &'static [u8],
-        heard: &'a RefCell<Vec<u8>>,
-    ) -> Plain<NotingServer<'a>> {
-        Plain::new(NotingServer {
-            server: Server {
-                script,
-                most: 1_000,
-                calls: 1_000,
-                heard: Vec::new(alloc),
-            },
-            heard,
-        })
-    }
-
-    /// Notes what it was sent since the last note.
-    fn note(&mut self) -> io::Result<()> {
-        let Ok(mut heard) = self.heard.try_borrow_mut() else {
-            return Err(io::Error::from(ErrorKind::Other));
-        };
-        heard.extend_from_slice(&self.server.heard)?;
-        self.server.heard.clear();
-        Ok(())
-    }
-}
-
-impl Read for NotingServer<'_> {
-    fn read(&mut self, buffer: &mut [u8]) -> io::Result<usize> {
-        let count = self.server.read(buffer)?;
-        self.note()?;
-        Ok(count)
-    }
-}
-
-impl Write for NotingServer<'_> {
-    fn write(&mut self, text: &[u8]) -> io::Result<usize> {
-        let count = self.server.write(text)?;
-        self.note()?;
-        Ok(count)
-    }
-
-    fn flush(&mut self) -> io::Result<()> {
-        self.server.flush()
-    }
-}
-
-impl OpaqueStream for NotingServer<'_> {
-    ghost untold_input = { λ _. refl };
-
-    ghost untold_output = { λ _. refl };
-}
 
 /// Where new connections come from, if there are any: from a server with these replies.
 #[derive(Drop)]
 struct Place<'a> {
-    alloc: Global,
     script: Option<&'static [u8]>,
     heard: &'a RefCell<Vec<u8>>,
 }
 
-impl<'a> Connect<Plain<NotingServer<'a>>> for Place<'a> {
+impl<'a> Connect<Plain<Server<'a>>> for Place<'a> {
     ghost gives = { λ _ _ _. Unit {0} };
 
-    fn connect(&mut self) -> Result<Plain<NotingServer<'a>>, HandInFault> {
+    fn connect(&mut self) -> Result<Plain<Server<'a>>, HandInFault> {
         match self.script {
-            Some(script) => Ok(NotingServer::stream(self.alloc, script, self.heard)),
+            Some(script) => Ok(Server::steady(script, self.heard)),
             None => Err(HandInFault::Unheard(HandInStep::Greeting, ReplyFault::Read)),
         }
     }
@@ -100,7 +33,6 @@ impl<'a> Connect<Plain<NotingServer<'a>>> for Place<'a> {
 /// The replies over a session that is kept, and over a new one, where there are such; the step at which the notice isn't taken, if
 /// there is one, and the code by which it is refused there, or none where nothing is heard; and what is sent over each session, with
 /// a `<` where a reply is begun.
-#[derive(Clone, Copy)]
 struct Case {
     kept: Option<&'static [u8]>,
     new: Option<&'static [u8]>,
@@ -187,74 +119,70 @@ const CASES: [Case; 8] = [
     },
 ];
 
-/// What comes of a notice that isn't taken at a step, by this code, or by none; or that is.
-fn outcome(fault: Option<(HandInStep, Option<[u8; 3]>)>) -> Result<(), HandInFault> {
-    match fault {
-        None => Ok(()),
-        Some((step, None)) => Err(HandInFault::Unheard(step, ReplyFault::Read)),
-        Some((step, Some(digits))) => match ReplyCode::new(digits) {
-            Some(code) => Err(HandInFault::Refused(step, code)),
-            None => Ok(()),
-        },
+/// The fault of a notice that isn't taken at a step, by this code, or by none.
+fn fault_at(step: HandInStep, digits: Option<[u8; 3]>) -> Option<HandInFault> {
+    let Some(digits) = digits else {
+        return Some(HandInFault::Unheard(step, ReplyFault::Read));
+    };
+    match ReplyCode::new(digits) {
+        Some(code) => Some(HandInFault::Refused(step, code)),
+        None => None,
     }
 }
 
-/// The session that is kept, if there is one.
-fn kept_session<'a>(
-    alloc: Global,
-    script: Option<&'static [u8]>,
+/// The fault that a case wants, if there is to be one.
+fn wanted(case: &Case) -> Option<HandInFault> {
+    match case.fault {
+        Some((step, digits)) => fault_at(step, digits),
+        None => None,
+    }
+}
+
+/// A session over a new connection, if it can be begun.
+fn begun<S: Stream + Drop>(stream: S, host: &MtaName) -> Option<Session<S>> {
+    Session::begin(stream, &mut ReplyBuffer::new(), host).ok()
+}
+
+/// Hands in a notice, over the session that is kept or over one of a new connection: the fault, if it isn't taken.
+fn fault_of<S: Stream + Drop, C: Connect<S>>(
+    place: &mut C,
+    kept: Option<Session<S>>,
     host: &MtaName,
-    heard: &'a RefCell<Vec<u8>>,
-) -> Result<Option<Session<Plain<NotingServer<'a>>>>, Fail> {
-    let Some(script) = script else {
-        return Ok(None);
-    };
-    let stream = NotingServer::stream(alloc, script, heard);
-    match Session::begin(stream, &mut ReplyBuffer::new(), host) {
-        Ok(session) => Ok(Some(session)),
-        Err(_) => Ok(None),
-    }
-}
-
-/// What was sent over the session that is kept, and over a new one.
-#[derive(Drop)]
-struct Heard {
-    over_kept: RefCell<Vec<u8>>,
-    over_new: RefCell<Vec<u8>>,
-}
-
-/// Hands in a notice, over the session that is kept or over a new one.
-fn handed_in(alloc: Global, case: &Case, heard: &Heard) -> Result<Result<(), HandInFault>, Fail> {
-    let host = MtaName::new(alloc, b"mail.example.net")?;
-    let path = Address::new(alloc, b"ann@example.org")?;
-    let mut place = Place {
-        alloc,
-        script: case.new,
-        heard: &heard.over_new,
-    };
+    path: &Address,
+) -> Option<HandInFault> {
     let notice = Notice {
-        path: &path,
+        path,
         message: MESSAGE,
     };
-    let kept = kept_session(alloc, case.kept, &host, &heard.over_kept)?;
-    match hand_in_over(&mut place, kept, &host, &notice, &mut ReplyBuffer::new()) {
-        Ok(_) => Ok(Ok(())),
-        Err(fault) => Ok(Err(fault)),
-    }
+    hand_in_over(place, kept, host, &notice, &mut ReplyBuffer::new()).err()
 }
 
-/// Hands in a notice, and compares what came of it, and what was sent.
-fn try_case(rt: &(impl AllocGlobal + Abort), case: &Case) -> Result<(), Fail> {
-    let heard = Heard {
-        over_kept: RefCell::new(Vec::new(rt.alloc())),
-        over_new: RefCell::new(Vec::new(rt.alloc())),
+/// What comes of a case's notice; what is sent over the session that is kept, and over a new one, is noted.
+fn tried(
+    alloc: Global,
+    case: &Case,
+    over_kept: &RefCell<Vec<u8>>,
+    over_new: &RefCell<Vec<u8>>,
+) -> Result<Option<HandInFault>, Fail> {
+    let host = MtaName::new(alloc, b"mail.example.net")?;
+    let path = Address::new(alloc, b"ann@example.org")?;
+    let kept = match case.kept {
+        Some(script) => begun(Server::steady(script, over_kept), &host),
+        None => None,
     };
-    let handed = handed_in(rt.alloc(), case, &heard)?;
-    same(rt, handed, outcome(case.fault));
-    let Heard {
-        over_kept,
-        over_new,
-    } = heard;
+    let mut place = Place {
+        script: case.new,
+        heard: over_new,
+    };
+    Ok(fault_of(&mut place, kept, &host, &path))
+}
+
+/// A case's notice is handed in as it must be, and each server is sent what it must.
+fn expect_case(rt: &(impl AllocGlobal + Abort), case: &Case) -> Result<(), Fail> {
+    let over_kept = RefCell::new(Vec::new(rt.alloc()));
+    let over_new = RefCell::new(Vec::new(rt.alloc()));
+    let fault = tried(rt.alloc(), case, &over_kept, &over_new)?;
+    same(rt, fault, wanted(case));
     same(rt, over_kept.into_inner().as_slice(), case.over_kept);
     same(rt, over_new.into_inner().as_slice(), case.over_new);
     Ok(())
@@ -263,7 +191,7 @@ fn try_case(rt: &(impl AllocGlobal + Abort), case: &Case) -> Result<(), Fail> {
 #[test]
 fn a_notice_over_a_kept_session_or_a_new_one(rt: HostRuntime) -> Result<(), Fail> {
     for case in &CASES {
-        try_case(&rt, case)?;
+        expect_case(&rt, case)?;
     }
     Ok(())
 }

@@ -1,6 +1,6 @@
 //! Tests of notices and outboxes, over what `dsn_report` makes public.
 mod boundaries;
-mod letters;
+pub(crate) mod letters;
 mod longest;
 mod messages;
 mod notices;

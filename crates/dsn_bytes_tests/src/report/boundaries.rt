@@ -1,8 +1,7 @@
 //! The boundary's number, beside a search that tries the numbers in turn.
 use crate::assert_same::same;
-use crate::report::letters::{A1B2C3, BOB, Flush, letter};
+use crate::report::letters::{A1B2C3, Flush, boundary_of};
 use bstr::ByteSlice;
-use dsn_report::boundary;
 use std::alloc::Global;
 use std::process::Abort;
 use std::test::Fail;
@@ -43,14 +42,9 @@ fn is_ruled_out(delimiter: &[u8], header: &[u8]) -> bool {
 
 /// The boundary of a letter with this header has this number, and both searches find it.
 fn expect_number(rt: &impl Abort, alloc: Global, flush: Flush<'_>, want: u16) -> Result<(), Fail> {
-    let letter = letter(alloc, BOB, flush)?;
     let header = flush.header;
-    same(rt, (header, boundary(&letter)), (header, want));
-    same(
-        rt,
-        (header, boundary_in_turn(alloc, flush)?),
-        (header, want),
-    );
+    let found = (boundary_of(alloc, flush)?, boundary_in_turn(alloc, flush)?);
+    same(rt, (header, found), (header, (want, want)));
     Ok(())
 }
 
@@ -204,7 +198,6 @@ fn many_numbers_ruled_out(rt: HostRuntime) -> Result<(), Fail> {
         header: &header,
         ..SHORTEST
     };
-    let letter = letter(rt.alloc(), BOB, flush)?;
-    same(&rt, boundary(&letter), 2_520);
+    same(&rt, boundary_of(rt.alloc(), flush)?, 2_520);
     Ok(())
 }

@@ -1,12 +1,12 @@
-//! The letters and the site of all tests, and which hosts are a site.
-ghost use Rattle.std.specs.Prelude.{◌≡◌, ◌≢◌, [], All, IfOk};
+//! The letters, the notices and the site of all tests, and which hosts are a site.
+ghost use Rattle.std.specs.Prelude.{◌≡◌, ◌≢◌, [], All, IfOk, IsSome, None};
 
 use crate::assert_same::same;
 use dsn_outcome::{
     Address, Chain, Draft, EnvelopeId, Key, Letter, Node, Outcome, Parts, QueueId, RawHeader,
     Returned, Service, Stamp, Types, Wishes, Wording,
 };
-use dsn_report::{Site, SiteFault};
+use dsn_report::{Site, SiteFault, boundary, notice};
 use std::alloc::Global;
 use std::test::Fail;
 
@@ -102,18 +102,19 @@ fn envelope_id(alloc: Global, text: &[u8]) -> Result<Option<EnvelopeId>, Fail> {
     }
 }
 
-/// A letter to the sender about these outcomes of the bounce service.
-pub(crate) fn sealed(alloc: Global, chain: Chain, flush: Flush<'_>) -> Result<Letter, Fail>
-    requires reports { chain ≢ [] }
-    requires of_service { All (λ outcome. outcome.service ≡ Service.Bounce) chain }
+/// The draft of a letter to the sender.
+pub(crate) fn draft(alloc: Global, flush: Flush<'_>) -> Result<Draft, Fail>
+    ensures returns { IfOk result (λ draft. IsSome draft.return_path) }
+    ensures any { IfOk result (λ draft. draft.expected ≡ None) }
 {
-    let envelope_id = envelope_id(alloc, flush.envelope_id)?;
+    let moment = Stamp::new(flush.moment).ok_or("the moment")?;
+    let arrival = Stamp::new(1_699_996_400).ok_or("the arrival")?;
     let draft = Draft::new(
         alloc,
-        Stamp::new(flush.moment).ok_or("the moment")?,
-        Stamp::new(1_699_996_400).ok_or("the arrival")?,
+        moment,
+        arrival,
         Some(Address::new(alloc, b"ann@example.com")?),
-        envelope_id,
+        envelope_id(alloc, flush.envelope_id)?,
         RawHeader::new(alloc, flush.header)?,
         Wishes {
             expected: None,
@@ -121,17 +122,40 @@ pub(crate) fn sealed(alloc: Global, chain: Chain, flush: Flush<'_>) -> Result<Le
             wording: flush.wording,
         },
     )?;
-    let draft = draft.with_extensions(alloc, flush.extensions)?;
+    Ok(draft.with_extensions(alloc, flush.extensions)?)
+}
+
+/// A letter to the sender about these outcomes of the bounce service.
+pub(crate) fn sealed(alloc: Global, chain: Chain, flush: Flush<'_>) -> Result<Letter, Fail>
+    requires reports { chain ≢ [] }
+    requires of_service { All (λ outcome. outcome.service ≡ Service.Bounce) chain }
+{
     let key = Key {
         service: Service::Bounce,
         id: QueueId::new(flush.id).ok_or("the queue id")?,
     };
-    Ok(Letter::seal(key, draft, chain, 0))
+    Ok(Letter::seal(key, draft(alloc, flush)?, chain, 0))
 }
 
 /// The site of all tests.
 pub(crate) fn site(alloc: Global) -> Result<Site, Fail> {
     Ok(Site::new(alloc, b"mx.example.net")?)
+}
+
+/// The text of the notice about one recipient of the bounce service.
+pub(crate) fn notice_about(
+    alloc: Global,
+    texts: Texts<'_>,
+    flush: Flush<'_>,
+) -> Result<Vec<u8>, Fail> {
+    let letter = letter(alloc, texts, flush)?;
+    Ok(notice(alloc, &site(alloc)?, &letter)?)
+}
+
+/// The number of the boundary in the notice about bob.
+pub(crate) fn boundary_of(alloc: Global, flush: Flush<'_>) -> Result<u16, Fail> {
+    let letter = letter(alloc, BOB, flush)?;
+    Ok(boundary(&letter))
 }
 
 #[test]

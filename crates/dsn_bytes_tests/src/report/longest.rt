@@ -2,28 +2,33 @@
 ghost use Rattle.std.specs.Prelude.{◌≡◌, ◌≤◌, All, IfOk, length};
 
 use crate::assert_same::same;
-use crate::report::letters::{A1B2C3, BOB, Flush, Texts, failed, letter, sealed, site};
+use crate::report::letters::{
+    A1B2C3, BOB, Flush, Texts, boundary_of, failed, letter, notice_about, sealed, site,
+};
 use dsn_outcome::{
     Chain, LONGEST_ADDRESS, LONGEST_CLEAN, LONGEST_HEADER, LONGEST_MTA_NAME, LONGEST_TYPE_NAME,
     Service,
 };
-use dsn_report::{LONGEST_HOST, Site, boundary, notice};
+use dsn_report::{LONGEST_HOST, Site, notice};
 use std::alloc::Global;
 use std::test::Fail;
 
+/// Whether the site of a host name of so many bytes has that name, and the length of a notice from it.
+fn notice_from(alloc: Global, len: usize) -> Result<(bool, usize), Fail> {
+    let host = vec![in alloc; b'h'; len]?;
+    let site = Site::new(alloc, host.as_slice())?;
+    let text = notice(alloc, &site, &letter(alloc, BOB, A1B2C3)?)?;
+    Ok((site.bytes() == host.as_slice(), text.len()))
+}
+
 #[test]
 fn long_hosts(rt: HostRuntime) -> Result<(), Fail> {
-    let letter = letter(rt.alloc(), BOB, A1B2C3)?;
-    let short = Site::new(rt.alloc(), b"h")?;
-    let least = notice(rt.alloc(), &short, &letter)?;
+    let (_, least) = notice_from(rt.alloc(), 1)?;
     for len in [100, LONGEST_HOST] {
-        let text = vec![in rt.alloc(); b'h'; len]?;
-        let site = Site::new(rt.alloc(), text.as_slice())?;
-        same(&rt, site.bytes(), text.as_slice());
-        let text = notice(rt.alloc(), &site, &letter)?;
+        let (kept, size) = notice_from(rt.alloc(), len)?;
         // the host stands in From, in Message-ID, in the words for a person and in Reporting-MTA
-        let more = text.len().saturating_sub(least.len());
-        same(&rt, more, len.saturating_sub(1).saturating_mul(4));
+        let more = len.saturating_sub(1).saturating_mul(4);
+        same(&rt, (kept, size.saturating_sub(least)), (true, more));
     }
     let text = vec![in rt.alloc(); b'h'; LONGEST_HOST + 1]?;
     assert!(rt; Site::new(rt.alloc(), text.as_slice()).is_err());
@@ -43,9 +48,7 @@ fn header(alloc: Global, lines: usize, rest: usize) -> Result<Vec<u8>, Fail> {
 
 #[test]
 fn long_headers(rt: HostRuntime) -> Result<(), Fail> {
-    let site = Site::new(rt.alloc(), b"mx.example.net")?;
-    let bare = letter(rt.alloc(), BOB, A1B2C3)?;
-    let least = notice(rt.alloc(), &site, &bare)?;
+    let least = notice_about(rt.alloc(), BOB, A1B2C3)?;
     for (lines, rest, len) in [(200, 50, 20_050), (327, 68, LONGEST_HEADER)] {
         let header = header(rt.alloc(), lines, rest)?;
         same(&rt, header.len(), len);
@@ -53,9 +56,8 @@ fn long_headers(rt: HostRuntime) -> Result<(), Fail> {
             header: &header,
             ..A1B2C3
         };
-        let letter = letter(rt.alloc(), BOB, flush)?;
-        same(&rt, boundary(&letter), 0);
-        let text = notice(rt.alloc(), &site, &letter)?;
+        same(&rt, boundary_of(rt.alloc(), flush)?, 0);
+        let text = notice_about(rt.alloc(), BOB, flush)?;
         // each line gets a CR, and the last one CR and LF
         let more = text.len().saturating_sub(least.len());
         same(
@@ -121,14 +123,13 @@ fn thousand_outcomes_of_the_longest_texts(rt: HostRuntime) -> Result<(), Fail> {
         diagnostic_type: &kind,
         extensions: &extensions,
     };
-    let site = site(alloc)?;
-    let least = notice(alloc, &site, &letter(alloc, BOB, A1B2C3)?)?;
+    let least = notice_about(alloc, BOB, A1B2C3)?;
     let flush = Flush {
         extensions: &extensions,
         ..A1B2C3
     };
     let letter = sealed(alloc, outcomes(alloc, texts, 1_000)?, flush)?;
-    let text = notice(alloc, &site, &letter)?;
+    let text = notice(alloc, &site(alloc)?, &letter)?;
     // 110 bytes of the notice about bob are his; an outcome of the longest texts has 5,455, and the
     // message's extension fields 2,584
     let more = text.len().saturating_sub(least.len());

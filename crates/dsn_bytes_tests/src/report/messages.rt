@@ -1,11 +1,8 @@
 //! Messages that are returned whole, and words by outcome.
 use crate::assert_same::same;
-use crate::report::letters::{A1B2C3, BOB, Flush, Texts, letter, site};
-use dsn_outcome::{
-    Address, Chain, Draft, Key, Letter, Outcome, Parts, QueueId, RawHeader, Returned, Service,
-    Stamp, Types, Wishes, Wording,
-};
-use dsn_report::{boundary, notice};
+use crate::report::letters::{A1B2C3, BOB, Flush, Texts, boundary_of, draft, notice_about, site};
+use dsn_outcome::{Chain, Key, Letter, Outcome, Parts, QueueId, Returned, Service, Types, Wording};
+use dsn_report::notice;
 use std::alloc::Global;
 use std::test::Fail;
 
@@ -24,9 +21,8 @@ fn a_message_as_it_is(rt: HostRuntime) -> Result<(), Fail> {
     let flush = returning(
         b"Subject: \x1b$BF|K\\\x1b(B\r\n\r\n.\n..x\n--B.A1B2C3.1700000000.0000--\n\tz",
     );
-    let letter = letter(rt.alloc(), BOB, flush)?;
-    same(&rt, boundary(&letter), 1);
-    let text = notice(rt.alloc(), &site(rt.alloc())?, &letter)?;
+    same(&rt, boundary_of(rt.alloc(), flush)?, 1);
+    let text = notice_about(rt.alloc(), BOB, flush)?;
     let end = b"\r\n\
         --B.A1B2C3.1700000000.0001\r\n\
         Content-Description: Undelivered Message\r\n\
@@ -62,8 +58,7 @@ fn messages_that_do_not_stand_whole(rt: HostRuntime) -> Result<(), Fail> {
         b"Subject: hi\n\na\0\n",
         b"Subject: hi\n\na\rb\n",
     ] {
-        let letter = letter(rt.alloc(), BOB, returning(message))?;
-        let text = notice(rt.alloc(), &site(rt.alloc())?, &letter)?;
+        let text = notice_about(rt.alloc(), BOB, returning(message))?;
         assert!(rt; text.as_slice().ends_with(end.as_slice()));
     }
     Ok(())
@@ -86,39 +81,34 @@ fn trace(alloc: Global, action: u8, status: &[u8]) -> Result<Letter, Fail> {
     };
     let mut chain = Chain::new();
     chain.push(Outcome::new(alloc, Service::Trace, parts)?);
-    let wishes = Wishes {
-        expected: None,
-        returned: Returned::Header,
+    let flush = Flush {
+        header: b"Subject: hi\n",
         wording: Wording::ByOutcome,
+        ..A1B2C3
     };
-    let draft = Draft::new(
-        alloc,
-        Stamp::new(1_700_000_000).ok_or("the moment")?,
-        Stamp::new(1_699_996_400).ok_or("the arrival")?,
-        Some(Address::new(alloc, b"ann@example.com")?),
-        None,
-        RawHeader::new(alloc, b"Subject: hi\n")?,
-        wishes,
-    )?;
     let key = Key {
         service: Service::Trace,
         id: QueueId::new(b"A1B2C3").ok_or("the queue id")?,
     };
-    Ok(Letter::seal(key, draft, chain, 0))
+    Ok(Letter::seal(key, draft(alloc, flush)?, chain, 0))
+}
+
+/// The text of its notice.
+fn notice_of_trace(alloc: Global, action: u8, status: &[u8]) -> Result<Vec<u8>, Fail> {
+    let letter = trace(alloc, action, status)?;
+    Ok(notice(alloc, &site(alloc)?, &letter)?)
 }
 
 #[test]
 fn a_success_is_told(rt: HostRuntime) -> Result<(), Fail> {
-    let letter = trace(rt.alloc(), 3, b"2.0.0")?;
-    let text = notice(rt.alloc(), &site(rt.alloc())?, &letter)?;
+    let text = notice_of_trace(rt.alloc(), 3, b"2.0.0")?;
     same(&rt, text.as_slice(), SUCCESS.as_slice());
     Ok(())
 }
 
 #[test]
 fn a_failed_trace_is_no_success(rt: HostRuntime) -> Result<(), Fail> {
-    let letter = trace(rt.alloc(), 1, b"5.1.1")?;
-    let text = notice(rt.alloc(), &site(rt.alloc())?, &letter)?;
+    let text = notice_of_trace(rt.alloc(), 1, b"5.1.1")?;
     let front = b"From: Mail Delivery System <MAILER-DAEMON@mx.example.net>\r\n\
         To: <ann@example.com>\r\n\
         Subject: Mail Delivery Status Report\r\n";
@@ -136,10 +126,8 @@ fn a_service_tells_no_origin(rt: HostRuntime) -> Result<(), Fail> {
         wording: Wording::ByOutcome,
         ..A1B2C3
     };
-    let told = letter(rt.alloc(), texts, flush)?;
-    let told = notice(rt.alloc(), &site(rt.alloc())?, &told)?;
-    let untold = letter(rt.alloc(), texts, A1B2C3)?;
-    let untold = notice(rt.alloc(), &site(rt.alloc())?, &untold)?;
+    let told = notice_about(rt.alloc(), texts, flush)?;
+    let untold = notice_about(rt.alloc(), texts, A1B2C3)?;
     // ` (expanded from <list@example.org>)` is all that differs
     same(&rt, told.len().saturating_sub(untold.len()), 35);
     Ok(())

@@ -1,7 +1,6 @@
 //! The text of notices.
 use crate::assert_same::same;
-use crate::report::letters::{A1B2C3, BOB, Flush, Texts, letter, site};
-use dsn_report::{boundary, notice};
+use crate::report::letters::{A1B2C3, BOB, Flush, Texts, boundary_of, notice_about};
 use std::test::Fail;
 
 #[test]
@@ -10,9 +9,8 @@ fn boundary_collision(rt: HostRuntime) -> Result<(), Fail> {
         header: b"--B.A1B2C3.1700000000.0000x\nSubject: hi\r\n\r\nbody",
         ..A1B2C3
     };
-    let letter = letter(rt.alloc(), BOB, flush)?;
-    same(&rt, boundary(&letter), 1);
-    let text = notice(rt.alloc(), &site(rt.alloc())?, &letter)?;
+    same(&rt, boundary_of(rt.alloc(), flush)?, 1);
+    let text = notice_about(rt.alloc(), BOB, flush)?;
     let end =
         b"\r\n\r\n--B.A1B2C3.1700000000.0000x\r\nSubject: hi\r\n\r\n--B.A1B2C3.1700000000.0001--\r\n";
     assert!(rt; text.as_slice().ends_with(end.as_slice()));
@@ -33,8 +31,7 @@ fn all_optional_fields(rt: HostRuntime) -> Result<(), Fail> {
         header: b"Subject: hi\nX: y\r\n\r\nbody",
         ..A1B2C3
     };
-    let letter = letter(rt.alloc(), texts, flush)?;
-    let text = notice(rt.alloc(), &site(rt.alloc())?, &letter)?;
+    let text = notice_about(rt.alloc(), texts, flush)?;
     same(&rt, text.as_slice(), ALL_FIELDS.as_slice());
     Ok(())
 }
@@ -60,8 +57,7 @@ fn types_are_printed(rt: HostRuntime) -> Result<(), Fail> {
         diagnostic_type: b"X-Postfix",
         ..BOB
     };
-    let letter = letter(rt.alloc(), texts, A1B2C3)?;
-    let text = notice(rt.alloc(), &site(rt.alloc())?, &letter)?;
+    let text = notice_about(rt.alloc(), texts, A1B2C3)?;
     assert!(rt; text.as_slice().ends_with(TYPED_GROUP));
     Ok(())
 }
@@ -84,8 +80,7 @@ fn extensions_are_printed(rt: HostRuntime) -> Result<(), Fail> {
         extensions: b"X-Postfix-Queue-ID: 4F9D195432C\nX-A: : b \n",
         ..BOB
     };
-    let letter = letter(rt.alloc(), texts, A1B2C3)?;
-    let text = notice(rt.alloc(), &site(rt.alloc())?, &letter)?;
+    let text = notice_about(rt.alloc(), texts, A1B2C3)?;
     assert!(rt; text.as_slice().ends_with(EXTENDED_GROUP));
     Ok(())
 }
@@ -116,8 +111,7 @@ fn extensions_of_a_message_are_printed(rt: HostRuntime) -> Result<(), Fail> {
         extensions: b"X-Postfix-Queue-ID: 4F9D195432C\nX-A: : b \n",
         ..A1B2C3
     };
-    let letter = letter(rt.alloc(), texts, flush)?;
-    let text = notice(rt.alloc(), &site(rt.alloc())?, &letter)?;
+    let text = notice_about(rt.alloc(), texts, flush)?;
     assert!(rt; text.as_slice().ends_with(EXTENDED_MESSAGE));
     Ok(())
 }
@@ -132,9 +126,8 @@ fn dots_long_lines_eight_bit(rt: HostRuntime) -> Result<(), Fail> {
         header: &header,
         ..A1B2C3
     };
-    let letter = letter(rt.alloc(), BOB, flush)?;
-    same(&rt, boundary(&letter), 0);
-    let text = notice(rt.alloc(), &site(rt.alloc())?, &letter)?;
+    same(&rt, boundary_of(rt.alloc(), flush)?, 0);
+    let text = notice_about(rt.alloc(), BOB, flush)?;
     // as it is: the added dots are the outbox's
     let mut end = Vec::new(rt.alloc());
     end.extend_from_slice(b"Content-Type: text/rfc822-headers\r\n\r\n.x\r\n")?;

@@ -1,6 +1,6 @@
 //! Tests of values, over what `dsn_outcome` makes public, that of `dsn_text` among it.
 mod letters;
-mod outcomes;
+pub(crate) mod outcomes;
 mod queue_ids;
 mod stamps;
 mod texts;

@@ -1,55 +1,98 @@
-//! Letters from their parts to their end.
-ghost use Rattle.std.specs.Prelude.{All, None, IfOk, IsSome, [], ◌≡◌, ◌≢◌};
+//! Drafts with their extension fields, and letters from their parts to their end.
+ghost use Rattle.std.specs.Prelude.{◌≡◌, ◌≢◌, [], All, IfOk};
 
-use super::outcomes::PARTS;
 use crate::assert_same::same;
+use crate::report::letters::{A1B2C3, BOB, Flush, Texts, failed, letter, sealed};
 use dsn_outcome::{
-    Address, Chain, Draft, DraftFault, DraftParts, EnvelopeId, Key, Letter, Letters, MOST_OUTCOMES,
-    Node, Outcome, QueueId, RawHeader, Service, Stamp, Terms, Wishes,
+    Address, Chain, Draft, DraftFault, DraftParts, EnvelopeId, Letter, Letters, Node, Service,
+    Stamp, Terms,
 };
-use std::alloc::Global;
+use std::alloc::{AllocGlobal, Global};
 use std::process::Abort;
 use std::test::Fail;
+
+/// A draft of these bytes for what is returned and for the wording, and of these extension fields.
+fn draft(
+    alloc: Global,
+    bytes: (u8, u8),
+    extensions: &[u8],
+) -> Result<Result<Draft, DraftFault>, Fail> {
+    let moment = Stamp::new(1_700_000_000).ok_or("the moment")?;
+    let arrival = Stamp::new(1_699_996_400).ok_or("the arrival")?;
+    let mut parts = DraftParts::usual(b"ann@example.com", b"QQ 314159", b"Subject: hi\n");
+    (parts.returned, parts.wording) = bytes;
+    parts.extensions = extensions;
+    Ok(Draft::read(alloc, moment, arrival, parts))
+}
+
+/// Asserts what a draft says, and its extension fields.
+fn expect_terms(rt: &impl Abort, terms: &Terms, extensions: &[u8]) {
+    same(rt, terms.extensions(), extensions);
+    let moments = (terms.moment().seconds(), terms.arrival().seconds());
+    same(rt, moments, (1_700_000_000, 1_699_996_400));
+    let return_path = terms.return_path().map(Address::bytes);
+    same(rt, return_path, Some(b"ann@example.com".as_slice()));
+    let id = terms.envelope_id().map(EnvelopeId::bytes);
+    same(rt, id, Some(b"QQ 314159".as_slice()));
+    same(rt, terms.header().bytes(), b"Subject: hi\n".as_slice());
+    same(rt, terms.expected(), None);
+}
+
+/// A draft that is read with extension fields, or takes them then, has these, until it takes others.
+fn expect_taken(rt: &(impl Abort + AllocGlobal), text: &[u8]) -> Result<(), Fail> {
+    let read = draft(rt.alloc(), (0, 0), text)??;
+    expect_terms(rt, read.terms(), text);
+    let other = read.with_extensions(rt.alloc(), b"X-E: f\n")?;
+    expect_terms(rt, other.terms(), b"X-E: f\n");
+    let again = other.with_extensions(rt.alloc(), text)?;
+    expect_terms(rt, again.terms(), text);
+    Ok(())
+}
+
+/// The fault of fields that are read.
+fn fault_of_read(
+    alloc: Global,
+    bytes: (u8, u8),
+    extensions: &[u8],
+) -> Result<Option<DraftFault>, Fail> {
+    Ok(draft(alloc, bytes, extensions)?.err())
+}
+
+/// The fault of extension fields that a draft is to take.
+fn fault_of_taken(alloc: Global, extensions: &[u8]) -> Result<Option<DraftFault>, Fail> {
+    let draft = draft(alloc, (0, 0), b"")??;
+    Ok(draft.with_extensions(alloc, extensions).err())
+}
+
+#[test]
+fn a_draft_takes_extension_fields(rt: HostRuntime) -> Result<(), Fail> {
+    for text in [
+        b"".as_slice(),
+        b"X-A: b\n",
+        b"X-Postfix-Queue-ID: 4F9D195432C\nX-A: : c \n",
+    ] {
+        expect_taken(&rt, text)?;
+    }
+    for text in [b"A: b\n".as_slice(), b"X-A: b", b"X-A: b\r\n", b"\n"] {
+        let fault = fault_of_taken(rt.alloc(), text)?;
+        same(&rt, (text, fault), (text, Some(DraftFault::Extensions)));
+    }
+    for (bytes, want) in [
+        ((2, 2), DraftFault::Returned),
+        ((0, 2), DraftFault::Wording),
+        ((1, 1), DraftFault::Extensions),
+    ] {
+        let fault = fault_of_read(rt.alloc(), bytes, b"A: b\n")?;
+        same(&rt, fault, Some(want));
+    }
+    Ok(())
+}
 
 /// An outcome of a bounce's log.
 fn bounced(alloc: Global, recipient: &[u8]) -> Result<Box<Node>, Fail>
     ensures { IfOk result (λ node. node.value.outcome.service ≡ Service.Bounce) }
 {
-    let mut parts = PARTS;
-    parts.recipient = recipient;
-    Ok(Outcome::new(alloc, Service::Bounce, parts)?)
-}
-
-/// A draft of a notice that is made at this moment.
-fn draft(alloc: Global, seconds: u64) -> Result<Draft, Fail>
-    ensures returns { IfOk result (λ draft. IsSome draft.return_path) }
-    ensures any { IfOk result (λ draft. draft.expected ≡ None) }
-{
-    let moment = Stamp::new(seconds).ok_or("the moment")?;
-    let arrival = Stamp::new(1_699_996_400).ok_or("the arrival")?;
-    let header = RawHeader::new(alloc, b"Subject: hi\n")?;
-    let id = EnvelopeId::new(alloc, b"QQ 314159")?;
-    let return_path = Some(Address::new(alloc, b"ann@example.com")?);
-    let wishes = Wishes::usual();
-    Ok(Draft::new(
-        alloc,
-        moment,
-        arrival,
-        return_path,
-        Some(id),
-        header,
-        wishes,
-    )?)
-}
-
-/// The key of a message's bounce log.
-fn key(id: &[u8]) -> Result<Key, Fail>
-    ensures { IfOk result (λ key. key.service ≡ Service.Bounce) }
-{
-    Ok(Key {
-        service: Service::Bounce,
-        id: QueueId::new(id).ok_or("the queue id")?,
-    })
+    failed(alloc, Texts { recipient, ..BOB })
 }
 
 /// Three outcomes of a bounce's log.
@@ -64,26 +107,22 @@ fn chain_of_three(alloc: Global) -> Result<Chain, Fail>
     Ok(chain)
 }
 
-/// A letter of three outcomes.
-fn letter_of_three(alloc: Global) -> Result<Letter, Fail> {
-    let key = key(b"A1B2C3")?;
-    let chain = chain_of_three(alloc)?;
-    Ok(Letter::seal(key, draft(alloc, 1_700_000_000)?, chain, 7))
-}
-
-/// Asserts the texts of a letter, and its envelope id.
-fn expect_texts(rt: &impl Abort, letter: &Letter) {
-    same(
-        rt,
-        letter.return_path().bytes(),
-        b"ann@example.com".as_slice(),
-    );
-    same(rt, letter.header().bytes(), b"Subject: hi\n".as_slice());
-    let id = match letter.envelope_id() {
-        Some(id) => id.bytes(),
-        None => b"",
+#[test]
+fn a_letter_has_all_that_it_was_sealed_with(rt: HostRuntime) -> Result<(), Fail> {
+    let flush = Flush {
+        envelope_id: b"QQ 314159",
+        header: b"Subject: hi\n",
+        ..A1B2C3
     };
-    same(rt, id, b"QQ 314159".as_slice());
+    let letter = sealed(rt.alloc(), chain_of_three(rt.alloc())?, flush)?;
+    expect_terms(&rt, letter.terms(), b"");
+    let key = letter.key();
+    same(
+        &rt,
+        (key.service, key.id.bytes()),
+        (Service::Bounce, b"A1B2C3".as_slice()),
+    );
+    expect_recipients(&rt, &letter)
 }
 
 /// Asserts the recipients of a letter, in order.
@@ -97,97 +136,12 @@ fn expect_recipients(rt: &impl Abort, letter: &Letter) -> Result<(), Fail> {
     Ok(())
 }
 
-#[test]
-fn a_letter_has_all_that_it_was_sealed_with(rt: HostRuntime) -> Result<(), Fail> {
-    let letter = letter_of_three(rt.alloc())?;
-    same(&rt, letter.key(), key(b"A1B2C3")?);
-    let moments = (letter.moment().seconds(), letter.arrival().seconds());
-    same(&rt, moments, (1_700_000_000, 1_699_996_400));
-    expect_texts(&rt, &letter);
-    expect_recipients(&rt, &letter)
-}
-
-/// A chain of so many outcomes.
-fn chain_of(rt: &impl Abort, alloc: Global, count: u32) -> Result<Chain, Fail> {
-    let mut chain = Chain::new();
-    for _ in 0..count {
-        let node = bounced(alloc, b"bob@example.org")?;
-        assert!(rt; chain.len() < MOST_OUTCOMES);
-        chain.push(node);
-    }
-    Ok(chain)
-}
-
-#[test]
-fn a_draft_and_a_chain_tell_what_they_have(rt: HostRuntime) -> Result<(), Fail> {
-    assert!(rt; draft(rt.alloc(), 1_700_000_000)?.has_return());
-    same(&rt, chain_of(&rt, rt.alloc(), 3)?.len(), 3);
-    Ok(())
-}
-
-/// Asserts what a draft says, and its extension fields.
-fn expect_terms(rt: &impl Abort, terms: &Terms, extensions: &[u8]) {
-    same(rt, terms.extensions(), extensions);
-    let moments = (terms.moment().seconds(), terms.arrival().seconds());
-    same(rt, moments, (1_700_000_000, 1_699_996_400));
-    same(rt, terms.header().bytes(), b"Subject: hi\n".as_slice());
-    let id = terms.envelope_id().map(EnvelopeId::bytes);
-    same(rt, id, Some(b"QQ 314159".as_slice()));
-    same(rt, terms.expected(), None);
-}
-
-#[test]
-fn a_draft_takes_extension_fields(rt: HostRuntime) -> Result<(), Fail> {
-    for text in [
-        b"".as_slice(),
-        b"X-A: b\n",
-        b"X-Postfix-Queue-ID: 4F9D195432C\nX-A: : c \n",
-    ] {
-        let draft = draft(rt.alloc(), 1_700_000_000)?;
-        expect_terms(&rt, draft.terms(), b"");
-        let draft = draft.with_extensions(rt.alloc(), text)?;
-        expect_terms(&rt, draft.terms(), text);
-        let draft = draft.with_extensions(rt.alloc(), b"X-E: f\n")?;
-        expect_terms(&rt, draft.terms(), b"X-E: f\n");
-    }
-    for text in [b"A: b\n".as_slice(), b"X-A: b", b"X-A: b\r\n", b"\n"] {
-        let draft = draft(rt.alloc(), 1_700_000_000)?;
-        let fault = draft.with_extensions(rt.alloc(), text).err();
-        same(&rt, (text, fault), (text, Some(DraftFault::Extensions)));
+/// Pushes letters with the moments from this one up to another.
+fn push_letters(alloc: Global, letters: &mut Letters, first: u64, past: u64) -> Result<(), Fail> {
+    for moment in first..past {
+        letters.push(letter(alloc, BOB, Flush { moment, ..A1B2C3 })?);
     }
     Ok(())
-}
-
-#[test]
-fn a_draft_is_read_with_its_extension_fields(rt: HostRuntime) -> Result<(), Fail> {
-    let moment = Stamp::new(1_700_000_000).ok_or("the moment")?;
-    let mut parts = DraftParts::usual(b"a@b", b"", b"h\n");
-    parts.extensions = b"X-A: b\n";
-    let draft = Draft::read(rt.alloc(), moment, moment, parts)?;
-    same(&rt, draft.terms().extensions(), b"X-A: b\n".as_slice());
-    for (returned, wording, want) in [
-        (2, 2, DraftFault::Returned),
-        (0, 2, DraftFault::Wording),
-        (1, 1, DraftFault::Extensions),
-    ] {
-        let mut parts = DraftParts::usual(b"a@b", b"", b"h\n");
-        parts.returned = returned;
-        parts.wording = wording;
-        parts.extensions = b"A: b\n";
-        let fault = Draft::read(rt.alloc(), moment, moment, parts).err();
-        same(&rt, fault, Some(want));
-    }
-    Ok(())
-}
-
-/// A letter with one outcome, which its moment sets apart from others.
-fn letter(alloc: Global, seconds: u64) -> Result<Letter, Fail> {
-    let key = key(b"K1")?;
-    let node = bounced(alloc, b"bob@example.org")?;
-    let draft = draft(alloc, seconds)?;
-    let mut chain = Chain::new();
-    chain.push(node);
-    Ok(Letter::seal(key, draft, chain, 0))
 }
 
 /// The moment of the first letter, which is taken.
@@ -196,19 +150,11 @@ fn popped(letters: &mut Letters) -> Option<u64> {
     Some(letter.moment().seconds())
 }
 
-/// Pushes letters with the moments from this one up to another.
-fn push_letters(alloc: Global, letters: &mut Letters, first: u64, past: u64) -> Result<(), Fail> {
-    for seconds in first..past {
-        letters.push(letter(alloc, seconds)?);
-    }
-    Ok(())
-}
-
 /// Takes letters, which have the moments from this one up to another.
 fn expect_popped(rt: &impl Abort, letters: &mut Letters, first: u64, past: u64) {
-    for seconds in first..past {
+    for moment in first..past {
         assert!(rt; !letters.is_empty());
-        same(rt, popped(letters), Some(seconds));
+        same(rt, popped(letters), Some(moment));
     }
 }
 
@@ -242,13 +188,5 @@ fn many_letters_are_freed(rt: HostRuntime) -> Result<(), Fail> {
     same(&rt, popped(&mut letters), Some(0));
     push_letters(rt.alloc(), &mut letters, 100_000, 100_001)?;
     drop(letters);
-    Ok(())
-}
-
-#[test]
-fn a_full_log_is_freed(rt: HostRuntime) -> Result<(), Fail> {
-    let chain = chain_of(&rt, rt.alloc(), 1_000)?;
-    same(&rt, chain.len(), 1_000);
-    drop(chain);
     Ok(())
 }

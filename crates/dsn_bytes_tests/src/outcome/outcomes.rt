@@ -1,13 +1,13 @@
 //! Outcomes from their fields, and refusals in their order.
 use super::texts::text_of;
 use crate::assert_same::same;
-use dsn_outcome::{Action, LAST_MOMENT, Outcome, OutcomeFault, Parts, Service, Stamp, Types};
-use std::alloc::Global;
+use dsn_outcome::{LAST_MOMENT, Node, Outcome, OutcomeFault, Parts, Service, Stamp, Types};
+use std::alloc::{AllocGlobal, Global};
 use std::process::Abort;
 use std::test::Fail;
 
 /// Fields without a fault, for a bounce.
-pub(super) const PARTS: Parts<'static> = Parts {
+const PARTS: Parts<'static> = Parts {
     recipient: b"bob@example.org",
     original: b"bob@example.net",
     action: 1,
@@ -25,75 +25,101 @@ pub(super) const PARTS: Parts<'static> = Parts {
     extensions: b"X-Postfix-Queue-ID: 4F9D195432C\nX-A: b\n",
 };
 
-/// The faults of fields, in the order in which they are named.
-const FAULTS: [OutcomeFault; 13] = [
-    OutcomeFault::BadRecipient,
-    OutcomeFault::BadOriginal,
-    OutcomeFault::BadAction,
-    OutcomeFault::BadStatus,
-    OutcomeFault::StatusClass,
-    OutcomeFault::BadMta,
-    OutcomeFault::LongDiagnostic,
-    OutcomeFault::LongReason,
-    OutcomeFault::RetryUntil,
-    OutcomeFault::RecipientType,
-    OutcomeFault::OriginalType,
-    OutcomeFault::DiagnosticType,
-    OutcomeFault::Extension,
-];
-
 /// The text, or an empty one where there is none.
-fn text_or_empty(text: Option<&[u8]>) -> &[u8] {
+fn or_empty(text: Option<&[u8]>) -> &[u8] {
     match text {
         Some(text) => text,
         None => b"",
     }
 }
 
-/// Asserts the texts of an outcome.
-fn expect_texts(rt: &impl Abort, outcome: &Outcome, want: &Parts<'_>) {
-    let original = text_or_empty(outcome.original());
-    let mta = text_or_empty(outcome.mta());
-    let diagnostic = text_or_empty(outcome.diagnostic());
-    let reason = text_or_empty(outcome.reason());
+/// Asserts the texts of an outcome that are said of the recipient.
+fn expect_recipient(rt: &impl Abort, outcome: &Outcome, want: &Parts<'_>) {
     same(rt, outcome.recipient(), want.recipient);
-    same(rt, original, want.original);
-    same(rt, mta, want.mta);
-    same(rt, diagnostic, want.diagnostic);
-    same(rt, reason, want.reason);
-    same(
-        rt,
-        text_or_empty(outcome.recipient_type()),
-        want.types.recipient,
-    );
-    same(
-        rt,
-        text_or_empty(outcome.original_type()),
-        want.types.original,
-    );
-    same(
-        rt,
-        text_or_empty(outcome.diagnostic_type()),
-        want.types.diagnostic,
-    );
+    same(rt, or_empty(outcome.original()), want.original);
+    same(rt, outcome.extensions(), want.extensions);
+}
+
+/// Asserts the texts of an outcome that say what happened.
+fn expect_remarks(rt: &impl Abort, outcome: &Outcome, want: &Parts<'_>) {
+    same(rt, or_empty(outcome.mta()), want.mta);
+    same(rt, or_empty(outcome.diagnostic()), want.diagnostic);
+    same(rt, or_empty(outcome.reason()), want.reason);
+}
+
+/// Asserts the types of an outcome.
+fn expect_types(rt: &impl Abort, outcome: &Outcome, want: &Types<'_>) {
+    same(rt, or_empty(outcome.recipient_type()), want.recipient);
+    same(rt, or_empty(outcome.original_type()), want.original);
+    same(rt, or_empty(outcome.diagnostic_type()), want.diagnostic);
+}
+
+/// Asserts what an outcome has beside texts.
+fn expect_values(rt: &impl Abort, outcome: &Outcome, service: Service, want: &Parts<'_>) {
+    same(rt, outcome.service(), service);
+    same(rt, outcome.action().byte(), want.action);
+    same(rt, outcome.status().bytes(), want.status);
+    same(rt, outcome.last_attempt(), want.last_attempt);
+    same(rt, outcome.retry_until(), want.retry_until);
+}
+
+/// Asserts all that an outcome has.
+pub(crate) fn expect_outcome(
+    rt: &impl Abort,
+    outcome: &Outcome,
+    service: Service,
+    want: &Parts<'_>,
+) {
+    expect_values(rt, outcome, service, want);
+    expect_recipient(rt, outcome, want);
+    expect_remarks(rt, outcome, want);
+    expect_types(rt, outcome, &want.types);
+}
+
+/// The outcome of these fields, or their fault. They are named one by one, since the borrow checker
+/// doesn't cover a whole `Parts` that is passed on.
+fn made(alloc: Global, service: Service, parts: Parts<'_>) -> Result<Box<Node>, OutcomeFault> {
+    let Parts {
+        recipient,
+        original,
+        action,
+        status,
+        mta,
+        diagnostic,
+        reason,
+        last_attempt,
+        retry_until,
+        types,
+        extensions,
+    } = parts;
+    let parts = Parts {
+        recipient,
+        original,
+        action,
+        status,
+        mta,
+        diagnostic,
+        reason,
+        last_attempt,
+        retry_until,
+        types,
+        extensions,
+    };
+    Outcome::new(alloc, service, parts)
 }
 
 #[test]
 fn outcomes_keep_their_fields(rt: HostRuntime) -> Result<(), Fail> {
-    let node = Outcome::new(rt.alloc(), Service::Bounce, PARTS)?;
-    let outcome = node.outcome();
-    same(&rt, outcome.service(), Service::Bounce);
-    same(&rt, outcome.action(), Action::Failed);
-    same(&rt, outcome.status().bytes(), b"5.1.1".as_slice());
+    let node = made(rt.alloc(), Service::Bounce, PARTS)?;
     let cleaned = Parts {
         diagnostic: b"smtp; 550 no?such user",
         ..PARTS
     };
-    expect_texts(&rt, outcome, &cleaned);
+    expect_outcome(&rt, node.outcome(), Service::Bounce, &cleaned);
     Ok(())
 }
 
-/// Fields without a fault, with this address twice and this remark twice.
+/// Fields without a fault, with this address twice, this remark twice and these types.
 fn with_texts<'a>(
     address: &'a [u8],
     name: &'a [u8],
@@ -127,63 +153,38 @@ fn an_outcome_of_the_longest_texts_is_kept(rt: HostRuntime) -> Result<(), Fail> 
         diagnostic: &kind,
     };
     let longest = with_texts(&address, &name, &remark, types);
-    let node = Outcome::new(rt.alloc(), Service::Bounce, longest)?;
+    let node = made(rt.alloc(), Service::Bounce, longest)?;
     let want = with_texts(&address, &name, &remark, types);
-    expect_texts(&rt, node.outcome(), &want);
+    expect_outcome(&rt, node.outcome(), Service::Bounce, &want);
     Ok(())
 }
 
-#[test]
-fn the_two_moments_are_kept(rt: HostRuntime) -> Result<(), Fail> {
-    for seconds in [0, 1_700_000_000, LAST_MOMENT] {
-        let delayed = Parts {
-            action: 2,
-            status: b"4.4.1",
-            last_attempt: Stamp::new(LAST_MOMENT - seconds),
-            retry_until: Stamp::new(seconds),
-            ..PARTS
-        };
-        let node = Outcome::new(rt.alloc(), Service::Defer, delayed)?;
-        let outcome = node.outcome();
-        same(&rt, outcome.action(), Action::Delayed);
-        same(
-            &rt,
-            outcome.last_attempt(),
-            Stamp::new(LAST_MOMENT - seconds),
-        );
-        same(&rt, outcome.retry_until(), Stamp::new(seconds));
-    }
-    Ok(())
-}
+/// What stands for no moment.
+const NONE: u64 = u64::MAX;
 
-/// A recipient of this action and status has a last attempt, and no moment up to which it is tried.
-fn expect_attempted(rt: &impl Abort, alloc: Global, action: u8, status: &[u8]) -> Result<(), Fail> {
-    let attempted = Parts {
+/// The last attempt and the retry until of the outcome of fields with these, or the fault of the
+/// fields.
+fn moments_kept(
+    alloc: Global,
+    action: u8,
+    status: &[u8],
+    last_attempt: u64,
+    retry_until: u64,
+) -> Result<(Option<Stamp>, Option<Stamp>), OutcomeFault> {
+    let parts = Parts {
         action,
         status,
-        last_attempt: Stamp::new(1_700_000_000),
+        last_attempt: Stamp::new(last_attempt),
+        retry_until: Stamp::new(retry_until),
         ..PARTS
     };
-    let node = Outcome::new(alloc, Service::Trace, attempted)?;
+    let node = Outcome::new(alloc, Service::Trace, parts)?;
     let outcome = node.outcome();
-    same(rt, outcome.last_attempt(), Stamp::new(1_700_000_000));
-    same(rt, outcome.retry_until(), None);
-    Ok(())
-}
-
-/// The fault of a recipient of this action and status that is tried up to a moment.
-fn fault_of_retried(alloc: Global, action: u8, status: &[u8]) -> Option<OutcomeFault> {
-    let retried = Parts {
-        action,
-        status,
-        retry_until: Stamp::new(1_700_432_000),
-        ..PARTS
-    };
-    Outcome::new(alloc, Service::Trace, retried).err()
+    Ok((outcome.last_attempt(), outcome.retry_until()))
 }
 
 #[test]
-fn only_a_delayed_recipient_is_tried_again(rt: HostRuntime) -> Result<(), Fail> {
+fn only_a_delayed_recipient_is_tried_again(rt: HostRuntime) {
     for (action, status, fits) in [
         (1, b"5.1.1", false),
         (2, b"4.4.1", true),
@@ -191,13 +192,44 @@ fn only_a_delayed_recipient_is_tried_again(rt: HostRuntime) -> Result<(), Fail> 
         (4, b"2.0.0", false),
         (5, b"2.0.0", false),
     ] {
-        expect_attempted(&rt, rt.alloc(), action, status)?;
-        let fault = fault_of_retried(rt.alloc(), action, status);
-        let want = (!fits).then_some(OutcomeFault::RetryUntil);
-        same(&rt, (action, fault), (action, want));
+        let attempted = moments_kept(rt.alloc(), action, status, 1_700_000_000, NONE);
+        let want = Ok((Stamp::new(1_700_000_000), None));
+        same(&rt, (action, attempted), (action, want));
+        let retried = moments_kept(rt.alloc(), action, status, NONE, 1_700_432_000);
+        let want = if fits {
+            Ok((None, Stamp::new(1_700_432_000)))
+        } else {
+            Err(OutcomeFault::RetryUntil)
+        };
+        same(&rt, (action, retried), (action, want));
     }
-    Ok(())
 }
+
+#[test]
+fn the_two_moments_are_kept(rt: HostRuntime) {
+    for seconds in [0, 1_700_000_000, LAST_MOMENT] {
+        let attempt = LAST_MOMENT - seconds;
+        let kept = moments_kept(rt.alloc(), 2, b"4.4.1", attempt, seconds);
+        same(&rt, kept, Ok((Stamp::new(attempt), Stamp::new(seconds))));
+    }
+}
+
+/// The faults of fields, in the order in which they are named.
+const FAULTS: [OutcomeFault; 13] = [
+    OutcomeFault::BadRecipient,
+    OutcomeFault::BadOriginal,
+    OutcomeFault::BadAction,
+    OutcomeFault::BadStatus,
+    OutcomeFault::StatusClass,
+    OutcomeFault::BadMta,
+    OutcomeFault::LongDiagnostic,
+    OutcomeFault::LongReason,
+    OutcomeFault::RetryUntil,
+    OutcomeFault::RecipientType,
+    OutcomeFault::OriginalType,
+    OutcomeFault::DiagnosticType,
+    OutcomeFault::Extension,
+];
 
 /// The first text where this fault is one of the two, else the other.
 fn text_at<'a>(
@@ -263,43 +295,88 @@ fn spoiled<'a>(faults: [OutcomeFault; 2], long: &'a [u8], types: Types<'a>) -> P
     }
 }
 
+/// Fields with this fault and any later one have this fault.
+fn expect_first(rt: &(impl Abort + AllocGlobal), first: OutcomeFault, long: &[u8]) {
+    for later in FAULTS {
+        if later.code() < first.code() {
+            continue;
+        }
+        let types = spoiled_types([first, later]);
+        let parts = spoiled([first, later], long, types);
+        let fault = made(rt.alloc(), Service::Bounce, parts).err();
+        same(rt, (later, fault), (later, Some(first)));
+    }
+}
+
 #[test]
-fn a_type_is_that_of_a_text(rt: HostRuntime) -> Result<(), Fail> {
-    let without = Parts {
-        original: b"",
-        diagnostic: b"",
-        ..PARTS
-    };
-    let fault = Outcome::new(rt.alloc(), Service::Bounce, without).err();
-    same(&rt, fault, Some(OutcomeFault::OriginalType));
-    let without_diagnostic = Parts {
-        diagnostic: b"",
-        ..PARTS
-    };
-    let fault = Outcome::new(rt.alloc(), Service::Bounce, without_diagnostic).err();
-    same(&rt, fault, Some(OutcomeFault::DiagnosticType));
+fn each_fault_comes_before_later_ones(rt: HostRuntime) -> Result<(), Fail> {
+    let long = text_of(rt.alloc(), 801)?;
+    for first in FAULTS {
+        expect_first(&rt, first, &long);
+    }
     Ok(())
 }
+
+/// The fault of a bounce's fields with these texts, this type of its recipient, and these extension
+/// fields.
+fn fault_of<'a>(
+    alloc: Global,
+    texts: (&'a [u8], &'a [u8]),
+    kind: &'a [u8],
+    extensions: &'a [u8],
+) -> Option<OutcomeFault> {
+    let (original, diagnostic) = texts;
+    let types = Types {
+        recipient: kind,
+        original: b"x400",
+        diagnostic: b"X-Postfix",
+    };
+    let parts = Parts {
+        original,
+        diagnostic,
+        types,
+        extensions,
+        ..PARTS
+    };
+    Outcome::new(alloc, Service::Bounce, parts).err()
+}
+
+#[test]
+fn a_type_is_that_of_a_text(rt: HostRuntime) {
+    for (texts, want) in [
+        ((b"".as_slice(), b"".as_slice()), OutcomeFault::OriginalType),
+        ((b"bob@example.net", b""), OutcomeFault::DiagnosticType),
+    ] {
+        let fault = fault_of(rt.alloc(), texts, b"rfc822", b"");
+        same(&rt, fault, Some(want));
+    }
+}
+
+/// Texts that have types.
+const TEXTS: (&[u8], &[u8]) = (b"bob@example.net", b"no such user");
 
 #[test]
 fn a_type_is_an_atom_of_32_bytes(rt: HostRuntime) -> Result<(), Fail> {
     let long = text_of(rt.alloc(), 33)?;
     for kind in [long.as_slice(), b"a b", b"a;", b"a.b", b"\xe9", b"\""] {
-        let types = Types {
-            recipient: kind,
-            ..PARTS.types
-        };
-        let fault = Outcome::new(rt.alloc(), Service::Bounce, Parts { types, ..PARTS }).err();
-        same(&rt, fault, Some(OutcomeFault::RecipientType));
+        let fault = fault_of(rt.alloc(), TEXTS, kind, b"");
+        same(
+            &rt,
+            (kind, fault),
+            (kind, Some(OutcomeFault::RecipientType)),
+        );
     }
     Ok(())
 }
 
+/// Eight extension fields, and one more.
+const NINE: &[u8; 63] = b"X-A: b\nX-A: b\nX-A: b\nX-A: b\nX-A: b\nX-A: b\nX-A: b\nX-A: b\nX-A: b\n";
+
 #[test]
-fn extension_fields_are_lines_of_a_name_and_a_value(rt: HostRuntime) -> Result<(), Fail> {
-    let nine = b"X-A: b\nX-A: b\nX-A: b\nX-A: b\nX-A: b\nX-A: b\nX-A: b\nX-A: b\nX-A: b\n";
+fn extension_fields_are_lines_of_a_name_and_a_value(rt: HostRuntime) {
+    same(&rt, fault_of(rt.alloc(), TEXTS, b"", &NINE[..56]), None);
     for extensions in [
-        nine.as_slice(),
+        NINE.as_slice(),
         b"A: b\n",
         b"x-A: b\n",
         b"X-: b\n",
@@ -314,40 +391,8 @@ fn extension_fields_are_lines_of_a_name_and_a_value(rt: HostRuntime) -> Result<(
         b"X-A: b\n\n",
         b"\n",
     ] {
-        let parts = Parts {
-            extensions,
-            ..PARTS
-        };
-        let fault = Outcome::new(rt.alloc(), Service::Bounce, parts).err();
-        same(
-            &rt,
-            (extensions, fault),
-            (extensions, Some(OutcomeFault::Extension)),
-        );
+        let fault = fault_of(rt.alloc(), TEXTS, b"", extensions);
+        let want = Some(OutcomeFault::Extension);
+        same(&rt, (extensions, fault), (extensions, want));
     }
-    let parts = Parts {
-        extensions: &nine[..56],
-        ..PARTS
-    };
-    let node = Outcome::new(rt.alloc(), Service::Bounce, parts)?;
-    same(&rt, node.outcome().extensions(), &nine[..56]);
-    Ok(())
-}
-
-#[test]
-fn each_fault_comes_before_later_ones(rt: HostRuntime) -> Result<(), Fail> {
-    let alloc = rt.alloc();
-    let long = vec![in alloc; b'a'; 801]?;
-    for first in FAULTS {
-        for later in FAULTS {
-            if later.code() < first.code() {
-                continue;
-            }
-            let types = spoiled_types([first, later]);
-            let parts = spoiled([first, later], long.as_slice(), types);
-            let fault = Outcome::new(alloc, Service::Bounce, parts).err();
-            same(&rt, (later, fault), (later, Some(first)));
-        }
-    }
-    Ok(())
 }

@@ -1,97 +1,88 @@
 //! Texts at their bounds: up to them they are kept, past them they are bad.
 use crate::assert_same::same;
 use dsn_outcome::{Address, Clean, EnvelopeId, MtaName, RawHeader, TextFault};
-use std::alloc::Global;
+use std::alloc::{AllocError, AllocGlobal, Global};
+use std::process::Abort;
 use std::test::Fail;
 
-/// What became of a text: whether it was kept as it is, and the fault where it was refused.
-type Made = (bool, Option<TextFault>);
+/// Whether a text is kept as it is, or its fault.
+type Kept = Result<bool, TextFault>;
 
-const KEPT: Made = (true, None);
+fn address(alloc: Global, text: &[u8]) -> Kept {
+    Ok(Address::new(alloc, text)?.bytes() == text)
+}
 
-const BAD: Made = (false, Some(TextFault::Bad));
+fn mta_name(alloc: Global, text: &[u8]) -> Kept {
+    Ok(MtaName::new(alloc, text)?.bytes() == text)
+}
+
+fn envelope_id(alloc: Global, text: &[u8]) -> Kept {
+    Ok(EnvelopeId::new(alloc, text)?.bytes() == text)
+}
+
+fn remark(alloc: Global, text: &[u8]) -> Kept {
+    Ok(Clean::new(alloc, text)?.bytes() == text)
+}
+
+fn header(alloc: Global, text: &[u8]) -> Kept {
+    Ok(RawHeader::new(alloc, text)?.bytes() == text)
+}
+
+/// What a text can be.
+#[derive(Clone, Copy, Debug, PartialEq)]
+enum Kind {
+    Address,
+    MtaName,
+    EnvelopeId,
+    Remark,
+    Header,
+}
+
+/// What becomes of a text.
+fn kept(alloc: Global, kind: Kind, text: &[u8]) -> Kept {
+    match kind {
+        Kind::Address => address(alloc, text),
+        Kind::MtaName => mta_name(alloc, text),
+        Kind::EnvelopeId => envelope_id(alloc, text),
+        Kind::Remark => remark(alloc, text),
+        Kind::Header => header(alloc, text),
+    }
+}
 
 /// A text of so many letters.
-pub(super) fn text_of(alloc: Global, len: usize) -> Result<Vec<u8>, Fail> {
-    Ok(vec![in alloc; b'a'; len]?)
+pub(super) fn text_of(alloc: Global, len: usize) -> Result<Vec<u8>, AllocError> {
+    vec![in alloc; b'a'; len]
 }
 
-fn address(alloc: Global, len: usize) -> Result<Made, Fail> {
-    let text = text_of(alloc, len)?;
-    match Address::new(alloc, text.as_slice()) {
-        Ok(made) => Ok((made.bytes() == text.as_slice(), None)),
-        Err(fault) => Ok((false, Some(fault))),
-    }
-}
-
-#[test]
-fn addresses_up_to_256_bytes(rt: HostRuntime) -> Result<(), Fail> {
-    for (len, want) in [(1, KEPT), (200, KEPT), (256, KEPT), (257, BAD)] {
-        same(&rt, (len, address(rt.alloc(), len)?), (len, want));
-    }
+/// A text of so many letters is kept, or is bad.
+fn expect_kept(
+    rt: &(impl Abort + AllocGlobal),
+    kind: Kind,
+    len: usize,
+    want: Kept,
+) -> Result<(), Fail> {
+    let text = text_of(rt.alloc(), len)?;
+    same(
+        rt,
+        (kind, len, kept(rt.alloc(), kind, &text)),
+        (kind, len, want),
+    );
     Ok(())
 }
 
-fn mta_name(alloc: Global, len: usize) -> Result<Made, Fail> {
-    let text = text_of(alloc, len)?;
-    match MtaName::new(alloc, text.as_slice()) {
-        Ok(made) => Ok((made.bytes() == text.as_slice(), None)),
-        Err(fault) => Ok((false, Some(fault))),
-    }
-}
-
 #[test]
-fn names_of_systems_up_to_255_bytes(rt: HostRuntime) -> Result<(), Fail> {
-    for (len, want) in [(1, KEPT), (200, KEPT), (255, KEPT), (256, BAD)] {
-        same(&rt, (len, mta_name(rt.alloc(), len)?), (len, want));
-    }
-    Ok(())
-}
-
-fn envelope_id(alloc: Global, len: usize) -> Result<Made, Fail> {
-    let text = text_of(alloc, len)?;
-    match EnvelopeId::new(alloc, text.as_slice()) {
-        Ok(made) => Ok((made.bytes() == text.as_slice(), None)),
-        Err(fault) => Ok((false, Some(fault))),
-    }
-}
-
-#[test]
-fn envelope_ids_up_to_100_bytes(rt: HostRuntime) -> Result<(), Fail> {
-    for (len, want) in [(1, KEPT), (60, KEPT), (100, KEPT), (101, BAD)] {
-        same(&rt, (len, envelope_id(rt.alloc(), len)?), (len, want));
-    }
-    Ok(())
-}
-
-fn clean(alloc: Global, len: usize) -> Result<Made, Fail> {
-    let text = text_of(alloc, len)?;
-    match Clean::new(alloc, text.as_slice()) {
-        Ok(made) => Ok((made.bytes() == text.as_slice(), None)),
-        Err(fault) => Ok((false, Some(fault))),
-    }
-}
-
-#[test]
-fn remarks_up_to_800_bytes(rt: HostRuntime) -> Result<(), Fail> {
-    for (len, want) in [(0, KEPT), (500, KEPT), (800, KEPT), (801, BAD)] {
-        same(&rt, (len, clean(rt.alloc(), len)?), (len, want));
-    }
-    Ok(())
-}
-
-fn raw_header(alloc: Global, len: usize) -> Result<Made, Fail> {
-    let text = text_of(alloc, len)?;
-    match RawHeader::new(alloc, text.as_slice()) {
-        Ok(made) => Ok((made.bytes() == text.as_slice(), None)),
-        Err(fault) => Ok((false, Some(fault))),
-    }
-}
-
-#[test]
-fn headers_up_to_32768_bytes(rt: HostRuntime) -> Result<(), Fail> {
-    for (len, want) in [(0, KEPT), (20_000, KEPT), (32_768, KEPT), (32_769, BAD)] {
-        same(&rt, (len, raw_header(rt.alloc(), len)?), (len, want));
+fn texts_up_to_their_bounds(rt: HostRuntime) -> Result<(), Fail> {
+    for (kind, least, between, longest) in [
+        (Kind::Address, 1, 200, 256),
+        (Kind::MtaName, 1, 200, 255),
+        (Kind::EnvelopeId, 1, 60, 100),
+        (Kind::Remark, 0, 500, 800),
+        (Kind::Header, 0, 20_000, 32_768),
+    ] {
+        for len in [least, between, longest] {
+            expect_kept(&rt, kind, len, Ok(true))?;
+        }
+        expect_kept(&rt, kind, longest + 1, Err(TextFault::Bad))?;
     }
     Ok(())
 }

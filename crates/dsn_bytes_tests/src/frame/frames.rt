@@ -115,13 +115,10 @@ fn a_reader_that_fails(rt: HostRuntime) {
 }
 
 /// How many reads it took to read the first frame by so many bytes a call.
-fn reads_of(rt: &HostRuntime, input: &[u8], most: usize) -> Result<usize, Fail> {
+fn reads_of(rt: &(impl Abort + AllocGlobal), input: &[u8], most: usize) -> Result<usize, Fail> {
+    let body = input.get(4..).ok_or("a length")?;
     let mut source = source(input, most, 100_000);
-    let frame = read_frame(rt.alloc(), &mut source).ok().ok_or("no fault")?;
-    let frame = frame.ok_or("a frame")?;
-    if frame.body() != input.get(4..).ok_or("a length")? {
-        return Err("another body")?;
-    }
+    expect_body(rt, &mut source, body)?;
     Ok(100_000usize.saturating_sub(source.into_inner().good))
 }
 

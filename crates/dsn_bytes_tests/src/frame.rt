@@ -2,6 +2,5 @@
 mod answers;
 mod bodies;
 mod buffers;
-mod encodings;
 pub(crate) mod frames;
 mod requests;

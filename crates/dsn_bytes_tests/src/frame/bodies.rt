@@ -1,68 +1,63 @@
-//! Bodies from outside that are read. (Those that are refused, and those at the bounds of each field, are given
-//! to the built program by tests/refused_bodies.py.)
-mod counts;
-mod moments;
+//! Bodies from outside: what they say, and that they are written again as they are. (Those that are refused, and
+//! those at the bounds of each field, are given to the built program by tests/refused_bodies.py.)
+mod appends;
+mod flushes;
+mod keys;
 
 use crate::assert_same::same;
-use dsn_frame::decode_request;
-use dsn_outcome::{Body, Service};
-use std::alloc::AllocGlobal;
+use dsn_frame::{decode_request, encode_request};
+use std::alloc::{AllocError, AllocGlobal, Global};
 use std::process::Abort;
 use std::test::Fail;
 
-#[test]
-fn one_discard(rt: HostRuntime) -> Result<(), Fail> {
-    let discard = b"\x01\x03\0\0\0\0\x01\0\x02K1";
-    let (number, body) = decode_request(rt.alloc(), discard).ok().ok_or("a discard")?;
-    let Body::Discard(key) = body else {
-        return Err("no discard")?;
-    };
-    let seen = (number, key.service, key.id.bytes());
-    same(&rt, seen, (0, Service::Bounce, b"K1".as_slice()));
+/// The frame of the request that a body is, written anew.
+fn written_again(alloc: Global, body: &[u8]) -> Result<Vec<u8>, Fail> {
+    let (number, request) = decode_request(alloc, body).ok().ok_or("it is refused")?;
+    Ok(encode_request(alloc, number, &request)?)
+}
+
+/// The request that the first body is, is written as the second one, in a frame of its length.
+fn expect_written(
+    rt: &(impl Abort + AllocGlobal),
+    body: &[u8],
+    written: &[u8],
+) -> Result<(), Fail> {
+    let frame = written_again(rt.alloc(), body)?;
+    let (length, rest) = frame.split_first_chunk::<4>().ok_or("no length")?;
+    same(rt, rest, written);
+    same(rt, u32::from_be_bytes(*length) as usize, written.len());
     Ok(())
 }
 
-/// An append to `B A1B2C3`, with number 0.
-const WHOLE_APPEND: &[u8] =
-    b"\x01\x01\0\0\0\0\x01\0\x06A1B2C3\0\0\0\x0fbob@example.org\x01\0\x055.1.1\0\0\0\0\0\0";
+/// Appends a text as a body has it: its length in two bytes, and it.
+fn push_text(body: &mut Vec<u8>, text: &[u8]) -> Result<(), AllocError> {
+    let [_, _, _, _, _, _, high, low] = text.len().to_be_bytes();
+    body.extend_from_slice(&[high, low])?;
+    body.extend_from_slice(text)
+}
 
-/// A flush of `B A1B2C3`, with number 1.
-const WHOLE_FLUSH: &[u8] =
-    b"\x01\x02\0\0\0\x01\x01\0\x06A1B2C3\0\0\0\0\x65\x53\xf1\0\0\0\0\0\x65\x53\xe2\xf0\0\x0fann@example.com\0\0\0\0";
-
-fn expect_append(rt: &(impl Abort + AllocGlobal)) -> Result<(), Fail> {
-    let (number, body) = decode_request(rt.alloc(), WHOLE_APPEND)
-        .ok()
-        .ok_or("an append")?;
-    let Body::Append(id, node) = body else {
-        return Err("no append")?;
-    };
-    same(rt, (number, id.bytes()), (0, b"A1B2C3".as_slice()));
-    let outcome = node.outcome();
-    let texts = (outcome.recipient(), outcome.status().bytes());
-    same(
-        rt,
-        texts,
-        (b"bob@example.org".as_slice(), b"5.1.1".as_slice()),
-    );
-    assert!(rt; outcome.mta().is_none());
+/// Appends texts, one after another.
+fn push_texts(body: &mut Vec<u8>, texts: &[&[u8]]) -> Result<(), AllocError> {
+    for text in texts {
+        push_text(body, text)?;
+    }
     Ok(())
 }
 
-fn expect_flush(rt: &(impl Abort + AllocGlobal)) -> Result<(), Fail> {
-    let (number, body) = decode_request(rt.alloc(), WHOLE_FLUSH)
-        .ok()
-        .ok_or("a flush")?;
-    let Body::Flush(key, draft) = body else {
-        return Err("no flush")?;
-    };
-    same(rt, (number, key.id.bytes()), (1, b"A1B2C3".as_slice()));
-    assert!(rt; draft.has_return());
-    Ok(())
+/// The text, or an empty one.
+fn text_if(there: bool, text: &'static [u8]) -> &'static [u8] {
+    if there { text } else { b"" }
 }
 
-#[test]
-fn one_append_one_flush(rt: HostRuntime) -> Result<(), Fail> {
-    expect_append(&rt)?;
-    expect_flush(&rt)
+/// Eight extension fields, each with the longest name and the longest value.
+fn longest_fields(alloc: Global) -> Result<Vec<u8>, AllocError> {
+    let mut fields = Vec::new(alloc);
+    for _ in 0..8 {
+        fields.extend_from_slice(b"X-")?;
+        fields.resize(fields.len().saturating_add(62), b'a')?;
+        fields.extend_from_slice(b": ")?;
+        fields.resize(fields.len().saturating_add(255), b'a')?;
+        fields.push(b'\n')?;
+    }
+    Ok(fields)
 }

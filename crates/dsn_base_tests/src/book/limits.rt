@@ -2,10 +2,17 @@
 use crate::assert_same::same;
 use dsn_book::Limits;
 
+/// What limits of these numbers say, where they are legal.
+fn kept(logs: u32, entries: u32, requests: u32) -> Option<(u32, u32, u32)> {
+    let limits = Limits::new(logs, entries, requests)?;
+    Some((limits.logs(), limits.entries(), limits.requests()))
+}
+
 #[test]
 fn bounds(rt: HostRuntime) {
-    for (logs, entries, requests, want) in [
+    for (logs, entries, requests, legal) in [
         (1, 1, 1, true),
+        (10, 20, 30, true),
         (65_536, 1_000, 1_000_000, true),
         (0, 1, 1, false),
         (1, 0, 1, false),
@@ -14,16 +21,7 @@ fn bounds(rt: HostRuntime) {
         (1, 1_001, 1, false),
         (1, 1, 1_000_001, false),
     ] {
-        same(&rt, Limits::new(logs, entries, requests).is_some(), want);
+        let wanted = legal.then_some((logs, entries, requests));
+        same(&rt, kept(logs, entries, requests), wanted);
     }
-}
-
-#[test]
-fn limits_are_kept(rt: HostRuntime) {
-    let Some(limits) = Limits::new(10, 20, 30) else {
-        panic!(rt; "no limits");
-    };
-    same(&rt, limits.logs(), 10);
-    same(&rt, limits.entries(), 20);
-    same(&rt, limits.requests(), 30);
 }

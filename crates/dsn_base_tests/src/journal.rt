@@ -1,9 +1,9 @@
 //! Tests of the journal, stopped at each moment, and of its file, over what `dsn_journal` makes public.
 mod compacting;
 mod crashes;
+mod disks;
 mod files;
 mod forgetting;
-mod full_ledgers;
 mod kept_books;
 mod ledgers;
 mod marked_outboxes;

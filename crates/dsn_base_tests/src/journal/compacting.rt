@@ -1,17 +1,15 @@
 //! Ledgers whose journal is put away for a shorter one: wherever the machine stops, the book that
 //! is found answers as before, and the letters that are to be posted come again, with their
 //! serials.
-ghost use Rattle.std.specs.Prelude.{◌≤◌};
-ghost use Rattle.dsn_journal.specs.MemoryDisk.{memory_moment};
-
-use super::ledgers::{expect_plain, make_group, open_disk, refusal};
+use super::disks::{book_in, bytes_on, crashed, disk_after, open_disk, refusal};
+use super::ledgers::expect_plain;
 use super::marks::disk_of_three;
 use crate::assert_same::same;
 use crate::book::books::histories::generated;
 use crate::book::books::plain::{Ask, PlainBook};
 use dsn_book::Limits;
 use dsn_journal::{LedgerError, MemoryDisk, Opened, open};
-use dsn_outcome::{Key, Letter, Request};
+use dsn_outcome::{Key, Letter};
 use std::alloc::Global;
 use std::process::Abort;
 use std::test::Fail;
@@ -53,23 +51,6 @@ fn plain_told(
         }
     }
     Ok(all)
-}
-
-/// Has requests kept and carried out, and then the journal put away for a shorter one, where the
-/// letters below a mark were posted. The disk comes back, with the moment before.
-fn compacted(
-    alloc: Global,
-    limits: Limits,
-    mut group: Vec<Request>,
-    mark: u64,
-) -> Result<(MemoryDisk, usize), Fail> {
-    let disk = MemoryDisk::new(alloc, vec![in alloc; 0; SIZE]?);
-    let Opened { mut ledger, .. } = open_disk(alloc, disk, limits, 0)?;
-    if ledger.base() > 0 || ledger.book().sealed() > 0 || group.len() > 100 {
-        return Err(Fail::from("not a new disk"));
-    }
-    ledger.apply_all(alloc, &mut group)?;
-    put_away(alloc, ledger.into_disk(), limits, mark)
 }
 
 /// Opens a disk under a mark, and puts its journal away for a shorter one. The disk comes back,
@@ -117,70 +98,120 @@ fn stop_at(
     rt: &impl Abort,
     alloc: Global,
     limits: Limits,
-    disk: &MemoryDisk,
-    moment: usize,
-    lost: u64,
+    left: Vec<u8>,
     asks: &[Ask],
     mark: u64,
-) -> Result<(), Fail>
-    requires { moment ≤ memory_moment disk.now }
-{
-    let left = MemoryDisk::new(alloc, disk.crashed(moment, lost)?);
-    let Opened { ledger, letters } = open_disk(alloc, left, limits, mark)?;
-    let mut book = ledger.into_book();
+) -> Result<(), Fail> {
+    let (mut book, letters) = book_in(alloc, left, limits, mark)?;
     let mut plain = PlainBook::new(alloc, limits);
     expect_letters(rt, alloc, &letters, &mut plain, asks, mark)?;
     expect_plain(rt, alloc, &mut book, &mut plain, asks)
 }
 
-#[test]
-fn each_moment_of_many_compactions(rt: HostRuntime) -> Result<(), Fail> {
-    let alloc = rt.alloc();
-    for seed in 0..300u32 {
-        let limits = Limits::new(1 + seed % 18, 1 + seed % 4, 100).ok_or("not limits")?;
-        let asks = generated(alloc, seed, 30)?;
-        let mut plain = PlainBook::new(alloc, limits);
-        let sealed = plain_told(alloc, &mut plain, &asks, 0)?.len();
-        let mark = u64::from(seed % 3).min(sealed as u64);
-        let (disk, began) = compacted(alloc, limits, make_group(alloc, &asks)?, mark)?;
-        for moment in began..=disk.moment() {
-            for lost in [0, u64::MAX, 0x6996_9669_a5c3_3c5a] {
-                stop_at(&rt, alloc, limits, &disk, moment, lost, &asks, mark)?;
-            }
-        }
+/// Stops the machine at a moment, with no byte lost, all or some.
+fn stop_with(
+    rt: &impl Abort,
+    alloc: Global,
+    limits: Limits,
+    disk: &MemoryDisk,
+    moment: usize,
+    asks: &[Ask],
+    mark: u64,
+) -> Result<(), Fail> {
+    for lost in [0, u64::MAX, 0x6996_9669_a5c3_3c5a] {
+        let left = crashed(disk, moment, lost)?;
+        stop_at(rt, alloc, limits, left, asks, mark)?;
+    }
+    Ok(())
+}
+
+/// The mark of a turn: none, one or two letters, as far as requests seal as many.
+fn mark_for(alloc: Global, limits: Limits, asks: &[Ask], turn: u32) -> Result<u64, Fail> {
+    let mut plain = PlainBook::new(alloc, limits);
+    let sealed = plain_told(alloc, &mut plain, asks, 0)?.len();
+    Ok(u64::from(turn % 3).min(sealed as u64))
+}
+
+/// A journal of requests is put away for a shorter one, and the machine stops at each moment of it.
+fn compact_and_stop(
+    rt: &impl Abort,
+    alloc: Global,
+    limits: Limits,
+    asks: &[Ask],
+    mark: u64,
+) -> Result<(), Fail> {
+    let disk = disk_after(alloc, SIZE, limits, asks)?;
+    let (disk, began) = put_away(alloc, disk, limits, mark)?;
+    for moment in began..=disk.moment() {
+        stop_with(rt, alloc, limits, &disk, moment, asks, mark)?;
     }
     Ok(())
 }
 
 #[test]
+fn each_moment_of_many_compactions(rt: HostRuntime) -> Result<(), Fail> {
+    for seed in 0..300u32 {
+        let limits = Limits::new(1 + seed % 18, 1 + seed % 4, 100).ok_or("not limits")?;
+        let asks = generated(rt.alloc(), seed, 30)?;
+        let mark = mark_for(rt.alloc(), limits, &asks, seed)?;
+        compact_and_stop(&rt, rt.alloc(), limits, &asks, mark)?;
+    }
+    Ok(())
+}
+
+/// What comes of a journal that is put away once all of its letters are marked: whether it was, also
+/// when that is asked again, the base, and how many letters the book has sealed since.
+type Marked = (bool, bool, u64, u64);
+
+/// Opens a disk under a mark, and puts its journal away where another mark counts all letters.
+fn put_away_marked(
+    alloc: Global,
+    disk: MemoryDisk,
+    limits: Limits,
+    opened_under: u64,
+    mark: u64,
+) -> Result<(MemoryDisk, Marked), Fail> {
+    let mut ledger = open_disk(alloc, disk, limits, opened_under)?.ledger;
+    let first = ledger.compact_all_marked(alloc, mark)?;
+    let again = ledger.compact_all_marked(alloc, mark)?;
+    let came = (first, again, ledger.base(), ledger.book().sealed());
+    Ok((ledger.into_disk(), came))
+}
+
+/// A disk is refused so under the mark of two letters, and opened under that of three, with none to
+/// be posted.
+fn expect_behind(
+    rt: &impl Abort,
+    alloc: Global,
+    disk: MemoryDisk,
+    limits: Limits,
+    wanted: Option<LedgerError>,
+) -> Result<(), Fail> {
+    let (behind, disk) = refusal(alloc, disk, limits, 2);
+    same(rt, behind, wanted);
+    let (_, letters) = book_in(alloc, bytes_on(&disk)?, limits, 3)?;
+    same(rt, letters.len(), 0);
+    Ok(())
+}
+
+#[test]
 fn a_journal_is_put_away_once_all_its_letters_are_marked(rt: HostRuntime) -> Result<(), Fail> {
-    let alloc = rt.alloc();
     let limits = Limits::new(6, 4, 100).ok_or("not limits")?;
-    for (opened_under, mark, done, base, sealed) in [
-        (0, 0, false, 0, 3),
-        (0, 2, false, 0, 3),
-        (2, 2, false, 0, 3),
-        (2, 4, false, 0, 3),
-        (3, u64::MAX, false, 0, 3),
-        (2, 3, true, 3, 0),
-        (3, 3, true, 3, 0),
+    let behind = Some(LedgerError::MarkBehind);
+    for (opened_under, mark, wanted, refusal) in [
+        (0, 0, (false, false, 0, 3), None),
+        (0, 2, (false, false, 0, 3), None),
+        (2, 2, (false, false, 0, 3), None),
+        (2, 4, (false, false, 0, 3), None),
+        (3, u64::MAX, (false, false, 0, 3), None),
+        // A second time it answers the same, and changes no more.
+        (2, 3, (true, true, 3, 0), behind),
+        (3, 3, (true, true, 3, 0), behind),
     ] {
-        let disk = disk_of_three(alloc, limits)?;
-        let Opened { mut ledger, .. } = open_disk(alloc, disk, limits, opened_under)?;
-        let first = ledger.compact_all_marked(alloc, mark);
-        // A second time it changes no more.
-        let again = ledger.compact_all_marked(alloc, mark);
-        same(&rt, (first, again), (Ok(done), Ok(done)));
-        let left = (ledger.base(), ledger.book().sealed());
-        same(&rt, left, (base, sealed));
-        let (behind, disk) = refusal(alloc, ledger.into_disk(), limits, 2);
-        let wanted = if done {
-            Some(LedgerError::MarkBehind)
-        } else {
-            None
-        };
-        same(&rt, behind, wanted);
-        same(&rt, open_disk(alloc, disk, limits, 3)?.letters.len(), 0);
+        let disk = disk_of_three(rt.alloc(), limits)?;
+        let (disk, came) = put_away_marked(rt.alloc(), disk, limits, opened_under, mark)?;
+        same(&rt, came, wanted);
+        expect_behind(&rt, rt.alloc(), disk, limits, refusal)?;
     }
     Ok(())
 }

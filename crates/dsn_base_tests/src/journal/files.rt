@@ -2,13 +2,21 @@
 use crate::assert_same::same;
 use dsn_journal::{Disk, FileDisk, create_file};
 use std::fs;
-use std::io::ErrorKind;
+use std::io::{self, ErrorKind};
 use std::test::Fail;
 
 /// A folder of its own, and the file in it.
 const FOLDER: &str = "dsn_journal_files";
 
 const PATH: &str = "dsn_journal_files/journal";
+
+/// Why a call of the system failed, if it did.
+fn kind_of<T: Drop>(answer: io::Result<T>) -> Option<ErrorKind> {
+    match answer {
+        Ok(_) => None,
+        Err(error) => Some(error.kind()),
+    }
+}
 
 #[test]
 fn a_file_keeps_what_was_written(rt: HostRuntime) -> Result<(), Fail> {
@@ -20,19 +28,11 @@ fn a_file_keeps_what_was_written(rt: HostRuntime) -> Result<(), Fail> {
         fs::exists(&rt, "dsn_journal_files/journal.new")?,
         false,
     );
-    let again = create_file(&rt, PATH, 10);
-    same(
-        &rt,
-        again.err().map(|error| error.kind()),
-        Some(ErrorKind::AlreadyExists),
-    );
+    let again = kind_of(create_file(&rt, PATH, 10));
+    same(&rt, again, Some(ErrorKind::AlreadyExists));
     let mut disk = FileDisk::open(&rt, PATH)?;
-    let second = FileDisk::open(&rt, PATH);
-    same(
-        &rt,
-        second.err().map(|error| error.kind()),
-        Some(ErrorKind::WouldBlock),
-    );
+    let second = kind_of(FileDisk::open(&rt, PATH));
+    same(&rt, second, Some(ErrorKind::WouldBlock));
     if disk.size() != 5_000 {
         return Err(Fail::from("another size"));
     }

@@ -1,10 +1,11 @@
-//! Ledgers whose closed keys are let go: the open logs stay as they were, also once the disk is
-//! opened anew, and the closed keys take outcomes again.
-use super::ledgers::{book_replies, carry_out, make_group, open_disk};
+//! Ledgers whose closed keys are let go: the open logs stay as they were once the disk is opened
+//! anew, and the closed keys take outcomes again.
+use super::disks::{book_in, bytes_on, disk_after, open_disk};
+use super::ledgers::book_replies;
 use crate::assert_same::same;
 use crate::book::books::histories::scripted;
-use dsn_book::{Book, Limits};
-use dsn_journal::{Disk, Ledger, MemoryDisk};
+use dsn_book::Limits;
+use dsn_journal::MemoryDisk;
 use dsn_outcome::Reply;
 use std::alloc::Global;
 use std::process::Abort;
@@ -13,82 +14,54 @@ use std::test::Fail;
 /// How many bytes a disk has: room for a header and for all requests of a test.
 const SIZE: usize = 2_000;
 
-/// A disk with two open logs and two closed keys. One of these has a letter that is still to be
-/// posted. No further key fits.
-fn disk_of_four(alloc: Global, limits: Limits) -> Result<MemoryDisk, Fail> {
-    let disk = MemoryDisk::new(alloc, vec![in alloc; 0; SIZE]?);
-    let group = make_group(alloc, &scripted(alloc, b"aBaDaTdTa3f3")?)?;
-    let (disk, _replies) = carry_out(alloc, disk, limits, group)?;
-    Ok(disk)
-}
-
-/// Opens a disk, and has the closed keys forgotten twice. The second time nothing is written.
+/// Opens a disk, and has the closed keys forgotten twice. The disk comes back, with how many keys
+/// were held after each time, and how many calls were made by then.
 fn forgotten(
-    rt: &impl Abort,
     alloc: Global,
     disk: MemoryDisk,
     limits: Limits,
-) -> Result<Ledger<MemoryDisk>, Fail> {
+) -> Result<(MemoryDisk, [(usize, usize); 2]), Fail> {
     let mut ledger = open_disk(alloc, disk, limits, 0)?.ledger;
     ledger.forget_closed(alloc)?;
-    let written = ledger.disk().moment();
+    let first = (ledger.book().entries().len(), ledger.disk().moment());
     ledger.forget_closed(alloc)?;
-    same(rt, ledger.disk().moment(), written);
-    Ok(ledger)
+    let second = (ledger.book().entries().len(), ledger.disk().moment());
+    Ok((ledger.into_disk(), [first, second]))
 }
 
-/// The replies of a book to an append to each of the four logs: first to the open ones, and then to
-/// those that were closed.
-fn replies_to_four(rt: &impl Abort, alloc: Global, mut book: Book) -> Result<Vec<Reply>, Fail> {
-    book_replies(rt, alloc, &mut book, &scripted(alloc, b"aBaDaTa3")?)
+/// Opens a disk: it has one letter to be posted and holds so many keys, and its book answers an
+/// append to each of the four logs with these replies, first to the open ones, and then to those that
+/// were closed.
+fn expect_replies(
+    rt: &impl Abort,
+    alloc: Global,
+    disk: &MemoryDisk,
+    limits: Limits,
+    held: usize,
+    wanted: [Reply; 4],
+) -> Result<(), Fail> {
+    let (mut book, letters) = book_in(alloc, bytes_on(disk)?, limits, 0)?;
+    same(rt, letters.len(), 1);
+    same(rt, book.entries().len(), held);
+    let asks = scripted(alloc, b"aBaDaTa3")?;
+    let replies = book_replies(rt, alloc, &mut book, &asks)?;
+    same(rt, replies.as_slice(), wanted.as_slice());
+    Ok(())
 }
 
 #[test]
 fn closed_keys_take_outcomes_again(rt: HostRuntime) -> Result<(), Fail> {
-    let alloc = rt.alloc();
+    let open = Reply::Logged(1);
     let limits = Limits::new(4, 10, 100).ok_or("not limits")?;
-    let disk = disk_of_four(alloc, limits)?;
-    let closed = replies_to_four(
-        &rt,
-        alloc,
-        open_disk(alloc, disk, limits, 0)?.ledger.into_book(),
-    )?;
-    let before = [
-        Reply::Logged(1),
-        Reply::Logged(1),
-        Reply::Closed,
-        Reply::Closed,
-    ];
-    same(&rt, closed.as_slice(), before.as_slice());
-
-    let after = [
-        Reply::Logged(1),
-        Reply::Logged(1),
-        Reply::Logged(0),
-        Reply::Logged(0),
-    ];
-    let ledger = forgotten(&rt, alloc, disk_of_four(alloc, limits)?, limits)?;
-    same(&rt, ledger.book().entries().len(), 2);
-    let replies = replies_to_four(&rt, alloc, ledger.into_book())?;
-    same(&rt, replies.as_slice(), after.as_slice());
-    Ok(())
-}
-
-#[test]
-fn forgotten_keys_stay_forgotten(rt: HostRuntime) -> Result<(), Fail> {
-    let alloc = rt.alloc();
-    let limits = Limits::new(4, 10, 100).ok_or("not limits")?;
-    let ledger = forgotten(&rt, alloc, disk_of_four(alloc, limits)?, limits)?;
-    let opened = open_disk(alloc, ledger.into_disk(), limits, 0)?;
-    same(&rt, opened.letters.len(), 1);
-    same(&rt, opened.ledger.book().entries().len(), 2);
-    let replies = replies_to_four(&rt, alloc, opened.ledger.into_book())?;
-    let after = [
-        Reply::Logged(1),
-        Reply::Logged(1),
-        Reply::Logged(0),
-        Reply::Logged(0),
-    ];
-    same(&rt, replies.as_slice(), after.as_slice());
-    Ok(())
+    // Two open logs and two closed keys, of which one has a letter that is still to be posted. No
+    // further key fits.
+    let asks = scripted(rt.alloc(), b"aBaDaTdTa3f3")?;
+    let disk = disk_after(rt.alloc(), SIZE, limits, &asks)?;
+    let closed = [open, open, Reply::Closed, Reply::Closed];
+    expect_replies(&rt, rt.alloc(), &disk, limits, 4, closed)?;
+    let (disk, [first, second]) = forgotten(rt.alloc(), disk, limits)?;
+    // The second time nothing is written.
+    same(&rt, (first, second), ((2, first.1), (2, first.1)));
+    let free = [open, open, Reply::Logged(0), Reply::Logged(0)];
+    expect_replies(&rt, rt.alloc(), &disk, limits, 2, free)
 }

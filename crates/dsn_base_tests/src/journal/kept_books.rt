@@ -3,15 +3,16 @@
 ghost use Rattle.std.specs.Prelude.{◌+◌, ◌^◌, ◌<◌, ◌≤◌, List, [], IfOk};
 ghost use Rattle.dsn_outcome.specs.History.{Exchange};
 
-use super::ledgers::{make_group, open_disk};
+use super::disks::{book_in, bytes_on, crashed, make_group, open_disk, zeros};
 use crate::assert_same::same;
-use crate::book::books::plain::Ask;
+use crate::book::books::histories::scripted;
 use dsn_book::{Keeper, Limits, NotKept};
 use dsn_journal::{
     KeptBook, MarkCount, MemoryDisk, NoMarkCount, SharedMarkCount, ledgers_have_one_history,
 };
-use dsn_outcome::{Key, QueueId, Reply, Request, Service};
+use dsn_outcome::{Reply, Request};
 use std::alloc::Global;
+use std::process::Abort;
 use std::slice;
 use std::test::Fail;
 
@@ -26,103 +27,63 @@ fn carry_one<K: Keeper>(keeper: &mut K, request: Request) -> Result<Reply, NotKe
     Ok(keeper.apply(request).answer.reply)
 }
 
-/// What came of two requests: of the first, and of the second where the first was kept.
-type Carried = (Result<Reply, NotKept>, Option<Result<Reply, NotKept>>);
-
-/// Has two requests kept and carried out, one after the other, as far as they are kept.
-fn carry_two<K: Keeper>(keeper: &mut K, first: Request, second: Request) -> Carried
-    requires has { (t : List Exchange) × K.has keeper.old t [] }
-    requires room { K.sealed keeper.old < 2 ^ 62 }
-{
-    match carry_one(keeper, first) {
-        Ok(answered) => (Ok(answered), Some(carry_one(keeper, second))),
-        Err(why) => (Err(why), None),
-    }
-}
-
-/// What came of two requests that are kept one after the other on a disk of so many bytes, and how
-/// many logs are open once it is opened anew.
-fn kept_twice(alloc: Global, size: usize, asks: &[Ask]) -> Result<(Carried, usize), Fail> {
-    let limits = Limits::new(6, 4, 100).ok_or("not limits")?;
-    let disk = MemoryDisk::new(alloc, vec![in alloc; 0; size]?);
-    let ledger = open_disk(alloc, disk, limits, 0)?.ledger;
-    if !ledger.is_settled() || ledger.base() > 0 || ledger.book().sealed() > 1_000 {
-        return Err(Fail::from("not new"));
-    }
-    let mut group = make_group(alloc, asks)?;
-    let second = group.pop().ok_or("two requests")?;
-    let first = group.pop().ok_or("two requests")?;
-    ledgers_have_one_history();
-    let mut keeper = KeptBook::new(alloc, ledger);
-    let carried = carry_two(&mut keeper, first, second);
-    let opened = open_disk(alloc, keeper.into_ledger().into_disk(), limits, 0)?;
-    Ok((carried, opened.ledger.book().open_lines(alloc)?.len()))
-}
-
-/// Which of the three things that can come of two appends to one log came: none, the first or both
-/// of them kept, answered, and found again. Where one isn't, there was no room for it.
-fn case_of(seen: (Carried, usize)) -> Option<usize> {
-    match seen {
-        ((Err(NotKept::Full), None), 0) => Some(0),
-        ((Ok(Reply::Logged(0)), Some(Err(NotKept::Full))), 1) => Some(1),
-        ((Ok(Reply::Logged(0)), Some(Ok(Reply::Logged(1)))), 1) => Some(2),
-        _ => None,
-    }
-}
-
-#[test]
-fn what_is_answered_is_found_again(rt: HostRuntime) -> Result<(), Fail> {
-    let alloc = rt.alloc();
-    let id = QueueId::new(b"K1").ok_or("not an id")?;
-    let key = Key {
-        service: Service::Bounce,
-        id,
-    };
-    let asks = [Ask::Append(key, 1), Ask::Append(key, 2)];
-    let mut met = [false; 3];
-    for size in 48..400usize {
-        let case = case_of(kept_twice(alloc, size, asks.as_slice())?).ok_or("another case")?;
-        if case < met.len() {
-            met[case] = true;
-        }
-    }
-    same(&rt, met, [true; 3]);
-    Ok(())
-}
-
 /// How many requests a keeper is given at most.
 const MOST_REQUESTS: u32 = 1_000;
 
-/// Has requests kept and carried out, one after another, from the last one on, until one isn't kept:
-/// how many were.
-fn carry_all<K: Keeper>(keeper: &mut K, mut requests: Vec<Request>) -> usize
+/// What came of requests: how many were kept, what the last of these was answered, and why the next
+/// one wasn't kept, if one wasn't.
+#[derive(Clone, Copy, Debug, PartialEq, Eq)]
+struct Carried {
+    kept: usize,
+    last: Option<Reply>,
+    refused: Option<NotKept>,
+}
+
+/// Has requests kept and carried out, one after another, from the last one on, until one isn't kept.
+fn carry_all<K: Keeper>(keeper: &mut K, mut requests: Vec<Request>) -> Carried
     requires has { (t : List Exchange) × K.has keeper.old t [] }
     requires room { K.sealed keeper.old < 2 ^ 62 }
 {
-    let mut kept = 0usize;
+    let mut came = Carried {
+        kept: 0,
+        last: None,
+        refused: None,
+    };
     for _ in 0..MOST_REQUESTS {
         let Some(request) = requests.pop() else {
-            return kept;
+            return came;
         };
         match carry_one(keeper, request) {
-            Ok(_) => kept = kept.saturating_add(1),
-            Err(_) => return kept,
+            Ok(reply) => {
+                came.kept = came.kept.saturating_add(1);
+                came.last = Some(reply);
+            }
+            Err(why) => {
+                came.refused = Some(why);
+                return came;
+            }
         }
     }
-    kept
+    came
 }
 
-/// What is kept of some requests on a disk of so many bytes, by a keeper with this count: how many
-/// of them, and the disk.
+/// The requests of a script, the last one first.
+fn requests_of(alloc: Global, script: &[u8]) -> Result<Vec<Request>, Fail> {
+    let mut requests = make_group(alloc, &scripted(alloc, script)?)?;
+    requests.reverse();
+    Ok(requests)
+}
+
+/// What came of a script on a disk of so many bytes, by a keeper with this count, and the disk.
 fn kept_with<C: MarkCount + Drop>(
     alloc: Global,
     marks: C,
     size: usize,
-    requests: Vec<Request>,
-) -> Result<(usize, MemoryDisk), Fail> {
+    script: &[u8],
+) -> Result<(Carried, MemoryDisk), Fail> {
     let limits = Limits::new(6, 50, 100).ok_or("not limits")?;
-    let disk = MemoryDisk::new(alloc, vec![in alloc; 0; size]?);
-    let ledger = open_disk(alloc, disk, limits, 0)?.ledger;
+    let requests = requests_of(alloc, script)?;
+    let ledger = open_disk(alloc, zeros(alloc, size)?, limits, 0)?.ledger;
     if !ledger.is_settled() || ledger.base() > 0 || ledger.book().sealed() > 1_000 {
         return Err(Fail::from("not new"));
     }
@@ -132,93 +93,98 @@ fn kept_with<C: MarkCount + Drop>(
     Ok((kept, keeper.into_ledger().into_disk()))
 }
 
-/// How often K1 is appended to, and how many requests come with each append.
-const APPENDS: u32 = 5;
-
-const TOGETHER: u32 = 10;
-
-/// The key of a bounce log with this id.
-fn bounce(id: &[u8]) -> Result<Key, Fail> {
-    let service = Service::Bounce;
-    let id = QueueId::new(id).ok_or("not an id")?;
-    Ok(Key { service, id })
-}
-
-/// What is asked at a step of a turn: first an append to K1, and then three times one to K2, which is
-/// then discarded and forgotten.
-fn ask_at(turn: u32, step: u32) -> Result<Ask, Fail> {
-    if step == 0 {
-        return Ok(Ask::Append(bounce(b"K1")?, turn));
-    }
-    let other = bounce(b"K2")?;
-    Ok(match step % 3 {
-        1 => Ask::Append(other, step),
-        2 => Ask::Discard(other),
-        _ => Ask::Forget(other),
-    })
-}
-
-/// The requests of all turns, the last one first.
-fn mostly_forgotten(alloc: Global) -> Result<Vec<Request>, Fail> {
-    let mut asks = Vec::new(alloc);
-    for place in 0..APPENDS * TOGETHER {
-        asks.push(ask_at(place / TOGETHER, place % TOGETHER)?)?;
-    }
-    let mut requests = make_group(alloc, asks.as_slice())?;
-    requests.reverse();
-    Ok(requests)
-}
-
-/// How many outcomes are in the first log that these bytes leave open.
-fn outcomes_left(alloc: Global, bytes: Vec<u8>) -> Result<u32, Fail> {
+/// How many logs a file leaves open, and how many outcomes are in the first of them.
+fn open_in(alloc: Global, file: Vec<u8>) -> Result<(usize, u32), Fail> {
     let limits = Limits::new(6, 50, 100).ok_or("not limits")?;
-    let ledger = open_disk(alloc, MemoryDisk::new(alloc, bytes), limits, 0)?.ledger;
-    let logs = ledger.book().open_lines(alloc)?;
-    Ok(logs.first().map_or(0, |log| log.count))
+    let (book, _) = book_in(alloc, file, limits, 0)?;
+    let lines = book.open_lines(alloc)?;
+    let count = match lines.first() {
+        Some(line) => line.count,
+        None => 0,
+    };
+    Ok((lines.len(), count))
+}
+
+/// Two appends to one log, on a disk of so many bytes: how many of them were kept, and are found
+/// again once it is opened anew. Those are answered, and there was no room for the others.
+fn expect_found(rt: &impl Abort, alloc: Global, size: usize) -> Result<usize, Fail> {
+    let (came, disk) = kept_with(alloc, NoMarkCount, size, b"aBaB")?;
+    let (last, refused, open) = match came.kept {
+        0 => (None, Some(NotKept::Full), (0, 0)),
+        1 => (Some(Reply::Logged(0)), Some(NotKept::Full), (1, 1)),
+        _ => (Some(Reply::Logged(1)), None, (1, 2)),
+    };
+    same(rt, (came.last, came.refused), (last, refused));
+    same(rt, open_in(alloc, bytes_on(&disk)?)?, open);
+    Ok(came.kept)
+}
+
+#[test]
+fn what_is_answered_is_found_again(rt: HostRuntime) -> Result<(), Fail> {
+    let mut met = [false; 3];
+    for size in 48..400usize {
+        let kept = expect_found(&rt, rt.alloc(), size)?;
+        if kept < met.len() {
+            met[kept] = true;
+        }
+    }
+    same(&rt, met, [true; 3]);
+    Ok(())
+}
+
+/// Five times an append to K1, and then three times one to K2, which is then discarded and forgotten.
+const SCRIPT: &[u8] = b"aBa2d2g2a2d2g2a2d2g2aBa2d2g2a2d2g2a2d2g2aBa2d2g2a2d2g2a2d2g2\
+aBa2d2g2a2d2g2a2d2g2aBa2d2g2a2d2g2a2d2g2";
+
+/// The outcomes of K1 that a crash leaves at each moment, with these bytes lost, are the first of
+/// five, and never fewer than before.
+fn expect_more_and_more(
+    rt: &impl Abort,
+    alloc: Global,
+    disk: &MemoryDisk,
+    lost: u64,
+) -> Result<(), Fail> {
+    let mut before = 0;
+    for moment in 0..=disk.moment() {
+        let (_, left) = open_in(alloc, crashed(disk, moment, lost)?)?;
+        same(rt, left >= before && left <= 5, true);
+        before = left;
+    }
+    same(rt, before, 5);
+    Ok(())
 }
 
 // There is room for a few of the requests at once, and for all of them where the journal is put away
 // for a shorter one whenever it is full.
 #[test]
 fn full_journal_is_put_away_and_keeps_more(rt: HostRuntime) -> Result<(), Fail> {
-    let alloc = rt.alloc();
-    let requests = mostly_forgotten(alloc)?;
-    let all = requests.len();
     let marks = SharedMarkCount::new(&rt);
     marks.note(1_000);
-    let (kept, disk) = kept_with(alloc, marks, 1_000, requests)?;
-    same(&rt, kept, all);
-    let mut before = 0u32;
+    let (came, disk) = kept_with(rt.alloc(), marks, 1_000, SCRIPT)?;
+    same(&rt, (came.kept, came.refused), (50, None));
     for lost in [0u64, u64::MAX, 0x5555_5555_5555_5555] {
-        before = 0;
-        for moment in 0..=disk.moment() {
-            let left = outcomes_left(alloc, disk.crashed(moment, lost)?)?;
-            if left < before || left > APPENDS {
-                return Err(Fail::from("not the first of them"));
-            }
-            before = left;
-        }
+        expect_more_and_more(&rt, rt.alloc(), &disk, lost)?;
     }
-    same(&rt, before, APPENDS);
     Ok(())
 }
 
 // It isn't put away where nobody says that its letters are marked, or where they won't be.
 #[test]
 fn full_journal_stays_where_letters_are_not_marked(rt: HostRuntime) -> Result<(), Fail> {
-    let alloc = rt.alloc();
-    let (alone, _) = kept_with(alloc, NoMarkCount, 1_000, mostly_forgotten(alloc)?)?;
+    let (alone, _) = kept_with(rt.alloc(), NoMarkCount, 1_000, SCRIPT)?;
     let stopped = SharedMarkCount::new(&rt);
     stopped.note(1_000);
     stopped.stop();
-    let (kept, disk) = kept_with(alloc, stopped, 1_000, mostly_forgotten(alloc)?)?;
-    same(&rt, (kept < 45, kept), (true, alone));
-    // Each request that was kept took a write and a sync, after three calls that opened the disk.
+    let (came, disk) = kept_with(rt.alloc(), stopped, 1_000, SCRIPT)?;
+    same(&rt, came, alone);
     same(
         &rt,
-        disk.moment(),
-        3usize.saturating_add(kept.saturating_mul(2)),
+        (came.kept < 45, came.refused),
+        (true, Some(NotKept::Full)),
     );
+    // Each request that was kept took a write and a sync, after three calls that opened the disk.
+    let calls = came.kept.saturating_mul(2).saturating_add(3);
+    same(&rt, disk.moment(), calls);
     Ok(())
 }
 

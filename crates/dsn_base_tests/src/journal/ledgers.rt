@@ -1,82 +1,23 @@
 //! Ledgers: what is damaged and what is full, and every moment of many histories at which a machine
 //! can stop: the book that is found then answers as the history of the first requests, among them
 //! each that was answered.
-ghost use Rattle.std.specs.Prelude.{◌≤◌, [], IfOk};
-ghost use Rattle.dsn_journal.specs.MemoryDisk.{memory_moment};
-ghost use Rattle.dsn_journal.specs.OpenLedger.{AwaitsRequests};
-
-use super::crashes::{Answered, bounds};
+use super::crashes::{Answered, is_within};
+use super::disks::{
+    book_in, carry_out, crashed, disk_after, make_group, records_in, refusal, zeros,
+};
+use super::marks::disk_of_three;
 use crate::assert_same::same;
-use crate::book::books::histories::{body_of, generated};
+use crate::book::books::histories::generated;
 use crate::book::books::plain::{Ask, PlainBook};
 use dsn_book::{Book, Limits};
-use dsn_journal::{Disk, JournalError, LedgerError, MemoryDisk, Opened, open, recover};
-use dsn_outcome::{Reply, Request};
+use dsn_journal::{JournalError, LedgerError, MemoryDisk};
+use dsn_outcome::Reply;
 use std::alloc::Global;
 use std::process::Abort;
 use std::test::Fail;
 
 /// How many bytes a disk has: room for a header and for all requests of a history.
 const SIZE: usize = 842;
-
-/// The requests of a group, from one agent.
-pub(super) fn make_group(alloc: Global, asks: &[Ask]) -> Result<Vec<Request>, Fail> {
-    let mut group = Vec::new(alloc);
-    for ask in asks {
-        group.push(Request {
-            agent: 3,
-            number: 0,
-            body: body_of(alloc, *ask)?,
-        })?;
-    }
-    Ok(group)
-}
-
-/// Opens a disk that is to be opened.
-pub(super) fn open_disk<D: Disk + Drop>(
-    alloc: Global,
-    disk: D,
-    limits: Limits,
-    mark: u64,
-) -> Result<Opened<D>, Fail>
-    ensures none { IfOk result (λ opened. AwaitsRequests D.Disk opened.ledger []) }
-{
-    match open(alloc, disk, limits, mark) {
-        Ok(opened) => Ok(opened),
-        Err(_left) => Err(Fail::from("not opened")),
-    }
-}
-
-/// Why a disk isn't opened, if it isn't, and the disk.
-pub(super) fn refusal<D: Disk + Drop>(
-    alloc: Global,
-    disk: D,
-    limits: Limits,
-    mark: u64,
-) -> (Option<LedgerError>, D) {
-    match open(alloc, disk, limits, mark) {
-        Ok(opened) => (None, opened.ledger.into_disk()),
-        Err(left) => (Some(left.cause), left.disk),
-    }
-}
-
-/// Opens a disk, and has a group kept and carried out. The disk comes back, with the replies.
-pub(super) fn carry_out(
-    alloc: Global,
-    disk: MemoryDisk,
-    limits: Limits,
-    mut group: Vec<Request>,
-) -> Result<(MemoryDisk, Vec<Reply>), Fail> {
-    let Opened { mut ledger, .. } = open_disk(alloc, disk, limits, 0)?;
-    if ledger.base() > 0 || ledger.book().sealed() > 1_000 || group.len() > 100 {
-        return Err(Fail::from("too many"));
-    }
-    let mut replies = Vec::new(alloc);
-    for step in ledger.apply_all(alloc, &mut group)? {
-        replies.push(step.answer.reply)?;
-    }
-    Ok((ledger.into_disk(), replies))
-}
 
 /// A history: the disk, what was asked, and what each group came to.
 #[derive(Drop)]
@@ -86,28 +27,40 @@ struct History {
     answered: Vec<Answered>,
 }
 
-/// Groups of up to three requests on an empty disk, each answered as the plain book answers it.
+/// Has a group kept and carried out, and answered as the plain book answers it. The disk comes back,
+/// with what it came to.
+fn run_group(
+    rt: &impl Abort,
+    alloc: Global,
+    disk: MemoryDisk,
+    plain: &mut PlainBook,
+    group: &[Ask],
+    before: usize,
+) -> Result<(MemoryDisk, Answered), Fail> {
+    let wanted = plain_replies(alloc, plain, group)?;
+    let began = disk.moment();
+    let (disk, replies) = carry_out(alloc, disk, plain.limits(), make_group(alloc, group)?)?;
+    same(rt, replies.as_slice(), wanted.as_slice());
+    let answered = Answered {
+        began,
+        ended: disk.moment(),
+        after: before.saturating_add(replies.len()),
+    };
+    Ok((disk, answered))
+}
+
+/// Groups of up to three requests on an empty disk.
 fn run_groups(rt: &impl Abort, alloc: Global, limits: Limits, seed: u32) -> Result<History, Fail> {
     let asks = generated(alloc, seed, 8)?;
-    let mut disk = MemoryDisk::new(alloc, vec![in alloc; 0; SIZE]?);
+    let mut disk = zeros(alloc, SIZE)?;
     let mut plain = PlainBook::new(alloc, limits);
     let mut answered = Vec::new(alloc);
-    let mut after = 0usize;
+    let mut before = 0;
     for group in asks.chunks(3) {
-        let began = disk.moment();
-        let (then, replies) = carry_out(alloc, disk, limits, make_group(alloc, group)?)?;
+        let (then, came) = run_group(rt, alloc, disk, &mut plain, group, before)?;
         disk = then;
-        same(
-            rt,
-            replies.as_slice(),
-            plain_replies(alloc, &mut plain, group)?.as_slice(),
-        );
-        after = after.saturating_add(replies.len());
-        answered.push(Answered {
-            began,
-            ended: disk.moment(),
-            after,
-        })?;
+        before = came.after;
+        answered.push(came)?;
     }
     Ok(History {
         disk,
@@ -160,13 +113,10 @@ pub(super) fn expect_plain(
     Ok(())
 }
 
-/// Opens a file: its book, and how many requests it keeps.
-fn opened(alloc: Global, limits: Limits, file: Vec<u8>) -> Result<(Book, usize), Fail> {
-    let disk = MemoryDisk::new(alloc, file.to_vec(alloc)?);
-    let book = open_disk(alloc, disk, limits, 0)?.ledger.into_book();
-    let mut same_file = MemoryDisk::new(alloc, file);
-    let records = recover(alloc, &mut same_file)?.records.len();
-    Ok((book, records.saturating_sub(1)))
+/// How many requests a file keeps, behind its header.
+fn kept_in(alloc: Global, file: &[u8]) -> Result<usize, Fail> {
+    let records = records_in(alloc, file.to_vec(alloc)?)?;
+    Ok(records.len().saturating_sub(1))
 }
 
 /// Stops the machine at a moment, with some bytes lost, and opens what is left.
@@ -177,131 +127,236 @@ fn stop_at(
     history: &History,
     moment: usize,
     lost: u64,
-) -> Result<(), Fail>
-    requires { moment ≤ memory_moment history.now.disk }
-{
-    let (mut book, kept) = opened(alloc, limits, history.disk.crashed(moment, lost)?)?;
-    let (least, most) = bounds(&history.answered, moment);
-    same(rt, kept >= least && kept <= most, true);
+) -> Result<(), Fail> {
+    let file = crashed(&history.disk, moment, lost)?;
+    let (mut book, _) = book_in(alloc, file.to_vec(alloc)?, limits, 0)?;
+    let kept = kept_in(alloc, &file)?;
+    same(rt, is_within(&history.answered, moment, kept), true);
     let asks = history.asks.as_slice();
     let mut plain = PlainBook::new(alloc, limits);
     plain_replies(alloc, &mut plain, &asks[..kept.min(asks.len())])?;
     expect_plain(rt, alloc, &mut book, &mut plain, asks)
 }
 
-#[test]
-fn each_moment_of_many_ledgers(rt: HostRuntime) -> Result<(), Fail> {
-    let alloc = rt.alloc();
-    for seed in 0..1_000u32 {
-        let limits = Limits::new(1 + seed % 6, 1 + seed % 4, 100).ok_or("not limits")?;
-        let history = run_groups(&rt, alloc, limits, seed)?;
-        for moment in 0..=history.disk.moment() {
-            for lost in [0, u64::MAX, 0x6996_9669_a5c3_3c5a] {
-                stop_at(&rt, alloc, limits, &history, moment, lost)?;
-            }
-        }
+/// Stops the machine at each moment, with no byte lost, all or some.
+fn stop_at_each(
+    rt: &impl Abort,
+    alloc: Global,
+    limits: Limits,
+    history: &History,
+) -> Result<(), Fail> {
+    for moment in 0..=history.disk.moment() {
+        stop_at(rt, alloc, limits, history, moment, 0)?;
+        stop_at(rt, alloc, limits, history, moment, u64::MAX)?;
+        stop_at(rt, alloc, limits, history, moment, 0x6996_9669_a5c3_3c5a)?;
     }
     Ok(())
 }
 
-/// The header of a disk under the limits of 10 logs, 10 entries and 100 requests.
-const HEADER: [u8; 42] = [
-    74, 1, 2, 1, 1, 1, 1, 1, 1, 10, 1, 1, 1, 1, 1, 1, 10, 1, 1, 1, 1, 1, 1, 100, 1, 1, 1, 1, 1, 1,
-    1, 1, 1, 1, 1, 1, 1, 1, 1, 1, 2, 0,
+#[test]
+fn each_moment_of_many_ledgers(rt: HostRuntime) -> Result<(), Fail> {
+    for seed in 0..1_000u32 {
+        let limits = Limits::new(1 + seed % 6, 1 + seed % 4, 100).ok_or("not limits")?;
+        let history = run_groups(&rt, rt.alloc(), limits, seed)?;
+        stop_at_each(&rt, rt.alloc(), limits, &history)?;
+    }
+    Ok(())
+}
+
+/// How the header begins under the limits of 10 logs, 10 entries and 100 requests. The base of 0 is
+/// sixteen bytes of 1 behind it, and then comes the end.
+const BEGIN: [u8; 24] = [
+    74, 1, 2, 1, 1, 1, 1, 1, 1, 10, 1, 1, 1, 1, 1, 1, 10, 1, 1, 1, 1, 1, 1, 100,
 ];
 
-/// Why a disk with a header and then these bytes is not opened.
-fn refusal_of(alloc: Global, header: &[u8], bytes: &[u8]) -> Result<Option<LedgerError>, Fail> {
+/// Why a disk with these bytes, one part after another, isn't opened.
+fn refusal_of(alloc: Global, parts: &[&[u8]]) -> Result<Option<LedgerError>, Fail> {
     let limits = Limits::new(10, 10, 100).ok_or("not limits")?;
-    let mut file = header.to_vec(alloc)?;
-    file.extend_from_slice(bytes)?;
+    let mut file = Vec::new(alloc);
+    for part in parts {
+        file.extend_from_slice(part)?;
+    }
     Ok(refusal(alloc, MemoryDisk::new(alloc, file), limits, 0).0)
 }
 
-#[test]
-fn records_that_keep_no_body_are_damaged(rt: HostRuntime) -> Result<(), Fail> {
-    for (bytes, refusal) in [
-        // A goodbye, a discard of K1 with the number 0, and the same with the number 1.
-        ([2; 18].as_slice(), None),
-        (
-            [
-                1, 2, 3, 1, 1, 1, 1, 1, 1, 1, 1, 1, 2, 1, 1, 1, 3, 75, 49, 2, 0,
-            ]
-            .as_slice(),
-            None,
-        ),
-        (
-            [
-                1, 2, 3, 1, 1, 1, 1, 1, 1, 1, 2, 1, 2, 1, 1, 1, 3, 75, 49, 2, 0,
-            ]
-            .as_slice(),
-            Some(LedgerError::Damaged),
-        ),
-        ([65, 2, 0].as_slice(), Some(LedgerError::Damaged)),
-        // What isn't ended doesn't count.
-        ([65, 0, 2].as_slice(), None),
-    ] {
-        same(&rt, refusal_of(rt.alloc(), &HEADER[..41], bytes)?, refusal);
+/// Each disk is refused so, or opened.
+fn expect_refusals(
+    rt: &impl Abort,
+    alloc: Global,
+    cases: &[(&[&[u8]], Option<LedgerError>)],
+) -> Result<(), Fail> {
+    for (parts, refusal) in cases {
+        same(rt, refusal_of(alloc, parts)?, *refusal);
     }
     Ok(())
 }
 
-/// The same header with a base whose first byte is this, of two or more.
-fn with_base(alloc: Global, first: u8) -> Result<Vec<u8>, Fail> {
-    let mut header = HEADER[..24].to_vec(alloc)?;
-    header.push(first)?;
-    header.extend_from_slice(&HEADER[26..])?;
-    Ok(header)
+/// Disks with the header, whose records keep bodies or not.
+const RECORDS: [(&[&[u8]], Option<LedgerError>); 5] = [
+    // A goodbye, a discard of K1 with the number 0, and the same with the number 1.
+    (&[&BEGIN, &[1; 16], &[2], &[2; 18]], None),
+    (
+        &[
+            &BEGIN,
+            &[1; 16],
+            &[2],
+            &[
+                1, 2, 3, 1, 1, 1, 1, 1, 1, 1, 1, 1, 2, 1, 1, 1, 3, 75, 49, 2, 0,
+            ],
+        ],
+        None,
+    ),
+    (
+        &[
+            &BEGIN,
+            &[1; 16],
+            &[2],
+            &[
+                1, 2, 3, 1, 1, 1, 1, 1, 1, 1, 2, 1, 2, 1, 1, 1, 3, 75, 49, 2, 0,
+            ],
+        ],
+        Some(LedgerError::Damaged),
+    ),
+    (
+        &[&BEGIN, &[1; 16], &[2], &[65, 2, 0]],
+        Some(LedgerError::Damaged),
+    ),
+    // What isn't ended doesn't count.
+    (&[&BEGIN, &[1; 16], &[2], &[65, 0, 2]], None),
+];
+
+#[test]
+fn records_that_keep_no_body_are_damaged(rt: HostRuntime) -> Result<(), Fail> {
+    expect_refusals(&rt, rt.alloc(), &RECORDS)
 }
+
+/// Disks with the header, with another one or with none.
+const HEADERS: [(&[&[u8]], Option<LedgerError>); 15] = [
+    (&[&BEGIN, &[1; 16], &[2, 0]], None),
+    (&[&[2]], Some(LedgerError::OtherHeader)),
+    (&[&[65, 2]], Some(LedgerError::OtherHeader)),
+    (&[&[0; 41]], None),
+    (&[&[0; 40]], Some(LedgerError::Journal(JournalError::Full))),
+    // What isn't ended is no header.
+    (
+        &[&BEGIN, &[1; 16]],
+        Some(LedgerError::Journal(JournalError::Full)),
+    ),
+    // Bytes of no journal, and a first record whose end was lost.
+    (
+        &[b"A text, and no journal that was begun here."],
+        Some(LedgerError::Foreign),
+    ),
+    (&[&[65]], Some(LedgerError::Foreign)),
+    // A base of 2^63, and the greatest one.
+    (
+        &[&BEGIN, &[128], &[1; 14], &[2, 0]],
+        Some(LedgerError::OtherHeader),
+    ),
+    (
+        &[&BEGIN, &[127], &[1; 14], &[2, 0]],
+        Some(LedgerError::MarkBehind),
+    ),
+    // A byte that a crash took away of a header, at the beginning, within and at the end.
+    (
+        &[
+            &[
+                0, 1, 2, 1, 1, 1, 1, 1, 1, 10, 1, 1, 1, 1, 1, 1, 10, 1, 1, 1, 1, 1, 1, 100,
+            ],
+            &[1; 16],
+            &[0, 0, 0],
+        ],
+        None,
+    ),
+    (
+        &[
+            &[
+                74, 1, 2, 1, 1, 1, 1, 1, 1, 0, 1, 1, 1, 1, 1, 1, 10, 1, 1, 1, 1, 1, 1, 100,
+            ],
+            &[1; 16],
+            &[0, 0, 0],
+        ],
+        None,
+    ),
+    (&[&BEGIN, &[1; 16], &[0, 0, 0]], None),
+    // A byte that no header has there, where the end is missing.
+    (
+        &[&BEGIN, &[1; 15], &[65, 0, 0, 0]],
+        Some(LedgerError::Foreign),
+    ),
+    (&[&BEGIN, &[1; 16], &[0, 65, 0]], Some(LedgerError::Foreign)),
+];
 
 #[test]
 fn a_disk_without_the_header_of_its_limits_is_refused(rt: HostRuntime) -> Result<(), Fail> {
-    let alloc = rt.alloc();
-    let other = Some(LedgerError::OtherHeader);
-    let full = Some(LedgerError::Journal(JournalError::Full));
-    let foreign = Some(LedgerError::Foreign);
-    let behind = Some(LedgerError::MarkBehind);
-    for (bytes, refusal) in [
-        (HEADER.as_slice(), None),
-        ([2].as_slice(), other),
-        ([65, 2].as_slice(), other),
-        ([0; 41].as_slice(), None),
-        ([0; 40].as_slice(), full),
-        // What isn't ended is no header.
-        (&HEADER[..40], full),
-        // Bytes of no journal, and a first record whose end was lost.
-        (
-            b"A text, and no journal that was begun here.".as_slice(),
-            foreign,
-        ),
-        ([65].as_slice(), foreign),
-        // A base of 2^63, and the greatest one.
-        (with_base(alloc, 128)?.as_slice(), other),
-        (with_base(alloc, 127)?.as_slice(), behind),
-    ] {
-        same(&rt, refusal_of(alloc, bytes, &[])?, refusal);
+    expect_refusals(&rt, rt.alloc(), &HEADERS)
+}
+
+/// A disk that sealed three letters is opened under a mark with so many to be posted, or refused.
+fn expect_under(
+    rt: &impl Abort,
+    alloc: Global,
+    mark: u64,
+    wanted: Result<usize, LedgerError>,
+) -> Result<(), Fail> {
+    let limits = Limits::new(6, 4, 100).ok_or("not limits")?;
+    let disk = disk_of_three(alloc, limits)?;
+    let (cause, disk) = refusal(alloc, disk, limits, mark);
+    same(rt, cause, wanted.err());
+    if let Ok(left) = wanted {
+        let (_, letters) = book_in(alloc, super::disks::bytes_on(&disk)?, limits, mark)?;
+        same(rt, letters.len(), left);
     }
     Ok(())
 }
 
 #[test]
-fn a_disk_is_new_where_a_header_was_begun(rt: HostRuntime) -> Result<(), Fail> {
-    let alloc = rt.alloc();
-    for (place, byte, refusal) in [
-        // A byte that a crash took away, at the beginning, within and at the end.
-        (0usize, 0, None),
-        (9, 0, None),
-        (40, 0, None),
-        // One that no header has there, where the end is missing.
-        (39, 65, Some(LedgerError::Foreign)),
-        (41, 65, Some(LedgerError::Foreign)),
+fn a_mark_of_more_letters_is_refused(rt: HostRuntime) -> Result<(), Fail> {
+    for (mark, wanted) in [
+        (0, Ok(3)),
+        (2, Ok(1)),
+        (3, Ok(0)),
+        (4, Err(LedgerError::MarkAhead)),
+        (u64::MAX, Err(LedgerError::MarkAhead)),
     ] {
-        let mut header = HEADER[..40].to_vec(alloc)?;
-        header.resize(42, 0)?;
-        if let Some(at) = header.get_mut(place) {
-            *at = byte;
-        }
-        same(&rt, refusal_of(alloc, &header, &[0])?, refusal);
+        expect_under(&rt, rt.alloc(), mark, wanted)?;
+    }
+    Ok(())
+}
+
+#[test]
+fn a_mark_ahead_of_a_new_disk_is_refused(rt: HostRuntime) -> Result<(), Fail> {
+    let limits = Limits::new(6, 4, 100).ok_or("not limits")?;
+    let (cause, disk) = refusal(rt.alloc(), zeros(rt.alloc(), 4_000)?, limits, 1);
+    same(&rt, cause, Some(LedgerError::MarkAhead));
+    // It was synced, and no header was written.
+    let left = crashed(&disk, disk.moment(), 0)?;
+    same(&rt, (disk.moment(), left.contains(&74)), (1, false));
+    Ok(())
+}
+
+/// How many bytes a disk has that is soon full: a header of 41 and three goodbyes of one byte each.
+const FULL_SIZE: usize = 44;
+
+#[test]
+fn a_full_ledger_stays_and_keeps_less(rt: HostRuntime) -> Result<(), Fail> {
+    let limits = Limits::new(10, 10, 100).ok_or("not limits")?;
+    let mut disk = disk_after(rt.alloc(), FULL_SIZE, limits, &[])?;
+    for (count, replies, calls) in [
+        // Three calls open the disk, and two more keep a group.
+        (4, 0, 3),
+        (2, 2, 5),
+        (2, 0, 3),
+        (1, 1, 5),
+        (1, 0, 3),
+    ] {
+        let before = disk.moment();
+        let goodbyes = vec![in rt.alloc(); Ask::Bye; count]?;
+        let group = make_group(rt.alloc(), &goodbyes)?;
+        let (then, answered) = carry_out(rt.alloc(), disk, limits, group)?;
+        disk = then;
+        same(&rt, answered.len(), replies);
+        same(&rt, disk.moment(), before.wrapping_add(calls));
     }
     Ok(())
 }

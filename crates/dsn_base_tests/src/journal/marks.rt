@@ -2,29 +2,24 @@
 ghost use Rattle.std.specs.Prelude.{List, map};
 ghost use Rattle.dsn_outcome.specs.Letter.{Letter};
 
-use super::ledgers::{make_group, open_disk, refusal};
+use super::disks::{book_in, bytes_on, crashed, disk_after, zeros};
 use crate::assert_same::same;
 use crate::book::books::histories::generated;
 use dsn_book::Limits;
 use dsn_device::Broken;
 use dsn_journal::{
-    DeliveryError, FileDisk, JournalError, LedgerError, Marks, MarksError, MemoryDisk, Opened,
-    Outlet, Replaceable, create_file, deliver, mark_in,
+    DeliveryError, FileDisk, JournalError, Marks, MarksError, MemoryDisk, Outlet, Replaceable,
+    create_file, deliver,
 };
 use dsn_outcome::Letter;
 use std::alloc::Global;
-use std::fs;
+use std::fs::{self, Files};
 use std::process::Abort;
 use std::snapshot::Snapshot;
 use std::test::Fail;
 
 /// How many bytes the disk of marks has: room for two of them, of 16 bytes each.
 pub(super) const SIZE: usize = 40;
-
-/// A folder of its own, and the file of marks in it.
-const FOLDER: &str = "dsn_journal_marks";
-
-const PATH: &str = "dsn_journal_marks/marks";
 
 /// Takes so many letters, and fails then.
 #[derive(Drop)]
@@ -34,13 +29,12 @@ struct Few {
     failures: u64,
 }
 
-impl Few {
-    fn new(alloc: Global, left: u32) -> Few {
-        Few {
-            left,
-            taken: Vec::new(alloc),
-            failures: 0,
-        }
+/// An outlet that takes so many letters.
+fn takes(alloc: Global, left: u32) -> Few {
+    Few {
+        left,
+        taken: Vec::new(alloc),
+        failures: 0,
     }
 }
 
@@ -59,304 +53,303 @@ impl Outlet for Few {
     }
 }
 
-#[test]
-fn a_last_record_of_another_length_is_no_mark(rt: HostRuntime) -> Result<(), Fail> {
-    let alloc = rt.alloc();
-    for (record, mark) in [
-        (b"\0\0\0\0\0\0\x02\x01".as_slice(), Some(513)),
-        (b"\0\0\0\0\0\x02\x01", None),
-        (b"\0\0\0\0\0\0\0\x02\x01", None),
-        (b"", None),
-    ] {
-        let records = vec![in alloc; b"12345678".to_vec(alloc)?, record.to_vec(alloc)?]?;
-        same(&rt, mark_in(&records), mark);
-    }
-    same(&rt, mark_in(&[]), Some(0));
-    Ok(())
-}
-
 /// A disk with some requests that seal three letters.
 pub(super) fn disk_of_three(alloc: Global, limits: Limits) -> Result<MemoryDisk, Fail> {
-    let disk = MemoryDisk::new(alloc, vec![in alloc; 0; 4_000]?);
-    let Opened { mut ledger, .. } = open_disk(alloc, disk, limits, 0)?;
-    let mut group = make_group(alloc, &generated(alloc, 1, 40)?)?;
-    if ledger.base() > 0 || ledger.book().sealed() > 0 || group.len() > 100 {
-        return Err(Fail::from("not a new disk"));
-    }
-    ledger.apply_all(alloc, &mut group)?;
-    Ok(ledger.into_disk())
-}
-
-/// Opens a disk of marks.
-pub(super) fn open_marks<D: Replaceable + Drop>(alloc: Global, disk: D) -> Result<Marks<D>, Fail> {
-    let marks = match Marks::open(alloc, disk) {
-        Ok(marks) => marks,
-        Err(_left) => return Err(Fail::from("no marks")),
-    };
-    if marks.mark() > 100 {
-        return Err(Fail::from("a late mark"));
-    }
-    Ok(marks)
-}
-
-/// Delivers a letter over marks whose mark is low: what came of it, and the mark then.
-fn deliver_one<D: Replaceable>(
-    alloc: Global,
-    letter: &Letter,
-    outlet: &mut Few,
-    marks: &mut Marks<D>,
-) -> Result<(Result<(), DeliveryError>, u64), Fail> {
-    if marks.mark() > 100 {
-        return Err(Fail::from("a late mark"));
-    }
-    let delivered = deliver(alloc, letter, outlet, marks);
-    Ok((delivered, marks.mark()))
+    disk_after(alloc, 4_000, limits, &generated(alloc, 1, 40)?)
 }
 
 /// The letters of a journal that sealed three.
 fn three_letters(alloc: Global) -> Result<Vec<Letter>, Fail> {
     let limits = Limits::new(6, 4, 100).ok_or("not limits")?;
-    let disk = disk_of_three(alloc, limits)?;
-    Ok(open_disk(alloc, disk, limits, 0)?.letters)
+    let file = bytes_on(&disk_of_three(alloc, limits)?)?;
+    let (_, letters) = book_in(alloc, file, limits, 0)?;
+    Ok(letters)
 }
 
-#[test]
-fn marks_are_kept_and_put_in_place_of_others(rt: HostRuntime) -> Result<(), Fail> {
-    let alloc = rt.alloc();
-    let letters = three_letters(alloc)?;
-    let mut outlet = Few::new(alloc, 3);
-    let mut disk = MemoryDisk::new(alloc, vec![in alloc; 0; SIZE]?);
-    for letter in letters.as_slice() {
-        let mut marks = open_marks(alloc, disk)?;
-        let known = marks.mark();
-        let delivered = deliver_one(alloc, letter, &mut outlet, &mut marks)?;
-        let next = known.wrapping_add(1);
-        same(&rt, delivered, (Ok(()), next));
-        disk = marks.into_disk();
-        // The sync of a mark, or the one call that replaces all, came last.
-        let last = disk.moment();
-        let after = MemoryDisk::new(alloc, disk.crashed(last, u64::MAX)?);
-        same(&rt, open_marks(alloc, after)?.mark(), next);
-        let before = disk.crashed(last.saturating_sub(1), u64::MAX)?;
-        let before = MemoryDisk::new(alloc, before);
-        same(&rt, open_marks(alloc, before)?.mark(), known);
+/// Opens a disk of marks.
+pub(super) fn open_marks<D: Replaceable + Drop>(alloc: Global, disk: D) -> Result<Marks<D>, Fail> {
+    match Marks::open(alloc, disk) {
+        Ok(marks) => Ok(marks),
+        Err(_left) => Err(Fail::from("no marks")),
+    }
+}
+
+/// The mark that a file says.
+pub(super) fn mark_in_file(alloc: Global, file: Vec<u8>) -> Result<u64, Fail> {
+    Ok(open_marks(alloc, MemoryDisk::new(alloc, file))?.mark())
+}
+
+/// What came of a letter: the answer, the mark then, and whether the marks are settled.
+type Came = (Result<(), DeliveryError>, u64, bool);
+
+/// Hands a letter to an outlet, over marks whose mark is low.
+fn deliver_one<D: Replaceable>(
+    alloc: Global,
+    letter: &Letter,
+    outlet: &mut Few,
+    marks: &mut Marks<D>,
+) -> Result<Came, Fail> {
+    if marks.mark() > 100 {
+        return Err(Fail::from("a late mark"));
+    }
+    let answer = deliver(alloc, letter, outlet, marks);
+    Ok((answer, marks.mark(), marks.is_settled()))
+}
+
+/// A letter of three is handed over: which one, the answer, the mark then, how many letters were
+/// taken by then, and how often the outlet has failed.
+type Step = (usize, Result<(), DeliveryError>, u64, usize, u64);
+
+/// Opens marks, and takes a step over them. The disk comes back.
+fn take_step(
+    rt: &impl Abort,
+    alloc: Global,
+    disk: MemoryDisk,
+    outlet: &mut Few,
+    letters: &[Letter],
+    step: Step,
+) -> Result<MemoryDisk, Fail> {
+    let (place, wanted, mark, taken, failures) = step;
+    let letter = letters.get(place).ok_or("no letter")?;
+    let mut marks = open_marks(alloc, disk)?;
+    let came = deliver_one(alloc, letter, outlet, &mut marks)?;
+    same(rt, came, (wanted, mark, true));
+    same(rt, (outlet.taken.len(), outlet.failures), (taken, failures));
+    Ok(marks.into_disk())
+}
+
+/// A crash leaves the mark that was told. Before the last call, the sync of a mark or the one call
+/// that replaces all, it left the mark before.
+fn expect_marked(
+    rt: &impl Abort,
+    alloc: Global,
+    disk: &MemoryDisk,
+    before: u64,
+    mark: u64,
+) -> Result<(), Fail> {
+    let last = disk.moment();
+    for (moment, wanted) in [(last.saturating_sub(1), before), (last, mark)] {
+        let left = crashed(disk, moment, u64::MAX)?;
+        same(rt, mark_in_file(alloc, left)?, wanted);
     }
     Ok(())
 }
+
+/// Takes these steps, over marks of so many bytes and with an outlet that takes so many letters.
+fn take_steps(
+    rt: &impl Abort,
+    alloc: Global,
+    size: usize,
+    left: u32,
+    steps: &[Step],
+) -> Result<(), Fail> {
+    let letters = three_letters(alloc)?;
+    let mut outlet = takes(alloc, left);
+    let mut disk = zeros(alloc, size)?;
+    let mut before = 0;
+    for step in steps {
+        disk = take_step(rt, alloc, disk, &mut outlet, &letters, *step)?;
+        expect_marked(rt, alloc, &disk, before, step.2)?;
+        before = step.2;
+    }
+    Ok(())
+}
+
+const LATE: Result<(), DeliveryError> = Err(DeliveryError::OutOfTurn);
+
+const REFUSED: Result<(), DeliveryError> = Err(DeliveryError::Outlet);
+
+const FULL: Result<(), DeliveryError> = Err(DeliveryError::Marks(JournalError::Full));
+
+/// How many bytes the marks have, how many letters the outlet takes, and the steps.
+const STEPS: [(usize, u32, &[Step]); 6] = [
+    // Letters are marked; the third mark is put in place of the others.
+    (
+        SIZE,
+        3,
+        &[
+            (0, Ok(()), 1, 1, 0),
+            (1, Ok(()), 2, 2, 0),
+            (2, Ok(()), 3, 3, 0),
+        ],
+    ),
+    // A letter is marked in its turn, and once it was taken.
+    (
+        SIZE,
+        2,
+        &[
+            (1, LATE, 0, 0, 0),
+            (0, Ok(()), 1, 1, 0),
+            (0, LATE, 1, 1, 0),
+            (2, LATE, 1, 1, 0),
+            (1, Ok(()), 2, 2, 0),
+            (1, LATE, 2, 2, 0),
+            (2, REFUSED, 2, 2, 1),
+        ],
+    ),
+    // An outlet that fails is asked only for the next letter.
+    (
+        SIZE,
+        0,
+        &[
+            (1, LATE, 0, 0, 0),
+            (0, REFUSED, 0, 0, 1),
+            (2, LATE, 0, 0, 1),
+            (0, REFUSED, 0, 0, 2),
+        ],
+    ),
+    // A letter whose mark has no room isn't taken. The mark 1 has seventeen bytes there: each of its
+    // eight is written as two, and then its end.
+    (0, 2, &[(0, FULL, 0, 0, 0)]),
+    (16, 2, &[(0, FULL, 0, 0, 0)]),
+    (17, 2, &[(0, Ok(()), 1, 1, 0)]),
+];
 
 #[test]
 fn a_letter_is_marked_in_its_turn_and_once_it_was_taken(rt: HostRuntime) -> Result<(), Fail> {
-    let alloc = rt.alloc();
-    let letters = three_letters(alloc)?;
-    let [first, second, third] = letters.as_slice() else {
-        return Err(Fail::from("not three letters"));
+    for (size, left, steps) in STEPS {
+        take_steps(&rt, rt.alloc(), size, left, steps)?;
+    }
+    Ok(())
+}
+
+/// What comes of opening a file of marks: its mark or why it is refused, what it has then, and how
+/// many calls were made.
+type Opened = (Result<u64, MarksError>, Vec<u8>, usize);
+
+fn open_file(alloc: Global, bytes: &[u8]) -> Result<Opened, Fail> {
+    let (came, disk) = match Marks::open(alloc, MemoryDisk::new(alloc, bytes.to_vec(alloc)?)) {
+        Ok(marks) => (Ok(marks.mark()), marks.into_disk()),
+        Err(left) => (Err(left.cause), left.disk),
     };
-    let mut outlet = Few::new(alloc, 2);
-    let disk = MemoryDisk::new(alloc, vec![in alloc; 0; SIZE]?);
-    let mut marks = open_marks(alloc, disk)?;
-    let (late, refused) = (Err(DeliveryError::OutOfTurn), Err(DeliveryError::Outlet));
-    for (letter, wanted, mark) in [
-        (second, late, 0),
-        (first, Ok(()), 1),
-        (first, late, 1),
-        (third, late, 1),
-        (second, Ok(()), 2),
-        (second, late, 2),
-        (third, refused, 2),
-    ] {
-        same(
-            &rt,
-            deliver_one(alloc, letter, &mut outlet, &mut marks)?,
-            (wanted, mark),
-        );
-        // The next run finds the same mark.
-        marks = open_marks(alloc, marks.into_disk())?;
-        same(&rt, (marks.mark(), marks.is_settled()), (mark, true));
-    }
-    same(&rt, (outlet.taken.len(), outlet.failures), (2, 1));
-    Ok(())
+    Ok((came, bytes_on(&disk)?, disk.moment()))
 }
 
-#[test]
-fn an_outlet_that_fails_is_asked_only_for_the_next_letter(rt: HostRuntime) -> Result<(), Fail> {
-    let alloc = rt.alloc();
-    let letters = three_letters(alloc)?;
-    let mut outlet = Few::new(alloc, 0);
-    let disk = MemoryDisk::new(alloc, vec![in alloc; 0; SIZE]?);
-    let mut marks = open_marks(alloc, disk)?;
-    let (late, refused) = (Err(DeliveryError::OutOfTurn), Err(DeliveryError::Outlet));
-    for (place, wanted, failures) in [
-        (1, late, 0),
-        (0, refused, 1),
-        (2, late, 1),
-        (0, refused, 2),
-    ] {
-        let letter = letters.get(place).ok_or("no letter")?;
-        same(
-            &rt,
-            deliver_one(alloc, letter, &mut outlet, &mut marks)?,
-            (wanted, 0),
-        );
-        same(&rt, outlet.failures, failures);
-    }
-    same(&rt, outlet.taken.len(), 0);
-    Ok(())
-}
-
-#[test]
-fn a_letter_whose_mark_has_no_room_is_not_taken(rt: HostRuntime) -> Result<(), Fail> {
-    let alloc = rt.alloc();
-    let letters = three_letters(alloc)?;
-    let first = letters.first().ok_or("no letter")?;
-    let mut outlet = Few::new(alloc, 2);
-    let full = Err(DeliveryError::Marks(JournalError::Full));
-    // The mark 1 has seventeen bytes there: each of its eight is written as two, and then its end.
-    for (size, wanted, mark, taken) in [(0, full, 0, 0), (16, full, 0, 0), (17, Ok(()), 1, 1)] {
-        let disk = MemoryDisk::new(alloc, vec![in alloc; 0; size]?);
-        let mut marks = open_marks(alloc, disk)?;
-        let delivered = deliver_one(alloc, first, &mut outlet, &mut marks)?;
-        same(&rt, (delivered, marks.is_settled()), ((wanted, mark), true));
-        same(&rt, (outlet.taken.len(), outlet.failures), (taken, 0));
-    }
-    Ok(())
-}
-
-#[test]
-fn marks_whose_last_record_is_none_are_not_opened(rt: HostRuntime) -> Result<(), Fail> {
-    let alloc = rt.alloc();
-    // A record, and what a crash left of another one.
-    let bytes = b"1234567\x02rest\0\0\0\0".to_vec(alloc)?;
-    let disk = MemoryDisk::new(alloc, bytes);
-    let Err(left) = Marks::open(alloc, disk) else {
-        return Err(Fail::from("opened"));
-    };
-    same(&rt, left.cause, MarksError::Damaged);
-    // It was synced, and nothing was written.
-    let moment = left.disk.moment();
-    let bytes = left.disk.crashed(moment, 0)?;
-    let wanted = b"1234567\x02rest\0\0\0\0".as_slice();
-    same(&rt, (moment, bytes.as_slice() == wanted), (1, true));
-    Ok(())
-}
-
-/// The mark of a file with these bytes, if it is opened as one of marks, and the disk. One that
-/// isn't is foreign, and stays as it was.
-fn mark_over(
+/// A file of marks is opened with this mark, by a sync, a write and a sync; or it is refused so, once
+/// it was synced, and stays as it was.
+fn expect_opened(
     rt: &impl Abort,
     alloc: Global,
     bytes: &[u8],
-) -> Result<(Option<u64>, MemoryDisk), Fail> {
-    match Marks::open(alloc, MemoryDisk::new(alloc, bytes.to_vec(alloc)?)) {
-        Ok(marks) => {
-            let mark = marks.mark();
-            Ok((Some(mark), marks.into_disk()))
-        }
-        Err(left) => {
-            same(rt, left.cause, MarksError::Foreign);
-            let stands = left.disk.crashed(left.disk.moment(), u64::MAX)?;
-            same(rt, stands.as_slice() == bytes, true);
-            Ok((None, left.disk))
-        }
-    }
+    wanted: Result<u64, MarksError>,
+) -> Result<(), Fail> {
+    let (came, left, moment) = open_file(alloc, bytes)?;
+    same(rt, came, wanted);
+    same(rt, moment, if wanted.is_ok() { 3 } else { 1 });
+    same(rt, wanted.is_ok() || left.as_slice() == bytes, true);
+    Ok(())
 }
+
+/// Files, and the marks that they say.
+const FILES: [(&[u8], Result<u64, MarksError>); 13] = [
+    (b"\0\0\0\0", Ok(0)),
+    (b"", Ok(0)),
+    // The mark 1, whose record is seven zeros and a 1, and what a crash leaves of it.
+    (
+        b"\x01\x01\x01\x01\x01\x01\x01\x01\x01\x01\x01\x01\x01\x01\x01\x02\0\0",
+        Ok(0),
+    ),
+    (
+        b"\0\x01\x01\x01\x01\x01\x01\x01\x01\x01\x01\x01\x01\x01\x01\x02\x02\0",
+        Ok(0),
+    ),
+    (
+        b"\x01\x01\x01\x01\x01\x01\x01\x01\x01\x01\x01\x01\x01\x01\x01\x02\x02\0",
+        Ok(1),
+    ),
+    // The mark 513 behind another record.
+    (
+        b"12345678\x02\x01\x01\x01\x01\x01\x01\x01\x01\x01\x01\x01\x01\x01\x03\x01\x02\x02\0",
+        Ok(513),
+    ),
+    // Files without a record that are foreign.
+    (
+        b"\x01\x01\x01\x01\x01\x01\x01\x01\x01\x01\x01\x01\x01\x01\x01\x03\0\0",
+        Err(MarksError::Foreign),
+    ),
+    (
+        b"\0\0\0\0\0\0\0\0\0\0\0\0\0\0\0\0\0\x02",
+        Err(MarksError::Foreign),
+    ),
+    (b"a text\0\0", Err(MarksError::Foreign)),
+    (b"J", Err(MarksError::Foreign)),
+    // Last records of other lengths, the first with what a crash left of another one.
+    (b"1234567\x02rest\0\0\0\0", Err(MarksError::Damaged)),
+    (b"12345678\x02\x02\0", Err(MarksError::Damaged)),
+    (b"123456789\x02\0", Err(MarksError::Damaged)),
+];
 
 #[test]
 fn marks_are_begun_in_a_new_file_alone(rt: HostRuntime) -> Result<(), Fail> {
-    let alloc = rt.alloc();
-    // The mark 1, whose record is seven zeros and a 1, and what a crash leaves of it.
-    for (bytes, wanted, moment) in [
-        (b"\0\0\0\0".as_slice(), Some(0), 3),
-        (b"", Some(0), 3),
-        (
-            b"\x01\x01\x01\x01\x01\x01\x01\x01\x01\x01\x01\x01\x01\x01\x01\x02\0\0",
-            Some(0),
-            3,
-        ),
-        (
-            b"\0\x01\x01\x01\x01\x01\x01\x01\x01\x01\x01\x01\x01\x01\x01\x02\x02\0",
-            Some(0),
-            3,
-        ),
-        (
-            b"\x01\x01\x01\x01\x01\x01\x01\x01\x01\x01\x01\x01\x01\x01\x01\x02\x02\0",
-            Some(1),
-            3,
-        ),
-        (
-            b"\x01\x01\x01\x01\x01\x01\x01\x01\x01\x01\x01\x01\x01\x01\x01\x03\0\0",
-            None,
-            1,
-        ),
-        (b"\0\0\0\0\0\0\0\0\0\0\0\0\0\0\0\0\0\x02", None, 1),
-        (b"a text\0\0", None, 1),
-        (b"J", None, 1),
-    ] {
-        let (mark, disk) = mark_over(&rt, alloc, bytes)?;
-        // A sync, and where it is opened a write and a sync.
-        same(&rt, (mark, disk.moment()), (wanted, moment));
+    for (bytes, wanted) in FILES {
+        expect_opened(&rt, rt.alloc(), bytes, wanted)?;
     }
     Ok(())
+}
+
+/// A folder of its own, and the file of marks in it.
+const FOLDER: &str = "dsn_journal_marks";
+
+const PATH: &str = "dsn_journal_marks/marks";
+
+/// The file that would take the place of that one.
+const NEXT: &str = "dsn_journal_marks/marks.next";
+
+/// Makes a file of marks with room for one, in a folder of its own.
+pub(super) fn make_marks(rt: &HostRuntime, folder: &str, path: &str) -> Result<(), Fail> {
+    let _ = fs::remove_dir_all(rt, folder);
+    fs::create_dir(rt, folder)?;
+    create_file(rt, path, 17)?;
+    Ok(())
+}
+
+/// Takes steps over a file of marks, which can't be replaced any more after the first: a mark would
+/// take the place of another one by a file that can't be made.
+fn fail_marking<R: Abort + Files, D: Replaceable + Drop>(
+    rt: &R,
+    alloc: Global,
+    disk: D,
+    letters: &[Letter],
+) -> Result<(), Fail> {
+    let failed = Err(DeliveryError::Marks(JournalError::Failed));
+    let unsettled = Err(DeliveryError::Unsettled);
+    let mut outlet = takes(alloc, 3);
+    let mut marks = open_marks(alloc, disk)?;
+    for (place, wanted, settled, taken) in [
+        (0usize, Ok(()), true, 1usize),
+        (1, failed, false, 2),
+        (1, unsettled, false, 2),
+        (0, unsettled, false, 2),
+    ] {
+        let letter = letters.get(place).ok_or("no letter")?;
+        let came = deliver_one(alloc, letter, &mut outlet, &mut marks)?;
+        same(rt, came, (wanted, 1, settled));
+        same(rt, outlet.taken.len(), taken);
+        let _ = fs::create_dir(rt, NEXT);
+    }
+    Ok(())
+}
+
+/// Takes the second step over marks that are opened anew.
+fn mark_second<D: Replaceable + Drop>(
+    alloc: Global,
+    disk: D,
+    letters: &[Letter],
+) -> Result<Came, Fail> {
+    let second = letters.get(1).ok_or("no letter")?;
+    let mut outlet = takes(alloc, 1);
+    let mut marks = open_marks(alloc, disk)?;
+    deliver_one(alloc, second, &mut outlet, &mut marks)
 }
 
 #[test]
 fn marks_whose_disk_failed_are_opened_anew(rt: HostRuntime) -> Result<(), Fail> {
-    let alloc = rt.alloc();
-    let _ = fs::remove_dir_all(&rt, FOLDER);
-    fs::create_dir(&rt, FOLDER)?;
-    create_file(&rt, PATH, 17)?;
-    let letters = three_letters(alloc)?;
-    let [first, second, _] = letters.as_slice() else {
-        return Err(Fail::from("not three letters"));
-    };
-    let mut outlet = Few::new(alloc, 3);
-    let mut marks = open_marks(alloc, FileDisk::open(&rt, PATH)?)?;
-    let failed = Err(DeliveryError::Marks(JournalError::Failed));
-    let unsettled = Err(DeliveryError::Unsettled);
-    for (letter, wanted, mark, taken) in [
-        (first, Ok(()), 1, 1),
-        (second, failed, 1, 2),
-        (second, unsettled, 1, 2),
-        (first, unsettled, 1, 2),
-    ] {
-        same(
-            &rt,
-            deliver_one(alloc, letter, &mut outlet, &mut marks)?,
-            (wanted, mark),
-        );
-        same(&rt, outlet.taken.len(), taken);
-        // The next mark would take the place of this one, by a file that can't be made any more.
-        let _ = fs::create_dir(&rt, "dsn_journal_marks/marks.next");
-    }
-    drop(marks.into_disk());
-    fs::remove_dir(&rt, "dsn_journal_marks/marks.next")?;
-    let mut marks = open_marks(alloc, FileDisk::open(&rt, PATH)?)?;
-    let delivered = deliver_one(alloc, second, &mut outlet, &mut marks)?;
-    same(&rt, delivered, (Ok(()), 2));
+    make_marks(&rt, FOLDER, PATH)?;
+    let letters = three_letters(rt.alloc())?;
+    fail_marking(&rt, rt.alloc(), FileDisk::open(&rt, PATH)?, &letters)?;
+    fs::remove_dir(&rt, NEXT)?;
+    let came = mark_second(rt.alloc(), FileDisk::open(&rt, PATH)?, &letters)?;
+    same(&rt, came, (Ok(()), 2, true));
     fs::remove_dir_all(&rt, FOLDER)?;
-    Ok(())
-}
-
-#[test]
-fn a_mark_of_more_letters_is_refused(rt: HostRuntime) -> Result<(), Fail> {
-    let alloc = rt.alloc();
-    let limits = Limits::new(6, 4, 100).ok_or("not limits")?;
-    let ahead = Some(LedgerError::MarkAhead);
-    let new = MemoryDisk::new(alloc, vec![in alloc; 0; 4_000]?);
-    let (refused, disk) = refusal(alloc, new, limits, 1);
-    same(&rt, refused, ahead);
-    // It was synced, and no header was written.
-    let left = disk.crashed(disk.moment(), 0)?;
-    same(&rt, (disk.moment(), left.contains(&74)), (1, false));
-    let mut disk = disk_of_three(alloc, limits)?;
-    for (mark, left) in [(0, 3), (2, 1), (3, 0)] {
-        let Opened { ledger, letters } = open_disk(alloc, disk, limits, mark)?;
-        same(&rt, letters.len(), left);
-        disk = ledger.into_disk();
-    }
-    for mark in [4, u64::MAX] {
-        let (refused, then) = refusal(alloc, disk, limits, mark);
-        same(&rt, refused, ahead);
-        disk = then;
-    }
     Ok(())
 }

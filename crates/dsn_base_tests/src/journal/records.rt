@@ -1,90 +1,109 @@
-//! Records: their bytes on a disk, what is read of bytes that a crash left, and a journal that is
-//! full.
+//! Records: their bytes on a disk, behind others and in place of them, what is read of bytes that a
+//! crash left, and a journal that is full.
+use super::disks::{Place, bytes_on, put, records_in};
 use crate::assert_same::same;
-use dsn_journal::{Disk, Journal, JournalError, MemoryDisk, recover};
+use dsn_journal::MemoryDisk;
 use std::alloc::Global;
+use std::process::Abort;
 use std::test::Fail;
 
-/// The records of a disk with these bytes.
-fn records_of(alloc: Global, bytes: &[u8]) -> Result<Vec<Vec<u8>>, JournalError> {
-    let mut disk = MemoryDisk::new(alloc, bytes.to_vec(alloc)?);
-    Ok(recover(alloc, &mut disk)?.records)
+/// Records as a journal takes them.
+pub(super) fn group_of(alloc: Global, records: &[&[u8]]) -> Result<Vec<Vec<u8>>, Fail> {
+    let mut group = Vec::new(alloc);
+    for record in records {
+        group.push(record.to_vec(alloc)?)?;
+    }
+    Ok(group)
 }
 
-/// Adds a group to the records of a disk, and gives the bytes that stand there then.
-fn appended(alloc: Global, bytes: &[u8], group: &[Vec<u8>]) -> Result<Vec<u8>, JournalError> {
-    let mut disk = MemoryDisk::new(alloc, bytes.to_vec(alloc)?);
-    let used = recover(alloc, &mut disk)?.used;
-    let mut journal = Journal { disk, used };
-    journal.append_all(alloc, group)?;
-    let mut left = vec![in alloc; 0; journal.disk.size()]?;
-    journal.disk.read(&mut left)?;
-    Ok(left)
-}
-
-/// A group of two records.
-fn two(alloc: Global, first: &[u8], second: &[u8]) -> Result<Vec<Vec<u8>>, Fail> {
-    Ok(vec![in alloc; first.to_vec(alloc)?, second.to_vec(alloc)?]?)
-}
-
-#[test]
-fn records_stand_one_after_another(rt: HostRuntime) -> Result<(), Fail> {
-    let alloc = rt.alloc();
-    let group = two(alloc, b"AB", b"")?;
-    let bytes = appended(alloc, &[67, 2, 0, 0, 0, 0, 0], &group)?;
-    same(&rt, bytes.as_slice(), [67, 2, 65, 66, 2, 2, 0].as_slice());
-    Ok(())
-}
-
-#[test]
-fn bytes_that_mean_something_else_are_escaped(rt: HostRuntime) -> Result<(), Fail> {
-    let alloc = rt.alloc();
-    let group = two(alloc, &[0, 1, 2, 3], &[255])?;
-    let bytes = appended(alloc, &[0; 12], &group)?;
-    same(
-        &rt,
-        bytes.as_slice(),
-        [1, 1, 1, 2, 1, 3, 3, 2, 255, 2, 0, 0].as_slice(),
-    );
-    let read = records_of(alloc, &bytes)?;
-    same(&rt, read == group, true);
-    Ok(())
-}
-
-#[test]
-fn what_a_crash_left_in_part_is_cleared(rt: HostRuntime) -> Result<(), Fail> {
-    let alloc = rt.alloc();
-    for torn in [
-        [65, 2, 66, 0, 2, 67, 2],
-        [65, 2, 66, 67, 68, 69, 70],
-        [65, 2, 1, 0, 2, 67, 2],
-        [65, 2, 1, 4, 2, 67, 2],
-    ] {
-        let group = two(alloc, b"X", b"")?;
-        let bytes = appended(alloc, &torn, &group)?;
-        same(&rt, bytes.as_slice(), [65, 2, 88, 2, 2, 0, 0].as_slice());
+/// These records are put on a disk with these bytes, which then has others, and gives them back last
+/// of all; or it has no room for them.
+fn expect_put(
+    rt: &impl Abort,
+    alloc: Global,
+    before: &[u8],
+    place: Place,
+    records: &[&[u8]],
+    after: Option<&[u8]>,
+) -> Result<(), Fail> {
+    let group = group_of(alloc, records)?;
+    let disk = MemoryDisk::new(alloc, before.to_vec(alloc)?);
+    let (disk, has_room) = put(alloc, disk, &group, place)?;
+    same(rt, has_room, after.is_some());
+    if let Some(after) = after {
+        let bytes = bytes_on(&disk)?;
+        same(rt, bytes.as_slice(), after);
+        same(rt, records_in(alloc, bytes)?.ends_with(&group), true);
     }
     Ok(())
 }
 
+/// Records behind those of a disk: its bytes before and after.
+const BEHIND: [(&[u8], &[&[u8]], Option<&[u8]>); 9] = [
+    (
+        &[67, 2, 0, 0, 0, 0, 0],
+        &[b"AB", b""],
+        Some(&[67, 2, 65, 66, 2, 2, 0]),
+    ),
+    // Bytes that mean something else are escaped.
+    (
+        &[0; 12],
+        &[&[0, 1, 2, 3], &[255]],
+        Some(&[1, 1, 1, 2, 1, 3, 3, 2, 255, 2, 0, 0]),
+    ),
+    // What a crash left in part is cleared.
+    (
+        &[65, 2, 66, 0, 2, 67, 2],
+        &[b"X", b""],
+        Some(&[65, 2, 88, 2, 2, 0, 0]),
+    ),
+    (
+        &[65, 2, 66, 67, 68, 69, 70],
+        &[b"X", b""],
+        Some(&[65, 2, 88, 2, 2, 0, 0]),
+    ),
+    (
+        &[65, 2, 1, 0, 2, 67, 2],
+        &[b"X", b""],
+        Some(&[65, 2, 88, 2, 2, 0, 0]),
+    ),
+    (
+        &[65, 2, 1, 4, 2, 67, 2],
+        &[b"X", b""],
+        Some(&[65, 2, 88, 2, 2, 0, 0]),
+    ),
+    // A journal that is just full, and two that have no room.
+    (&[0; 5], &[b"AB", b"C"], Some(&[65, 66, 2, 67, 2])),
+    (&[0; 4], &[b"AB", b"C"], None),
+    (&[65, 2, 0, 0, 0, 0], &[b"AB", b"C"], None),
+];
+
 #[test]
-fn a_full_journal_refuses_and_stays(rt: HostRuntime) -> Result<(), Fail> {
-    let alloc = rt.alloc();
-    let fits = two(alloc, b"AB", b"C")?;
-    same(
-        &rt,
-        appended(alloc, &[0; 5], &fits)?.as_slice(),
-        [65, 66, 2, 67, 2].as_slice(),
-    );
-    same(
-        &rt,
-        appended(alloc, &[0; 4], &fits).err(),
-        Some(JournalError::Full),
-    );
-    same(
-        &rt,
-        appended(alloc, &[65, 2, 0, 0, 0, 0], &fits).err(),
-        Some(JournalError::Full),
-    );
+fn records_stand_one_after_another(rt: HostRuntime) -> Result<(), Fail> {
+    for (before, records, after) in BEHIND {
+        expect_put(&rt, rt.alloc(), before, Place::Behind, records, after)?;
+    }
+    Ok(())
+}
+
+/// A disk with the records `A` and `BC`, and room for one more byte.
+pub(super) const OLD: [u8; 6] = [65, 2, 66, 67, 2, 0];
+
+#[test]
+fn new_records_fill_the_disk(rt: HostRuntime) -> Result<(), Fail> {
+    for (records, after) in [
+        ([].as_slice(), Some([0; 6].as_slice())),
+        (
+            [b"D".as_slice()].as_slice(),
+            Some([68, 2, 0, 0, 0, 0].as_slice()),
+        ),
+        (
+            [b"DEFGH".as_slice()].as_slice(),
+            Some([68, 69, 70, 71, 72, 2].as_slice()),
+        ),
+        ([b"DEFGHI".as_slice()].as_slice(), None),
+    ] {
+        expect_put(&rt, rt.alloc(), &OLD, Place::Instead, records, after)?;
+    }
     Ok(())
 }

@@ -1,11 +1,11 @@
 //! Snapshots: their records, and the book that is opened over them, which goes on as the old one
 //! does.
-use super::ledgers::{carry_out, make_group, open_disk};
+use super::disks::{Place, book_in, bytes_on, disk_after, make_group, put, records_in};
 use crate::assert_same::same;
 use crate::book::books::histories::{generated, scripted};
 use crate::book::books::plain::Ask;
 use dsn_book::{Book, Limits};
-use dsn_journal::{Journal, MemoryDisk, recover, write_snapshot};
+use dsn_journal::write_snapshot;
 use dsn_outcome::{Letter, Reply};
 use std::alloc::Global;
 use std::process::Abort;
@@ -38,13 +38,9 @@ fn apply_asks(rt: &impl Abort, alloc: Global, book: &mut Book, asks: &[Ask]) -> 
 
 /// The book that is opened over a disk with these records.
 fn opened_over(alloc: Global, limits: Limits, records: &[Vec<u8>]) -> Result<Book, Fail> {
-    let disk = MemoryDisk::new(alloc, vec![in alloc; 0; SIZE]?);
-    let mut disk = open_disk(alloc, disk, limits, 0)?.ledger.into_disk();
-    let used = recover(alloc, &mut disk)?.used;
-    let mut journal = Journal { disk, used };
-    journal.append_all(alloc, records)?;
-    let Journal { disk, used: _ } = journal;
-    Ok(open_disk(alloc, disk, limits, 0)?.ledger.into_book())
+    let disk = disk_after(alloc, SIZE, limits, &[])?;
+    let (disk, _) = put(alloc, disk, records, Place::Behind)?;
+    Ok(book_in(alloc, bytes_on(&disk)?, limits, 0)?.0)
 }
 
 /// Whom a letter goes to, and its recipients, in their order.
@@ -167,9 +163,8 @@ fn books_over_snapshots_go_on(rt: HostRuntime) -> Result<(), Fail> {
 
 /// The records of a disk on which what is asked was kept.
 fn records_after(alloc: Global, limits: Limits, asks: &[Ask]) -> Result<Vec<Vec<u8>>, Fail> {
-    let disk = MemoryDisk::new(alloc, vec![in alloc; 0; SIZE]?);
-    let (mut disk, _replies) = carry_out(alloc, disk, limits, make_group(alloc, asks)?)?;
-    Ok(recover(alloc, &mut disk)?.records)
+    let disk = disk_after(alloc, SIZE, limits, asks)?;
+    records_in(alloc, bytes_on(&disk)?)
 }
 
 /// A letter of two outcomes whose key was forgotten, an open log of two outcomes, and a closed key:

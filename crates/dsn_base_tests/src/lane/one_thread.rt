@@ -1,11 +1,12 @@
 //! Lanes by one thread: the order of what is taken, and what a close counts.
-ghost use Rattle.std.specs.Prelude.{◌≡◌};
+ghost use Rattle.std.specs.Prelude.{◌≡◌, ◌≤◌};
 
 use crate::assert_same::same;
 use crate::lane::hands::{last_half, opened, put_by, shut};
 use crate::lane::item::{Item, send_many, send_next, take_many};
 use dsn_crew::{LaneIn, LaneOut};
 use std::alloc::Global;
+use std::process::Abort;
 use std::sync::Wait;
 use std::test::Fail;
 
@@ -21,22 +22,7 @@ fn item(agent: u32, number: u32) -> Item {
     Item { agent, number }
 }
 
-/// Closes the lane of one agent, and says what its close counts.
-fn shut_one(
-    rt: &impl Wait,
-    alloc: Global,
-    half: LaneIn<Item>,
-    out: LaneOut<Item>,
-) -> Option<(u64, u64)>
-    requires lane { half.lane ≡ out.lane }
-    requires agents { (out.first ≡ 0) × (out.past ≡ 1) }
-{
-    let mut used = Vec::new(alloc);
-    put_by(&mut used, &out, half)?;
-    shut(rt, used, out, 1)
-}
-
-/// The same of a lane of two agents.
+/// Closes the lane of two agents, and says what its close counts.
 fn shut_two(
     rt: &impl Wait,
     alloc: Global,
@@ -78,32 +64,31 @@ fn run_two(rt: &impl Wait, alloc: Global, takes: u32) -> Option<Ran> {
     sent.then_some(Ran { items, counts })
 }
 
-/// One agent of a lane for two items sends two, and one is taken.
-fn run_one(rt: &impl Wait, alloc: Global) -> Option<Ran> {
-    let mut items = Vec::new(alloc);
-    let (mut halves, mut out) = opened(rt, alloc, 1, 2)?;
-    let mut half = last_half(&mut halves, &out, 1)?;
-    let sent = send_many(rt, &mut half, 0, 2);
-    take_many(rt, &mut out, &mut items, 1).ok()?;
-    let counts = shut_one(rt, alloc, half, out)?;
-    sent.then_some(Ran { items, counts })
-}
-
-/// Sixteen agents of a lane for one item, the last one first, send one item each, and each is
-/// taken before the next is sent.
-fn run_sixteen(rt: &impl Wait, alloc: Global) -> Option<Ran> {
-    let (mut halves, mut out) = opened(rt, alloc, 16, 1)?;
+/// The agents of a lane take turns, the last one first: each sends so many items, and so many are
+/// taken before the next one's turn.
+fn run_turns(
+    rt: &impl Wait,
+    alloc: Global,
+    agents: u32,
+    capacity: u32,
+    sends: u32,
+    takes: u32,
+) -> Option<Ran>
+    requires agents { (1 ≤ agents) × (agents ≤ 16) }
+    requires capacity { (1 ≤ capacity) × (capacity ≤ 1024) }
+{
+    let (mut halves, mut out) = opened(rt, alloc, agents, capacity)?;
     let mut used = Vec::new(alloc);
     let mut items = Vec::new(alloc);
-    for turn in 0..16u32 {
-        let mut half = last_half(&mut halves, &out, 16 - turn)?;
-        if !send_next(rt, &mut half, 15 - turn) {
+    for turn in 0..agents {
+        let mut half = last_half(&mut halves, &out, agents - turn)?;
+        if !send_many(rt, &mut half, agents - 1 - turn, sends) {
             return None;
         }
-        take_many(rt, &mut out, &mut items, 1).ok()?;
+        take_many(rt, &mut out, &mut items, takes).ok()?;
         put_by(&mut used, &out, half)?;
     }
-    let counts = shut(rt, used, out, 16)?;
+    let counts = shut(rt, used, out, agents)?;
     Some(Ran { items, counts })
 }
 
@@ -118,16 +103,27 @@ fn lane_by_one_thread(rt: HostRuntime) -> Result<(), Fail> {
     Ok(())
 }
 
-#[test]
-fn lane_of_sixteen(rt: HostRuntime) -> Result<(), Fail> {
-    let ran = run_sixteen(&rt, rt.alloc()).expect(&rt, "it runs");
-    same(&rt, ran.counts, (16, 0));
-    same(&rt, ran.items.len(), 16);
-    for (agent, taken) in (0..16u32).rev().zip(ran.items.iter()) {
-        same(&rt, *taken, item(agent, 0));
+/// So many items were taken of each agent, the last one first, and so many waited at the close.
+fn expect_turns(rt: &impl Abort, ran: &Ran, agents: u32, takes: u32, waiting: u64) {
+    let taken = u64::from(agents).wrapping_mul(u64::from(takes));
+    same(rt, ran.counts, (taken, waiting));
+    same(rt, ran.items.len() as u64, taken);
+    for (agent, taken) in (0..agents).rev().zip(ran.items.iter()) {
+        same(rt, *taken, item(agent, 0));
     }
-    let ran = run_one(&rt, rt.alloc()).expect(&rt, "it runs");
-    same(&rt, ran.items.as_slice(), [item(0, 0)].as_slice());
-    same(&rt, ran.counts, (1, 1));
+}
+
+#[test]
+fn lanes_by_turns(rt: HostRuntime) -> Result<(), Fail> {
+    for (agents, capacity, sends, takes, waiting) in [
+        (16, 1, 1, 1, 0),
+        (1, 2, 2, 1, 1),
+        // The largest lane is filled, while nobody takes.
+        (16, 1024, 64, 0, 1024),
+    ] {
+        let ran = run_turns(&rt, rt.alloc(), agents, capacity, sends, takes);
+        let ran = ran.expect(&rt, "it runs");
+        expect_turns(&rt, &ran, agents, takes, waiting);
+    }
     Ok(())
 }

@@ -9,4 +9,8 @@ mod crew;
 #[cfg(test)]
 mod desk;
 #[cfg(test)]
+mod ledgers;
+#[cfg(test)]
+mod open_logs;
+#[cfg(test)]
 mod refusing;

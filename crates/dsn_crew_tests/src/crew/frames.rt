@@ -2,72 +2,64 @@
 use std::alloc::Global;
 use std::test::Fail;
 
-/// What a client sends, frame by frame.
-#[derive(Drop)]
-pub(super) struct Frames {
-    pub(super) bytes: Vec<u8>,
-}
+/// What a frame of an append has after its recipient: it failed, with status 5.0.0.
+const FAILED: &[u8] = b"\x01\0\x055.0.0\0\0\0\0\0\0";
 
-impl Frames {
-    /// No frames.
-    pub(super) fn new(alloc: Global) -> Frames {
-        Frames {
-            bytes: Vec::new(alloc),
-        }
-    }
+/// What a frame of a flush has after its queue id: moment 1700000000, arrival 1699996400 and the
+/// return path `ann@example.com`.
+const TO_ANN: &[u8] =
+    b"\0\0\0\0\x65\x53\xf1\0\0\0\0\0\x65\x53\xe2\xf0\0\x0fann@example.com\0\0\0\0";
 
-    /// An append of a failed recipient, status 5.0.0, to this bounce log.
-    pub(super) fn append(
-        &mut self,
-        alloc: Global,
-        number: u32,
-        message: &[u8],
-        recipient: &[u8],
-    ) -> Result<(), Fail> {
-        let mut body = head(alloc, 1, number, message)?;
-        push_text(&mut body, b"")?;
-        push_text(&mut body, recipient)?;
-        body.push(1)?;
-        push_text(&mut body, b"5.0.0")?;
-        body.extend_from_slice(&[0; 6])?;
-        self.push(&body)
-    }
-
-    /// A flush of this bounce log, with moment 1700000000, arrival 1699996400 and the return path
-    /// `ann@example.com`.
-    pub(super) fn flush(&mut self, alloc: Global, number: u32, message: &[u8]) -> Result<(), Fail> {
-        let mut body = head(alloc, 2, number, message)?;
-        body.extend_from_slice(&1_700_000_000u64.to_be_bytes())?;
-        body.extend_from_slice(&1_699_996_400u64.to_be_bytes())?;
-        push_text(&mut body, b"ann@example.com")?;
-        body.extend_from_slice(&[0; 4])?;
-        self.push(&body)
-    }
-
-    fn push(&mut self, body: &[u8]) -> Result<(), Fail> {
-        let size = u32::try_from(body.len())
-            .ok()
-            .ok_or("the body is too long")?;
-        self.bytes.extend_from_slice(&size.to_be_bytes())?;
-        self.bytes.extend_from_slice(body)?;
-        Ok(())
-    }
-}
-
-/// What all bodies begin with.
-fn head(alloc: Global, kind: u8, number: u32, message: &[u8]) -> Result<Vec<u8>, Fail> {
-    let mut body = vec![in alloc; 1, kind]?;
-    body.extend_from_slice(&number.to_be_bytes())?;
-    body.push(1)?;
-    push_text(&mut body, message)?;
-    Ok(body)
-}
-
-fn push_text(body: &mut Vec<u8>, text: &[u8]) -> Result<(), Fail> {
-    let size = u16::try_from(text.len())
-        .ok()
-        .ok_or("the text is too long")?;
-    body.extend_from_slice(&size.to_be_bytes())?;
-    body.extend_from_slice(text)?;
+/// Adds an append of a failed recipient, of less than 200 bytes, to the bounce log of this message.
+pub(super) fn push_append(
+    frames: &mut Vec<u8>,
+    number: u32,
+    message: [u8; 2],
+    recipient: &[u8],
+) -> Result<(), Fail> {
+    let size = recipient.len().min(200) as u8;
+    let [a, b, c, d] = number.to_be_bytes();
+    let [e, f] = message;
+    frames.extend_from_slice(&[
+        0,
+        0,
+        0,
+        29 + size,
+        1,
+        1,
+        a,
+        b,
+        c,
+        d,
+        1,
+        0,
+        2,
+        e,
+        f,
+        0,
+        0,
+        0,
+        size,
+    ])?;
+    frames.extend_from_slice(recipient)?;
+    frames.extend_from_slice(FAILED)?;
     Ok(())
+}
+
+/// Adds a flush of the bounce log of this message.
+pub(super) fn push_flush(frames: &mut Vec<u8>, number: u32, message: [u8; 2]) -> Result<(), Fail> {
+    let [a, b, c, d] = number.to_be_bytes();
+    let [e, f] = message;
+    frames.extend_from_slice(&[0, 0, 0, 48, 1, 2, a, b, c, d, 1, 0, 2, e, f])?;
+    frames.extend_from_slice(TO_ANN)?;
+    Ok(())
+}
+
+/// So many appends of `x@y` to the bounce log of this message.
+pub(super) fn appends(alloc: Global, count: u32, message: [u8; 2]) -> Result<Vec<u8>, Fail> {
+    let mut frames = Vec::new(alloc);
+    for number in 0..count {
+        push_append(&mut frames, number, message, b"x@y")?;
+    }
+    Ok(frames)
 }

@@ -1,6 +1,5 @@
 //! What clients of a crew hear, for tests: the answers that are written to connections in memory.
-use super::frames::Frames;
-use super::memory_port::{MemoryPort, Text};
+use super::memory_port::{MemoryPort, port};
 use crate::assert_same::same;
 use std::alloc::Global;
 use std::process::Abort;
@@ -37,40 +36,28 @@ impl Heard {
     }
 }
 
-/// Nothing so far of two connections, with room for so many answers and one more each.
-pub(super) fn two_heard(alloc: Global, first: usize, second: usize) -> Result<[Heard; 2], Fail> {
-    let first = Heard::new(alloc, first)?;
-    let second = Heard::new(alloc, second)?;
-    Ok([first, second])
-}
-
-/// A port with one connection, over which this is sent, and which keeps what is heard.
-fn port_heard<'a>(
+/// Nothing so far of so many connections, with room for so many answers and one more each.
+pub(super) fn heard_of(
     alloc: Global,
-    frames: &'a Frames,
-    heard: &'a Heard,
-) -> Result<MemoryPort<'a>, Fail> {
-    let mut texts = Vec::new(alloc);
-    texts.push(Text {
-        bytes: frames.bytes.as_slice(),
-        good: true,
-        heard: heard.room.as_slice(),
-    })?;
-    Ok(MemoryPort {
-        texts: texts.into_iter(),
-        fails: false,
-    })
+    connections: usize,
+    answers: usize,
+) -> Result<Vec<Heard>, Fail> {
+    let mut all = Vec::new(alloc);
+    for _ in 0..connections {
+        all.push(Heard::new(alloc, answers)?)?;
+    }
+    Ok(all)
 }
 
 /// Ports with one connection each, over which this is sent, and which keep what is heard.
 pub(super) fn ports_heard<'a>(
     alloc: Global,
-    all: &'a [Frames],
+    all: &'a [Vec<u8>],
     heard: &'a [Heard],
 ) -> Result<Vec<MemoryPort<'a>>, Fail> {
     let mut ports = Vec::new(alloc);
     for (frames, heard) in all.iter().zip(heard) {
-        ports.push(port_heard(alloc, frames, heard)?)?;
+        ports.push(port(alloc, frames.as_slice(), heard.room.as_slice())?)?;
     }
     Ok(ports)
 }
@@ -84,8 +71,8 @@ pub(super) fn answer(reply: u8, number: u32, value: u32) -> [u8; ANSWER] {
 
 /// Asserts that answers begin with so many Logged, numbered from 0, whose places rise and are below
 /// `places`, and gives what comes after them.
-pub(super) fn after_logged<'a, R: Abort>(
-    rt: &R,
+pub(super) fn after_logged<'a>(
+    rt: &impl Abort,
     answers: &'a [u8],
     count: u32,
     places: u32,

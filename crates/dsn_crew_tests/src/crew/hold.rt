@@ -8,7 +8,7 @@ use std::time::{Clock, Duration};
 const TURNS: u32 = 10_000;
 
 /// What is held, and until when.
-#[derive(Clone, Copy, Debug)]
+#[derive(Clone, Copy)]
 pub(super) struct Until {
     /// The agents below this one are held,
     pub(super) agents: u32,
@@ -22,7 +22,20 @@ pub(super) struct Until {
     pub(super) to: u32,
     /// and the outbox was written to so often.
     pub(super) written: u64,
+    /// The outbox's first write is held until so many requests were answered to that agent.
+    pub(super) write: u64,
 }
+
+/// Nothing is held.
+pub(super) const FREE: Until = Until {
+    agents: 0,
+    number: 0,
+    begun: 0,
+    answered: 0,
+    to: 0,
+    written: 0,
+    write: 0,
+};
 
 /// The gate, with what it has seen.
 #[derive(Drop)]
@@ -66,11 +79,10 @@ impl<R: Clock> Hold<'_, R> {
         self.ran_out.fetch_add(1, Ordering::SeqCst);
     }
 
-    /// Called where a write to the outbox begins: the first one waits until so many requests were
-    /// answered.
-    pub(super) fn before_write(&self, answered: u64) {
+    /// Called where a write to the outbox begins.
+    pub(super) fn before_write(&self) {
         if self.written.fetch_add(1, Ordering::SeqCst) == 0 {
-            self.wait(&self.answered, answered);
+            self.wait(&self.answered, self.until.write);
         }
     }
 }

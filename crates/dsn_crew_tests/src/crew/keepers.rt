@@ -1,21 +1,20 @@
 //! Crews over keepers that refuse a request for want of room: the run ends with 45, and the keeper
 //! comes back, with the logs that are open. Over a ledger what was answered is found again once its
 //! disk is opened anew.
-ghost use Rattle.std.specs.Prelude.{◌^◌, ◌<◌, [], List, IfOk};
+ghost use Rattle.std.specs.Prelude.{◌^◌, ◌<◌, List};
 ghost use Rattle.dsn_crew.specs.desk.Desk.{BeginsWith};
-ghost use Rattle.dsn_journal.specs.OpenLedger.{AwaitsRequests};
 ghost use Rattle.dsn_outcome.specs.History.{Exchange};
 
-use super::frames::Frames;
-use super::whole_crew::{open as open_line, outbox, port};
+use super::frames::push_append;
+use super::memory_port::{MemoryPort, only_port};
 use crate::assert_same::same;
+use crate::ledgers::{open_disk, outcomes_on};
+use crate::open_logs::expect_open;
 use crate::refusing::Refusing;
 use dsn_book::{Book, Keeper, Limits, NotKept};
 use dsn_crew::{Account, CrewCause, CrewFault, NoGate, run_crew_over};
-use dsn_journal::{
-    Disk, KeptBook, Ledger, MemoryDisk, ledgers_have_earlier_histories, ledgers_have_one_history,
-    open,
-};
+use dsn_device::Plain;
+use dsn_journal::{KeptBook, MemoryDisk, ledgers_have_earlier_histories, ledgers_have_one_history};
 use dsn_report::{Outgoing, Site};
 use std::alloc::Global;
 use std::sync::Wait;
@@ -26,15 +25,35 @@ use std::thread::Threads;
 const NO_ROOM: CrewCause = CrewCause::Unkept(NotKept::Full);
 
 /// Two appends to one log, over one connection.
-fn two_appends(alloc: Global) -> Result<Frames, Fail> {
-    let mut frames = Frames::new(alloc);
-    frames.append(alloc, 0, b"K1", b"bob@example.org")?;
-    frames.append(alloc, 1, b"K1", b"eve@example.org")?;
+fn two_appends(alloc: Global) -> Result<Vec<u8>, Fail> {
+    let mut frames = Vec::new(alloc);
+    push_append(&mut frames, 0, *b"K1", b"bob@example.org")?;
+    push_append(&mut frames, 1, *b"K1", b"eve@example.org")?;
     Ok(frames)
 }
 
-/// Runs a crew of one agent, who appends twice to one log: why the run ended with a fault, if it
-/// did, and the keeper.
+/// Why a run ended with a fault, if it did, and the keeper that it handed back.
+type Ended<B> = (Option<CrewCause>, Option<B>);
+
+/// Runs a crew over these ports and this keeper.
+fn run_ports<R: Threads + Wait + Sync, B: Keeper + Drop>(
+    rt: &R,
+    alloc: Global,
+    keeper: B,
+    ports: Vec<MemoryPort<'_>>,
+    site: Site,
+) -> Ended<B>
+    requires few { B.sealed keeper < 2 ^ 63 }
+    requires begins { (before : List Exchange) × BeginsWith B.Keeper keeper before }
+{
+    let outgoing = Outgoing::new(site, Plain::new(Vec::new(alloc)));
+    match run_crew_over(rt, alloc, keeper, ports, outgoing, &NoGate) {
+        Ok(Account { book, .. }) => (None, Some(book)),
+        Err(CrewFault { cause, book, .. }) => (Some(cause), book),
+    }
+}
+
+/// Runs a crew of one agent, who appends twice to one log.
 fn run_keeper<R: Threads + Wait + Sync, B: Keeper + Drop>(
     rt: &R,
     alloc: Global,
@@ -44,27 +63,10 @@ fn run_keeper<R: Threads + Wait + Sync, B: Keeper + Drop>(
     requires begins { (before : List Exchange) × BeginsWith B.Keeper keeper before }
 {
     let frames = two_appends(alloc)?;
-    let mut ports = Vec::new(alloc);
-    ports.push(port(alloc, &[(frames.bytes.as_slice(), true)], false)?)?;
+    let ports = only_port(alloc, &frames)?;
     let site = Site::new(alloc, b"mx.example.net")?;
-    let outbox = outbox(alloc, usize::MAX);
-    match run_crew_over(
-        rt,
-        alloc,
-        keeper,
-        ports,
-        Outgoing::new(site, outbox),
-        &NoGate,
-    ) {
-        Ok(account) => {
-            let Account { book, .. } = account;
-            Ok((None, book))
-        }
-        Err(fault) => {
-            let CrewFault { cause, book, .. } = fault;
-            Ok((Some(cause), book.ok_or("nothing is handed back")?))
-        }
-    }
+    let (cause, keeper) = run_ports(rt, alloc, keeper, ports, site);
+    Ok((cause, keeper.ok_or("nothing is handed back")?))
 }
 
 /// What comes of a keeper that keeps one request and no more.
@@ -80,21 +82,9 @@ fn run_refusing<R: Threads + Wait + Sync>(
 #[test]
 fn refused_request_ends_a_crew(rt: HostRuntime) -> Result<(), Fail> {
     let (cause, keeper) = run_refusing(&rt, rt.alloc())?;
-    let want = [open_line(b"K1", 1)?];
     same(&rt, (cause, keeper.left), (Some(NO_ROOM), 0));
     let logs = keeper.book.open_lines(rt.alloc())?;
-    same(&rt, logs.as_slice(), want.as_slice());
-    Ok(())
-}
-
-/// Opens a disk that is to be opened.
-fn open_disk<D: Disk + Drop>(alloc: Global, disk: D, limits: Limits) -> Result<Ledger<D>, Fail>
-    ensures none { IfOk result (λ ledger. AwaitsRequests D.Disk ledger []) }
-{
-    match open(alloc, disk, limits, 0) {
-        Ok(opened) => Ok(opened.ledger),
-        Err(_left) => Err(Fail::from("not opened")),
-    }
+    expect_open(&rt, &logs, &[*b"K1"], 1)
 }
 
 /// What comes of a ledger over a new disk of so many bytes, and the disk.
@@ -103,9 +93,8 @@ fn run_over_disk<R: Threads + Wait + Sync>(
     alloc: Global,
     size: usize,
 ) -> Result<(Option<CrewCause>, MemoryDisk), Fail> {
-    let limits = Limits::new(8, 8, 8).ok_or("limits")?;
     let disk = MemoryDisk::new(alloc, vec![in alloc; 0; size]?);
-    let ledger = open_disk(alloc, disk, limits)?;
+    let ledger = open_disk(alloc, disk).ok_or("not opened")?;
     if !ledger.is_settled() || ledger.base() > 0 || ledger.book().sealed() > 1_000 {
         return Err(Fail::from("not new"));
     }
@@ -116,27 +105,30 @@ fn run_over_disk<R: Threads + Wait + Sync>(
     Ok((cause, left.into_ledger().into_disk()))
 }
 
-/// How many outcomes are in the log that a disk has open.
-fn outcomes_on(alloc: Global, disk: MemoryDisk) -> Result<u32, Fail> {
-    let limits = Limits::new(8, 8, 8).ok_or("limits")?;
-    let ledger = open_disk(alloc, disk, limits)?;
-    let logs = ledger.book().open_lines(alloc)?;
-    Ok(logs.first().map_or(0, |log| log.count))
+/// Which of the things that can come of a run came, of these many: there is no room for the first
+/// append, for the second, for the goodbye after them, or there is room for all.
+fn case_of(cause: Option<CrewCause>, outcomes: u32) -> Option<usize> {
+    match (cause, outcomes) {
+        (Some(NO_ROOM), 0) => Some(0),
+        (Some(NO_ROOM), 1) => Some(1),
+        (Some(NO_ROOM), 2) => Some(2),
+        (None, 2) => Some(3),
+        _ => None,
+    }
 }
 
-// There may be no room for the first append, for the second, or for the goodbye after them.
+/// Which of them comes on a disk of so many bytes.
+fn case_at<R: Threads + Wait + Sync>(rt: &R, alloc: Global, size: usize) -> Result<usize, Fail> {
+    let (cause, disk) = run_over_disk(rt, alloc, size)?;
+    let outcomes = outcomes_on(alloc, disk).ok_or("not opened again")?;
+    Ok(case_of(cause, outcomes).ok_or("another case")?)
+}
+
 #[test]
 fn what_a_crew_answers_is_found_again(rt: HostRuntime) -> Result<(), Fail> {
     let mut met = [false; 4];
     for size in 48..192usize {
-        let (cause, disk) = run_over_disk(&rt, rt.alloc(), size)?;
-        let case = match (cause, outcomes_on(rt.alloc(), disk)?) {
-            (Some(NO_ROOM), 0) => 0usize,
-            (Some(NO_ROOM), 1) => 1,
-            (Some(NO_ROOM), 2) => 2,
-            (None, 2) => 3,
-            _ => return Err(Fail::from("another case")),
-        };
+        let case = case_at(&rt, rt.alloc(), size)?;
         if case < met.len() {
             met[case] = true;
         }
@@ -145,9 +137,16 @@ fn what_a_crew_answers_is_found_again(rt: HostRuntime) -> Result<(), Fail> {
     Ok(())
 }
 
-/// How many outcomes are in the log that these bytes leave open.
-fn outcomes_left(alloc: Global, bytes: Vec<u8>) -> Result<u32, Fail> {
-    outcomes_on(alloc, MemoryDisk::new(alloc, bytes))
+/// How many outcomes a crash leaves at this moment, which loses what these bits say.
+fn outcomes_after(
+    alloc: Global,
+    disk: &MemoryDisk,
+    moment: usize,
+    lost: u64,
+) -> Result<usize, Fail> {
+    let bytes = disk.crashed(moment, lost)?;
+    let left = outcomes_on(alloc, MemoryDisk::new(alloc, bytes)).ok_or("not opened")?;
+    Ok(left as usize)
 }
 
 // At each moment of a run a crash leaves the first of the requests, and never fewer later on.
@@ -158,17 +157,17 @@ fn crash_leaves_the_first_of_what_a_crew_took(rt: HostRuntime) -> Result<(), Fai
     same(&rt, cause, None);
     let mut met = [false; 3];
     for lost in [0u64, u64::MAX, 0x5555_5555_5555_5555] {
-        let mut before = 0u32;
+        let mut before = 0usize;
         for moment in 0..disk.moment() {
-            let left = outcomes_left(alloc, disk.crashed(moment, lost)?)?;
-            if left < before || left as usize >= met.len() {
+            let left = outcomes_after(alloc, &disk, moment, lost)?;
+            if left < before || left >= met.len() {
                 return Err(Fail::from("not the first of them"));
             }
-            met[left as usize] = true;
+            met[left] = true;
             before = left;
         }
     }
-    let last = outcomes_left(alloc, disk.crashed(disk.moment(), u64::MAX)?)?;
+    let last = outcomes_after(alloc, &disk, disk.moment(), u64::MAX)?;
     same(&rt, (last, met), (2, [true; 3]));
     Ok(())
 }

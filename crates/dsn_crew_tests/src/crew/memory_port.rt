@@ -3,7 +3,9 @@ ghost use Rattle.std.specs.Prelude.{◌≡◌, true, Some};
 
 use dsn_crew::{Next, Port};
 use dsn_device::{Broken, Drain, Source, Stream};
+use std::alloc::Global;
 use std::sync::atomic::{AtomicU8, Ordering};
+use std::test::Fail;
 use std::vec;
 
 /// What one connection sends, whether its reads and writes go well, and the room for what is written
@@ -138,4 +140,29 @@ impl<'a> Port for MemoryPort<'a> {
             None => Next::Done,
         }
     }
+}
+
+/// A port with one connection, over which this is sent, and which keeps what is heard.
+pub(super) fn port<'a>(
+    alloc: Global,
+    bytes: &'a [u8],
+    heard: &'a [AtomicU8],
+) -> Result<MemoryPort<'a>, Fail> {
+    let mut texts = Vec::new(alloc);
+    texts.push(Text {
+        bytes,
+        good: true,
+        heard,
+    })?;
+    Ok(MemoryPort {
+        texts: texts.into_iter(),
+        fails: false,
+    })
+}
+
+/// Such a port, which keeps nothing, as the only one of a crew.
+pub(super) fn only_port(alloc: Global, bytes: &[u8]) -> Result<Vec<MemoryPort<'_>>, Fail> {
+    let mut ports = Vec::new(alloc);
+    ports.push(port(alloc, bytes, &[])?)?;
+    Ok(ports)
 }

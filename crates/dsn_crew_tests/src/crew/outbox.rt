@@ -1,17 +1,22 @@
-//! An outbox in memory for tests, which fails once.
+//! An outbox in memory for tests, which may be held, and fails once.
+use super::hold::Hold;
 use std::io;
 use std::io::{ErrorKind, Write};
+use std::time::Clock;
 
 /// An outbox in memory. No contract tells its bytes.
 #[derive(Drop)]
-pub struct Outbox {
-    pub text: Vec<u8>,
+pub struct Outbox<'a, R> {
+    pub(super) text: Vec<u8>,
     /// How many bytes are taken before a write is interrupted; from then on writes work again.
-    pub room: usize,
+    pub(super) room: usize,
+    /// What may hold its first write.
+    pub(super) hold: &'a Hold<'a, R>,
 }
 
-impl Write for Outbox {
+impl<R: Clock> Write for Outbox<'_, R> {
     fn write(&mut self, text: &[u8]) -> io::Result<usize> {
+        self.hold.before_write();
         if self.room == 0 {
             self.room = usize::MAX;
             return Err(io::Error::from(ErrorKind::Interrupted));

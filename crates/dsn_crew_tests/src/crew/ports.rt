@@ -1,6 +1,9 @@
-//! Crews whose agents serve ports to their ends: what each port and connection counts.
-use super::memory_port::MemoryPort;
-use super::whole_crew::{EMPTY, line, port, run_all};
+//! Crews whose agents serve ports to their ends: what each port and connection counts, and what the
+//! outbox holds.
+use super::hold::FREE;
+use super::memory_port::{MemoryPort, Text};
+use super::outbox_text::ONE_NOTICE;
+use super::whole_crew::{EMPTY, run};
 use crate::assert_same::same;
 use dsn_crew::AgentLine;
 use std::alloc::Global;
@@ -8,6 +11,7 @@ use std::process::Abort;
 use std::sync::Wait;
 use std::test::Fail;
 use std::thread::Threads;
+use std::time::Clock;
 
 /// A discard of `B K1` with number 0.
 const DISCARD: &[u8] = b"\0\0\0\x0b\x01\x03\0\0\0\0\x01\0\x02K1";
@@ -15,119 +19,225 @@ const DISCARD: &[u8] = b"\0\0\0\x0b\x01\x03\0\0\0\0\x01\0\x02K1";
 /// The same with number 5.
 const OUT_OF_TURN: &[u8] = b"\0\0\0\x0b\x01\x03\0\0\0\x05\x01\0\x02K1";
 
-/// Asserts what comes of each agent of a crew whose agents may make so many requests, and that no
-/// letter was made.
-fn assert_lines<R: Threads + Wait + Sync + Abort>(
-    rt: &R,
-    alloc: Global,
+/// One append and one flush of `B A1B2C3`.
+const ONE_MESSAGE: &[u8] = b"\
+\0\0\0\x30\x01\x01\0\0\0\0\x01\0\x06A1B2C3\0\0\
+\0\x0fbob@example.org\x01\0\x055.1.1\0\0\0\0\0\0\
+\0\0\0\x34\x01\x02\0\0\0\x01\x01\0\x06A1B2C3\
+\0\0\0\0\x65\x53\xf1\0\0\0\0\0\x65\x53\xe2\xf0\
+\0\x0fann@example.com\0\0\0\0";
+
+/// The append, and a part of the flush.
+const CUT_MESSAGE: &[u8] = b"\
+\0\0\0\x30\x01\x01\0\0\0\0\x01\0\x06A1B2C3\0\0\
+\0\x0fbob@example.org\x01\0\x055.1.1\0\0\0\0\0\0\
+\0\0\0\x34\x01\x02\0\0";
+
+/// The same flush, with number 0.
+const FLUSH: &[u8] = b"\
+\0\0\0\x34\x01\x02\0\0\0\0\x01\0\x06A1B2C3\
+\0\0\0\0\x65\x53\xf1\0\0\0\0\0\x65\x53\xe2\xf0\
+\0\x0fann@example.com\0\0\0\0";
+
+/// What a connection sends, and whether its reads and writes go well.
+type Sent = (&'static [u8], bool);
+
+/// A connection with a discard.
+const DISCARDS: Sent = (DISCARD, true);
+
+/// The connections of a port, and whether it fails after them.
+type Given = (&'static [Sent], bool);
+
+/// Ports, how many requests the agent of each may make, and what comes of a run over them.
+#[derive(Clone, Copy)]
+struct Case {
     requests: u32,
-    ports: Vec<MemoryPort<'_>>,
-    lines: &[AgentLine],
-) -> Result<(), Fail> {
-    let seen = run_all(rt, alloc, requests, ports)?;
-    same(rt, seen.code, 0);
-    same(rt, seen.agents.as_slice(), lines);
-    assert!(rt; seen.whole && seen.letters == 0);
-    same(rt, seen.open.len(), 0);
-    same(
-        rt,
-        seen.outbox.into_inner().text.as_slice(),
-        EMPTY.as_slice(),
-    );
-    Ok(())
+    ports: &'static [Given],
+    /// The number of the run's fault, or 0.
+    code: u32,
+    agents: &'static [AgentLine],
+    letters: u32,
+    outbox: &'static [u8],
 }
 
-/// The same of one agent that serves this port.
-fn assert_line<R: Threads + Wait + Sync + Abort>(
-    rt: &R,
-    alloc: Global,
-    requests: u32,
-    port: MemoryPort<'_>,
-    line: AgentLine,
-) -> Result<(), Fail> {
-    let mut ports = Vec::new(alloc);
-    ports.push(port)?;
-    assert_lines(rt, alloc, requests, ports, &[line])
-}
+/// A crew of no agents, which is refused.
+const NOBODY: Case = Case {
+    requests: 8,
+    ports: &[],
+    code: 43,
+    agents: &[],
+    letters: 0,
+    outbox: b"",
+};
 
-#[test]
-fn ports_side_by_side(rt: HostRuntime) -> Result<(), Fail> {
-    let alloc = rt.alloc();
-    let texts = [(DISCARD, true), (b"".as_slice(), true), (DISCARD, true)];
-    let mut ports = Vec::new(alloc);
-    ports.push(port(alloc, &texts, false)?)?;
-    ports.push(port(alloc, &[(DISCARD, true)], false)?)?;
-    assert_lines(&rt, alloc, 8, ports, &[line(2, 3), line(1, 1)])
-}
+/// A crew of no agents as it would be if it ended well, without a letter.
+const WELL: Case = Case {
+    code: 0,
+    outbox: EMPTY,
+    ..NOBODY
+};
 
-#[test]
-fn faulty_connections(rt: HostRuntime) -> Result<(), Fail> {
-    let texts = [
-        (OUT_OF_TURN, true),
-        (b"\0\0\0\0".as_slice(), true),
-        (b"\0\0\0\x0b\x01\x03".as_slice(), true),
-        (DISCARD, false),
-        (DISCARD, true),
-        (DISCARD, true),
-    ];
-    let line = AgentLine {
+/// An agent whose port is done at once.
+const IDLE: AgentLine = AgentLine {
+    requests: 0,
+    connections: 0,
+    faults: 0,
+    port_failed: false,
+};
+
+/// An agent whose port fails at once.
+const FAILED: AgentLine = AgentLine {
+    port_failed: true,
+    ..IDLE
+};
+
+/// An agent that made one request, over one connection.
+const ONE: AgentLine = AgentLine {
+    requests: 1,
+    connections: 1,
+    ..IDLE
+};
+
+/// The port that fails at once.
+const NOTHING: Given = (&[], true);
+
+const CASES: [Case; 10] = [
+    // Two agents side by side.
+    Case {
+        ports: &[
+            (&[DISCARDS, (b"", true), DISCARDS], false),
+            (&[DISCARDS], false),
+        ],
+        agents: &[
+            AgentLine {
+                requests: 2,
+                connections: 3,
+                ..IDLE
+            },
+            ONE,
+        ],
+        ..WELL
+    },
+    // Connections with faults, and at last one whose request is one too many, which is none.
+    Case {
         requests: 1,
-        connections: 6,
-        faults: 4,
-        port_failed: false,
-    };
-    assert_line(&rt, rt.alloc(), 1, port(rt.alloc(), &texts, false)?, line)
-}
+        ports: &[(
+            &[
+                (OUT_OF_TURN, true),
+                (b"\0\0\0\0", true),
+                (b"\0\0\0\x0b\x01\x03", true),
+                (DISCARD, false),
+                DISCARDS,
+                DISCARDS,
+            ],
+            false,
+        )],
+        agents: &[AgentLine {
+            requests: 1,
+            connections: 6,
+            faults: 4,
+            port_failed: false,
+        }],
+        ..WELL
+    },
+    // Ports that are done or fail, at once and later.
+    Case {
+        ports: &[(&[], false)],
+        agents: &[IDLE],
+        ..WELL
+    },
+    Case {
+        ports: &[NOTHING],
+        agents: &[FAILED],
+        ..WELL
+    },
+    Case {
+        ports: &[(&[DISCARDS], true)],
+        agents: &[AgentLine {
+            port_failed: true,
+            ..ONE
+        }],
+        ..WELL
+    },
+    Case {
+        ports: &[NOTHING; 16],
+        agents: &[FAILED; 16],
+        ..WELL
+    },
+    // One message.
+    Case {
+        ports: &[(&[(ONE_MESSAGE, true)], false)],
+        agents: &[AgentLine { requests: 2, ..ONE }],
+        letters: 1,
+        outbox: ONE_NOTICE,
+        ..WELL
+    },
+    // A client that leaves within the frame of its flush, and comes again.
+    Case {
+        ports: &[(&[(CUT_MESSAGE, true), (FLUSH, true)], false)],
+        agents: &[AgentLine {
+            requests: 2,
+            connections: 2,
+            faults: 1,
+            port_failed: false,
+        }],
+        letters: 1,
+        outbox: ONE_NOTICE,
+        ..WELL
+    },
+    // A crew has 1 to 16 ports.
+    NOBODY,
+    Case {
+        ports: &[NOTHING; 17],
+        ..NOBODY
+    },
+];
 
-#[test]
-fn port_ends(rt: HostRuntime) -> Result<(), Fail> {
-    for (count, fails) in [(0, false), (0, true), (1, true)] {
-        let texts = [(DISCARD, true)];
-        let line = AgentLine {
-            requests: count,
-            connections: count,
-            faults: 0,
-            port_failed: fails,
-        };
-        let port = port(rt.alloc(), &texts[..count as usize], fails)?;
-        assert_line(&rt, rt.alloc(), 8, port, line)?;
+/// A port with these connections, which fails after them if it is to.
+fn port_of(alloc: Global, given: &Given) -> Result<MemoryPort<'static>, Fail> {
+    let mut texts = Vec::new(alloc);
+    for (bytes, good) in given.0 {
+        texts.push(Text {
+            bytes: *bytes,
+            good: *good,
+            heard: &[],
+        })?;
     }
-    Ok(())
+    Ok(MemoryPort {
+        texts: texts.into_iter(),
+        fails: given.1,
+    })
 }
 
-/// So many ports with no connection, which fail at once.
-fn failing_ports(alloc: Global, count: u32) -> Result<Vec<MemoryPort<'static>>, Fail> {
+/// The ports of a case.
+fn ports_of(alloc: Global, all: &[Given]) -> Result<Vec<MemoryPort<'static>>, Fail> {
     let mut ports = Vec::new(alloc);
-    for _ in 0..count {
-        ports.push(port(alloc, &[], true)?)?;
+    for given in all {
+        ports.push(port_of(alloc, given)?)?;
     }
     Ok(ports)
 }
 
-#[test]
-fn all_ports_fail_at_once(rt: HostRuntime) -> Result<(), Fail> {
-    let failed = AgentLine {
-        requests: 0,
-        connections: 0,
-        faults: 0,
-        port_failed: true,
-    };
-    for count in [1u32, 16] {
-        let ports = failing_ports(rt.alloc(), count)?;
-        let lines = [failed; 16];
-        assert_lines(&rt, rt.alloc(), 8, ports, &lines[..count as usize])?;
-    }
+/// Asserts what comes of a run.
+fn expect<R: Threads + Wait + Clock + Sync + Abort>(
+    rt: &R,
+    alloc: Global,
+    case: &Case,
+) -> Result<(), Fail> {
+    let ports = ports_of(alloc, case.ports)?;
+    let seen = run(rt, alloc, case.requests, ports, usize::MAX, FREE)?;
+    same(rt, (seen.code, seen.letters), (case.code, case.letters));
+    same(rt, seen.agents.as_slice(), case.agents);
+    same(rt, seen.whole, case.code == 0);
+    assert!(rt; seen.unsent.is_empty() && seen.open.is_empty());
+    same(rt, seen.outbox.as_slice(), case.outbox);
     Ok(())
 }
 
 #[test]
-fn crew_of_0_or_17_ports_is_refused(rt: HostRuntime) -> Result<(), Fail> {
-    for count in [0u32, 17] {
-        let ports = failing_ports(rt.alloc(), count)?;
-        let seen = run_all(&rt, rt.alloc(), 8, ports)?;
-        same(&rt, seen.code, 43);
-        assert!(rt; seen.unsent.is_empty());
-        assert!(rt; seen.outbox.into_inner().text.is_empty());
+fn ports_are_served_to_their_ends(rt: HostRuntime) -> Result<(), Fail> {
+    for case in CASES {
+        expect(&rt, rt.alloc(), &case)?;
     }
     Ok(())
 }

@@ -1,22 +1,24 @@
 //! Whole crews over connections in memory, and what comes of them.
-use super::memory_port::{MemoryPort, Text};
+use super::hold::{Hold, Until};
+use super::memory_port::MemoryPort;
 use super::outbox::Outbox;
 use dsn_book::{Limits, OpenLine};
-use dsn_crew::{Account, AgentLine, CrewFault, Gate, NoGate, run_crew};
-use dsn_device::{Drain, Plain};
-use dsn_outcome::{Key, Letters, QueueId, Service};
+use dsn_crew::{Account, AgentLine, CrewFault, run_crew};
+use dsn_device::Plain;
+use dsn_outcome::{Letter, Letters};
 use dsn_report::Site;
 use std::alloc::Global;
 use std::sync::Wait;
 use std::test::Fail;
 use std::thread::Threads;
+use std::time::Clock;
 
 /// The outbox of a run that sealed no log.
-pub(super) const EMPTY: &[u8; 27] = b"EHLO mx.example.net\r\nQUIT\r\n";
+pub(super) const EMPTY: &[u8] = b"EHLO mx.example.net\r\nQUIT\r\n";
 
 /// What a run came to.
 #[derive(Drop)]
-pub(super) struct Seen<W> {
+pub(super) struct Seen {
     /// The number of its fault, or 0.
     pub(super) code: u32,
     pub(super) agents: Vec<AgentLine>,
@@ -25,15 +27,13 @@ pub(super) struct Seen<W> {
     pub(super) unsent: Vec<u8>,
     pub(super) whole: bool,
     pub(super) open: Vec<OpenLine>,
-    pub(super) outbox: W,
+    pub(super) outbox: Vec<u8>,
 }
 
-/// An outbox in memory that fails once it has taken so many bytes, once.
-pub(super) fn outbox(alloc: Global, room: usize) -> Plain<Outbox> {
-    Plain::new(Outbox {
-        text: Vec::new(alloc),
-        room,
-    })
+/// Adds the queue id of a letter.
+fn push_id(ids: &mut Vec<u8>, letter: &Letter) -> Result<(), Fail> {
+    ids.extend_from_slice(letter.key().id.bytes())?;
+    Ok(())
 }
 
 /// The queue ids of these letters, one after another.
@@ -43,12 +43,16 @@ fn ids_of(alloc: Global, mut letters: Letters) -> Result<Vec<u8>, Fail> {
         let Some(letter) = letters.pop() else {
             return Ok(ids);
         };
-        ids.extend_from_slice(letter.key().id.bytes())?;
+        push_id(&mut ids, &letter)?;
     }
     Ok(ids)
 }
 
-fn seen_of_account<W: Drop>(alloc: Global, account: Account<W>) -> Result<Seen<W>, Fail> {
+/// What a run came to that ended well.
+fn seen_of_account<R: Clock>(
+    alloc: Global,
+    account: Account<Plain<Outbox<'_, R>>>,
+) -> Result<Seen, Fail> {
     let Account {
         agents,
         letters,
@@ -65,11 +69,15 @@ fn seen_of_account<W: Drop>(alloc: Global, account: Account<W>) -> Result<Seen<W
         unsent: ids_of(alloc, unsent)?,
         whole,
         open: book.open_lines(alloc)?,
-        outbox,
+        outbox: outbox.into_inner().text,
     })
 }
 
-fn seen_of_fault<W: Drop>(alloc: Global, fault: CrewFault<W>) -> Result<Seen<W>, Fail> {
+/// What a run came to that ended with a fault.
+fn seen_of_fault<R: Clock>(
+    alloc: Global,
+    fault: CrewFault<Plain<Outbox<'_, R>>>,
+) -> Result<Seen, Fail> {
     let CrewFault {
         cause,
         outbox,
@@ -83,68 +91,45 @@ fn seen_of_fault<W: Drop>(alloc: Global, fault: CrewFault<W>) -> Result<Seen<W>,
         unsent: ids_of(alloc, unsent)?,
         whole: false,
         open: Vec::new(alloc),
-        outbox,
+        outbox: outbox.into_inner().text,
     })
 }
 
-/// What comes of a crew that serves these ports, of agents that may make so many requests.
-pub(super) fn run_over<R: Threads + Wait + Sync, W: Drain + Drop + Send, G: Gate + Sync>(
+/// What comes of a crew that serves these ports, of agents that may make so many requests, with this
+/// gate and an outbox that fails once it has taken so many bytes, once.
+fn run_gated<R: Threads + Wait + Clock + Sync>(
     rt: &R,
     alloc: Global,
     requests: u32,
     ports: Vec<MemoryPort<'_>>,
-    outbox: W,
-    gate: &G,
-) -> Result<Seen<W>, Fail> {
+    room: usize,
+    hold: &Hold<'_, R>,
+) -> Result<Seen, Fail> {
+    let text = Vec::new(alloc);
+    let outbox = Plain::new(Outbox { text, room, hold });
     let site = Site::new(alloc, b"mx.example.net")?;
     let limits = Limits::new(64, 1000, requests).ok_or("limits")?;
-    match run_crew(rt, alloc, site, limits, ports, outbox, gate) {
+    match run_crew(rt, alloc, site, limits, ports, outbox, hold) {
         Ok(account) => seen_of_account(alloc, account),
         Err(fault) => seen_of_fault(alloc, fault),
     }
 }
 
-/// The same with a gate that does nothing and an outbox that takes all.
-pub(super) fn run_all<R: Threads + Wait + Sync>(
+/// The same where this is held. It fails where a hold ran out.
+pub(super) fn run<R: Threads + Wait + Clock + Sync>(
     rt: &R,
     alloc: Global,
     requests: u32,
     ports: Vec<MemoryPort<'_>>,
-) -> Result<Seen<Plain<Outbox>>, Fail> {
-    let outbox = outbox(alloc, usize::MAX);
-    run_over(rt, alloc, requests, ports, outbox, &NoGate)
-}
-
-/// A port with these connections, of which those fail that aren't good.
-pub(super) fn port<'a>(
-    alloc: Global,
-    texts: &[(&'a [u8], bool)],
-    fails: bool,
-) -> Result<MemoryPort<'a>, Fail> {
-    let mut all = Vec::new(alloc);
-    for (bytes, good) in texts {
-        all.push(Text {
-            bytes: *bytes,
-            good: *good,
-            heard: &[],
-        })?;
+    room: usize,
+    until: Until,
+) -> Result<Seen, Fail> {
+    let hold = Hold::new(rt, until);
+    let seen = run_gated(rt, alloc, requests, ports, room, &hold)?;
+    if hold.ran_out() > 0 {
+        return Err(Fail::from("a hold ran out"));
     }
-    Ok(MemoryPort {
-        texts: all.into_iter(),
-        fails,
-    })
-}
-
-/// A bounce log of so many outcomes that is open.
-pub(super) fn open(message: &[u8], count: u32) -> Result<OpenLine, Fail> {
-    let id = QueueId::new(message).ok_or("a queue id")?;
-    Ok(OpenLine {
-        key: Key {
-            service: Service::Bounce,
-            id,
-        },
-        count,
-    })
+    Ok(seen)
 }
 
 /// The line of an agent whose port and connections went well.

@@ -1,5 +1,6 @@
 //! Tests of agents and their collector, over what `dsn_crew` makes public.
 mod alone;
+mod asks;
 mod behind;
 mod bodies;
 mod collect;
@@ -9,4 +10,5 @@ mod limit;
 mod memory;
 mod opened;
 mod sixteen;
+mod turns;
 mod unkept;

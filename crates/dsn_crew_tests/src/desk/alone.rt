@@ -1,12 +1,11 @@
 //! An agent by one thread, whose answers wait before it asks: what its session calls, reads and
 //! writes, and what it is answered where no answer comes.
-ghost use Rattle.std.specs.Prelude.{◌<◌, IfSome};
-ghost use Rattle.dsn_crew.specs.desk.Open.{IsLine};
+ghost use Rattle.std.specs.Prelude.{◌≡◌, [], IfSome};
 
-use super::bodies::discard;
+use super::asks::{Asked, ask_discard};
 use super::memory::Memory;
 use crate::assert_same::same;
-use dsn_crew::{Agent, AskFault, Gate, LaneIn, LaneOut, ServeFault, Served, open_lane};
+use dsn_crew::{Agent, Gate, LaneIn, LaneOut, open_lane};
 use dsn_outcome::{Answer, Reply, Request};
 use std::alloc::Global;
 use std::sync::Wait;
@@ -19,22 +18,36 @@ const DISCARD: &[u8] = b"\0\0\0\x0b\x01\x03\0\0\0\0\x01\0\x02K1";
 /// The first answer of a connection: nothing was logged that could be discarded.
 const DISCARDED: &[u8] = b"\0\0\0\x0a\x01\x08\0\0\0\0\0\0\0\0";
 
-/// The agent of this number, with the half that takes its requests, and the one that answers it.
-fn alone(
-    rt: &impl Wait,
-    alloc: Global,
-    agent: u32,
-) -> Option<(Agent, LaneOut<Request>, LaneIn<Answer>)>
-    requires { agent < 16 }
-    ensures { IfSome result (λ crew. IsLine agent crew.2) }
+/// Agent 3, with the half that takes its requests, and the one that answers it: two answers may wait.
+fn alone(rt: &impl Wait, alloc: Global) -> Option<(Agent, LaneOut<Request>, LaneIn<Answer>)>
+    ensures { IfSome result (λ crew. (crew.2.agent ≡ 3) × (crew.2.sent ≡ [])) }
 {
-    let (mut asks, requests) = open_lane::<Request>(rt, alloc, agent, 1, 64).ok()?;
-    let (mut line, answers) = open_lane::<Answer>(rt, alloc, agent, 1, 1).ok()?;
-    let agent = Agent::new(agent, asks.pop()?, answers, 8);
+    let (mut asks, requests) = open_lane::<Request>(rt, alloc, 3, 1, 64).ok()?;
+    let (mut line, answers) = open_lane::<Answer>(rt, alloc, 3, 1, 2).ok()?;
+    let agent = Agent::new(3, asks.pop()?, answers, 8);
     let Some(line) = line.pop() else {
         return None;
     };
     Some((agent, requests, line))
+}
+
+/// Sends agent 3 its first two answers.
+fn send_two(rt: &impl Wait, line: &mut LaneIn<Answer>) -> bool
+    requires { (line.old.agent ≡ 3) × (line.old.sent ≡ []) }
+{
+    let first = Answer {
+        agent: 3,
+        number: 0,
+        reply: Reply::Nothing,
+        serial: None,
+    };
+    let second = Answer {
+        agent: 3,
+        number: 1,
+        reply: Reply::Discarded(0),
+        serial: None,
+    };
+    line.send(rt, first).is_ok() && line.send(rt, second).is_ok()
 }
 
 /// A gate that writes down its calls, each in three digits: 1 before an ask and 2 after an answer,
@@ -63,70 +76,64 @@ impl Gate for Recorded {
     }
 }
 
+/// A gate that was not called.
+fn no_calls() -> Recorded {
+    Recorded {
+        calls: AtomicU64::new(0),
+    }
+}
+
+/// Serves a connection: the number of the fault that ended its session, or 0; and how many frames
+/// were answered where none did.
+fn serve(
+    rt: &impl Wait,
+    alloc: Global,
+    agent: &mut Agent,
+    stream: &mut Memory<'_>,
+    gate: &Recorded,
+) -> (u32, u32) {
+    match agent.serve(rt, alloc, stream, gate) {
+        Ok(served) => (0, served.frames),
+        Err(fault) => (fault.code(), 0),
+    }
+}
+
 /// What a session with a discard comes to of agent 3, which has asked once before: the frames that
 /// it answered, the calls of the gate, and the connection.
 fn discarded(rt: &impl Wait, alloc: Global) -> Option<(u32, u64, Memory<'static>)> {
-    let (mut agent, _requests, mut line) = alone(rt, alloc, 3)?;
-    let first = Answer {
-        agent: 3,
-        number: 0,
-        reply: Reply::Nothing,
-        serial: None,
-    };
-    line.send(rt, first).ok()?;
-    agent.ask(rt, discard()?).ok()?;
-    let second = Answer {
-        agent: 3,
-        number: 1,
-        reply: Reply::Discarded(0),
-        serial: None,
-    };
-    line.send(rt, second).ok()?;
-    let gate = Recorded {
-        calls: AtomicU64::new(0),
-    };
+    let (mut agent, _requests, mut line) = alone(rt, alloc)?;
+    if !send_two(rt, &mut line) {
+        return None;
+    }
+    ask_discard(rt, &mut agent)?;
+    let gate = no_calls();
     let mut stream = Memory::new(alloc, DISCARD);
-    let served = agent.serve(rt, alloc, &mut stream, &gate).ok()?;
-    Some((served.frames, gate.calls.load(Ordering::SeqCst), stream))
+    let (_, frames) = serve(rt, alloc, &mut agent, &mut stream, &gate);
+    Some((frames, gate.calls.load(Ordering::SeqCst), stream))
 }
 
+// The stream tells its bytes to contracts.
 #[test]
-fn answer_is_one_write_to_a_stream_that_tells_its_bytes(rt: HostRuntime) -> Result<(), Fail> {
-    let (frames, _, stream) = discarded(&rt, rt.alloc()).ok_or("a session")?;
-    same(&rt, (frames, stream.writes, stream.unread.len()), (1, 1, 0));
+fn answer_is_one_write_between_calls_of_the_gate(rt: HostRuntime) -> Result<(), Fail> {
+    let (frames, calls, stream) = discarded(&rt, rt.alloc()).ok_or("a session")?;
+    same(&rt, (frames, calls), (1, 131_231));
+    same(&rt, (stream.writes, stream.unread.len()), (1, 0));
     same(&rt, stream.written.as_slice(), DISCARDED);
     Ok(())
-}
-
-#[test]
-fn gate_gets_the_agent_and_the_number(rt: HostRuntime) -> Result<(), Fail> {
-    let (_, calls, _) = discarded(&rt, rt.alloc()).ok_or("a session")?;
-    same(&rt, calls, 131_231);
-    Ok(())
-}
-
-/// The number of the fault that ended a session, or 0.
-fn code_of(seen: Result<Served, ServeFault>) -> u32 {
-    match seen {
-        Ok(_) => 0,
-        Err(fault) => fault.code(),
-    }
 }
 
 /// What two sessions with a discard come to of agent 3, whose collector is gone: the numbers of
 /// their faults, the calls of the gate, and how many bytes were written.
 fn deserted(rt: &impl Wait, alloc: Global) -> Option<(u32, u32, u64, usize)> {
-    let (mut agent, requests, _line) = alone(rt, alloc, 3)?;
+    let (mut agent, requests, _line) = alone(rt, alloc)?;
     drop(requests);
-    let gate = Recorded {
-        calls: AtomicU64::new(0),
-    };
-    let mut one = Memory::new(alloc, DISCARD);
-    let mut two = Memory::new(alloc, DISCARD);
-    let first = code_of(agent.serve(rt, alloc, &mut one, &gate));
-    let second = code_of(agent.serve(rt, alloc, &mut two, &gate));
-    let written = one.written.len().max(two.written.len());
-    Some((first, second, gate.calls.load(Ordering::SeqCst), written))
+    let gate = no_calls();
+    let mut stream = Memory::new(alloc, DISCARD);
+    let (first, _) = serve(rt, alloc, &mut agent, &mut stream, &gate);
+    stream.unread = DISCARD;
+    let (second, _) = serve(rt, alloc, &mut agent, &mut stream, &gate);
+    let calls = gate.calls.load(Ordering::SeqCst);
+    Some((first, second, calls, stream.written.len()))
 }
 
 #[test]
@@ -138,18 +145,19 @@ fn agent_without_its_collector_answers_nothing(rt: HostRuntime) -> Result<(), Fa
 
 /// What an agent is answered whose request is taken, and whose collector is gone then: at this ask and
 /// the next; and whether the request was taken.
-fn unanswered(rt: &impl Wait, alloc: Global) -> Option<(bool, bool, bool)> {
-    let (mut agent, mut requests, line) = alone(rt, alloc, 3)?;
+fn unanswered(rt: &impl Wait, alloc: Global) -> Option<(Option<Asked>, bool, Option<Asked>)> {
+    let (mut agent, mut requests, line) = alone(rt, alloc)?;
     drop(line);
-    let first = matches!(agent.ask(rt, discard()?), Err(AskFault::Lost(None)));
+    let first = ask_discard(rt, &mut agent);
     let taken = requests.take(rt).is_ok();
-    let second = matches!(agent.ask(rt, discard()?), Err(AskFault::Lost(Some(_))));
+    let second = ask_discard(rt, &mut agent);
     Some((first, taken, second))
 }
 
 #[test]
 fn request_that_is_taken_and_not_answered(rt: HostRuntime) -> Result<(), Fail> {
     let seen = unanswered(&rt, rt.alloc()).ok_or("an agent")?;
-    same(&rt, seen, (true, true, true));
+    let want = (Some(Asked::Lost(false)), true, Some(Asked::Lost(true)));
+    same(&rt, seen, want);
     Ok(())
 }

@@ -4,14 +4,13 @@ ghost use Rattle.dsn_outcome.specs.Body.{body_of};
 ghost use Rattle.dsn_outcome.specs.Request;
 
 use dsn_outcome::{
-    Address, Body, Draft, Key, Outcome, Parts, QueueId, RawHeader, Service, Stamp, Types, Wishes,
+    Address, Body, Draft, Key, Node, Outcome, Parts, QueueId, RawHeader, Service, Stamp, Types,
+    Wishes,
 };
 use std::alloc::Global;
 
-/// An append of a failed recipient to the log of this message.
-pub(super) fn append(alloc: Global, message: &[u8]) -> Option<Body>
-    ensures { IfSome result (λ body. body_of body ≢ Request.Bye) }
-{
+/// A failed recipient.
+fn failed(alloc: Global) -> Option<Box<Node>> {
     let parts = Parts {
         recipient: b"x@y",
         original: b"",
@@ -25,37 +24,53 @@ pub(super) fn append(alloc: Global, message: &[u8]) -> Option<Body>
         types: Types::usual(),
         extensions: b"",
     };
-    let node = Outcome::new(alloc, Service::Bounce, parts).ok()?;
-    Some(Body::Append(QueueId::new(message)?, node))
+    Outcome::new(alloc, Service::Bounce, parts).ok()
+}
+
+/// An append of a failed recipient to the log of this message.
+pub(super) fn append(alloc: Global, message: &[u8]) -> Option<Body>
+    ensures { IfSome result (λ body. body_of body ≢ Request.Bye) }
+{
+    Some(Body::Append(QueueId::new(message)?, failed(alloc)?))
+}
+
+/// A draft for the sender.
+fn draft(alloc: Global) -> Option<Draft> {
+    let moment = Stamp::new(1_700_000_000)?;
+    let arrival = Stamp::new(1_699_996_400)?;
+    let sender = Address::new(alloc, b"ann@example.com").ok()?;
+    let header = RawHeader::new(alloc, b"").ok()?;
+    Draft::new(
+        alloc,
+        moment,
+        arrival,
+        Some(sender),
+        None,
+        header,
+        Wishes::usual(),
+    )
+    .ok()
+}
+
+/// The bounce log of this message.
+fn log(message: &[u8]) -> Option<Key> {
+    let id = QueueId::new(message)?;
+    Some(Key {
+        service: Service::Bounce,
+        id,
+    })
 }
 
 /// A flush of the log of this message, for its sender.
 pub(super) fn flush(alloc: Global, message: &[u8]) -> Option<Body>
     ensures { IfSome result (λ body. body_of body ≢ Request.Bye) }
 {
-    let draft = Draft::new(
-        alloc,
-        Stamp::new(1_700_000_000)?,
-        Stamp::new(1_699_996_400)?,
-        Some(Address::new(alloc, b"ann@example.com").ok()?),
-        None,
-        RawHeader::new(alloc, b"").ok()?,
-        Wishes::usual(),
-    );
-    let key = Key {
-        service: Service::Bounce,
-        id: QueueId::new(message)?,
-    };
-    Some(Body::Flush(key, draft.ok()?))
+    Some(Body::Flush(log(message)?, draft(alloc)?))
 }
 
 /// A discard of a log.
 pub(super) fn discard() -> Option<Body>
     ensures { IfSome result (λ body. body_of body ≢ Request.Bye) }
 {
-    let id = QueueId::new(b"K1")?;
-    Some(Body::Discard(Key {
-        service: Service::Bounce,
-        id,
-    }))
+    Some(Body::Discard(log(b"K1")?))
 }

@@ -1,9 +1,10 @@
 //! Letters that a collector seals and hands on, by one thread: its agents have asked before it runs.
+use super::asks::send_only;
 use super::bodies::{append, flush};
+use super::opened::opened_without;
 use crate::assert_same::same;
-use dsn_book::Limits;
-use dsn_crew::{Agent, Desk, DeskFault, LaneOut, Sink, open_crew};
-use dsn_outcome::{Answer, Body, Letter, Request};
+use dsn_crew::{Agent, Desk, DeskFault, LaneOut, Sink};
+use dsn_outcome::{Answer, Body, Letter};
 use std::alloc::Global;
 use std::sync::Wait;
 use std::test::Fail;
@@ -72,53 +73,29 @@ fn body_of(alloc: Global, agent: u32) -> Option<Body> {
     }
 }
 
-/// Sends the agent's only request, and gives the half by which it is answered.
-fn send_one(rt: &impl Wait, alloc: Global, agent: Agent) -> Option<LaneOut<Answer>> {
-    let agent_number = agent.number();
-    let body = body_of(alloc, agent_number)?;
-    let (mut requests, answers) = agent.into_halves();
-    let number = requests.count();
-    if number == u32::MAX {
-        return None;
-    }
-    let request = Request {
-        agent: agent_number,
-        number,
-        body,
-    };
-    match requests.send(rt, request) {
-        Ok(()) => Some(answers),
-        Err(_) => None,
-    }
-}
-
-/// Sends each agent's only request, and gives the halves by which they are answered.
+/// Has each agent ask, and gives the halves by which they are answered.
 fn send_all(rt: &impl Wait, alloc: Global, crew: Vec<Agent>) -> Option<Vec<LaneOut<Answer>>> {
     let mut heard = Vec::new(alloc);
+    let mut number = 0u32;
     for agent in crew {
-        heard.push(send_one(rt, alloc, agent)?).ok()?;
+        heard
+            .push(send_only(rt, agent, body_of(alloc, number))?)
+            .ok()?;
+        number = number.wrapping_add(1);
     }
     Some(heard)
 }
 
-/// A collector that five agents have asked, of which only the fifth's goodbye is awaited. Beside it,
-/// the halves by which the agents are answered.
-fn asked(rt: &impl Wait, alloc: Global) -> Option<(Vec<LaneOut<Answer>>, Desk)> {
-    let limits = Limits::new(8, 8, 8)?;
-    let (crew, mut desk) = open_crew(rt, alloc, limits, 5).ok()?;
-    desk.miss(4);
-    send_all(rt, alloc, crew).map(|heard| (heard, desk))
+/// How a run of a collector ends.
+fn run_once(rt: &impl Wait, desk: &mut Desk, sink: &mut Kept) -> RunEnd {
+    RunEnd::of(desk.run(rt, sink))
 }
 
-/// How two runs of such a collector end, one after the other, where this agent is gone and the sink
-/// takes so many letters; and what the sink has then.
-fn runs(
-    rt: &impl Wait,
-    alloc: Global,
-    gone: usize,
-    most: usize,
-) -> Option<(RunEnd, RunEnd, [u8; 4])> {
-    let (mut heard, mut desk) = asked(rt, alloc)?;
+/// How two runs of a collector end that five agents have asked, of which only the fifth's goodbye is
+/// awaited, where this agent is gone and the sink takes so many letters; and what the sink has then.
+fn runs(rt: &impl Wait, alloc: Global, gone: usize, most: usize) -> Option<Ran> {
+    let (crew, mut desk) = opened_without(rt, alloc, 5, 4)?;
+    let mut heard = send_all(rt, alloc, crew)?;
     if gone < heard.len() {
         drop(heard.swap_remove(gone));
     }
@@ -127,37 +104,34 @@ fn runs(
         count: 0,
         most,
     };
-    let first = RunEnd::of(desk.run(rt, &mut sink));
-    let second = RunEnd::of(desk.run(rt, &mut sink));
-    drop(heard);
+    let first = run_once(rt, &mut desk, &mut sink);
+    let second = run_once(rt, &mut desk, &mut sink);
     Some((first, second, sink.ids))
 }
 
-#[test]
-fn letters_are_handed_on_in_order(rt: HostRuntime) -> Result<(), Fail> {
-    let seen = runs(&rt, rt.alloc(), 5, 4).ok_or("a crew")?;
-    same(&rt, seen, (RunEnd::Well, RunEnd::Well, *b"12\0\0"));
-    Ok(())
-}
+/// How two runs end, and what the sink has then.
+type Ran = (RunEnd, RunEnd, [u8; 4]);
 
-#[test]
-fn letter_comes_back_from_a_sink_that_is_gone(rt: HostRuntime) -> Result<(), Fail> {
-    let seen = runs(&rt, rt.alloc(), 5, 1).ok_or("a crew")?;
-    same(
-        &rt,
-        seen,
-        (RunEnd::Letters(b'2'), RunEnd::Requests, *b"1\0\0\0"),
-    );
-    Ok(())
-}
-
-#[test]
-fn letter_of_an_answer_that_is_lost_comes_back(rt: HostRuntime) -> Result<(), Fail> {
-    let seen = runs(&rt, rt.alloc(), 1, 4).ok_or("a crew")?;
-    same(
-        &rt,
-        seen,
+/// Which agent is gone, where one of the five is; how many letters the sink takes; and what comes of
+/// it.
+const CASES: [(usize, usize, Ran); 3] = [
+    // Letters are handed on in order.
+    (5, 4, (RunEnd::Well, RunEnd::Well, *b"12\0\0")),
+    // A letter comes back from a sink that is gone.
+    (5, 1, (RunEnd::Letters(b'2'), RunEnd::Requests, *b"1\0\0\0")),
+    // The letter of an answer that is lost comes back.
+    (
+        1,
+        4,
         (RunEnd::Answers(1, b'1'), RunEnd::Requests, *b"\0\0\0\0"),
-    );
+    ),
+];
+
+#[test]
+fn letters_are_handed_on_or_come_back(rt: HostRuntime) -> Result<(), Fail> {
+    for (gone, most, want) in CASES {
+        let seen = runs(&rt, rt.alloc(), gone, most).ok_or("a crew")?;
+        same(&rt, seen, want);
+    }
     Ok(())
 }

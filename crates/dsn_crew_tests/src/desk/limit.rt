@@ -6,12 +6,14 @@ ghost use Rattle.dsn_crew.specs.desk.Close.{AreCrew};
 ghost use Rattle.dsn_crew.specs.agents.Place.{place_of};
 ghost use Rattle.dsn_crew.specs.desk.Desk.{all_gone};
 
+use super::asks::{Asked, ask};
 use super::bodies::append;
 use super::collect::collect;
 use crate::assert_same::same;
+use crate::open_logs::expect_open;
 use dsn_book::{Book, Limits};
-use dsn_crew::{Agent, AskFault, Desk, Finished, close_crew, open_crew};
-use dsn_outcome::{Body, Reply};
+use dsn_crew::{Agent, Desk, Finished, close_crew, open_crew};
+use dsn_outcome::Reply;
 use std::alloc::Global;
 use std::sync::Wait;
 use std::test::Fail;
@@ -27,35 +29,27 @@ struct Seen {
     second: Finished,
 }
 
-/// The reply to an append.
-fn append_once(rt: &impl Wait, alloc: Global, agent: &mut Agent) -> Option<Reply>
-    ensures { IfSome result (λ _. place_of agent.new.halves ≡ place_of agent.old.halves) }
+/// What an agent is answered that appends. There is none where no append can be made.
+fn ask_append(rt: &impl Wait, alloc: Global, agent: &mut Agent) -> Option<Asked>
+    ensures { place_of agent.new.halves ≡ place_of agent.old.halves }
 {
-    let body = append(alloc, b"K1")?;
-    match agent.ask(rt, body) {
-        Ok(answer) => Some(answer.reply),
-        Err(_) => None,
-    }
-}
-
-/// An append that is handed back as one request too many; where it isn't, none.
-fn append_too_many(rt: &impl Wait, alloc: Global, agent: &mut Agent) -> Option<()>
-    ensures { IfSome result (λ _. place_of agent.new.halves ≡ place_of agent.old.halves) }
-{
-    let body = append(alloc, b"K1")?;
-    match agent.ask(rt, body) {
-        Err(AskFault::Limit(Body::Append(_, _))) => Some(()),
-        _ => None,
+    match append(alloc, b"K1") {
+        Some(body) => Some(ask(rt, agent, body)),
+        None => None,
     }
 }
 
 /// The first agent asks twice, the second one not at all; both say goodbye.
-fn ask(rt: &impl Wait, alloc: Global, first: Agent, second: Agent) -> Option<Seen>
+fn ask_and_leave(rt: &impl Wait, alloc: Global, first: Agent, second: Agent) -> Option<Seen>
     ensures { IfSome result (λ seen. (place_of seen.first ≡ place_of first.halves) × (place_of seen.second ≡ place_of second.halves)) }
 {
     let mut first = first;
-    let reply = append_once(rt, alloc, &mut first)?;
-    append_too_many(rt, alloc, &mut first)?;
+    let Some(Asked::Answered(reply)) = ask_append(rt, alloc, &mut first) else {
+        return None;
+    };
+    let Some(Asked::Limit) = ask_append(rt, alloc, &mut first) else {
+        return None;
+    };
     let first = first.bye(rt).ok()?;
     let second = second.bye(rt).ok()?;
     Some(Seen {
@@ -79,7 +73,7 @@ fn two_agents<R: Threads + Wait + Sync>(
     let first = crew.pop()?;
     let (seen, desk) = thread::join(
         rt,
-        move || ask(rt, alloc, first, second),
+        move || ask_and_leave(rt, alloc, first, second),
         move || collect(rt, desk),
     );
     let seen = seen?;
@@ -92,25 +86,22 @@ fn two_agents<R: Threads + Wait + Sync>(
     Some((seen.reply, first, second, shut.book))
 }
 
-/// The same of a crew that was just opened, with the log that stays open.
-fn limit_of_one<R: Threads + Wait + Sync>(rt: &R, alloc: Global) -> Option<(Reply, u32, u32, u32)> {
+/// The same of a crew that was just opened.
+fn limit_of_one<R: Threads + Wait + Sync>(
+    rt: &R,
+    alloc: Global,
+) -> Option<(Reply, u32, u32, Book)> {
     let limits = Limits::new(8, 8, 1)?;
     let Ok((crew, desk)) = open_crew(rt, alloc, limits, 2) else {
         return None;
     };
-    let (reply, first, second, book) = two_agents(rt, alloc, crew, desk)?;
-    let open = book.open_lines(alloc).ok()?;
-    let line = open.first()?;
-    if open.len() == 1 && line.key.id.bytes() == b"K1".as_slice() {
-        Some((reply, first, second, line.count))
-    } else {
-        None
-    }
+    two_agents(rt, alloc, crew, desk)
 }
 
 #[test]
 fn agent_counts_and_request_limit(rt: HostRuntime) -> Result<(), Fail> {
-    let seen = limit_of_one(&rt, rt.alloc()).expect(&rt, "a crew that ends well");
-    same(&rt, seen, (Reply::Logged(0), 1, 0, 1));
-    Ok(())
+    let seen = limit_of_one(&rt, rt.alloc()).ok_or("a crew that ends well")?;
+    let (reply, first, second, book) = seen;
+    same(&rt, (reply, first, second), (Reply::Logged(0), 1, 0));
+    expect_open(&rt, &book.open_lines(rt.alloc())?, &[*b"K1"], 1)
 }

@@ -1,9 +1,10 @@
 //! Sixteen agents, each on a thread of its own, beside their collector.
+use super::asks::{Asked, ask};
 use super::bodies::append;
 use super::collect::collect;
+use super::opened::opened;
 use crate::assert_same::same;
-use dsn_book::Limits;
-use dsn_crew::{Agent, open_crew};
+use dsn_crew::Agent;
 use dsn_outcome::Reply;
 use std::alloc::Global;
 use std::sync::Wait;
@@ -31,8 +32,8 @@ fn append_500(rt: &impl Wait, alloc: Global, job: Job) -> Option<u64> {
     let mut sum: u64 = 0;
     let mut next = 0;
     for _ in 0..500 {
-        let answer = agent.ask(rt, append(alloc, &[log])?).ok()?;
-        let Reply::Logged(place) = answer.reply else {
+        let asked = ask(rt, &mut agent, append(alloc, &[log])?);
+        let Asked::Answered(Reply::Logged(place)) = asked else {
             return None;
         };
         if place < next {
@@ -70,8 +71,7 @@ fn jobs_of(alloc: Global, crew: Vec<Agent>) -> Option<Jobs> {
 
 /// The sum of all places, of sixteen agents of which each two share a log.
 fn sixteen_of_500<R: Threads + Wait + Sync>(rt: &R, alloc: Global) -> Option<u64> {
-    let limits = Limits::new(8, 1000, 500)?;
-    let (crew, desk) = open_crew(rt, alloc, limits, 16).ok()?;
+    let (crew, desk) = opened(rt, alloc, 500, 16)?.ok()?;
     let jobs = jobs_of(alloc, crew)?;
     let (total, _desk) = thread::join(
         rt,
@@ -83,7 +83,7 @@ fn sixteen_of_500<R: Threads + Wait + Sync>(rt: &R, alloc: Global) -> Option<u64
 
 #[test]
 fn sixteen_agents_of_500_appends(rt: HostRuntime) -> Result<(), Fail> {
-    let total = sixteen_of_500(&rt, rt.alloc()).expect(&rt, "each is answered in order");
+    let total = sixteen_of_500(&rt, rt.alloc()).ok_or("an answer out of order")?;
     // Eight logs, each with the places 0 to 999.
     same(&rt, total, 8 * 499_500);
     Ok(())

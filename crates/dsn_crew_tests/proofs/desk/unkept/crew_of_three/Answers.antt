@@ -2,7 +2,7 @@
 use Rattle.std.proofs.Common.{rules, []}
 use Rattle.dsn_book.specs.Book.{Represents}
 use Rattle.dsn_crew_tests.proofs.Beginnings.{nobody_answered}
-use Rattle.dsn_crew_tests.proofs.desk.unkept.two_together.Goals as goal
+use Rattle.dsn_crew_tests.proofs.desk.unkept.crew_of_three.Goals as goal
 
 pub open_crew_over-requires-clause-begins : goal.open_crew_over-requires-clause-begins
 open_crew_over-requires-clause-begins g c =

@@ -1,9 +1,9 @@
 """Proves crates by more than one run of `rt ci`, each over a copy of some crates of the repository.
 
 Each crate is proved by a run of its own as soon as those below it are, as many side by side as there are processors. A proof has two
-processors on the longest chain of crates, which all others wait for, and where nothing else waits; else it has one. With two, each loads
-anew what the other has, so it is done sooner, but takes a fifth more of processor time, and of tests nearly twice as much. A run takes
-over what others proved, since `rt` keeps it beside the kit."""
+processors on the longest chain of crates, which all others wait for, and where nothing else waits. Else it has one, and so have those of
+programs and of tests, for which no crate waits. With two, each loads anew what the other has: it is done sooner, but takes a fifth more of
+processor time, and of tests nearly twice as much. A run takes over what others proved, since `rt` keeps it beside the kit."""
 import contextlib
 import os
 import re
@@ -23,8 +23,6 @@ ROOT = Path(__file__).resolve().parents[2]
 # does where `rt` can't keep what is proved, for which it leaves so many bytes of the disk.
 FEW, ROOM, DISK = 4, 5 * 1024 * 1024, 8_000_000_000
 STORE = Path(RT).resolve().parents[2] / "rattle-kept"
-# Crates of tests that are proved at once: a proof of tests takes 5 to 7 GB at its end.
-MOST_TESTS = 3
 # A chain of crates is as good as the longest if it has so much of its lines.
 NEARLY = 0.97
 TOLD = re.compile(r"^rt: (\w+)( proved| is kept: | NOT PROVED)")
@@ -94,7 +92,7 @@ class Chains:
             below[it] = max((below[name] + lines[name] for name in crates[it][1] if name in below), default=0)
         longest = max((below[it] + self.behind[it] for it in within), default=0)
         self.longest = {it for it in within if below[it] + self.behind[it] >= NEARLY * longest}
-        self.within = within
+        self.within, self.awaited = within, {it for it in within if not is_program(it)}
 
     def turn(self, name: str) -> tuple:
         """When a crate's turn is, among those that may be proved: the one with the most lines behind it is first."""
@@ -194,13 +192,9 @@ class CrateRuns:
     def processors_for(self, name: str, is_alone: bool) -> int:
         """How many processors the run of a crate has, which may be the only one that waits: none where it may not begin."""
         free_ones = self.most - sum(self.jobs[it] for it in self.running.values())
-        if not self.running:
-            return min(free_ones, 2)
-        if not free_ones or free() < ROOM:
+        if self.running and (not free_ones or free() < ROOM):
             return 0
-        if name not in self.chains.within:
-            return int(sum(it not in self.chains.within for it in self.running.values()) < MOST_TESTS)
-        return min(free_ones, 2 if is_alone or name in self.chains.longest else 1)
+        return min(free_ones, 2 if not self.running or name in self.chains.awaited and (is_alone or name in self.chains.longest) else 1)
 
     def begin(self, pool):
         """Begins as many as may run."""

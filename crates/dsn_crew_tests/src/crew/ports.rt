@@ -101,7 +101,7 @@ const ONE: AgentLine = AgentLine {
 /// The port that fails at once.
 const NOTHING: Given = (&[], true);
 
-const CASES: [Case; 10] = [
+const CASES: &[Case] = &[
     // Two agents side by side.
     Case {
         ports: &[
@@ -237,7 +237,7 @@ fn expect<R: Threads + Wait + Clock + Sync + Abort>(
 #[test]
 fn ports_are_served_to_their_ends(rt: HostRuntime) -> Result<(), Fail> {
     for case in CASES {
-        expect(&rt, rt.alloc(), &case)?;
+        expect(&rt, rt.alloc(), case)?;
     }
     Ok(())
 }

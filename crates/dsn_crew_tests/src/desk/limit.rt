@@ -1,10 +1,12 @@
 //! Two agents on a thread beside their collector: what each is answered, the limit of its requests,
 //! and the close of the crew.
-ghost use Rattle.std.specs.Prelude.{◌≡◌, List, true, [], ◌∷◌, IfSome};
+ghost use Rattle.std.specs.Prelude.{◌≡◌, ◌≢◌, List, true, [], ◌∷◌, IfSome};
 ghost use Rattle.dsn_crew.specs.agents.Agent.{LaneHalves};
 ghost use Rattle.dsn_crew.specs.desk.Close.{AreCrew};
 ghost use Rattle.dsn_crew.specs.agents.Place.{place_of};
 ghost use Rattle.dsn_crew.specs.desk.Desk.{all_gone};
+ghost use Rattle.dsn_outcome.specs.Body.{body_of};
+ghost use Rattle.dsn_outcome.specs.Request.{Bye};
 
 use super::asks::{Asked, ask};
 use super::bodies::append;
@@ -13,7 +15,7 @@ use crate::assert_same::same;
 use crate::open_logs::expect_open;
 use dsn_book::{Book, Limits};
 use dsn_crew::{Agent, Desk, Finished, close_crew, open_crew};
-use dsn_outcome::Reply;
+use dsn_outcome::{Body, Reply};
 use std::alloc::Global;
 use std::sync::Wait;
 use std::test::Fail;
@@ -29,11 +31,12 @@ struct Seen {
     second: Finished,
 }
 
-/// What an agent is answered that appends. There is none where no append can be made.
-fn ask_append(rt: &impl Wait, alloc: Global, agent: &mut Agent) -> Option<Asked>
+/// What an agent is answered that asks for this body. There is none without one.
+fn ask_some(rt: &impl Wait, agent: &mut Agent, body: Option<Body>) -> Option<Asked>
+    requires { IfSome body (λ body. body_of body ≢ Bye) }
     ensures { place_of agent.new.halves ≡ place_of agent.old.halves }
 {
-    match append(alloc, b"K1") {
+    match body {
         Some(body) => Some(ask(rt, agent, body)),
         None => None,
     }
@@ -44,10 +47,10 @@ fn ask_and_leave(rt: &impl Wait, alloc: Global, first: Agent, second: Agent) -> 
     ensures { IfSome result (λ seen. (place_of seen.first ≡ place_of first.halves) × (place_of seen.second ≡ place_of second.halves)) }
 {
     let mut first = first;
-    let Some(Asked::Answered(reply)) = ask_append(rt, alloc, &mut first) else {
+    let Some(Asked::Answered(reply)) = ask_some(rt, &mut first, append(alloc, b"K1")) else {
         return None;
     };
-    let Some(Asked::Limit) = ask_append(rt, alloc, &mut first) else {
+    let Some(Asked::Limit) = ask_some(rt, &mut first, append(alloc, b"K1")) else {
         return None;
     };
     let first = first.bye(rt).ok()?;

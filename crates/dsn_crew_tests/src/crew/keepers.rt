@@ -1,8 +1,9 @@
 //! Crews over keepers that refuse a request for want of room: the run ends with 45, and the keeper
 //! comes back, with the logs that are open. Over a ledger what was answered is found again once its
 //! disk is opened anew.
-ghost use Rattle.std.specs.Prelude.{◌^◌, ◌<◌, List};
+ghost use Rattle.std.specs.Prelude.{◌^◌, ◌<◌, ◌≤◌, List};
 ghost use Rattle.dsn_crew.specs.desk.Desk.{BeginsWith};
+ghost use Rattle.dsn_journal.specs.MemoryDisk.{memory_moment};
 ghost use Rattle.dsn_outcome.specs.History.{Exchange};
 
 use super::frames::push_append;
@@ -138,12 +139,9 @@ fn what_a_crew_answers_is_found_again(rt: HostRuntime) -> Result<(), Fail> {
 }
 
 /// How many outcomes a crash leaves at this moment, which loses what these bits say.
-fn outcomes_after(
-    alloc: Global,
-    disk: &MemoryDisk,
-    moment: usize,
-    lost: u64,
-) -> Result<usize, Fail> {
+fn outcomes_after(alloc: Global, disk: &MemoryDisk, moment: usize, lost: u64) -> Result<usize, Fail>
+    requires { moment ≤ memory_moment disk.now }
+{
     let bytes = disk.crashed(moment, lost)?;
     let left = outcomes_on(alloc, MemoryDisk::new(alloc, bytes)).ok_or("not opened")?;
     Ok(left as usize)

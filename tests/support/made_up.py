@@ -91,6 +91,7 @@ refuses() {
     case "$HOW$1" in
         weakone) echo "fn $crate::$1: no proof"; echo "proofs/$1/Answers.antt:1:1: error: it doesn't fit" ;;
         other*) echo "fn $crate::$1: no proof: \`search\` did not prove \`other\`" ;;
+        two) echo "fn $crate::$1: no proof: \`search\` did not prove \`returns-two\`" ;;
         *) echo "fn $crate::$1: no proof: \`search\` did not prove \`returns\`" ;;
     esac
     status=1

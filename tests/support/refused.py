@@ -131,14 +131,14 @@ class Recorded(Trial):
 
     def take_all_but(self, group: list, sample: list):
         """Takes what is recorded, but for a sample of one group."""
-        self.drawn = sample
+        self.drawn = [it for it in group if it in sample]  # in the group's order, as its lines are
         for at, (other, lines) in enumerate(self.recorded):
             if other == group:
                 both = [*zip(group, lines)]
                 self.found |= {edit.path: Verdict.of(line.verdict()) for edit, line in both if edit not in sample}
-                self.recorded[at] = sample, [line for edit, line in both if edit in sample]
-                self.left[self.left.index(group)] = sample
-        self.take_recorded([sample], math.inf)
+                self.recorded[at] = self.drawn, [line for edit, line in both if edit in sample]
+                self.left[self.left.index(group)] = self.drawn
+        self.take_recorded([self.drawn], math.inf)
 
     @property
     def is_sample(self) -> bool:

@@ -126,15 +126,14 @@ BY_CRATE = """import sys, build, proving
 build.has_processors, proving.at_once, proving.free = lambda: True, lambda: 3, lambda: proving.ROOM
 sys.argv[1:] = ["noticed"]
 sys.exit(build.main())"""
-# What each run is asked to prove, and the processors that it is told: none are two. The longest chain is low, high; the first that
-# ends leaves high alone, or beside side.
+# What each run is asked to prove, and the processors that it is told: where it is told none it has two. The longest chain is low, high.
 CALLS = ["low: none", "side: 1", "low high: none", "low side high noticed may_wait=2: none"]
 FAILED = ["rt: low proved", "noticed could not be proved or built"]
 
 
 def built_by_crate(checks: Checks, status: int, side=0):
-    """A build in a run of `rt` for each crate, on three processors, of which the one of the program ends with this status, and an early one with
-    that one."""
+    """A build in a run of `rt` for each crate, on three processors, of which the one of the program ends with this status, and an early
+    one with that one."""
     with tempfile.TemporaryDirectory(prefix="noticed-") as name:
         room = Path(name)
         prepared(room)

@@ -1,5 +1,5 @@
-//! Tests of books and their limits, of the journal, and of lanes, over what their crates make public:
-//! so they are proved without the proofs of these, and beside their wrong edits.
+//! Tests of books and their limits, and of the journal, over what their crates make public: so they
+//! are proved without the proofs of these, and beside their wrong edits.
 #![tactic(auto)]
 
 #[cfg(test)]
@@ -8,5 +8,3 @@ mod assert_same;
 mod book;
 #[cfg(test)]
 mod journal;
-#[cfg(test)]
-mod lane;

@@ -1,5 +1,5 @@
-//! Tests of agents and their collector, and of whole crews, over what their crates make public: so
-//! they are proved without the proofs of these, and beside their wrong edits.
+//! Tests of lanes, of agents and their collector, and of whole crews, over what their crates make
+//! public: so they are proved without the proofs of these, and beside their wrong edits.
 #![tactic(auto)]
 
 #[cfg(test)]
@@ -8,6 +8,8 @@ mod assert_same;
 mod crew;
 #[cfg(test)]
 mod desk;
+#[cfg(test)]
+mod lane;
 #[cfg(test)]
 mod ledgers;
 #[cfg(test)]

@@ -1,8 +1,8 @@
 -- The halves that are left are those of the agents before; those that were used are of the same lane.
 use Rattle.std.proofs.Common.{◌≡◌, ◌-◌, All}
 use Rattle.dsn_crew.specs.lane.Halves.{Half, fresh_halves}
-use Rattle.dsn_base_tests.specs.declared.lane.item.Item.{Item}
-use Rattle.dsn_base_tests.proofs.lane.one_thread.run_turns.Given as goal
+use Rattle.dsn_crew_tests.specs.declared.lane.item.Item.{Item}
+use Rattle.dsn_crew_tests.proofs.lane.one_thread.run_turns.Given as goal
 
 abbrev pub invariant-loop-turn : goal.invariant-loop-turn
 invariant-loop-turn g l = record {

@@ -16,11 +16,10 @@ const LIFETIME: u32 = 432_000;
 
 /// The bytes at the front that a length in four bytes stands before, and those after them.
 pub(crate) fn first_part(bytes: &[u8]) -> Option<(&[u8], &[u8])> {
-    if bytes.len() < 4 {
+    let [a, b, c, d, rest @ ..] = bytes else {
         return None;
-    }
-    let (length, rest) = bytes.split_at(4);
-    let length = u32::from_be_bytes([length[0], length[1], length[2], length[3]]) as usize;
+    };
+    let length = u32::from_be_bytes([*a, *b, *c, *d]) as usize;
     if rest.len() < length {
         return None;
     }

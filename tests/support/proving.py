@@ -24,7 +24,7 @@ ROOT = Path(__file__).resolve().parents[2]
 FEW, ROOM, DISK = 4, 5 * 1024 * 1024, 8_000_000_000
 STORE = Path(RT).resolve().parents[2] / "rattle-kept"
 # A chain of crates is as good as the longest if it has so much of its lines.
-NEARLY = 0.97
+NEARLY = 0.8
 TOLD = re.compile(r"^rt: (\w+)( proved| is kept: | NOT PROVED)")
 WORDS = {" proved": "proved", " is kept: ": "was proved on this machine before", " NOT PROVED": "NOT PROVED"}
 
@@ -75,11 +75,13 @@ def has_tests(name: str) -> bool:
 
 
 def lines_of(name: str) -> int:
-    return sum(text.count("\n") for text in texts_of(name))
+    """The lines of a crate's code and definitions: a clause that says more takes longer to prove."""
+    defined = [it.read_text(errors="replace") for it in (ROOT / "crates" / name / "specs").rglob("*.antt")]
+    return sum(text.count("\n") for text in texts_of(name) + defined)
 
 
 class Chains:
-    """The chains of crates, each of which stands on the one before it, by their lines of code. Those of tests alone are in none."""
+    """The chains of crates, each of which stands on the one before it, by their lines. Those of tests alone are in none."""
 
     def __init__(self, names: list, crates: dict):
         within = [it for it in names if not has_tests_alone(it, crates)]

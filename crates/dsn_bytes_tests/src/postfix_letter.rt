@@ -40,62 +40,109 @@ const UNREACHED: LogRecord<'static> = LogRecord {
     reason: b"connect to 127.0.0.1:25: Connection refused",
 };
 
-/// A planned notice of a message from Ann, which came an hour before it: what is odd in it, and the records of which it tells.
-#[derive(Clone, Copy)]
-struct Planned {
-    arrival: Option<u64>,
-    envelope_id: &'static [u8],
-    to: &'static [u8],
-    service: Service,
-    records: &'static [LogRecord<'static>],
-}
-
-/// A notice of failure to Ann.
-const PLANNED: Planned = Planned {
-    arrival: Some(1_699_996_400),
-    envelope_id: b"",
-    to: b"ann@example.com",
-    service: Service::Bounce,
-    records: &[REFUSED],
+/// A record of a remote system that stands behind a socket.
+const BEHIND_A_SOCKET: LogRecord<'static> = LogRecord {
+    mta_type: b"unix",
+    ..REFUSED
 };
 
-/// The letter of a notice that gives the header back, made an hour after the message came.
-fn letter_of(alloc: Global, it: &Planned) -> Result<Result<Letter, LetterFault>, Fail> {
-    let about = ReportedMessage {
-        queue_id: QueueId::new(b"090B8A85C9C").ok_or("the queue id")?,
-        arrival: it.arrival,
-        sender: b"ann@example.com",
-        envelope_id: it.envelope_id,
+/// A record of a recipient with a space.
+const SPACED: LogRecord<'static> = LogRecord {
+    recipient: b"a b@example.org",
+    ..REFUSED
+};
+
+/// The records of which notices tell.
+const OF_REFUSED: &[LogRecord<'static>] = &[REFUSED];
+
+const OF_UNREACHED: &[LogRecord<'static>] = &[UNREACHED];
+
+const OF_SOCKET: &[LogRecord<'static>] = &[BEHIND_A_SOCKET];
+
+const OF_SPACED: &[LogRecord<'static>] = &[REFUSED, SPACED];
+
+/// When a message from Ann came, if it is known, its envelope id, and to whom its notice goes.
+type About = (Option<u64>, &'static [u8], &'static [u8]);
+
+/// An hour before the notice.
+const ARRIVAL: Option<u64> = Some(1_699_996_400);
+
+/// Who sent the message.
+const ANN: &[u8] = b"ann@example.com";
+
+/// A message without an envelope id, of which Ann is told.
+const MESSAGE: About = (ARRIVAL, b"", ANN);
+
+/// The site that tells of itself.
+pub(crate) fn site(alloc: Global) -> Result<Site, Fail> {
+    Ok(Site::new(alloc, b"mx.example.net")?)
+}
+
+/// The moment of notices.
+pub(crate) fn moment() -> Result<Stamp, Fail> {
+    Ok(Stamp::new(1_700_000_000).ok_or("the moment")?)
+}
+
+/// The queue id of the message.
+fn queue_id() -> Result<QueueId, Fail> {
+    Ok(QueueId::new(b"090B8A85C9C").ok_or("the queue id")?)
+}
+
+/// The letter of a notice that gives the header back.
+fn letter_of(
+    alloc: Global,
+    (arrival, envelope_id, to): About,
+    service: Service,
+    records: &'static [LogRecord<'static>],
+) -> Result<Result<Letter, LetterFault>, Fail> {
+    let queue_id = queue_id()?;
+    let moment = moment()?;
+    let message = ReportedMessage {
+        queue_id,
+        arrival,
+        sender: ANN,
+        envelope_id,
         text: b"Subject: hello\n\nHello.\n",
         lifetime: 432_000,
     };
-    let moment = Stamp::new(1_700_000_000).ok_or("the moment")?;
-    let planned = PlannedNotice {
-        to: it.to,
+    let notice = PlannedNotice {
+        to,
         delimiters: None,
-        service: it.service,
+        service,
         returned: ReturnedPart::Header,
-        outcomes: it.records.to_vec(alloc)?,
+        outcomes: records.to_vec(alloc)?,
     };
-    Ok(letter_of_notice(alloc, &about, &planned, moment, 7))
+    Ok(letter_of_notice(alloc, &message, &notice, moment, 7))
 }
 
-/// A planned notice becomes a letter whose text ends so.
-fn expect_text(rt: &(impl AllocGlobal + Abort), planned: &Planned, end: &[u8]) -> Result<(), Fail> {
-    let letter = letter_of(rt.alloc(), planned)??;
-    let site = Site::new(rt.alloc(), b"mx.example.net")?;
-    let text = notice(rt.alloc(), &site, &letter)?;
-    assert!(rt; text.ends_with(end));
+/// The text of a letter.
+fn text_of(alloc: Global, letter: &Letter) -> Result<Vec<u8>, Fail> {
+    let site = site(alloc)?;
+    Ok(notice(alloc, &site, letter)?)
+}
+
+/// A notice of a service, with these records, becomes a letter whose text ends so.
+fn expect_text(
+    rt: &(impl AllocGlobal + Abort),
+    service: Service,
+    records: &'static [LogRecord<'static>],
+    end: &[u8],
+) -> Result<(), Fail> {
+    let letter = letter_of(rt.alloc(), MESSAGE, service, records)??;
+    let text = text_of(rt.alloc(), &letter)?;
+    same(rt, text.ends_with(end), true);
     Ok(())
 }
 
-/// A planned notice becomes no letter, for this reason.
+/// A notice of failure, about a message and with these records, becomes no letter, for this reason.
 fn expect_fault(
     rt: &(impl AllocGlobal + Abort),
-    planned: &Planned,
+    about: About,
+    records: &'static [LogRecord<'static>],
     fault: LetterFault,
 ) -> Result<(), Fail> {
-    same(rt, letter_of(rt.alloc(), planned)?.err(), Some(fault));
+    let letter = letter_of(rt.alloc(), about, Service::Bounce, records)?;
+    same(rt, letter.err(), Some(fault));
     Ok(())
 }
 
@@ -139,67 +186,26 @@ Subject: hello\r\n\
 
 #[test]
 fn a_record_becomes_an_outcome(rt: HostRuntime) -> Result<(), Fail> {
-    expect_text(&rt, &PLANNED, REFUSED_STATUS)
+    expect_text(&rt, Service::Bounce, OF_REFUSED, REFUSED_STATUS)?;
+    // a reason stands for a diagnostic
+    expect_text(&rt, Service::Defer, OF_UNREACHED, UNREACHED_GROUP)
 }
-
-#[test]
-fn a_reason_stands_for_a_diagnostic(rt: HostRuntime) -> Result<(), Fail> {
-    let delayed = Planned {
-        service: Service::Defer,
-        records: &[UNREACHED],
-        ..PLANNED
-    };
-    expect_text(&rt, &delayed, UNREACHED_GROUP)
-}
-
-/// A record of a remote system that stands behind a socket.
-const BEHIND_A_SOCKET: LogRecord<'static> = LogRecord {
-    mta_type: b"unix",
-    ..REFUSED
-};
-
-/// A record of a recipient with a space.
-const SPACED: LogRecord<'static> = LogRecord {
-    recipient: b"a b@example.org",
-    ..REFUSED
-};
 
 #[test]
 fn what_no_letter_says(rt: HostRuntime) -> Result<(), Fail> {
-    let none = Planned {
-        records: &[],
-        ..PLANNED
-    };
-    expect_fault(&rt, &none, LetterFault::Count)?;
-    let unknown = Planned {
-        arrival: None,
-        ..PLANNED
-    };
-    expect_fault(&rt, &unknown, LetterFault::Arrival)?;
-    let tabbed = Planned {
-        envelope_id: b"a\tb",
-        ..PLANNED
-    };
+    expect_fault(&rt, MESSAGE, &[], LetterFault::Count)?;
+    let unknown = (None, b"".as_slice(), ANN);
+    expect_fault(&rt, unknown, OF_REFUSED, LetterFault::Arrival)?;
+    let tabbed = (ARRIVAL, b"a\tb".as_slice(), ANN);
     let fault = LetterFault::Draft(DraftFault::EnvelopeId);
-    expect_fault(&rt, &tabbed, fault)
+    expect_fault(&rt, tabbed, OF_REFUSED, fault)
 }
 
 #[test]
 fn whom_no_letter_tells(rt: HostRuntime) -> Result<(), Fail> {
-    let quoted = Planned {
-        to: b"a..b@example.com",
-        ..PLANNED
-    };
-    expect_fault(&rt, &quoted, LetterFault::Quotes)?;
-    let socket = Planned {
-        records: &[BEHIND_A_SOCKET],
-        ..PLANNED
-    };
-    expect_fault(&rt, &socket, LetterFault::RemoteType)?;
-    let spaced = Planned {
-        records: &[REFUSED, SPACED],
-        ..PLANNED
-    };
+    let quoted = (ARRIVAL, b"".as_slice(), b"a..b@example.com".as_slice());
+    expect_fault(&rt, quoted, OF_REFUSED, LetterFault::Quotes)?;
+    expect_fault(&rt, MESSAGE, OF_SOCKET, LetterFault::RemoteType)?;
     let fault = LetterFault::Outcome(OutcomeFault::BadRecipient);
-    expect_fault(&rt, &spaced, fault)
+    expect_fault(&rt, MESSAGE, OF_SPACED, fault)
 }

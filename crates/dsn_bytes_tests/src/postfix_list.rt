@@ -1,18 +1,23 @@
 //! Lists of attributes, and requests, from readers that give them in pieces, end anywhere and fail anywhere.
 use crate::assert_same::same;
 use crate::frame::frames::{PieceReader, source};
-use crate::postfix_request::{FLUSH_BOUNCE, VERP, WARN, joined};
+use crate::postfix_request::{FLUSH_BOUNCE, VERP, WARN, asked, joined, text_of_size};
 use dsn_outcome::Plain;
 use dsn_postfix::{
-    LONGEST_LIST, ListBuffer, ListFault, PostfixRequest, PostfixVersion, ReceiveFault,
-    RequestFault, receive_postfix_request,
+    LONGEST_LIST, ListBuffer, ListFault, PostfixVersion, ReceiveFault, RequestFault,
+    receive_postfix_request,
 };
-use std::alloc::{AllocError, AllocGlobal};
+use std::alloc::AllocGlobal;
 use std::process::Abort;
 use std::test::Fail;
 
 /// Calls that never fail.
 const ALWAYS: usize = 1_000_000;
+
+/// Reads the next list of a reader into a buffer: the fault, if there is none.
+fn read_next(buffer: &mut ListBuffer, source: &mut Plain<PieceReader<'_>>) -> Option<ListFault> {
+    buffer.read_next(source).err()
+}
 
 /// The next list of a reader is this one, and a buffer holds it; or there is none, for this reason, and it holds none.
 fn expect_next(
@@ -21,9 +26,8 @@ fn expect_next(
     source: &mut Plain<PieceReader<'_>>,
     want: Result<&[u8], ListFault>,
 ) {
-    let read = buffer.read_next(source);
-    same(rt, read.err(), want.err());
-    same(rt, buffer.list(), want.ok());
+    let fault = read_next(buffer, source);
+    same(rt, (fault, buffer.list()), (want.err(), want.ok()));
 }
 
 /// How many bytes the list has that is read, at most so many bytes a call, where the call after `good` calls fails.
@@ -34,7 +38,9 @@ fn list_size(
     good: usize,
 ) -> Result<usize, ListFault> {
     let mut buffer = ListBuffer::new(rt.alloc());
-    buffer.read_next(&mut source(input, most, good))?;
+    if let Some(fault) = read_next(&mut buffer, &mut source(input, most, good)) {
+        return Err(fault);
+    }
     match buffer.list() {
         Some(list) => Ok(list.len()),
         None => Ok(0),
@@ -104,19 +110,10 @@ fn lists_one_after_another(rt: HostRuntime) -> Result<(), Fail> {
     let input = joined(rt.alloc(), &[WARN, VERP])?;
     let mut source = source(&input, 1, ALWAYS);
     let mut buffer = ListBuffer::new(rt.alloc());
-    for want in [Ok(WARN), Ok(VERP), Err(ListFault::Nothing)] {
-        expect_next(&rt, &mut buffer, &mut source, want);
-    }
+    expect_next(&rt, &mut buffer, &mut source, Ok(WARN));
+    expect_next(&rt, &mut buffer, &mut source, Ok(VERP));
+    expect_next(&rt, &mut buffer, &mut source, Err(ListFault::Nothing));
     Ok(())
-}
-
-/// A list of so many bytes, five or more.
-fn list_of(rt: &impl AllocGlobal, size: usize) -> Result<Vec<u8>, AllocError> {
-    let mut list = Vec::new(rt.alloc());
-    list.extend_from_slice(b"a\0")?;
-    list.resize(size.saturating_sub(2), b'v')?;
-    list.extend_from_slice(b"\0\0")?;
-    Ok(list)
 }
 
 /// How long lists are, and what is read of them.
@@ -132,7 +129,7 @@ fn expect_long(
     rt: &(impl Abort + AllocGlobal),
     &(size, want): &(usize, Result<usize, ListFault>),
 ) -> Result<(), Fail> {
-    let list = list_of(rt, size)?;
+    let list = text_of_size(rt.alloc(), b"a\0", size, b"\0\0")?;
     for most in [1_000, 4_095, 65_536, 100_000] {
         expect_size(rt, &list, (most, ALWAYS), want);
     }
@@ -156,10 +153,9 @@ fn received(
 ) -> Result<&'static str, ReceiveFault> {
     let mut buffer = ListBuffer::new(rt.alloc());
     let mut source = source(input, most, good);
-    match receive_postfix_request(PostfixVersion::V3_7, &mut source, &mut buffer)? {
-        PostfixRequest::Flush(_) => Ok("flush"),
-        PostfixRequest::Warn(_) => Ok("warn"),
-        _ => Ok("another"),
+    match receive_postfix_request(PostfixVersion::V3_7, &mut source, &mut buffer) {
+        Ok(request) => Ok(asked(&request).0),
+        Err(fault) => Err(fault),
     }
 }
 

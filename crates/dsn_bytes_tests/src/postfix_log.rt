@@ -1,9 +1,7 @@
 //! What a program of Postfix asks to log becomes a record of a log file, and a log file is read as its entries.
 use crate::assert_same::same;
-use dsn_postfix::{
-    LogEntry, LogField, LogReader, PostfixRequest, PostfixVersion, decode_postfix_request,
-    logged_as,
-};
+use crate::postfix_request::decoded;
+use dsn_postfix::{LogEntry, LogField, LogReader, PostfixRequest, logged_as};
 use dsn_text::Service;
 use std::alloc::{AllocGlobal, Global};
 use std::process::Abort;
@@ -35,7 +33,7 @@ fn logged(
     service: Service,
     bytes: &[u8],
 ) -> Result<Result<Vec<u8>, LogField>, Fail> {
-    let PostfixRequest::Append(append) = decode_postfix_request(PostfixVersion::V3_7, bytes)? else {
+    let PostfixRequest::Append(append) = decoded(bytes)? else {
         return Err("an append".into());
     };
     match logged_as(service, &append) {

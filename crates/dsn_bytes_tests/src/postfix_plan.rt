@@ -1,11 +1,12 @@
 //! Which notices requests of Postfix have of logs that Postfix wrote.
 use crate::assert_same::same;
 use crate::postfix_request::{
-    FLUSH_BOUNCE, FLUSH_DEFER, FLUSH_NULL, FLUSH_UTF8, TRACE, VERP, WARN, append_all, joined,
+    FLUSH_BOUNCE, FLUSH_DEFER, FLUSH_NULL, FLUSH_UTF8, TRACE, VERP, WARN, append_all, decoded,
+    joined,
 };
 use dsn_postfix::{
-    CantSay, LogRecord, PlanFault, PlannedNotice, PostfixVersion, QueuedRecipient, RecipientState,
-    ReturnedPart, decode_postfix_request, plan_notices,
+    CantSay, LogRecord, PlanFault, PlannedNotice, QueuedRecipient, RecipientState, ReturnedPart,
+    plan_notices,
 };
 use dsn_text::Service;
 use std::alloc::{AllocError, AllocGlobal, Global};
@@ -51,8 +52,8 @@ fn write_head(
 
 /// Writes the recipient, the status and the action of an outcome.
 fn write_outcome(told: &mut Vec<u8>, outcome: &LogRecord<'_>) -> Result<(), AllocError> {
-    append_all(told, &[b"- ", outcome.recipient, b" ", outcome.status])?;
-    append_all(told, &[b" ", outcome.action, b"\n"])
+    let (recipient, status, action) = (outcome.recipient, outcome.status, outcome.action);
+    append_all(told, &[b"- ", recipient, b" ", status, b" ", action, b"\n"])
 }
 
 /// Writes a line for a notice, and after it one for each outcome.
@@ -86,44 +87,49 @@ fn planned<'a>(
     queued: &[QueuedRecipient<'_>],
     log: Option<&'a [u8]>,
 ) -> Result<Result<Vec<PlannedNotice<'a>>, PlanFault>, Fail> {
-    let request = decode_postfix_request(PostfixVersion::V3_7, request)?;
+    let request = decoded(request)?;
     let double_bounce = b"double-bounce@mx.example.net".as_slice();
     Ok(plan_notices(alloc, double_bounce, service, &request, queued, log))
 }
 
-/// The notices of a request, with the log that there is, in pieces, and with the recipients that the queue file has: their text,
-/// or why they can't be said.
+/// The text of a request's notices, or why they can't be said.
+fn plan_text(
+    alloc: Global,
+    (service, request): (Service, &[u8]),
+    log: Option<&[u8]>,
+    queued: &[QueuedRecipient<'_>],
+) -> Result<Result<Vec<u8>, PlanFault>, Fail> {
+    match planned(alloc, service, request, queued, log)? {
+        Ok(notices) => Ok(Ok(told(alloc, &notices)?)),
+        Err(fault) => Ok(Err(fault)),
+    }
+}
+
+/// The notices of a request, with the log that there is, and with the recipients that the queue file has: their text, or why they
+/// can't be said.
 fn expect_plan(
     rt: &(impl AllocGlobal + Abort),
-    (service, request): (Service, &[u8]),
-    log: Option<&[&[u8]]>,
+    request: (Service, &[u8]),
+    log: Option<&[u8]>,
     queued: &[QueuedRecipient<'_>],
     want: Result<&[u8], PlanFault>,
 ) -> Result<(), Fail> {
-    let bytes = joined(rt.alloc(), log.unwrap_or(&[]))?;
-    let log = if log.is_some() {
-        Some(bytes.as_slice())
-    } else {
-        None
-    };
-    match planned(rt.alloc(), service, request, queued, log)? {
-        Ok(notices) => {
-            let told = told(rt.alloc(), &notices)?;
-            same(rt, Ok(told.as_slice()), want);
-        }
+    match plan_text(rt.alloc(), request, log, queued)? {
+        Ok(text) => same(rt, Ok(text.as_slice()), want),
         Err(fault) => same(rt, Err(fault), want),
     }
     Ok(())
 }
 
-/// A request's notices, of a log, have this text.
+/// A request's notices, of a log in pieces, have this text.
 fn expect_told(
     rt: &(impl AllocGlobal + Abort),
     request: (Service, &[u8]),
     log: &[&[u8]],
     want: &[u8],
 ) -> Result<(), Fail> {
-    expect_plan(rt, request, Some(log), &[], Ok(want))
+    let log = joined(rt.alloc(), log)?;
+    expect_plan(rt, request, Some(&log), &[], Ok(want))
 }
 
 #[test]
@@ -155,19 +161,40 @@ fn a_return_path_of_its_own_has_one_recipient(rt: HostRuntime) -> Result<(), Fai
     expect_told(&rt, (Service::Bounce, VERP), &[BOUNCED], want)
 }
 
+/// Requests, the log that there is, and their notices' text, or why they can't be said.
+const UNTOLD: [(Service, &[u8], Option<&[u8]>, Result<&[u8], PlanFault>); 4] = [
+    (
+        Service::Bounce,
+        FLUSH_BOUNCE,
+        None,
+        Err(PlanFault::Unsaid(CantSay::NoLog)),
+    ),
+    (Service::Defer, WARN, None, Ok(b"")),
+    (Service::Bounce, FLUSH_NULL, None, Ok(b"")),
+    (
+        Service::Bounce,
+        FLUSH_UTF8,
+        Some(BOUNCED),
+        Err(PlanFault::Unsaid(CantSay::NeedsSmtputf8)),
+    ),
+];
+
+/// Nobody is told by a request, or it is said why.
+fn expect_untold(
+    rt: &(impl AllocGlobal + Abort),
+    &(service, request, log, want): &(Service, &[u8], Option<&[u8]>, Result<&[u8], PlanFault>),
+) -> Result<(), Fail> {
+    expect_plan(rt, (service, request), log, &[], want)
+}
+
 #[test]
 fn nobody_is_told_or_it_is_said_why(rt: HostRuntime) -> Result<(), Fail> {
-    let flush = (Service::Bounce, FLUSH_BOUNCE);
-    let no_log = Err(PlanFault::Unsaid(CantSay::NoLog));
-    expect_plan(&rt, flush, None, &[], no_log)?;
-    expect_plan(&rt, (Service::Defer, WARN), None, &[], Ok(b""))?;
-    expect_plan(&rt, (Service::Bounce, FLUSH_NULL), None, &[], Ok(b""))?;
-    let utf8 = (Service::Bounce, FLUSH_UTF8);
-    let needs = Err(PlanFault::Unsaid(CantSay::NeedsSmtputf8));
-    expect_plan(&rt, utf8, Some(&[BOUNCED]), &[], needs)?;
+    for case in &UNTOLD {
+        expect_untold(&rt, case)?;
+    }
     let cut = &BOUNCED[..BOUNCED.len() - 1];
     let damaged = Err(PlanFault::Unsaid(CantSay::DamagedPart(450)));
-    expect_plan(&rt, flush, Some(&[cut]), &[], damaged)
+    expect_untold(&rt, &(Service::Bounce, FLUSH_BOUNCE, Some(cut), damaged))
 }
 
 /// What the queue file says of the one recipient of `DEFERRED` who wants to hear of failure.
@@ -199,7 +226,7 @@ fn expect_expired(
     want: &[u8],
 ) -> Result<(), Fail> {
     let flush = (Service::Defer, FLUSH_DEFER);
-    expect_plan(rt, flush, Some(&[DEFERRED]), queued, Ok(want))
+    expect_plan(rt, flush, Some(DEFERRED), queued, Ok(want))
 }
 
 #[test]
@@ -211,12 +238,6 @@ fn an_expired_message_has_failed_unless_it_is_done(rt: HostRuntime) -> Result<()
     expect_expired(&rt, &[REMOVED], b"")
 }
 
-/// A notice goes to Ann, and tells of so many recipients.
-fn expect_portion(rt: &impl Abort, notice: &PlannedNotice<'_>, size: usize) {
-    same(rt, notice.to, b"ann@example.com".as_slice());
-    same(rt, notice.outcomes.len(), size);
-}
-
 /// There are two notices to Ann, of so many recipients.
 fn expect_portions(
     rt: &impl Abort,
@@ -226,17 +247,24 @@ fn expect_portions(
     let [first, second] = notices else {
         return Err("two notices".into());
     };
-    expect_portion(rt, first, first_size);
-    expect_portion(rt, second, second_size);
+    let ann = b"ann@example.com".as_slice();
+    same(rt, (first.to, first.outcomes.len()), (ann, first_size));
+    same(rt, (second.to, second.outcomes.len()), (ann, second_size));
     Ok(())
+}
+
+/// A log of so many recipients in the form of versions before 2.3.
+fn old_log(alloc: Global, count: u32) -> Result<Vec<u8>, AllocError> {
+    let mut log = Vec::new(alloc);
+    for _ in 0..count {
+        log.extend_from_slice(OLD_RECORD)?;
+    }
+    Ok(log)
 }
 
 #[test]
 fn more_than_a_thousand_have_two_notices(rt: HostRuntime) -> Result<(), Fail> {
-    let mut log = Vec::new(rt.alloc());
-    for _ in 0..1001 {
-        log.extend_from_slice(OLD_RECORD)?;
-    }
+    let log = old_log(rt.alloc(), 1001)?;
     let notices = planned(rt.alloc(), Service::Bounce, FLUSH_BOUNCE, &[], Some(&log))??;
     expect_portions(&rt, &notices, (1000, 1))
 }

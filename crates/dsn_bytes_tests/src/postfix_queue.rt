@@ -4,6 +4,7 @@ use dsn_postfix::{
     MessageFacts, QueueBroken, QueueReader, QueuedRecipient, RecipientState, header_of_message,
     text_of_message,
 };
+use std::alloc::AllocGlobal;
 use std::process::Abort;
 use std::test::Fail;
 
@@ -55,31 +56,51 @@ fn a_queue_file_has_its_recipients(rt: HostRuntime) {
     expect_recipient(&rt, &mut cut, Err(QueueBroken));
 }
 
-/// A message's arrival, sender, envelope id, and flags of what is given back.
-fn expect_facts(rt: &impl Abort, facts: &MessageFacts<'_>) {
-    same(rt, facts.arrival, Some(1_795_671_363));
-    same(rt, facts.sender, Some(b"ann@example.com".as_slice()));
-    same(rt, facts.envelope_id, Some(b"QQ314159".as_slice()));
-    same(rt, facts.return_flags, Some(2));
+/// What a queue file says of its message, and whether it can be read to its end.
+fn facts_of(file: &[u8]) -> (MessageFacts<'_>, bool) {
+    match MessageFacts::read(file) {
+        Ok(facts) => (facts, true),
+        Err(broken) => (broken.before, false),
+    }
+}
+
+/// A queue file says this arrival, this sender, this envelope id, and these flags of what is given back, and can be read to its end, or
+/// can't.
+fn expect_facts(rt: &impl Abort, file: &[u8], whole: bool) {
+    let (facts, is_whole) = facts_of(file);
+    let found = (
+        facts.arrival,
+        facts.sender,
+        facts.envelope_id,
+        facts.return_flags,
+        is_whole,
+    );
+    let sender = Some(b"ann@example.com".as_slice());
+    let envelope_id = Some(b"QQ314159".as_slice());
+    same(
+        rt,
+        found,
+        (Some(1_795_671_363), sender, envelope_id, Some(2), whole),
+    );
 }
 
 #[test]
-fn a_queue_file_says_what_its_message_is(rt: HostRuntime) -> Result<(), Fail> {
-    let facts = MessageFacts::read(QUEUED).map_err(|_| "a queue file")?;
-    expect_facts(&rt, &facts);
-    let cut = &QUEUED[..QUEUED.len() - 2];
-    let broken = MessageFacts::read(cut).err().ok_or("a break")?;
-    expect_facts(&rt, &broken.before);
+fn a_queue_file_says_what_its_message_is(rt: HostRuntime) {
+    expect_facts(&rt, QUEUED, true);
+    expect_facts(&rt, &QUEUED[..QUEUED.len() - 2], false);
+}
+
+/// A message has this text.
+fn expect_text(rt: &(impl AllocGlobal + Abort), message: &[u8], want: &[u8]) -> Result<(), Fail> {
+    let text = text_of_message(rt.alloc(), message)?;
+    same(rt, text.as_slice(), want);
     Ok(())
 }
 
 #[test]
 fn the_text_of_a_message_is_its_lines(rt: HostRuntime) -> Result<(), Fail> {
-    let text = text_of_message(rt.alloc(), MESSAGE)?;
-    same(&rt, text.as_slice(), TEXT);
-    let none = text_of_message(rt.alloc(), &MESSAGE[2..])?;
-    same(&rt, none.len(), 0);
-    Ok(())
+    expect_text(&rt, MESSAGE, TEXT)?;
+    expect_text(&rt, &MESSAGE[2..], b"")
 }
 
 /// Texts, and their headers.

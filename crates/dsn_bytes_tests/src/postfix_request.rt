@@ -114,16 +114,50 @@ pub(crate) fn joined(alloc: Global, texts: &[&[u8]]) -> Result<Vec<u8>, AllocErr
     Ok(all)
 }
 
+/// A text of so many bytes, which begins and ends so.
+pub(crate) fn text_of_size(
+    alloc: Global,
+    start: &[u8],
+    size: usize,
+    end: &[u8],
+) -> Result<Vec<u8>, AllocError> {
+    let mut text = Vec::new(alloc);
+    text.extend_from_slice(start)?;
+    text.resize(size.saturating_sub(end.len()), b'a')?;
+    text.extend_from_slice(end)?;
+    Ok(text)
+}
+
+/// What bytes ask in a version, or why they are no request.
+fn decoded_in(version: PostfixVersion, bytes: &[u8]) -> Result<PostfixRequest<'_>, RequestFault> {
+    decode_postfix_request(version, bytes)
+}
+
+/// What bytes ask of 3.7, which must be a request.
+pub(crate) fn decoded(bytes: &[u8]) -> Result<PostfixRequest<'_>, Fail> {
+    Ok(decoded_in(PostfixVersion::V3_7, bytes)?)
+}
+
+/// The bytes of a request in a version.
+fn written(
+    alloc: Global,
+    version: PostfixVersion,
+    request: &PostfixRequest<'_>,
+) -> Result<Vec<u8>, Fail> {
+    Ok(encode_postfix_request(alloc, version, request)?)
+}
+
 /// What is asked, as a word, and what a message that is to be told of needs.
-fn asked(request: &PostfixRequest<'_>) -> (&'static str, u32) {
-    match request {
-        PostfixRequest::Append(_) => ("append", 0),
-        PostfixRequest::Flush(notice) => ("flush", notice.send_options),
-        PostfixRequest::Warn(notice) => ("warn", notice.send_options),
-        PostfixRequest::Verp(notice, ..) => ("verp", notice.send_options),
-        PostfixRequest::One(notice, ..) => ("one", notice.send_options),
-        PostfixRequest::Trace(notice) => ("trace", notice.send_options),
-    }
+pub(crate) fn asked(request: &PostfixRequest<'_>) -> (&'static str, u32) {
+    let (word, notice) = match request {
+        PostfixRequest::Append(_) => return ("append", 0),
+        PostfixRequest::Flush(notice) => ("flush", notice),
+        PostfixRequest::Warn(notice) => ("warn", notice),
+        PostfixRequest::Verp(notice, ..) => ("verp", notice),
+        PostfixRequest::One(notice, ..) => ("one", notice),
+        PostfixRequest::Trace(notice) => ("trace", notice),
+    };
+    (word, notice.send_options)
 }
 
 /// What bytes ask in a version, and the bytes that are written of it; or why they are no request.
@@ -132,9 +166,9 @@ fn read_and_written(
     version: PostfixVersion,
     bytes: &[u8],
 ) -> Result<Result<((&'static str, u32), Vec<u8>), RequestFault>, Fail> {
-    match decode_postfix_request(version, bytes) {
+    match decoded_in(version, bytes) {
         Ok(request) => {
-            let written = encode_postfix_request(alloc, version, &request)?;
+            let written = written(alloc, version, &request)?;
             Ok(Ok((asked(&request), written)))
         }
         Err(fault) => Ok(Err(fault)),

@@ -1,9 +1,9 @@
 //! Notices that are handed to a mail server: whole dialogues, refusals at each step, and a device that fails at each call.
 use crate::assert_same::same;
-use crate::postfix_service::server::Server;
+use crate::postfix_service::server::{Server, host, path, refused_at};
 use dsn_outcome::{Plain, Stream};
 use dsn_postfix_service::{
-    HandInFault, HandInStep, ReplyBuffer, ReplyCode, ReplyFault, greet, hand_in_notice, leave,
+    HandInFault, HandInStep, ReplyBuffer, ReplyFault, greet, hand_in_notice, leave,
 };
 use dsn_text::{Address, MtaName};
 use std::alloc::{AllocGlobal, Global};
@@ -35,22 +35,24 @@ const WHOLE_TWICE: &[u8] =
 
 /// A server's replies, how many bytes a call gives or takes at most, how many calls go well before one fails, and how many
 /// times the message is handed in.
-#[derive(Clone, Copy)]
-struct Dialogue<'a> {
-    script: &'a [u8],
-    most: usize,
-    calls: usize,
-    times: u32,
+type Dialogue = (&'static [u8], usize, usize, u32);
+
+/// Begins a session.
+fn greeted<S: Stream>(
+    stream: &mut S,
+    buffer: &mut ReplyBuffer,
+    host: &MtaName,
+) -> Result<(), HandInFault> {
+    greet(stream, buffer, host)
 }
 
-/// One notice for a server with these replies, where each call goes well.
-fn whole(script: &[u8]) -> Dialogue<'_> {
-    Dialogue {
-        script,
-        most: 1_000,
-        calls: ALWAYS,
-        times: 1,
-    }
+/// Hands in the message.
+fn taken<S: Stream>(
+    stream: &mut S,
+    buffer: &mut ReplyBuffer,
+    path: &Address,
+) -> Result<(), HandInFault> {
+    hand_in_notice(stream, buffer, path, MESSAGE)
 }
 
 /// Begins a session, and hands in the message so many times, up to the first fault.
@@ -61,172 +63,161 @@ fn hand_in_all<S: Stream>(
     times: u32,
 ) -> Result<(), HandInFault> {
     let mut buffer = ReplyBuffer::new();
-    greet(stream, &mut buffer, host)?;
+    greeted(stream, &mut buffer, host)?;
     for _ in 0..times {
-        hand_in_notice(stream, &mut buffer, path, MESSAGE)?;
+        taken(stream, &mut buffer, path)?;
     }
     Ok(())
 }
 
-/// What comes of notices that are handed in. What the server is sent is noted.
-fn outcome_of(
+/// The fault of notices that are handed in, if there is one. What the server is sent is noted.
+fn fault_of(
     alloc: Global,
-    dialogue: &Dialogue<'_>,
+    (script, most, calls, times): Dialogue,
     heard: &RefCell<Vec<u8>>,
-) -> Result<Result<(), HandInFault>, Fail> {
-    let host = MtaName::new(alloc, b"mail.example.net")?;
-    let path = Address::new(alloc, b"ann@example.org")?;
+) -> Result<Option<HandInFault>, Fail> {
+    let host = host(alloc)?;
+    let path = path(alloc)?;
     let mut stream = Plain::new(Server {
-        script: dialogue.script,
-        most: dialogue.most,
-        calls: dialogue.calls,
+        script,
+        most,
+        calls,
         heard,
     });
-    let outcome = hand_in_all(&mut stream, &host, &path, dialogue.times);
+    let outcome = hand_in_all(&mut stream, &host, &path, times);
     leave(&mut stream, &outcome);
-    Ok(outcome)
+    Ok(outcome.err())
 }
 
-/// What comes of notices that are handed in, and what the server is sent.
-fn handed_in(
-    alloc: Global,
-    dialogue: &Dialogue<'_>,
-) -> Result<(Result<(), HandInFault>, Vec<u8>), Fail> {
+/// The fault of notices that are handed in, if there is one, and what the server is sent.
+fn handed_in(alloc: Global, dialogue: Dialogue) -> Result<(Option<HandInFault>, Vec<u8>), Fail> {
     let heard = RefCell::new(Vec::new(alloc));
-    let outcome = outcome_of(alloc, dialogue, &heard)?;
-    Ok((outcome, heard.into_inner()))
+    let fault = fault_of(alloc, dialogue, &heard)?;
+    Ok((fault, heard.into_inner()))
 }
 
 /// All notices are taken, and the server is sent this.
 fn expect_taken(
     rt: &(impl AllocGlobal + Abort),
-    dialogue: &Dialogue<'_>,
+    dialogue: Dialogue,
     heard: &[u8],
 ) -> Result<(), Fail> {
-    let (outcome, sent) = handed_in(rt.alloc(), dialogue)?;
-    same(rt, (dialogue.most, outcome), (dialogue.most, Ok(())));
+    let (fault, sent) = handed_in(rt.alloc(), dialogue)?;
+    let (_, most, calls, _) = dialogue;
+    same(rt, (most, calls, fault), (most, calls, None));
     same(rt, sent.as_slice(), heard);
     Ok(())
 }
 
-/// A notice isn't taken, for this reason, and this is the end of what the server is sent, or isn't.
+/// A notice isn't taken where so many calls go well, for this reason, and this is the end of what the server is sent, or isn't.
 fn expect_fault(
     rt: &(impl AllocGlobal + Abort),
-    dialogue: &Dialogue<'_>,
-    fault: HandInFault,
+    (script, calls): (&'static [u8], usize),
+    want: Option<HandInFault>,
     (end, is_sent): (&[u8], bool),
 ) -> Result<(), Fail> {
-    let (outcome, sent) = handed_in(rt.alloc(), dialogue)?;
-    let calls = dialogue.calls;
-    same(rt, (calls, outcome), (calls, Err(fault)));
-    same(rt, (calls, sent.ends_with(end)), (calls, is_sent));
+    let (fault, sent) = handed_in(rt.alloc(), (script, 1_000, calls, 1))?;
+    let found = (script, calls, fault, sent.ends_with(end));
+    same(rt, found, (script, calls, want, is_sent));
     Ok(())
 }
 
 #[test]
 fn a_dialogue_in_pieces_of_each_size(rt: HostRuntime) -> Result<(), Fail> {
     for most in 1..60 {
-        let dialogue = Dialogue {
-            most,
-            ..whole(TAKES)
-        };
-        expect_taken(&rt, &dialogue, WHOLE)?;
-    }
-    let twice = Dialogue {
-        times: 2,
-        ..whole(TAKES_TWICE)
-    };
-    expect_taken(&rt, &twice, WHOLE_TWICE)
-}
-
-/// Scripts of servers that refuse, with the step at which they do, and the code.
-const REFUSALS: [(&[u8], HandInStep, [u8; 3]); 7] = [
-    (b"|554 no\r\n", HandInStep::Greeting, *b"554"),
-    (b"|220 a\r\n|502 no\r\n", HandInStep::Hello, *b"502"),
-    (
-        b"|220 a\r\n|250 a\r\n|451 no\r\n",
-        HandInStep::Sender,
-        *b"451",
-    ),
-    (
-        b"|220 a\r\n|250 a\r\n|250 b\r\n|550 no\r\n",
-        HandInStep::Recipient,
-        *b"550",
-    ),
-    (
-        b"|220 a\r\n|250 a\r\n|250 b\r\n|354 c\r\n",
-        HandInStep::Recipient,
-        *b"354",
-    ),
-    (
-        b"|220 a\r\n|250 a\r\n|250 b\r\n|250 c\r\n|250 d\r\n",
-        HandInStep::Data,
-        *b"250",
-    ),
-    (
-        b"|220 a\r\n|250 a\r\n|250 b\r\n|250 c\r\n|354 d\r\n|452 no\r\n",
-        HandInStep::Message,
-        *b"452",
-    ),
-];
-
-/// A server refuses so, and is told QUIT then.
-fn expect_refusal(
-    rt: &(impl AllocGlobal + Abort),
-    &(script, step, digits): &(&[u8], HandInStep, [u8; 3]),
-) -> Result<(), Fail> {
-    let code = ReplyCode::new(digits).ok_or("the code")?;
-    let fault = HandInFault::Refused(step, code);
-    expect_fault(rt, &whole(script), fault, (b"<QUIT\r\n", true))
-}
-
-#[test]
-fn a_refusal_at_each_step(rt: HostRuntime) -> Result<(), Fail> {
-    for case in &REFUSALS {
-        expect_refusal(&rt, case)?;
+        expect_taken(&rt, (TAKES, most, ALWAYS, 1), WHOLE)?;
     }
     Ok(())
 }
 
-/// Replies that are cut or come too soon, the step at which they do, and why.
-const NO_REPLIES: [(&[u8], HandInStep, ReplyFault); 6] = [
-    (b"", HandInStep::Greeting, ReplyFault::Nothing),
+#[test]
+fn two_notices_in_one_session(rt: HostRuntime) -> Result<(), Fail> {
+    expect_taken(&rt, (TAKES_TWICE, 1_000, ALWAYS, 2), WHOLE_TWICE)
+}
+
+/// Scripts of servers that refuse, or give no reply, the step at which they do, and the code, or why there is none.
+const REFUSALS: [(&[u8], HandInStep, Result<[u8; 3], ReplyFault>); 13] = [
+    (b"|554 no\r\n", HandInStep::Greeting, Ok(*b"554")),
+    (b"|220 a\r\n|502 no\r\n", HandInStep::Hello, Ok(*b"502")),
+    (
+        b"|220 a\r\n|250 a\r\n|451 no\r\n",
+        HandInStep::Sender,
+        Ok(*b"451"),
+    ),
+    (
+        b"|220 a\r\n|250 a\r\n|250 b\r\n|550 no\r\n",
+        HandInStep::Recipient,
+        Ok(*b"550"),
+    ),
+    (
+        b"|220 a\r\n|250 a\r\n|250 b\r\n|354 c\r\n",
+        HandInStep::Recipient,
+        Ok(*b"354"),
+    ),
+    (
+        b"|220 a\r\n|250 a\r\n|250 b\r\n|250 c\r\n|250 d\r\n",
+        HandInStep::Data,
+        Ok(*b"250"),
+    ),
+    (
+        b"|220 a\r\n|250 a\r\n|250 b\r\n|250 c\r\n|354 d\r\n|452 no\r\n",
+        HandInStep::Message,
+        Ok(*b"452"),
+    ),
+    // replies that are cut or come too soon
+    (b"", HandInStep::Greeting, Err(ReplyFault::Nothing)),
     (
         b"|220 a\r\n250 a\r\n",
         HandInStep::Greeting,
-        ReplyFault::Trailing,
+        Err(ReplyFault::Trailing),
     ),
-    (b"|220 a\r\n|250 a", HandInStep::Hello, ReplyFault::CutShort),
+    (
+        b"|220 a\r\n|250 a",
+        HandInStep::Hello,
+        Err(ReplyFault::CutShort),
+    ),
     (
         b"|220 a\r\n|250-a\r\n550 b\r\n",
         HandInStep::Hello,
-        ReplyFault::NoReply,
+        Err(ReplyFault::NoReply),
     ),
     (
         b"|220 a\r\n|250 a\r\n|250 b\r\n|250 c\r\n|354 d\r\n250 e\r\n",
         HandInStep::Data,
-        ReplyFault::Trailing,
+        Err(ReplyFault::Trailing),
     ),
     (
         b"|220 a\r\n|250 a\r\n|250 b\r\n|250 c\r\n|354 d\r\n",
         HandInStep::Message,
-        ReplyFault::Nothing,
+        Err(ReplyFault::Nothing),
     ),
 ];
 
-/// What a server says is no reply at a step, for this reason.
-fn expect_no_reply(
+/// A server refuses so, and is told QUIT then, or gives no reply, and is told QUIT.
+fn expect_refusal(
     rt: &(impl AllocGlobal + Abort),
-    &(script, step, why): &(&[u8], HandInStep, ReplyFault),
+    &(script, step, said): &(&'static [u8], HandInStep, Result<[u8; 3], ReplyFault>),
 ) -> Result<(), Fail> {
-    let fault = HandInFault::Unheard(step, why);
-    expect_fault(rt, &whole(script), fault, (b"QUIT\r\n", true))
+    match said {
+        Ok(digits) => expect_fault(
+            rt,
+            (script, ALWAYS),
+            refused_at(step, digits),
+            (b"<QUIT\r\n", true),
+        ),
+        Err(why) => expect_fault(
+            rt,
+            (script, ALWAYS),
+            Some(HandInFault::Unheard(step, why)),
+            (b"QUIT\r\n", true),
+        ),
+    }
 }
 
 #[test]
-fn replies_that_are_cut_or_come_too_soon(rt: HostRuntime) -> Result<(), Fail> {
-    for case in &NO_REPLIES {
-        expect_no_reply(&rt, case)?;
+fn refusals_and_no_replies_at_each_step(rt: HostRuntime) -> Result<(), Fail> {
+    for case in &REFUSALS {
+        expect_refusal(&rt, case)?;
     }
     Ok(())
 }
@@ -254,11 +245,7 @@ const FAILING_CALLS: [HandInFault; 16] = [
 #[test]
 fn a_device_that_fails_at_each_call(rt: HostRuntime) -> Result<(), Fail> {
     for (calls, fault) in FAILING_CALLS.into_iter().enumerate() {
-        let dialogue = Dialogue {
-            calls,
-            ..whole(TAKES)
-        };
-        expect_fault(&rt, &dialogue, fault, (b"QUIT\r\n", false))?;
+        expect_fault(&rt, (TAKES, calls), Some(fault), (b"QUIT\r\n", false))?;
         same(&rt, (calls, fault.may_be_taken()), (calls, calls > 12));
     }
     Ok(())
@@ -268,12 +255,6 @@ fn a_device_that_fails_at_each_call(rt: HostRuntime) -> Result<(), Fail> {
 #[test]
 fn a_device_that_fails_at_quit(rt: HostRuntime) -> Result<(), Fail> {
     let unsaid = &WHOLE[..WHOLE.len() - b"QUIT\r\n".len()];
-    for (calls, heard) in [(16, unsaid), (17, WHOLE)] {
-        let dialogue = Dialogue {
-            calls,
-            ..whole(TAKES)
-        };
-        expect_taken(&rt, &dialogue, heard)?;
-    }
-    Ok(())
+    expect_taken(&rt, (TAKES, 1_000, 16, 1), unsaid)?;
+    expect_taken(&rt, (TAKES, 1_000, 17, 1), WHOLE)
 }

@@ -1,6 +1,7 @@
 //! A mail system in memory, which writes down what is asked of it, and fails at a set deed.
 ghost use Rattle.std.specs.Prelude.{None};
 
+use crate::postfix_request::{append_all, joined};
 use dsn_postfix::{PostfixRequest, QueueName};
 use dsn_postfix_service::{
     DeedFault, HandInFault, HandInStep, MailSystem, ReplyBuffer, ReplyFault,
@@ -40,10 +41,7 @@ impl<'a> MemorySystem<'a> {
 
     /// Writes a line of a deed, and says whether the deed goes well.
     fn goes_well(&mut self, word: &[u8], text: &[u8]) -> bool {
-        let written = self.asked.extend_from_slice(word).is_ok()
-            && self.asked.push(b' ').is_ok()
-            && self.asked.extend_from_slice(text).is_ok()
-            && self.asked.push(b'\n').is_ok();
+        let written = append_all(&mut self.asked, &[word, b" ", text, b"\n"]).is_ok();
         let well = self.well != 0;
         self.well = if well { self.well - 1 } else { usize::MAX };
         written && well
@@ -64,9 +62,8 @@ pub(crate) const UNHEARD: HandInFault = HandInFault::Unheard(HandInStep::Message
 
 /// A copy of a text.
 fn copied(alloc: Global, text: &[u8]) -> Result<Vec<u8>, DeedFault> {
-    let mut copy = Vec::new(alloc);
-    match copy.extend_from_slice(text) {
-        Ok(()) => Ok(copy),
+    match joined(alloc, &[text]) {
+        Ok(copy) => Ok(copy),
         Err(_) => Err(DeedFault::NoMemory),
     }
 }

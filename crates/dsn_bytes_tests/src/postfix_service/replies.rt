@@ -1,10 +1,11 @@
 //! Replies, from readers that give them in pieces, end anywhere and fail anywhere, and the queue ids in them.
 use crate::assert_same::same;
 use crate::frame::frames::source;
+use crate::postfix_request::text_of_size;
 use dsn_postfix_service::{
     LONGEST_REPLY, ReplyBuffer, ReplyClass, ReplyCode, ReplyFault, queue_id_in,
 };
-use std::alloc::{AllocError, AllocGlobal};
+use std::alloc::AllocGlobal;
 use std::process::Abort;
 use std::test::Fail;
 
@@ -14,9 +15,13 @@ const ALWAYS: usize = 1_000_000;
 /// A reply of three lines (RFC 5321 section 4.2.1).
 const EXTENSIONS: &[u8] = b"250-mx.example.org\r\n250-PIPELINING\r\n250 8BITMIME\r\n";
 
-/// The code of the reply that is read, at most so many bytes a call, where the call after `good` calls fails.
-fn code(input: &[u8], most: usize, good: usize) -> Result<[u8; 3], ReplyFault> {
-    let mut buffer = ReplyBuffer::new();
+/// The code of the reply that is read into a buffer, at most so many bytes a call, where the call after `good` calls fails.
+fn read_next(
+    buffer: &mut ReplyBuffer,
+    input: &[u8],
+    most: usize,
+    good: usize,
+) -> Result<[u8; 3], ReplyFault> {
     match buffer.read_next(&mut source(input, most, good)) {
         Ok(code) => Ok(code.digits()),
         Err(fault) => Err(fault),
@@ -30,16 +35,15 @@ fn expect_code(
     (most, good): (usize, usize),
     want: Result<[u8; 3], ReplyFault>,
 ) {
-    let found = code(input, most, good);
+    let found = read_next(&mut ReplyBuffer::new(), input, most, good);
     same(rt, (input, most, good, found), (input, most, good, want));
 }
 
 /// A reply that is read into a buffer, at most so many bytes a call, is the one of three lines.
 fn expect_extensions(rt: &impl Abort, buffer: &mut ReplyBuffer, most: usize) {
-    let read = buffer.read_next(&mut source(EXTENSIONS, most, ALWAYS));
-    same(rt, read.is_ok(), true);
-    same(rt, buffer.bytes(), EXTENSIONS);
-    same(rt, buffer.last_text(), b"8BITMIME".as_slice());
+    let code = read_next(buffer, EXTENSIONS, most, ALWAYS);
+    let found = (most, code, buffer.bytes(), buffer.last_text());
+    same(rt, found, (most, Ok(*b"250"), EXTENSIONS, b"8BITMIME"));
 }
 
 #[test]
@@ -121,15 +125,6 @@ fn bytes_that_are_a_reply_and_bytes_that_are_none(rt: HostRuntime) {
     }
 }
 
-/// A reply of so many bytes, six or more.
-fn reply_of(rt: &impl AllocGlobal, size: usize) -> Result<Vec<u8>, AllocError> {
-    let mut reply = Vec::new(rt.alloc());
-    reply.extend_from_slice(b"250 ")?;
-    reply.resize(size.saturating_sub(2), b'a')?;
-    reply.extend_from_slice(b"\r\n")?;
-    Ok(reply)
-}
-
 /// How long replies are, and what is read of them.
 const LENGTHS: [(usize, Result<[u8; 3], ReplyFault>); 4] = [
     (LONGEST_REPLY - 1, Ok(*b"250")),
@@ -143,7 +138,7 @@ fn expect_long(
     rt: &(impl AllocGlobal + Abort),
     &(size, want): &(usize, Result<[u8; 3], ReplyFault>),
 ) -> Result<(), Fail> {
-    let reply = reply_of(rt, size)?;
+    let reply = text_of_size(rt.alloc(), b"250 ", size, b"\r\n")?;
     for most in [1_000, 4_095, 100_000] {
         expect_code(rt, &reply, (most, ALWAYS), want);
     }
@@ -201,12 +196,12 @@ const TEXTS: [(&[u8], Option<&[u8]>); 9] = [
 
 /// A text of a reply has this queue id at its end, or none.
 fn expect_queue_id(rt: &impl Abort, &(text, want): &(&[u8], Option<&[u8]>)) {
-    let found = queue_id_in(text);
-    same(
-        rt,
-        (text, found.as_ref().map(|id| id.bytes())),
-        (text, want),
-    );
+    let id = queue_id_in(text);
+    let found = match &id {
+        Some(id) => Some(id.bytes()),
+        None => None,
+    };
+    same(rt, (text, found), (text, want));
 }
 
 #[test]

@@ -2,9 +2,13 @@
 ghost use Rattle.std.specs.Prelude.{refl};
 
 use dsn_outcome::{OpaqueStream, Plain};
+use dsn_postfix_service::{HandInFault, HandInStep, ReplyCode};
+use dsn_text::{Address, MtaName};
+use std::alloc::Global;
 use std::cell::RefCell;
 use std::io;
 use std::io::{ErrorKind, Read, Write};
+use std::test::Fail;
 
 /// A mail server in memory. No contract tells its bytes.
 #[derive(Drop)]
@@ -81,4 +85,22 @@ impl OpaqueStream for Server<'_> {
     ghost untold_input = { λ _. refl };
 
     ghost untold_output = { λ _. refl };
+}
+
+/// Who hands notices in.
+pub(crate) fn host(alloc: Global) -> Result<MtaName, Fail> {
+    Ok(MtaName::new(alloc, b"mail.example.net")?)
+}
+
+/// Who is told by notices.
+pub(crate) fn path(alloc: Global) -> Result<Address, Fail> {
+    Ok(Address::new(alloc, b"ann@example.org")?)
+}
+
+/// The fault of a notice that is refused at a step by this code.
+pub(crate) fn refused_at(step: HandInStep, digits: [u8; 3]) -> Option<HandInFault> {
+    match ReplyCode::new(digits) {
+        Some(code) => Some(HandInFault::Refused(step, code)),
+        None => None,
+    }
 }

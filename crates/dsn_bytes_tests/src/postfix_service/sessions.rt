@@ -1,10 +1,9 @@
 //! Notices that are handed in over a session that was kept, or over a new one, and what each server is sent then.
 use crate::assert_same::same;
-use crate::postfix_service::server::Server;
+use crate::postfix_service::server::{Server, host, path, refused_at};
 use dsn_outcome::{Plain, Stream};
 use dsn_postfix_service::{
-    Connect, HandInFault, HandInStep, Notice, ReplyBuffer, ReplyCode, ReplyFault, Session,
-    hand_in_over,
+    Connect, HandInFault, HandInStep, Notice, ReplyBuffer, ReplyFault, Session, hand_in_over,
 };
 use dsn_text::{Address, MtaName};
 use std::alloc::{AllocGlobal, Global};
@@ -119,21 +118,11 @@ const CASES: [Case; 8] = [
     },
 ];
 
-/// The fault of a notice that isn't taken at a step, by this code, or by none.
-fn fault_at(step: HandInStep, digits: Option<[u8; 3]>) -> Option<HandInFault> {
-    let Some(digits) = digits else {
-        return Some(HandInFault::Unheard(step, ReplyFault::Read));
-    };
-    match ReplyCode::new(digits) {
-        Some(code) => Some(HandInFault::Refused(step, code)),
-        None => None,
-    }
-}
-
 /// The fault that a case wants, if there is to be one.
 fn wanted(case: &Case) -> Option<HandInFault> {
     match case.fault {
-        Some((step, digits)) => fault_at(step, digits),
+        Some((step, Some(digits))) => refused_at(step, digits),
+        Some((step, None)) => Some(HandInFault::Unheard(step, ReplyFault::Read)),
         None => None,
     }
 }
@@ -164,8 +153,8 @@ fn tried(
     over_kept: &RefCell<Vec<u8>>,
     over_new: &RefCell<Vec<u8>>,
 ) -> Result<Option<HandInFault>, Fail> {
-    let host = MtaName::new(alloc, b"mail.example.net")?;
-    let path = Address::new(alloc, b"ann@example.org")?;
+    let host = host(alloc)?;
+    let path = path(alloc)?;
     let kept = match case.kept {
         Some(script) => begun(Server::steady(script, over_kept), &host),
         None => None,

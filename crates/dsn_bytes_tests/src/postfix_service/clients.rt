@@ -1,11 +1,12 @@
 //! Postfix's programs as clients: what each is told, what is done for it, and where it goes wrong.
 use crate::assert_same::same;
+use crate::postfix_letter::site;
 use crate::postfix_service::memory_system::{MemorySystem, UNHEARD};
+use crate::postfix_service::requests::{APPEND, RECORD};
 use crate::postfix_service::server::Server;
 use dsn_outcome::{Plain, Stream};
 use dsn_postfix::{ListBuffer, ListFault, PostfixVersion};
 use dsn_postfix_service::{ClientFault, DeedFault, ServiceSettings, serve_client};
-use dsn_report::Site;
 use dsn_text::Service;
 use std::alloc::AllocGlobal;
 use std::cell::RefCell;
@@ -18,14 +19,6 @@ const ALWAYS: usize = 1_000_000;
 
 /// What a client is told first.
 const ANNOUNCED: &[u8] = b"protocol\0delivery_status_protocol\0\0";
-
-/// An append of one recipient.
-const APPEND: &[u8] =
-    b"nrequest\00\0flags\00\0queue_id\06BB87A7E6A1\0original_recipient\0\0recipient\0no@a.example\0offset\031\0dsn_orig_rcpt\0\0notify_flags\00\0status\05.1.1\0diag_type\0\0diag_text\0\0mta_type\0\0mta_mname\0\0action\0failed\0reason\0no\0\0";
-
-/// The line of its record.
-const APPENDED: &[u8] =
-    b"append \n<no@a.example>: no\nrecipient=no@a.example\noffset=31\nstatus=5.1.1\naction=failed\nreason=no\n\n\n";
 
 /// A client, and what must come of it.
 struct Client {
@@ -47,7 +40,7 @@ const APPENDING: Client = Client {
     well: ALWAYS,
     end: Ok(0),
     heard: b"protocol\0delivery_status_protocol\0\0status\00\0\0",
-    lines: APPENDED,
+    lines: RECORD,
 };
 
 /// Clients that are answered, and such as aren't.
@@ -106,7 +99,7 @@ fn served<R: AllocGlobal + Clock, S: Stream>(
     stream: &mut S,
     system: &mut MemorySystem<'_>,
 ) -> Result<Result<u32, ClientFault>, Fail> {
-    let site = Site::new(rt.alloc(), b"mx.example.net")?;
+    let site = site(rt.alloc())?;
     let settings = ServiceSettings {
         site: &site,
         double_bounce: b"double-bounce@mx.example.net",

@@ -1,15 +1,15 @@
 //! Requests that are answered over a mail system in memory: what is done for each, in which order, and what it is
 //! answered, with a failure at each deed.
 use crate::assert_same::same;
-use crate::postfix_request::joined;
+use crate::postfix_letter::{moment, site};
+use crate::postfix_request::decoded;
 use crate::postfix_service::memory_system::{MemorySystem, UNHEARD};
-use dsn_postfix::{PostfixVersion, decode_postfix_request};
+use crate::postfix_service::server::refused_at;
 use dsn_postfix_service::{
-    DeedFault, HandInFault, HandInStep, ReplyCode, RequestTerms, ServiceSettings, answer_request,
+    DeedFault, HandInFault, HandInStep, RequestTerms, ServiceSettings, answer_request,
 };
-use dsn_report::Site;
-use dsn_text::{Service, Stamp};
-use std::alloc::{AllocError, AllocGlobal, Global};
+use dsn_text::Service;
+use std::alloc::{AllocGlobal, Global};
 use std::process::Abort;
 use std::test::Fail;
 
@@ -31,73 +31,125 @@ const DELAYS: &[u8] =
 /// What a program of Postfix asks.
 #[derive(Clone, Copy)]
 enum Asked {
-    /// To log what became of a recipient: the flags, and the recipient.
-    Append(&'static [u8], &'static [u8]),
-    /// For notices: the number of the request, its flags, the message's sender, and attributes of its own.
-    Notices(&'static [u8], &'static [u8], &'static [u8], &'static [u8]),
+    Append,
+    CleanAppend,
+    SpacedAppend,
+    Flush,
+    Clean,
+    Marking,
+    CleanMarking,
+    FromQuoted,
+    FromNobody,
+    FromDoubleBounce,
+    Verp,
+    Warning,
+    Trace,
 }
 
-/// The message's sender.
-const ANN: &[u8] = b"ann@example.com";
+/// An append of a recipient whom a line can say.
+pub(crate) const APPEND: &[u8] =
+    b"nrequest\00\0flags\00\0queue_id\06BB87A7E6A1\0original_recipient\0\0recipient\0no@a.example\0offset\031\0dsn_orig_rcpt\0\0notify_flags\00\0status\05.1.1\0diag_type\0\0diag_text\0\0mta_type\0\0mta_mname\0\0action\0failed\0reason\0no\0\0";
+
+/// The same with CLEAN.
+const CLEAN_APPEND: &[u8] =
+    b"nrequest\00\0flags\01\0queue_id\06BB87A7E6A1\0original_recipient\0\0recipient\0no@a.example\0offset\031\0dsn_orig_rcpt\0\0notify_flags\00\0status\05.1.1\0diag_type\0\0diag_text\0\0mta_type\0\0mta_mname\0\0action\0failed\0reason\0no\0\0";
+
+/// An append of a recipient with a space, whom no line can say.
+const SPACED_APPEND: &[u8] =
+    b"nrequest\00\0flags\00\0queue_id\06BB87A7E6A1\0original_recipient\0\0recipient\0no a@a.example\0offset\031\0dsn_orig_rcpt\0\0notify_flags\00\0status\05.1.1\0diag_type\0\0diag_text\0\0mta_type\0\0mta_mname\0\0action\0failed\0reason\0no\0\0";
 
 /// Notices of a log, and its removal.
-const FLUSH: Asked = Asked::Notices(b"1", b"0", ANN, b"");
+const FLUSH: &[u8] =
+    b"nrequest\01\0flags\00\0queue_name\0active\0queue_id\06BB87A7E6A1\0encoding\0\0smtputf8\00\0sender\0ann@example.com\0envelope_id\0\0ret_flags\00\0\0";
 
 /// The same with CLEAN.
-const CLEAN: Asked = Asked::Notices(b"1", b"1", ANN, b"");
+const CLEAN: &[u8] =
+    b"nrequest\01\0flags\01\0queue_name\0active\0queue_id\06BB87A7E6A1\0encoding\0\0smtputf8\00\0sender\0ann@example.com\0envelope_id\0\0ret_flags\00\0\0";
 
 /// The same where the recipients are to be marked as done.
-const MARKING: Asked = Asked::Notices(b"1", b"2", ANN, b"");
-
-/// Notices to a sender whose address has to be quoted.
-const FROM_QUOTED: Asked = Asked::Notices(b"1", b"0", b"a b@example.com", b"");
-
-/// Notices that have a return path for each recipient.
-const VERP: Asked = Asked::Notices(b"3", b"0", ANN, b"verp_delimiters\0+=\0");
-
-/// An append of a recipient whom a line can say.
-const APPEND: Asked = Asked::Append(b"0", b"no@a.example");
+const MARKING: &[u8] =
+    b"nrequest\01\0flags\02\0queue_name\0active\0queue_id\06BB87A7E6A1\0encoding\0\0smtputf8\00\0sender\0ann@example.com\0envelope_id\0\0ret_flags\00\0\0";
 
 /// The same with CLEAN.
-const CLEAN_APPEND: Asked = Asked::Append(b"1", b"no@a.example");
+const CLEAN_MARKING: &[u8] =
+    b"nrequest\01\0flags\03\0queue_name\0active\0queue_id\06BB87A7E6A1\0encoding\0\0smtputf8\00\0sender\0ann@example.com\0envelope_id\0\0ret_flags\00\0\0";
+
+/// Notices to a sender whose address has to be quoted.
+const FROM_QUOTED: &[u8] =
+    b"nrequest\01\0flags\00\0queue_name\0active\0queue_id\06BB87A7E6A1\0encoding\0\0smtputf8\00\0sender\0a b@example.com\0envelope_id\0\0ret_flags\00\0\0";
+
+/// Notices of a message that has no sender.
+const FROM_NOBODY: &[u8] =
+    b"nrequest\01\0flags\00\0queue_name\0active\0queue_id\06BB87A7E6A1\0encoding\0\0smtputf8\00\0sender\0\0envelope_id\0\0ret_flags\00\0\0";
+
+/// Notices of a message whose sender is that of double bounces.
+const FROM_DOUBLE_BOUNCE: &[u8] =
+    b"nrequest\01\0flags\00\0queue_name\0active\0queue_id\06BB87A7E6A1\0encoding\0\0smtputf8\00\0sender\0Double-Bounce@mx.example.net\0envelope_id\0\0ret_flags\00\0\0";
+
+/// Notices that have a return path for each recipient.
+const VERP: &[u8] =
+    b"nrequest\03\0flags\00\0queue_name\0active\0queue_id\06BB87A7E6A1\0encoding\0\0smtputf8\00\0sender\0ann@example.com\0envelope_id\0\0ret_flags\00\0verp_delimiters\0+=\0\0";
+
+/// A warning.
+const WARNING: &[u8] =
+    b"nrequest\02\0flags\00\0queue_name\0active\0queue_id\06BB87A7E6A1\0encoding\0\0smtputf8\00\0sender\0ann@example.com\0envelope_id\0\0ret_flags\00\0\0";
+
+/// A report of deliveries.
+const TRACE: &[u8] =
+    b"nrequest\05\0flags\00\0queue_name\0active\0queue_id\06BB87A7E6A1\0encoding\0\0smtputf8\00\0sender\0ann@example.com\0envelope_id\0\0ret_flags\00\0\0";
 
 /// The bytes of a request.
-fn request_bytes(alloc: Global, asked: Asked) -> Result<Vec<u8>, AllocError> {
+fn bytes_of(asked: Asked) -> &'static [u8] {
     match asked {
-        Asked::Append(flags, recipient) => joined(
-            alloc,
-            &[
-                b"nrequest\00\0flags\0".as_slice(),
-                flags,
-                b"\0queue_id\06BB87A7E6A1\0original_recipient\0\0recipient\0",
-                recipient,
-                b"\0offset\031\0dsn_orig_rcpt\0\0notify_flags\00\0status\05.1.1\0diag_type\0\0diag_text\0\0mta_type\0\0mta_mname\0\0action\0failed\0reason\0no\0\0",
-            ],
-        ),
-        Asked::Notices(kind, flags, sender, own) => joined(
-            alloc,
-            &[
-                b"nrequest\0".as_slice(),
-                kind,
-                b"\0flags\0",
-                flags,
-                b"\0queue_name\0active\0queue_id\06BB87A7E6A1\0encoding\0\0smtputf8\00\0sender\0",
-                sender,
-                b"\0envelope_id\0\0ret_flags\00\0",
-                own,
-                b"\0",
-            ],
-        ),
+        Asked::Append => APPEND,
+        Asked::CleanAppend => CLEAN_APPEND,
+        Asked::SpacedAppend => SPACED_APPEND,
+        Asked::Flush => FLUSH,
+        Asked::Clean => CLEAN,
+        Asked::Marking => MARKING,
+        Asked::CleanMarking => CLEAN_MARKING,
+        Asked::FromQuoted => FROM_QUOTED,
+        Asked::FromNobody => FROM_NOBODY,
+        Asked::FromDoubleBounce => FROM_DOUBLE_BOUNCE,
+        Asked::Verp => VERP,
+        Asked::Warning => WARNING,
+        Asked::Trace => TRACE,
     }
 }
 
-/// Over what a request is answered: the logs that its message has, and what goes wrong.
+/// The logs that a message has.
 #[derive(Clone, Copy)]
-struct Given {
+enum Logs {
+    Nothing,
+    /// A bounce log of two recipients.
+    Bounce,
+    /// A log of another service, of one.
+    Other,
+    /// A log of another service, of two.
+    OtherOfTwo,
+    /// A bounce log of two, and another log of one.
+    Both,
+    /// An empty bounce log, and another log of one.
+    EmptyAndOther,
+}
+
+/// The bounce log, and the log of each other service, where there are such.
+fn texts_of(logs: Logs) -> (Option<&'static [u8]>, Option<&'static [u8]>) {
+    match logs {
+        Logs::Nothing => (None, None),
+        Logs::Bounce => (Some(LOG), None),
+        Logs::Other => (None, Some(DELAYS)),
+        Logs::OtherOfTwo => (None, Some(LOG)),
+        Logs::Both => (Some(LOG), Some(DELAYS)),
+        Logs::EmptyAndOther => (Some(b""), Some(DELAYS)),
+    }
+}
+
+/// A request, over what it is answered, what goes wrong, and what comes of it.
+struct Case {
+    asked: Asked,
     service: Service,
-    bounce_log: Option<&'static [u8]>,
-    /// The log of each other service.
-    log: Option<&'static [u8]>,
+    logs: Logs,
     /// How many deeds go well before one fails.
     well: usize,
     /// What comes of the deed that fails, where it hands in nothing.
@@ -106,63 +158,362 @@ struct Given {
     refusal: Option<[u8; 3]>,
     /// What Postfix's own service answers.
     postfix: u32,
+    status: u32,
+    /// The lines of the deeds.
+    lines: &'static [u8],
 }
 
 /// A request to the service of bounce logs, of a message with one, where all goes well.
-const BOUNCES: Given = Given {
+const BOUNCES: Case = Case {
+    asked: Asked::Flush,
     service: Service::Bounce,
-    bounce_log: Some(LOG),
-    log: None,
+    logs: Logs::Bounce,
     well: 1_000,
     fault: DeedFault::Failed,
     refusal: None,
     postfix: 7,
+    status: 0,
+    lines: TOLD,
 };
 
-/// A request to the service of defer logs, of a message with both logs, where all goes well.
-const BOTH: Given = Given {
-    service: Service::Defer,
-    log: Some(DELAYS),
+/// The same where a deed fails.
+const BOUNCES_FAIL: Case = Case {
+    status: NOT_DONE,
     ..BOUNCES
 };
 
-/// The same, but the deed after so many fails.
-fn failing(given: Given, well: usize) -> Given {
-    Given { well, ..given }
-}
+/// The same where the request is passed on.
+const BOUNCES_PASSED_ON: Case = Case {
+    status: 7,
+    lines: PASSED_ON,
+    ..BOUNCES
+};
 
-/// The same, but the deed after so many hands in a notice that is refused by this code.
-fn refusing(given: Given, well: usize, digits: [u8; 3]) -> Given {
-    Given {
-        well,
-        refusal: Some(digits),
-        ..given
-    }
-}
+/// A request to the service of defer logs, of a message with both logs, where all goes well.
+const BOTH: Case = Case {
+    service: Service::Defer,
+    logs: Logs::Both,
+    lines: BOUNCE_AND_DEFER,
+    ..BOUNCES
+};
 
-/// The same with another bounce log, or none.
-fn with_bounce_log(given: Given, bounce_log: Option<&'static [u8]>) -> Given {
-    Given {
-        bounce_log,
-        ..given
-    }
-}
+/// The same where a deed fails.
+const BOTH_FAIL: Case = Case {
+    status: NOT_DONE,
+    ..BOTH
+};
 
-/// The same where Postfix's own service answers 0.
-fn passed_on_well(given: Given) -> Given {
-    Given {
+/// The line of a record that is appended.
+pub(crate) const RECORD: &[u8] =
+    b"append \n<no@a.example>: no\nrecipient=no@a.example\noffset=31\nstatus=5.1.1\naction=failed\nreason=no\n\n\n";
+
+/// The same, and the log's removal.
+const RECORD_REMOVED: &[u8] =
+    b"append \n<no@a.example>: no\nrecipient=no@a.example\noffset=31\nstatus=5.1.1\naction=failed\nreason=no\n\n\nremove B\n";
+
+/// The lines of a flush of the bounce log alone.
+const TOLD: &[u8] = b"log B\nmessage active\nhand-in ann@example.com\nremove B\nrelease \n";
+
+/// The same up to a notice that isn't taken.
+const UNTOLD: &[u8] = b"log B\nmessage active\nhand-in ann@example.com\nrelease \n";
+
+/// The lines of a flush of the bounce log that is passed on.
+const PASSED_ON: &[u8] = b"log B\nmessage active\nrelease \npass-on B\n";
+
+/// The lines of a flush of the bounce log whose second notice isn't taken.
+const SECOND_UNTOLD: &[u8] =
+    b"log B\nmessage active\nhand-in ann+no=a.example@example.com\nhand-in ann+no=b.example@example.com\nrelease \n";
+
+/// The lines of a flush of the bounce log that is asked before the defer log.
+const BOUNCE: &[u8] =
+    b"seek B\nlog B\nmessage active\nhand-in ann@example.com\nremove B\nrelease \n";
+
+/// The lines of a flush of the defer log where there is no bounce log.
+const DEFER: &[u8] =
+    b"seek B\nlog D\nmessage active\nhand-in ann@example.com\nremove D\nrelease \n";
+
+/// The lines of a flush of both.
+const BOUNCE_AND_DEFER: &[u8] =
+    b"seek B\nlog B\nmessage active\nhand-in ann@example.com\nremove B\nrelease \nlog D\nmessage active\nhand-in ann@example.com\nremove D\nrelease \n";
+
+/// Appends: one is answered 0 once it stands.
+const APPENDS: [Case; 7] = [
+    Case {
+        asked: Asked::Append,
+        logs: Logs::Nothing,
+        lines: RECORD,
+        ..BOUNCES
+    },
+    Case {
+        asked: Asked::Append,
+        well: 0,
+        lines: RECORD,
+        ..BOUNCES_FAIL
+    },
+    // with CLEAN it leaves no log where it fails
+    Case {
+        asked: Asked::CleanAppend,
+        logs: Logs::Nothing,
+        lines: RECORD,
+        ..BOUNCES
+    },
+    Case {
+        asked: Asked::CleanAppend,
+        well: 0,
+        lines: RECORD_REMOVED,
+        ..BOUNCES_FAIL
+    },
+    // memory that a deed lacks is answered by a status
+    Case {
+        asked: Asked::Append,
+        well: 0,
+        fault: DeedFault::NoMemory,
+        lines: RECORD,
+        ..BOUNCES_FAIL
+    },
+    // one that no line says is passed on
+    Case {
+        asked: Asked::SpacedAppend,
+        logs: Logs::Nothing,
+        lines: b"pass-on B\n",
+        ..BOUNCES_PASSED_ON
+    },
+    Case {
+        asked: Asked::SpacedAppend,
+        well: 0,
+        lines: b"pass-on B\n",
+        ..BOUNCES_FAIL
+    },
+];
+
+/// Requests about one log.
+const OF_ONE_LOG: [Case; 18] = [
+    // a flush tells of two, and removes the log
+    BOUNCES,
+    Case {
+        well: 0,
+        lines: b"log B\nrelease \n",
+        ..BOUNCES_FAIL
+    },
+    Case {
+        well: 1,
+        lines: b"log B\nmessage active\nrelease \n",
+        ..BOUNCES_FAIL
+    },
+    Case {
+        well: 2,
+        lines: UNTOLD,
+        ..BOUNCES_FAIL
+    },
+    Case {
+        well: 3,
+        ..BOUNCES_FAIL
+    },
+    // nobody is told of a message from nobody
+    Case {
+        asked: Asked::FromNobody,
+        lines: b"log B\nmessage active\nremove B\nrelease \n",
+        ..BOUNCES
+    },
+    Case {
+        asked: Asked::FromDoubleBounce,
+        lines: b"log B\nmessage active\nremove B\nrelease \n",
+        ..BOUNCES
+    },
+    // what is no letter is passed on, and nothing is handed in
+    Case {
+        asked: Asked::FromQuoted,
+        ..BOUNCES_PASSED_ON
+    },
+    Case {
+        logs: Logs::Nothing,
+        ..BOUNCES_PASSED_ON
+    },
+    // each recipient has a path of its own
+    Case {
+        asked: Asked::Verp,
+        lines: b"log B\nmessage active\nhand-in ann+no=a.example@example.com\nhand-in ann+no=b.example@example.com\nremove B\nrelease \n",
+        ..BOUNCES
+    },
+    Case {
+        asked: Asked::Verp,
+        well: 3,
+        lines: SECOND_UNTOLD,
+        ..BOUNCES_FAIL
+    },
+    // a letter that is refused for good is passed on
+    Case {
+        well: 2,
+        refusal: Some(*b"550"),
+        lines: b"log B\nmessage active\nhand-in ann@example.com\nrelease \npass-on B\n",
+        ..BOUNCES_PASSED_ON
+    },
+    Case {
+        well: 2,
+        refusal: Some(*b"450"),
+        lines: UNTOLD,
+        ..BOUNCES_FAIL
+    },
+    // a later one is put off: who is told by the first would be told once more
+    Case {
+        asked: Asked::Verp,
+        well: 3,
+        refusal: Some(*b"550"),
+        lines: SECOND_UNTOLD,
+        ..BOUNCES_FAIL
+    },
+    // recipients are marked before the log is removed, but not those of a bounce log
+    Case {
+        asked: Asked::Marking,
+        ..BOUNCES
+    },
+    Case {
+        asked: Asked::CleanMarking,
+        logs: Logs::OtherOfTwo,
+        lines: b"seek B\nlog D\nmessage active\nhand-in ann@example.com\nmark 031\nmark 045\nremove D\nrelease \n",
+        ..BOTH
+    },
+    Case {
+        asked: Asked::CleanMarking,
+        logs: Logs::OtherOfTwo,
+        well: 5,
+        lines: b"seek B\nlog D\nmessage active\nhand-in ann@example.com\nmark 031\nmark 045\nrelease \nremove D\n",
+        ..BOTH_FAIL
+    },
+    // a trace without a log tells nobody
+    Case {
+        asked: Asked::Trace,
+        service: Service::Trace,
+        logs: Logs::Nothing,
+        lines: b"log T\nmessage active\nrelease \n",
+        ..BOUNCES
+    },
+];
+
+/// Requests about the defer log of a message that may have both: the bounce log is told first.
+const OF_BOTH_LOGS: [Case; 21] = [
+    BOTH,
+    Case {
+        logs: Logs::Other,
+        lines: DEFER,
+        ..BOTH
+    },
+    Case {
+        logs: Logs::EmptyAndOther,
+        lines: DEFER,
+        ..BOTH
+    },
+    // a bounce log that Postfix tells comes first
+    Case {
+        asked: Asked::FromQuoted,
+        status: 7,
+        lines: b"seek B\nlog B\nmessage active\nrelease \npass-on B\n",
+        ..BOTH
+    },
+    Case {
+        asked: Asked::FromQuoted,
         postfix: 0,
-        ..given
-    }
-}
+        lines: b"seek B\nlog B\nmessage active\nrelease \npass-on B\nlog D\nmessage active\nrelease \npass-on D\n",
+        ..BOTH
+    },
+    // the defer log is told after a bounce log that was refused and passed on
+    Case {
+        well: 3,
+        refusal: Some(*b"554"),
+        postfix: 0,
+        lines: b"seek B\nlog B\nmessage active\nhand-in ann@example.com\nrelease \npass-on B\nlog D\nmessage active\nhand-in ann@example.com\nremove D\nrelease \n",
+        ..BOTH
+    },
+    Case {
+        well: 3,
+        refusal: Some(*b"554"),
+        status: 7,
+        lines: b"seek B\nlog B\nmessage active\nhand-in ann@example.com\nrelease \npass-on B\n",
+        ..BOTH
+    },
+    // a recipient of the defer log may have the record of one that bounced
+    Case {
+        asked: Asked::Marking,
+        lines: b"seek B\nlog B\nmessage active\nhand-in ann@example.com\nremove B\nrelease \nlog D\nmessage active\nhand-in ann@example.com\nmark 031\nremove D\nrelease \n",
+        ..BOTH
+    },
+    // with a path for each recipient too
+    Case {
+        asked: Asked::Verp,
+        lines: b"seek B\nlog B\nmessage active\nhand-in ann+no=a.example@example.com\nhand-in ann+no=b.example@example.com\nremove B\nrelease \nlog D\nmessage active\nhand-in ann+no=a.example@example.com\nremove D\nrelease \n",
+        ..BOTH
+    },
+    // a warning keeps the log
+    Case {
+        asked: Asked::Warning,
+        lines: b"log D\nmessage active\nhand-in ann@example.com\nrelease \n",
+        ..BOTH
+    },
+    // the defer log stays where the bounce log fails
+    Case {
+        well: 0,
+        lines: b"seek B\n",
+        ..BOTH_FAIL
+    },
+    Case {
+        well: 1,
+        lines: b"seek B\nlog B\nrelease \n",
+        ..BOTH_FAIL
+    },
+    Case {
+        well: 2,
+        lines: b"seek B\nlog B\nmessage active\nrelease \n",
+        ..BOTH_FAIL
+    },
+    Case {
+        well: 3,
+        lines: b"seek B\nlog B\nmessage active\nhand-in ann@example.com\nrelease \n",
+        ..BOTH_FAIL
+    },
+    Case {
+        well: 4,
+        lines: BOUNCE,
+        ..BOTH_FAIL
+    },
+    // the bounce log is told where the defer log fails
+    Case {
+        well: 6,
+        lines: b"seek B\nlog B\nmessage active\nhand-in ann@example.com\nremove B\nrelease \nlog D\nrelease \n",
+        ..BOTH_FAIL
+    },
+    Case {
+        well: 7,
+        lines: b"seek B\nlog B\nmessage active\nhand-in ann@example.com\nremove B\nrelease \nlog D\nmessage active\nrelease \n",
+        ..BOTH_FAIL
+    },
+    Case {
+        well: 8,
+        lines: b"seek B\nlog B\nmessage active\nhand-in ann@example.com\nremove B\nrelease \nlog D\nmessage active\nhand-in ann@example.com\nrelease \n",
+        ..BOTH_FAIL
+    },
+    Case {
+        well: 9,
+        ..BOTH_FAIL
+    },
+    // with CLEAN no defer log is removed before its turn
+    Case {
+        asked: Asked::Clean,
+        well: 0,
+        lines: b"seek B\n",
+        ..BOTH_FAIL
+    },
+    Case {
+        asked: Asked::Clean,
+        well: 1,
+        lines: b"seek B\nlog B\nrelease \nremove B\n",
+        ..BOTH_FAIL
+    },
+];
 
 /// What comes of a notice that is refused by this code, or has no reply.
 fn refusal_of(digits: Option<[u8; 3]>) -> HandInFault {
-    let Some(digits) = digits else {
-        return UNHEARD;
-    };
-    match ReplyCode::new(digits) {
-        Some(code) => HandInFault::Refused(HandInStep::Recipient, code),
+    match digits {
+        Some(digits) => refused_at(HandInStep::Recipient, digits).unwrap_or(UNHEARD),
         None => UNHEARD,
     }
 }
@@ -174,9 +525,9 @@ fn answered(
     bytes: &[u8],
     system: &mut MemorySystem<'_>,
 ) -> Result<u32, Fail> {
-    let request = decode_postfix_request(PostfixVersion::V3_7, bytes)?;
-    let moment = Stamp::new(1_700_000_000).ok_or("the moment")?;
-    let site = Site::new(alloc, b"mx.example.net")?;
+    let request = decoded(bytes)?;
+    let moment = moment()?;
+    let site = site(alloc)?;
     let settings = ServiceSettings {
         site: &site,
         double_bounce: b"double-bounce@mx.example.net",
@@ -191,257 +542,45 @@ fn answered(
     Ok(answer_request(alloc, &terms, &request, bytes, system)?)
 }
 
-/// A request is answered by this status, and its deeds have these lines.
-fn expect_answer(
-    rt: &(impl AllocGlobal + Abort),
-    asked: Asked,
-    given: Given,
-    status: u32,
-    lines: &[u8],
-) -> Result<(), Fail> {
-    let bytes = request_bytes(rt.alloc(), asked)?;
+/// A request is answered by its status, and its deeds have these lines.
+fn expect_answer(rt: &(impl AllocGlobal + Abort), case: &Case) -> Result<(), Fail> {
+    let (bounce_log, log) = texts_of(case.logs);
     let mut system = MemorySystem {
-        bounce_log: given.bounce_log,
-        log: given.log,
+        bounce_log,
+        log,
         file: FILE,
-        well: given.well,
-        fault: given.fault,
-        refusal: refusal_of(given.refusal),
-        status: given.postfix,
+        well: case.well,
+        fault: case.fault,
+        refusal: refusal_of(case.refusal),
+        status: case.postfix,
         asked: Vec::new(rt.alloc()),
     };
-    let found = answered(rt.alloc(), given.service, &bytes, &mut system)?;
-    same(rt, system.asked.as_slice(), lines);
-    same(rt, found, status);
+    let found = answered(rt.alloc(), case.service, bytes_of(case.asked), &mut system)?;
+    same(rt, system.asked.as_slice(), case.lines);
+    same(rt, (case.well, found), (case.well, case.status));
     Ok(())
 }
 
-/// All goes well: the status is 0.
-fn expect_done(
-    rt: &(impl AllocGlobal + Abort),
-    asked: Asked,
-    given: Given,
-    lines: &[u8],
-) -> Result<(), Fail> {
-    expect_answer(rt, asked, given, 0, lines)
-}
-
-/// The deed after so many fails, and the request wasn't carried out.
-fn expect_failure(
-    rt: &(impl AllocGlobal + Abort),
-    asked: Asked,
-    (given, well): (Given, usize),
-    lines: &[u8],
-) -> Result<(), Fail> {
-    expect_answer(rt, asked, failing(given, well), NOT_DONE, lines)
-}
-
-/// The line of a record that is appended.
-const RECORD: &[u8] =
-    b"append \n<no@a.example>: no\nrecipient=no@a.example\noffset=31\nstatus=5.1.1\naction=failed\nreason=no\n\n\n";
-
-/// The same, and the log's removal.
-const RECORD_REMOVED: &[u8] =
-    b"append \n<no@a.example>: no\nrecipient=no@a.example\noffset=31\nstatus=5.1.1\naction=failed\nreason=no\n\n\nremove B\n";
-
 #[test]
-fn an_append_is_answered_0_once_it_stands(rt: HostRuntime) -> Result<(), Fail> {
-    let no_log = with_bounce_log(BOUNCES, None);
-    expect_done(&rt, APPEND, no_log, RECORD)?;
-    expect_failure(&rt, APPEND, (BOUNCES, 0), RECORD)?;
-    // with CLEAN it leaves no log where it fails
-    expect_done(&rt, CLEAN_APPEND, no_log, RECORD)?;
-    expect_failure(&rt, CLEAN_APPEND, (BOUNCES, 0), RECORD_REMOVED)
+fn appends_are_answered(rt: HostRuntime) -> Result<(), Fail> {
+    for case in &APPENDS {
+        expect_answer(&rt, case)?;
+    }
+    Ok(())
 }
 
 #[test]
-fn memory_that_a_deed_lacks_is_answered_by_a_status(rt: HostRuntime) -> Result<(), Fail> {
-    let refused = Given {
-        fault: DeedFault::NoMemory,
-        ..BOUNCES
-    };
-    expect_failure(&rt, APPEND, (refused, 0), RECORD)
+fn requests_about_one_log_are_answered(rt: HostRuntime) -> Result<(), Fail> {
+    for case in &OF_ONE_LOG {
+        expect_answer(&rt, case)?;
+    }
+    Ok(())
 }
 
 #[test]
-fn an_append_that_no_line_says_is_passed_on(rt: HostRuntime) -> Result<(), Fail> {
-    let spaced = Asked::Append(b"0", b"no a@a.example");
-    let no_log = with_bounce_log(BOUNCES, None);
-    expect_answer(&rt, spaced, no_log, 7, b"pass-on B\n")?;
-    expect_failure(&rt, spaced, (BOUNCES, 0), b"pass-on B\n")
-}
-
-/// The lines of a flush of the bounce log alone.
-const TOLD: &[u8] = b"log B\nmessage active\nhand-in ann@example.com\nremove B\nrelease \n";
-
-/// The same up to a notice that isn't taken.
-const UNTOLD: &[u8] = b"log B\nmessage active\nhand-in ann@example.com\nrelease \n";
-
-#[test]
-fn a_flush_tells_of_two_and_removes_the_log(rt: HostRuntime) -> Result<(), Fail> {
-    expect_done(&rt, FLUSH, BOUNCES, TOLD)?;
-    expect_failure(&rt, FLUSH, (BOUNCES, 0), b"log B\nrelease \n")?;
-    let unread = b"log B\nmessage active\nrelease \n";
-    expect_failure(&rt, FLUSH, (BOUNCES, 1), unread)?;
-    expect_failure(&rt, FLUSH, (BOUNCES, 2), UNTOLD)?;
-    expect_failure(&rt, FLUSH, (BOUNCES, 3), TOLD)
-}
-
-#[test]
-fn recipients_are_marked_before_the_log_is_removed(rt: HostRuntime) -> Result<(), Fail> {
-    let marking = Asked::Notices(b"1", b"3", ANN, b"");
-    let given = Given {
-        bounce_log: None,
-        log: Some(LOG),
-        ..BOTH
-    };
-    let all =
-        b"seek B\nlog D\nmessage active\nhand-in ann@example.com\nmark 031\nmark 045\nremove D\nrelease \n";
-    expect_done(&rt, marking, given, all)?;
-    let unmarked =
-        b"seek B\nlog D\nmessage active\nhand-in ann@example.com\nmark 031\nmark 045\nrelease \nremove D\n";
-    expect_failure(&rt, marking, (given, 5), unmarked)
-}
-
-// A recipient of the defer log may have the record of one that bounced.
-#[test]
-fn recipients_of_a_bounce_log_are_not_marked(rt: HostRuntime) -> Result<(), Fail> {
-    let both =
-        b"seek B\nlog B\nmessage active\nhand-in ann@example.com\nremove B\nrelease \nlog D\nmessage active\nhand-in ann@example.com\nmark 031\nremove D\nrelease \n";
-    expect_done(&rt, MARKING, BOTH, both)?;
-    expect_done(&rt, MARKING, BOUNCES, TOLD)
-}
-
-#[test]
-fn nobody_is_told_of_a_message_from_nobody(rt: HostRuntime) -> Result<(), Fail> {
-    let untold = b"log B\nmessage active\nremove B\nrelease \n";
-    let from_nobody = Asked::Notices(b"1", b"0", b"", b"");
-    expect_done(&rt, from_nobody, BOUNCES, untold)?;
-    let double = Asked::Notices(b"1", b"0", b"Double-Bounce@mx.example.net", b"");
-    expect_done(&rt, double, BOUNCES, untold)
-}
-
-/// The lines of a flush of the bounce log that is passed on.
-const PASSED_ON: &[u8] = b"log B\nmessage active\nrelease \npass-on B\n";
-
-#[test]
-fn what_is_no_letter_is_passed_on_and_nothing_is_handed_in(rt: HostRuntime) -> Result<(), Fail> {
-    expect_answer(&rt, FROM_QUOTED, BOUNCES, 7, PASSED_ON)?;
-    let no_log = with_bounce_log(BOUNCES, None);
-    expect_answer(&rt, FLUSH, no_log, 7, PASSED_ON)
-}
-
-/// The lines of a flush of the bounce log whose second notice isn't taken.
-const SECOND_UNTOLD: &[u8] =
-    b"log B\nmessage active\nhand-in ann+no=a.example@example.com\nhand-in ann+no=b.example@example.com\nrelease \n";
-
-#[test]
-fn each_recipient_has_a_path_of_its_own(rt: HostRuntime) -> Result<(), Fail> {
-    let all =
-        b"log B\nmessage active\nhand-in ann+no=a.example@example.com\nhand-in ann+no=b.example@example.com\nremove B\nrelease \n";
-    expect_done(&rt, VERP, BOUNCES, all)?;
-    expect_failure(&rt, VERP, (BOUNCES, 3), SECOND_UNTOLD)
-}
-
-#[test]
-fn a_letter_that_is_refused_for_good_is_passed_on(rt: HostRuntime) -> Result<(), Fail> {
-    let passed = b"log B\nmessage active\nhand-in ann@example.com\nrelease \npass-on B\n";
-    expect_answer(&rt, FLUSH, refusing(BOUNCES, 2, *b"550"), 7, passed)?;
-    let for_now = refusing(BOUNCES, 2, *b"450");
-    expect_answer(&rt, FLUSH, for_now, NOT_DONE, UNTOLD)?;
-    // a later one is put off: who is told by the first would be told once more
-    let second = refusing(BOUNCES, 3, *b"550");
-    expect_answer(&rt, VERP, second, NOT_DONE, SECOND_UNTOLD)
-}
-
-#[test]
-fn a_defer_log_is_told_after_a_bounce_log_that_was_refused(rt: HostRuntime) -> Result<(), Fail> {
-    let refused = refusing(BOTH, 3, *b"554");
-    let both =
-        b"seek B\nlog B\nmessage active\nhand-in ann@example.com\nrelease \npass-on B\nlog D\nmessage active\nhand-in ann@example.com\nremove D\nrelease \n";
-    expect_done(&rt, FLUSH, passed_on_well(refused), both)?;
-    let first = b"seek B\nlog B\nmessage active\nhand-in ann@example.com\nrelease \npass-on B\n";
-    expect_answer(&rt, FLUSH, refused, 7, first)
-}
-
-#[test]
-fn a_warning_keeps_the_log(rt: HostRuntime) -> Result<(), Fail> {
-    let warning = Asked::Notices(b"2", b"0", ANN, b"");
-    let lines = b"log D\nmessage active\nhand-in ann@example.com\nrelease \n";
-    expect_done(&rt, warning, BOTH, lines)
-}
-
-#[test]
-fn a_trace_without_a_log_tells_nobody(rt: HostRuntime) -> Result<(), Fail> {
-    let given = Given {
-        service: Service::Trace,
-        bounce_log: None,
-        ..BOUNCES
-    };
-    let trace = Asked::Notices(b"5", b"0", ANN, b"");
-    expect_done(&rt, trace, given, b"log T\nmessage active\nrelease \n")
-}
-
-/// The lines of a flush of the bounce log that is asked before the defer log.
-const BOUNCE: &[u8] =
-    b"seek B\nlog B\nmessage active\nhand-in ann@example.com\nremove B\nrelease \n";
-
-/// The lines of a flush of both.
-const BOUNCE_AND_DEFER: &[u8] =
-    b"seek B\nlog B\nmessage active\nhand-in ann@example.com\nremove B\nrelease \nlog D\nmessage active\nhand-in ann@example.com\nremove D\nrelease \n";
-
-#[test]
-fn a_flush_of_the_defer_log_tells_the_bounce_log_first(rt: HostRuntime) -> Result<(), Fail> {
-    expect_done(&rt, FLUSH, BOTH, BOUNCE_AND_DEFER)?;
-    let alone = b"seek B\nlog D\nmessage active\nhand-in ann@example.com\nremove D\nrelease \n";
-    expect_done(&rt, FLUSH, with_bounce_log(BOTH, None), alone)?;
-    expect_done(&rt, FLUSH, with_bounce_log(BOTH, Some(b"")), alone)
-}
-
-#[test]
-fn a_defer_log_stays_where_the_bounce_log_fails(rt: HostRuntime) -> Result<(), Fail> {
-    expect_failure(&rt, FLUSH, (BOTH, 0), b"seek B\n")?;
-    expect_failure(&rt, FLUSH, (BOTH, 1), b"seek B\nlog B\nrelease \n")?;
-    let unread = b"seek B\nlog B\nmessage active\nrelease \n";
-    expect_failure(&rt, FLUSH, (BOTH, 2), unread)?;
-    let refused = b"seek B\nlog B\nmessage active\nhand-in ann@example.com\nrelease \n";
-    expect_failure(&rt, FLUSH, (BOTH, 3), refused)?;
-    expect_failure(&rt, FLUSH, (BOTH, 4), BOUNCE)
-}
-
-#[test]
-fn a_bounce_log_is_told_where_the_defer_log_fails(rt: HostRuntime) -> Result<(), Fail> {
-    let unread =
-        b"seek B\nlog B\nmessage active\nhand-in ann@example.com\nremove B\nrelease \nlog D\nrelease \n";
-    expect_failure(&rt, FLUSH, (BOTH, 6), unread)?;
-    let no_file =
-        b"seek B\nlog B\nmessage active\nhand-in ann@example.com\nremove B\nrelease \nlog D\nmessage active\nrelease \n";
-    expect_failure(&rt, FLUSH, (BOTH, 7), no_file)?;
-    let refused =
-        b"seek B\nlog B\nmessage active\nhand-in ann@example.com\nremove B\nrelease \nlog D\nmessage active\nhand-in ann@example.com\nrelease \n";
-    expect_failure(&rt, FLUSH, (BOTH, 8), refused)?;
-    expect_failure(&rt, FLUSH, (BOTH, 9), BOUNCE_AND_DEFER)
-}
-
-#[test]
-fn clean_removes_no_defer_log_before_its_turn(rt: HostRuntime) -> Result<(), Fail> {
-    expect_failure(&rt, CLEAN, (BOTH, 0), b"seek B\n")?;
-    let unread = b"seek B\nlog B\nrelease \nremove B\n";
-    expect_failure(&rt, CLEAN, (BOTH, 1), unread)
-}
-
-#[test]
-fn a_bounce_log_that_postfix_tells_comes_first(rt: HostRuntime) -> Result<(), Fail> {
-    let first = b"seek B\nlog B\nmessage active\nrelease \npass-on B\n";
-    expect_answer(&rt, FROM_QUOTED, BOTH, 7, first)?;
-    let both =
-        b"seek B\nlog B\nmessage active\nrelease \npass-on B\nlog D\nmessage active\nrelease \npass-on D\n";
-    expect_done(&rt, FROM_QUOTED, passed_on_well(BOTH), both)
-}
-
-#[test]
-fn a_flush_with_a_path_for_each_tells_the_bounce_log_first(rt: HostRuntime) -> Result<(), Fail> {
-    let both =
-        b"seek B\nlog B\nmessage active\nhand-in ann+no=a.example@example.com\nhand-in ann+no=b.example@example.com\nremove B\nrelease \nlog D\nmessage active\nhand-in ann+no=a.example@example.com\nremove D\nrelease \n";
-    expect_done(&rt, VERP, BOTH, both)
+fn a_bounce_log_is_told_before_the_defer_log(rt: HostRuntime) -> Result<(), Fail> {
+    for case in &OF_BOTH_LOGS {
+        expect_answer(&rt, case)?;
+    }
+    Ok(())
 }

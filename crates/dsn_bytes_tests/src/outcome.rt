@@ -3,4 +3,4 @@ mod letters;
 pub(crate) mod outcomes;
 mod queue_ids;
 mod stamps;
-mod texts;
+pub(crate) mod texts;

@@ -54,9 +54,14 @@ fn expect_types(rt: &impl Abort, outcome: &Outcome, want: &Types<'_>) {
     same(rt, or_empty(outcome.diagnostic_type()), want.diagnostic);
 }
 
+/// The service of an outcome's log. (What else is known then of the outcome is known here alone.)
+fn service_of(outcome: &Outcome) -> Service {
+    outcome.service()
+}
+
 /// Asserts what an outcome has beside texts.
 fn expect_values(rt: &impl Abort, outcome: &Outcome, service: Service, want: &Parts<'_>) {
-    same(rt, outcome.service(), service);
+    same(rt, service_of(outcome), service);
     same(rt, outcome.action().byte(), want.action);
     same(rt, outcome.status().bytes(), want.status);
     same(rt, outcome.last_attempt(), want.last_attempt);
@@ -78,7 +83,11 @@ pub(crate) fn expect_outcome(
 
 /// The outcome of these fields, or their fault. They are named one by one, since the borrow checker
 /// doesn't cover a whole `Parts` that is passed on.
-fn made(alloc: Global, service: Service, parts: Parts<'_>) -> Result<Box<Node>, OutcomeFault> {
+pub(crate) fn made(
+    alloc: Global,
+    service: Service,
+    parts: &Parts<'_>,
+) -> Result<Box<Node>, OutcomeFault> {
     let Parts {
         recipient,
         original,
@@ -91,7 +100,7 @@ fn made(alloc: Global, service: Service, parts: Parts<'_>) -> Result<Box<Node>, 
         retry_until,
         types,
         extensions,
-    } = parts;
+    } = *parts;
     let parts = Parts {
         recipient,
         original,
@@ -108,14 +117,16 @@ fn made(alloc: Global, service: Service, parts: Parts<'_>) -> Result<Box<Node>, 
     Outcome::new(alloc, service, parts)
 }
 
+/// The same fields as an outcome keeps them.
+const CLEANED: Parts<'static> = Parts {
+    diagnostic: b"smtp; 550 no?such user",
+    ..PARTS
+};
+
 #[test]
 fn outcomes_keep_their_fields(rt: HostRuntime) -> Result<(), Fail> {
-    let node = made(rt.alloc(), Service::Bounce, PARTS)?;
-    let cleaned = Parts {
-        diagnostic: b"smtp; 550 no?such user",
-        ..PARTS
-    };
-    expect_outcome(&rt, node.outcome(), Service::Bounce, &cleaned);
+    let node = made(rt.alloc(), Service::Bounce, &PARTS)?;
+    expect_outcome(&rt, node.outcome(), Service::Bounce, &CLEANED);
     Ok(())
 }
 
@@ -153,14 +164,29 @@ fn an_outcome_of_the_longest_texts_is_kept(rt: HostRuntime) -> Result<(), Fail> 
         diagnostic: &kind,
     };
     let longest = with_texts(&address, &name, &remark, types);
-    let node = made(rt.alloc(), Service::Bounce, longest)?;
-    let want = with_texts(&address, &name, &remark, types);
-    expect_outcome(&rt, node.outcome(), Service::Bounce, &want);
+    let node = made(rt.alloc(), Service::Bounce, &longest)?;
+    expect_outcome(&rt, node.outcome(), Service::Bounce, &longest);
     Ok(())
 }
 
 /// What stands for no moment.
-const NONE: u64 = u64::MAX;
+pub(crate) const NONE: u64 = u64::MAX;
+
+/// The seconds of a moment.
+fn seconds_of(moment: Option<Stamp>) -> u64 {
+    match moment {
+        Some(moment) => moment.seconds(),
+        None => NONE,
+    }
+}
+
+/// The last attempt and the retry until of an outcome.
+pub(crate) fn moments_of(outcome: &Outcome) -> [u64; 2] {
+    [
+        seconds_of(outcome.last_attempt()),
+        seconds_of(outcome.retry_until()),
+    ]
+}
 
 /// The last attempt and the retry until of the outcome of fields with these, or the fault of the
 /// fields.
@@ -168,9 +194,9 @@ fn moments_kept(
     alloc: Global,
     action: u8,
     status: &[u8],
-    last_attempt: u64,
-    retry_until: u64,
-) -> Result<(Option<Stamp>, Option<Stamp>), OutcomeFault> {
+    moments: [u64; 2],
+) -> Result<[u64; 2], OutcomeFault> {
+    let [last_attempt, retry_until] = moments;
     let parts = Parts {
         action,
         status,
@@ -178,39 +204,37 @@ fn moments_kept(
         retry_until: Stamp::new(retry_until),
         ..PARTS
     };
-    let node = Outcome::new(alloc, Service::Trace, parts)?;
-    let outcome = node.outcome();
-    Ok((outcome.last_attempt(), outcome.retry_until()))
+    let node = made(alloc, Service::Trace, &parts)?;
+    Ok(moments_of(node.outcome()))
 }
 
 #[test]
 fn only_a_delayed_recipient_is_tried_again(rt: HostRuntime) {
-    for (action, status, fits) in [
-        (1, b"5.1.1", false),
-        (2, b"4.4.1", true),
-        (3, b"2.0.0", false),
-        (4, b"2.0.0", false),
-        (5, b"2.0.0", false),
+    let attempted = [1_700_000_000, NONE];
+    let retried = [NONE, 1_700_432_000];
+    for (action, status, want) in [
+        (1, b"5.1.1", Err(OutcomeFault::RetryUntil)),
+        (2, b"4.4.1", Ok(retried)),
+        (3, b"2.0.0", Err(OutcomeFault::RetryUntil)),
+        (4, b"2.0.0", Err(OutcomeFault::RetryUntil)),
+        (5, b"2.0.0", Err(OutcomeFault::RetryUntil)),
     ] {
-        let attempted = moments_kept(rt.alloc(), action, status, 1_700_000_000, NONE);
-        let want = Ok((Stamp::new(1_700_000_000), None));
-        same(&rt, (action, attempted), (action, want));
-        let retried = moments_kept(rt.alloc(), action, status, NONE, 1_700_432_000);
-        let want = if fits {
-            Ok((None, Stamp::new(1_700_432_000)))
-        } else {
-            Err(OutcomeFault::RetryUntil)
-        };
-        same(&rt, (action, retried), (action, want));
+        let kept = moments_kept(rt.alloc(), action, status, attempted);
+        same(&rt, (action, kept), (action, Ok(attempted)));
+        let kept = moments_kept(rt.alloc(), action, status, retried);
+        same(&rt, (action, kept), (action, want));
     }
 }
 
 #[test]
 fn the_two_moments_are_kept(rt: HostRuntime) {
-    for seconds in [0, 1_700_000_000, LAST_MOMENT] {
-        let attempt = LAST_MOMENT - seconds;
-        let kept = moments_kept(rt.alloc(), 2, b"4.4.1", attempt, seconds);
-        same(&rt, kept, Ok((Stamp::new(attempt), Stamp::new(seconds))));
+    for moments in [
+        [LAST_MOMENT, 0],
+        [LAST_MOMENT - 1_700_000_000, 1_700_000_000],
+        [0, LAST_MOMENT],
+    ] {
+        let kept = moments_kept(rt.alloc(), 2, b"4.4.1", moments);
+        same(&rt, kept, Ok(moments));
     }
 }
 
@@ -303,7 +327,7 @@ fn expect_first(rt: &(impl Abort + AllocGlobal), first: OutcomeFault, long: &[u8
         }
         let types = spoiled_types([first, later]);
         let parts = spoiled([first, later], long, types);
-        let fault = made(rt.alloc(), Service::Bounce, parts).err();
+        let fault = made(rt.alloc(), Service::Bounce, &parts).err();
         same(rt, (later, fault), (later, Some(first)));
     }
 }
@@ -338,7 +362,7 @@ fn fault_of<'a>(
         extensions,
         ..PARTS
     };
-    Outcome::new(alloc, Service::Bounce, parts).err()
+    made(alloc, Service::Bounce, &parts).err()
 }
 
 #[test]
@@ -372,27 +396,30 @@ fn a_type_is_an_atom_of_32_bytes(rt: HostRuntime) -> Result<(), Fail> {
 /// Eight extension fields, and one more.
 const NINE: &[u8; 63] = b"X-A: b\nX-A: b\nX-A: b\nX-A: b\nX-A: b\nX-A: b\nX-A: b\nX-A: b\nX-A: b\n";
 
+/// Texts that are no extension fields.
+const NO_FIELDS: [&[u8]; 14] = [
+    NINE,
+    b"A: b\n",
+    b"x-A: b\n",
+    b"X-: b\n",
+    b"X-A:b\n",
+    b"X-A: \n",
+    b"X-A b\n",
+    b"X-A:B: c\n",
+    b"X-A : b\n",
+    b"X-A: b",
+    b"X-A: b\r\n",
+    b"X-A: \xe9\n",
+    b"X-A: b\n\n",
+    b"\n",
+];
+
 #[test]
 fn extension_fields_are_lines_of_a_name_and_a_value(rt: HostRuntime) {
     same(&rt, fault_of(rt.alloc(), TEXTS, b"", &NINE[..56]), None);
-    for extensions in [
-        NINE.as_slice(),
-        b"A: b\n",
-        b"x-A: b\n",
-        b"X-: b\n",
-        b"X-A:b\n",
-        b"X-A: \n",
-        b"X-A b\n",
-        b"X-A:B: c\n",
-        b"X-A : b\n",
-        b"X-A: b",
-        b"X-A: b\r\n",
-        b"X-A: \xe9\n",
-        b"X-A: b\n\n",
-        b"\n",
-    ] {
+    for extensions in &NO_FIELDS {
         let fault = fault_of(rt.alloc(), TEXTS, b"", extensions);
         let want = Some(OutcomeFault::Extension);
-        same(&rt, (extensions, fault), (extensions, want));
+        same(&rt, (*extensions, fault), (*extensions, want));
     }
 }

@@ -50,7 +50,7 @@ fn kept(alloc: Global, kind: Kind, text: &[u8]) -> Kept {
 }
 
 /// A text of so many letters.
-pub(super) fn text_of(alloc: Global, len: usize) -> Result<Vec<u8>, AllocError> {
+pub(crate) fn text_of(alloc: Global, len: usize) -> Result<Vec<u8>, AllocError> {
     vec![in alloc; b'a'; len]
 }
 

@@ -1,6 +1,6 @@
 //! Tests of frames, requests and answers in bytes, over what `dsn_frame` makes public.
 mod answers;
-mod bodies;
+pub(crate) mod bodies;
 mod buffers;
 pub(crate) mod frames;
 mod requests;

@@ -3,4 +3,5 @@ mod letters;
 pub(crate) mod outcomes;
 mod queue_ids;
 mod stamps;
+pub(crate) mod terms;
 pub(crate) mod texts;

@@ -50,7 +50,7 @@ fn text_if(there: bool, text: &'static [u8]) -> &'static [u8] {
 }
 
 /// Eight extension fields, each with the longest name and the longest value.
-fn longest_fields(alloc: Global) -> Result<Vec<u8>, AllocError> {
+pub(crate) fn longest_fields(alloc: Global) -> Result<Vec<u8>, AllocError> {
     let mut fields = Vec::new(alloc);
     for _ in 0..8 {
         fields.extend_from_slice(b"X-")?;

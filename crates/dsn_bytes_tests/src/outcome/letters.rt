@@ -1,67 +1,65 @@
 //! Drafts with their extension fields, and letters from their parts to their end.
-ghost use Rattle.std.specs.Prelude.{◌≡◌, ◌≢◌, [], All, IfOk};
-
 use crate::assert_same::same;
-use crate::report::letters::{A1B2C3, BOB, Flush, Texts, failed, letter, sealed};
+use crate::outcome::terms::{expect_texts, moments_of, wishes_of};
+use crate::report::letters::{A1B2C3, BOB, Flush, Texts, draft, key_of, letter};
 use dsn_outcome::{
-    Address, Chain, Draft, DraftFault, DraftParts, EnvelopeId, Letter, Letters, Node, Service,
-    Stamp, Terms,
+    Draft, DraftFault, Letter, Letters, Outcomes, Returned, Service, Terms, Wording,
 };
 use std::alloc::{AllocGlobal, Global};
 use std::process::Abort;
 use std::test::Fail;
 
-/// A draft of these bytes for what is returned and for the wording, and of these extension fields.
-fn draft(
-    alloc: Global,
-    bytes: (u8, u8),
-    extensions: &[u8],
-) -> Result<Result<Draft, DraftFault>, Fail> {
-    let moment = Stamp::new(1_700_000_000).ok_or("the moment")?;
-    let arrival = Stamp::new(1_699_996_400).ok_or("the arrival")?;
-    let mut parts = DraftParts::usual(b"ann@example.com", b"QQ 314159", b"Subject: hi\n");
-    (parts.returned, parts.wording) = bytes;
-    parts.extensions = extensions;
-    Ok(Draft::read(alloc, moment, arrival, parts))
-}
+/// A flush with an envelope id and a header.
+const HELLO: Flush<'static> = Flush {
+    envelope_id: b"QQ 314159",
+    header: b"Subject: hi\n",
+    ..A1B2C3
+};
 
 /// Asserts what a draft says, and its extension fields.
 fn expect_terms(rt: &impl Abort, terms: &Terms, extensions: &[u8]) {
+    same(rt, moments_of(terms), (1_700_000_000, 1_699_996_400));
+    expect_texts(
+        rt,
+        terms,
+        b"ann@example.com",
+        b"QQ 314159",
+        b"Subject: hi\n",
+    );
     same(rt, terms.extensions(), extensions);
-    let moments = (terms.moment().seconds(), terms.arrival().seconds());
-    same(rt, moments, (1_700_000_000, 1_699_996_400));
-    let return_path = terms.return_path().map(Address::bytes);
-    same(rt, return_path, Some(b"ann@example.com".as_slice()));
-    let id = terms.envelope_id().map(EnvelopeId::bytes);
-    same(rt, id, Some(b"QQ 314159".as_slice()));
-    same(rt, terms.header().bytes(), b"Subject: hi\n".as_slice());
-    same(rt, terms.expected(), None);
+    same(
+        rt,
+        wishes_of(terms),
+        (None, Returned::Header, Wording::ByService),
+    );
+}
+
+/// The draft that takes other extension fields.
+fn with_extensions(alloc: Global, draft: Draft, text: &[u8]) -> Result<Draft, DraftFault> {
+    draft.with_extensions(alloc, text)
 }
 
 /// A draft that is read with extension fields, or takes them then, has these, until it takes others.
-fn expect_taken(rt: &(impl Abort + AllocGlobal), text: &[u8]) -> Result<(), Fail> {
-    let read = draft(rt.alloc(), (0, 0), text)??;
-    expect_terms(rt, read.terms(), text);
-    let other = read.with_extensions(rt.alloc(), b"X-E: f\n")?;
-    expect_terms(rt, other.terms(), b"X-E: f\n");
-    let again = other.with_extensions(rt.alloc(), text)?;
-    expect_terms(rt, again.terms(), text);
+fn expect_taken(rt: &(impl Abort + AllocGlobal), extensions: &[u8]) -> Result<(), Fail> {
+    let mut draft = draft(
+        rt.alloc(),
+        &Flush {
+            extensions,
+            ..HELLO
+        },
+    )??;
+    expect_terms(rt, draft.terms(), extensions);
+    for other in [b"X-E: f\n", extensions] {
+        draft = with_extensions(rt.alloc(), draft, other)?;
+        expect_terms(rt, draft.terms(), other);
+    }
     Ok(())
-}
-
-/// The fault of fields that are read.
-fn fault_of_read(
-    alloc: Global,
-    bytes: (u8, u8),
-    extensions: &[u8],
-) -> Result<Option<DraftFault>, Fail> {
-    Ok(draft(alloc, bytes, extensions)?.err())
 }
 
 /// The fault of extension fields that a draft is to take.
 fn fault_of_taken(alloc: Global, extensions: &[u8]) -> Result<Option<DraftFault>, Fail> {
-    let draft = draft(alloc, (0, 0), b"")??;
-    Ok(draft.with_extensions(alloc, extensions).err())
+    let draft = draft(alloc, &HELLO)??;
+    Ok(with_extensions(alloc, draft, extensions).err())
 }
 
 #[test]
@@ -77,69 +75,69 @@ fn a_draft_takes_extension_fields(rt: HostRuntime) -> Result<(), Fail> {
         let fault = fault_of_taken(rt.alloc(), text)?;
         same(&rt, (text, fault), (text, Some(DraftFault::Extensions)));
     }
-    for (bytes, want) in [
-        ((2, 2), DraftFault::Returned),
-        ((0, 2), DraftFault::Wording),
-        ((1, 1), DraftFault::Extensions),
+    for (returned, wording, want) in [
+        (2, 2, DraftFault::Returned),
+        (0, 2, DraftFault::Wording),
+        (1, 1, DraftFault::Extensions),
     ] {
-        let fault = fault_of_read(rt.alloc(), bytes, b"A: b\n")?;
-        same(&rt, fault, Some(want));
+        let flush = &Flush {
+            returned,
+            wording,
+            extensions: b"A: b\n",
+            ..HELLO
+        };
+        same(&rt, draft(rt.alloc(), flush)?.err(), Some(want));
     }
     Ok(())
 }
 
-/// An outcome of a bounce's log.
-fn bounced(alloc: Global, recipient: &[u8]) -> Result<Box<Node>, Fail>
-    ensures { IfOk result (λ node. node.value.outcome.service ≡ Service.Bounce) }
-{
-    failed(alloc, Texts { recipient, ..BOB })
-}
-
-/// Three outcomes of a bounce's log.
-fn chain_of_three(alloc: Global) -> Result<Chain, Fail>
-    ensures reports { IfOk result (λ chain. chain ≢ []) }
-    ensures of_service { IfOk result (λ chain. All (λ outcome. outcome.service ≡ Service.Bounce) chain) }
-{
-    let mut chain = Chain::new();
-    chain.push(bounced(alloc, b"one@example.org")?);
-    chain.push(bounced(alloc, b"two@example.org")?);
-    chain.push(bounced(alloc, b"six@example.org")?);
-    Ok(chain)
+/// A failed recipient of this address.
+const fn failed(recipient: &'static [u8]) -> Texts<'static> {
+    Texts { recipient, ..BOB }
 }
 
 #[test]
 fn a_letter_has_all_that_it_was_sealed_with(rt: HostRuntime) -> Result<(), Fail> {
-    let flush = Flush {
-        envelope_id: b"QQ 314159",
-        header: b"Subject: hi\n",
-        ..A1B2C3
-    };
-    let letter = sealed(rt.alloc(), chain_of_three(rt.alloc())?, flush)?;
+    let recipients = [
+        failed(b"one@example.org"),
+        failed(b"two@example.org"),
+        failed(b"six@example.org"),
+    ];
+    let letter = letter(rt.alloc(), &recipients, &HELLO)?;
     expect_terms(&rt, letter.terms(), b"");
-    let key = letter.key();
+    let key = key_of(&letter);
     same(
         &rt,
         (key.service, key.id.bytes()),
         (Service::Bounce, b"A1B2C3".as_slice()),
     );
-    expect_recipients(&rt, &letter)
+    expect_recipients(&rt, &letter);
+    Ok(())
+}
+
+/// The recipient of the next outcome, if there is one.
+fn next_recipient<'a>(outcomes: &mut Outcomes<'a>) -> Option<&'a [u8]> {
+    let outcome = outcomes.next()?;
+    Some(outcome.recipient())
 }
 
 /// Asserts the recipients of a letter, in order.
-fn expect_recipients(rt: &impl Abort, letter: &Letter) -> Result<(), Fail> {
+fn expect_recipients(rt: &impl Abort, letter: &Letter) {
     let mut outcomes = letter.outcomes();
-    for wanted in [b"one@example.org", b"two@example.org", b"six@example.org"] {
-        let outcome = outcomes.next().ok_or("an outcome is missing")?;
-        same(rt, outcome.recipient(), wanted.as_slice());
+    for want in [
+        Some(b"one@example.org".as_slice()),
+        Some(b"two@example.org"),
+        Some(b"six@example.org"),
+        None,
+    ] {
+        same(rt, next_recipient(&mut outcomes), want);
     }
-    assert!(rt; outcomes.next().is_none());
-    Ok(())
 }
 
 /// Pushes letters with the moments from this one up to another.
 fn push_letters(alloc: Global, letters: &mut Letters, first: u64, past: u64) -> Result<(), Fail> {
     for moment in first..past {
-        letters.push(letter(alloc, BOB, Flush { moment, ..A1B2C3 })?);
+        letters.push(letter(alloc, &[BOB], &Flush { moment, ..A1B2C3 })?);
     }
     Ok(())
 }

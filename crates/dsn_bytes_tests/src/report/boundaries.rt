@@ -1,52 +1,60 @@
 //! The boundary's number, beside a search that tries the numbers in turn.
 use crate::assert_same::same;
-use crate::report::letters::{A1B2C3, Flush, boundary_of};
+use crate::report::letters::{A1B2C3, Flush, boundary_of, text_around, with_header};
 use bstr::ByteSlice;
-use std::alloc::Global;
+use std::alloc::{AllocError, AllocGlobal, Global};
 use std::process::Abort;
 use std::test::Fail;
 
-/// The least number that no line of the header rules out, by trying one number after another over
-/// all lines.
-fn boundary_in_turn(alloc: Global, flush: Flush<'_>) -> Result<u16, Fail> {
-    for number in 0..9_999 {
-        if !is_ruled_out(&delimiter(alloc, flush, number)?, flush.header) {
-            return Ok(number);
-        }
-    }
-    Ok(9_999)
+/// The four digits of a boundary's number.
+fn digits(number: u16) -> [u8; 4] {
+    let digit = |place: u16| b'0' + (number / place % 10) as u8;
+    [digit(1000), digit(100), digit(10), digit(1)]
 }
 
-/// Two dashes and the boundary with this number.
-fn delimiter(alloc: Global, flush: Flush<'_>, number: u16) -> Result<Vec<u8>, Fail> {
-    let mut text = Vec::new(alloc);
-    text.extend_from_slice(b"--B.")?;
-    text.extend_from_slice(flush.id)?;
-    let numbers = format!(in alloc; ".{}.{number:04}", flush.moment)?;
-    text.extend_from_slice(numbers.as_bytes())?;
-    Ok(text)
-}
-
-/// Whether a line of the header, before its first empty one, begins with this.
-fn is_ruled_out(delimiter: &[u8], header: &[u8]) -> bool {
+/// Whether a line of the header, before its first empty one, begins with this front and then these
+/// digits.
+fn is_ruled_out(front: &[u8], digits: &[u8], header: &[u8]) -> bool {
     for line in header.lines() {
         if line.is_empty() {
             return false;
         }
-        if line.starts_with(delimiter) {
+        if let Some(rest) = line.strip_prefix(front)
+            && rest.starts_with(digits)
+        {
             return true;
         }
     }
     false
 }
 
+/// The least number that no line of the header rules out, by trying one number after another over
+/// all lines.
+fn boundary_in_turn(front: &[u8], header: &[u8]) -> u16 {
+    for number in 0..9_999 {
+        if !is_ruled_out(front, &digits(number), header) {
+            return number;
+        }
+    }
+    9_999
+}
+
 /// The boundary of a letter with this header has this number, and both searches find it.
-fn expect_number(rt: &impl Abort, alloc: Global, flush: Flush<'_>, want: u16) -> Result<(), Fail> {
-    let header = flush.header;
-    let found = (boundary_of(alloc, flush)?, boundary_in_turn(alloc, flush)?);
+fn expect_number(
+    rt: &(impl Abort + AllocGlobal),
+    flush: &Flush<'static>,
+    front: &[u8],
+    header: &[u8],
+    want: u16,
+) -> Result<(), Fail> {
+    let number = boundary_of(rt.alloc(), &with_header(flush, header))?;
+    let found = (number, boundary_in_turn(front, header));
     same(rt, (header, found), (header, (want, want)));
     Ok(())
 }
+
+/// What the delimiters of the message A1B2C3 begin with.
+const FRONT: &[u8] = b"--B.A1B2C3.1700000000.";
 
 /// Headers, with the least number that none of their lines rules out.
 const HEADERS: [(&[u8], u16); 30] = [
@@ -127,48 +135,37 @@ const HEADERS: [(&[u8], u16); 30] = [
 
 #[test]
 fn numbers_of_headers(rt: HostRuntime) -> Result<(), Fail> {
-    for (header, want) in HEADERS {
-        expect_number(&rt, rt.alloc(), Flush { header, ..A1B2C3 }, want)?;
+    for (header, want) in &HEADERS {
+        expect_number(&rt, &A1B2C3, FRONT, header, *want)?;
     }
     Ok(())
 }
 
+/// A header with a delimiter at the end of a line of 1,024 bytes, and one at the front of another,
+/// and then this.
+fn long_lines(alloc: Global, end: &[u8]) -> Result<Vec<u8>, AllocError> {
+    let delimiters = b"--B.A1B2C3.1700000000.0000\n--B.A1B2C3.1700000000.0001";
+    let front = text_around(alloc, b"", 998, delimiters)?;
+    text_around(alloc, &front, 1_949, end)
+}
+
 #[test]
 fn long_lines_are_cut(rt: HostRuntime) -> Result<(), Fail> {
-    let mut header = Vec::new(rt.alloc());
-    // a delimiter at the end of a line of 1,024 bytes, and one at the front of another
-    header.resize(998, b'a')?;
-    header.extend_from_slice(b"--B.A1B2C3.1700000000.0000\n")?;
-    header.extend_from_slice(b"--B.A1B2C3.1700000000.0001")?;
-    header.resize(3_000, b'a')?;
-    let flush = Flush {
-        header: &header,
-        ..A1B2C3
-    };
-    expect_number(&rt, rt.alloc(), flush, 0)?;
-    header.extend_from_slice(b"\n--B.A1B2C3.1700000000.0000\n")?;
-    let flush = Flush {
-        header: &header,
-        ..A1B2C3
-    };
-    expect_number(&rt, rt.alloc(), flush, 2)
+    for (end, want) in [(b"".as_slice(), 0), (b"\n--B.A1B2C3.1700000000.0000\n", 2)] {
+        let header = &long_lines(rt.alloc(), end)?;
+        expect_number(&rt, &A1B2C3, FRONT, header, want)?;
+    }
+    Ok(())
 }
 
 /// A header that rules out so many numbers of the message A at the moment 1, the highest first,
 /// but for one.
-fn header_of(alloc: Global, numbers: u16, but: u16) -> Result<Vec<u8>, Fail> {
+fn header_of(alloc: Global, numbers: u16, but: u16) -> Result<Vec<u8>, AllocError> {
     let mut header = Vec::new(alloc);
     for number in (0..numbers).rev() {
         if number != but {
             header.extend_from_slice(b"--B.A.1.")?;
-            for digit in [
-                number / 1000 % 10,
-                number / 100 % 10,
-                number / 10 % 10,
-                number % 10,
-            ] {
-                header.push(b'0' + digit as u8)?;
-            }
+            header.extend_from_slice(&digits(number))?;
             header.push(b'\n')?;
         }
     }
@@ -182,22 +179,28 @@ const SHORTEST: Flush<'static> = Flush {
     ..A1B2C3
 };
 
+/// The header that rules out so many numbers but for one has this one, and both searches find it.
+fn expect_number_beside(
+    rt: &(impl Abort + AllocGlobal),
+    numbers: u16,
+    but: u16,
+    want: u16,
+) -> Result<(), Fail> {
+    let header = header_of(rt.alloc(), numbers, but)?;
+    expect_number(rt, &SHORTEST, b"--B.A.1.", &header, want)
+}
+
+/// The number of the boundary beside a header that rules out as many numbers as it has room for.
+fn boundary_beside_longest(alloc: Global) -> Result<u16, Fail> {
+    let header = header_of(alloc, 2_520, 9_999)?;
+    boundary_of(alloc, &with_header(&SHORTEST, &header))
+}
+
 #[test]
 fn many_numbers_ruled_out(rt: HostRuntime) -> Result<(), Fail> {
-    for (numbers, but, want) in [(340, 9_999, 340), (2_520, 7, 7)] {
-        let header = header_of(rt.alloc(), numbers, but)?;
-        let flush = Flush {
-            header: &header,
-            ..SHORTEST
-        };
-        expect_number(&rt, rt.alloc(), flush, want)?;
-    }
-    // as many as a header has room for; a search in turn would take seconds
-    let header = header_of(rt.alloc(), 2_520, 9_999)?;
-    let flush = Flush {
-        header: &header,
-        ..SHORTEST
-    };
-    same(&rt, boundary_of(rt.alloc(), flush)?, 2_520);
+    expect_number_beside(&rt, 340, 9_999, 340)?;
+    expect_number_beside(&rt, 2_520, 7, 7)?;
+    // a search in turn would take seconds
+    same(&rt, boundary_beside_longest(rt.alloc())?, 2_520);
     Ok(())
 }

@@ -1,39 +1,98 @@
 //! The text of notices.
-use crate::assert_same::same;
-use crate::report::letters::{A1B2C3, BOB, Flush, Texts, boundary_of, notice_about};
+use crate::report::letters::{
+    A1B2C3, BOB, Flush, HEADER, Notice, Place, Texts, expect_notice, expect_returned, text_around,
+};
 use std::test::Fail;
 
+/// Notices, each with a part of it.
+const NOTICES: [Notice<'static>; 4] = [
+    // all optional fields
+    Notice {
+        recipient: Texts {
+            original: b"bob.alias@example.org",
+            mta: b"mail.example.org",
+            diagnostic: b"550 5.1.1 no such user",
+            reason: b"host said:\nno such user",
+            ..BOB
+        },
+        flush: Flush {
+            envelope_id: b"QQ314159",
+            header: b"Subject: hi\nX: y\r\n\r\nbody",
+            ..A1B2C3
+        },
+        number: 0,
+        place: Place::Whole,
+        text: ALL_FIELDS,
+    },
+    // types
+    Notice {
+        recipient: Texts {
+            recipient: b"+15551234@example.org",
+            original: b"/C=US/O=Acme/",
+            diagnostic: b"mail transport unavailable",
+            recipient_type: b"fax",
+            original_type: b"x400",
+            diagnostic_type: b"X-Postfix",
+            ..BOB
+        },
+        flush: A1B2C3,
+        number: 0,
+        place: Place::End,
+        text: TYPED_GROUP,
+    },
+    // extension fields of a recipient
+    Notice {
+        recipient: Texts {
+            mta: b"mail.example.org",
+            extensions: b"X-Postfix-Queue-ID: 4F9D195432C\nX-A: : b \n",
+            ..BOB
+        },
+        flush: A1B2C3,
+        number: 0,
+        place: Place::End,
+        text: EXTENDED_GROUP,
+    },
+    // those of a message too
+    Notice {
+        recipient: Texts {
+            extensions: b"X-C: d\n",
+            ..BOB
+        },
+        flush: Flush {
+            envelope_id: b"QQ314159",
+            extensions: b"X-Postfix-Queue-ID: 4F9D195432C\nX-A: : b \n",
+            ..A1B2C3
+        },
+        number: 0,
+        place: Place::End,
+        text: EXTENDED_MESSAGE,
+    },
+];
+
 #[test]
-fn boundary_collision(rt: HostRuntime) -> Result<(), Fail> {
-    let flush = Flush {
-        header: b"--B.A1B2C3.1700000000.0000x\nSubject: hi\r\n\r\nbody",
-        ..A1B2C3
-    };
-    same(&rt, boundary_of(rt.alloc(), flush)?, 1);
-    let text = notice_about(rt.alloc(), BOB, flush)?;
-    let end =
-        b"\r\n\r\n--B.A1B2C3.1700000000.0000x\r\nSubject: hi\r\n\r\n--B.A1B2C3.1700000000.0001--\r\n";
-    assert!(rt; text.as_slice().ends_with(end.as_slice()));
+fn what_notices_say(rt: HostRuntime) -> Result<(), Fail> {
+    for notice in &NOTICES {
+        expect_notice(&rt, notice)?;
+    }
     Ok(())
 }
 
 #[test]
-fn all_optional_fields(rt: HostRuntime) -> Result<(), Fail> {
-    let texts = Texts {
-        original: b"bob.alias@example.org",
-        mta: b"mail.example.org",
-        diagnostic: b"550 5.1.1 no such user",
-        reason: b"host said:\nno such user",
-        ..BOB
-    };
-    let flush = Flush {
-        envelope_id: b"QQ314159",
-        header: b"Subject: hi\nX: y\r\n\r\nbody",
-        ..A1B2C3
-    };
-    let text = notice_about(rt.alloc(), texts, flush)?;
-    same(&rt, text.as_slice(), ALL_FIELDS.as_slice());
-    Ok(())
+fn boundary_collision(rt: HostRuntime) -> Result<(), Fail> {
+    let header = b"--B.A1B2C3.1700000000.0000x\nSubject: hi\r\n\r\nbody";
+    let end =
+        b"\r\n\r\n--B.A1B2C3.1700000000.0000x\r\nSubject: hi\r\n\r\n--B.A1B2C3.1700000000.0001--\r\n";
+    expect_returned(&rt, HEADER, header, 1, end)
+}
+
+#[test]
+fn dots_long_lines_eight_bit(rt: HostRuntime) -> Result<(), Fail> {
+    let header = text_around(rt.alloc(), b".x\n", 1_200, b"\nb\xe9\rc\n")?;
+    // as it is: the added dots are the outbox's
+    let front = b"Content-Type: text/rfc822-headers\r\n\r\n.x\r\n";
+    let end = b"\r\nb??c\r\n\r\n--B.A1B2C3.1700000000.0000--\r\n";
+    let end = text_around(rt.alloc(), front, 998, end)?;
+    expect_returned(&rt, HEADER, &header, 0, &end)
 }
 
 /// The group of a recipient whose address, original address and diagnostic aren't of the usual types.
@@ -46,22 +105,6 @@ Diagnostic-Code: X-Postfix; mail transport unavailable\r\n\
 \r\n\
 --B.A1B2C3.1700000000.0000--\r\n";
 
-#[test]
-fn types_are_printed(rt: HostRuntime) -> Result<(), Fail> {
-    let texts = Texts {
-        recipient: b"+15551234@example.org",
-        original: b"/C=US/O=Acme/",
-        diagnostic: b"mail transport unavailable",
-        recipient_type: b"fax",
-        original_type: b"x400",
-        diagnostic_type: b"X-Postfix",
-        ..BOB
-    };
-    let text = notice_about(rt.alloc(), texts, A1B2C3)?;
-    assert!(rt; text.as_slice().ends_with(TYPED_GROUP));
-    Ok(())
-}
-
 /// The group of a recipient of whom the mail system says more.
 const EXTENDED_GROUP: &[u8] = b"\r\n\r\n\
 Final-Recipient: rfc822; bob@example.org\r\n\
@@ -72,18 +115,6 @@ X-Postfix-Queue-ID: 4F9D195432C\r\n\
 X-A: : b \r\n\
 \r\n\
 --B.A1B2C3.1700000000.0000--\r\n";
-
-#[test]
-fn extensions_are_printed(rt: HostRuntime) -> Result<(), Fail> {
-    let texts = Texts {
-        mta: b"mail.example.org",
-        extensions: b"X-Postfix-Queue-ID: 4F9D195432C\nX-A: : b \n",
-        ..BOB
-    };
-    let text = notice_about(rt.alloc(), texts, A1B2C3)?;
-    assert!(rt; text.as_slice().ends_with(EXTENDED_GROUP));
-    Ok(())
-}
 
 /// The group of a message of which the mail system says more, and that of its recipient.
 const EXTENDED_MESSAGE: &[u8] = b"\r\n\r\n\
@@ -99,43 +130,6 @@ Status: 5.1.1\r\n\
 X-C: d\r\n\
 \r\n\
 --B.A1B2C3.1700000000.0000--\r\n";
-
-#[test]
-fn extensions_of_a_message_are_printed(rt: HostRuntime) -> Result<(), Fail> {
-    let texts = Texts {
-        extensions: b"X-C: d\n",
-        ..BOB
-    };
-    let flush = Flush {
-        envelope_id: b"QQ314159",
-        extensions: b"X-Postfix-Queue-ID: 4F9D195432C\nX-A: : b \n",
-        ..A1B2C3
-    };
-    let text = notice_about(rt.alloc(), texts, flush)?;
-    assert!(rt; text.as_slice().ends_with(EXTENDED_MESSAGE));
-    Ok(())
-}
-
-#[test]
-fn dots_long_lines_eight_bit(rt: HostRuntime) -> Result<(), Fail> {
-    let mut header = Vec::new(rt.alloc());
-    header.extend_from_slice(b".x\n")?;
-    header.resize(1_203, b'a')?;
-    header.extend_from_slice(b"\nb\xe9\rc\n")?;
-    let flush = Flush {
-        header: &header,
-        ..A1B2C3
-    };
-    same(&rt, boundary_of(rt.alloc(), flush)?, 0);
-    let text = notice_about(rt.alloc(), BOB, flush)?;
-    // as it is: the added dots are the outbox's
-    let mut end = Vec::new(rt.alloc());
-    end.extend_from_slice(b"Content-Type: text/rfc822-headers\r\n\r\n.x\r\n")?;
-    end.resize(end.len().saturating_add(998), b'a')?;
-    end.extend_from_slice(b"\r\nb??c\r\n\r\n--B.A1B2C3.1700000000.0000--\r\n")?;
-    assert!(rt; text.as_slice().ends_with(&end));
-    Ok(())
-}
 
 /// A notice with every optional field and two returned lines.
 const ALL_FIELDS: &[u8; 1258] = b"\

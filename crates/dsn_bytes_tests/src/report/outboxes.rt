@@ -1,11 +1,12 @@
 //! What a poster writes, and what it gives back where the outbox fails.
 use crate::assert_same::same;
-use crate::report::letters::{A1B2C3, BOB, Flush, letter, site};
+use crate::report::letters::{A1B2C3, BOB, Flush, HOST, data_about_bob, key_of, letter, site};
 use dsn_outcome::{Letter, Plain};
-use dsn_report::{Ended, PostFault, Poster, mail_data};
-use std::alloc::Global;
+use dsn_report::{Ended, Poster};
+use std::alloc::{AllocGlobal, Global};
 use std::io;
 use std::io::{ErrorKind, Write};
+use std::process::Abort;
 use std::test::Fail;
 
 /// A writer into memory that takes so many bytes, then fails once, and then works again.
@@ -16,9 +17,9 @@ struct FailsOnce {
 }
 
 impl Write for FailsOnce {
-    ghost use Rattle.std.specs.Prelude.{Some};
+    ghost use Rattle.std.specs.Prelude.{None};
 
-    ghost contents = { λ w. Some w.held.items };
+    ghost contents = { λ _. None };
 
     fn write(&mut self, text: &[u8]) -> io::Result<usize> {
         if self.room == 0 {
@@ -40,77 +41,76 @@ impl Write for FailsOnce {
     }
 }
 
-/// A letter about a message without optional texts.
-fn about(alloc: Global, id: &[u8]) -> Result<Letter, Fail> {
-    letter(alloc, BOB, Flush { id, ..A1B2C3 })
+/// A poster to an outbox that fails once after so many bytes.
+type MemoryPoster = Poster<Plain<FailsOnce>>;
+
+/// A poster to an outbox with so much room.
+fn poster_of(alloc: Global, room: usize) -> Result<MemoryPoster, Fail> {
+    let site = site(alloc, HOST)?;
+    let held = Vec::new(alloc);
+    Ok(Poster::new(site, Plain::new(FailsOnce { held, room })))
+}
+
+/// The letter that came back where one wasn't posted, with the number of the fault.
+fn handed_back(poster: &mut MemoryPoster, letter: Letter) -> Option<(u32, Letter)> {
+    let fault = poster.post(letter).err()?;
+    Some((fault.code(), fault.into_letter()))
+}
+
+/// Posts a letter about a message, and once more the letter that came back: the numbers of the two
+/// faults, 0 where there was none.
+fn faults(alloc: Global, poster: &mut MemoryPoster, id: &[u8]) -> Result<(u32, u32), Fail> {
+    let letter = letter(alloc, &[BOB], &Flush { id, ..A1B2C3 })?;
+    let Some((first, back)) = handed_back(poster, letter) else {
+        return Ok((0, 0));
+    };
+    if key_of(&back).id.bytes() != id {
+        return Err("another letter came back")?;
+    }
+    match handed_back(poster, back) {
+        Some((second, _)) => Ok((first, second)),
+        None => Ok((first, 0)),
+    }
+}
+
+/// Whether the outbox is whole once the poster ends, and what it holds.
+fn ended(poster: MemoryPoster) -> (bool, Vec<u8>) {
+    let Ended { outbox, whole } = poster.finish();
+    (whole, outbox.into_inner().held)
+}
+
+/// Asserts the faults of posting letters about these messages to an outbox with so much room, and
+/// whether it is whole then: what it holds.
+fn held_after(
+    rt: &(impl Abort + AllocGlobal),
+    room: usize,
+    posts: &[(&[u8], (u32, u32))],
+    is_whole: bool,
+) -> Result<Vec<u8>, Fail> {
+    let mut poster = poster_of(rt.alloc(), room)?;
+    for (id, want) in posts {
+        let seen = faults(rt.alloc(), &mut poster, id)?;
+        same(rt, (room, *id, seen), (room, *id, *want));
+    }
+    let (whole, held) = ended(poster);
+    same(rt, (room, whole), (room, is_whole));
+    Ok(held)
 }
 
 #[test]
 fn one_append_one_flush(rt: HostRuntime) -> Result<(), Fail> {
-    let letter = letter(rt.alloc(), BOB, A1B2C3)?;
-    let mut poster = Poster::new(site(rt.alloc())?, Plain::new(Vec::new(rt.alloc())));
-    assert!(rt; poster.post(letter).is_ok());
-    let Ended { outbox, whole } = poster.finish();
-    assert!(rt; whole);
-    same(&rt, outbox.into_inner().as_slice(), OUTBOX.as_slice());
+    let held = held_after(&rt, 2_000, &[(b"A1B2C3", (0, 0))], true)?;
+    same(&rt, held.as_slice(), OUTBOX.as_slice());
     Ok(())
-}
-
-/// Mail data is what an outbox has between the command DATA and the next one.
-#[test]
-fn mail_data_stands_in_the_outbox(rt: HostRuntime) -> Result<(), Fail> {
-    let letter = letter(rt.alloc(), BOB, A1B2C3)?;
-    let data = mail_data(rt.alloc(), &site(rt.alloc())?, &letter)?;
-    let outbox = &OUTBOX[..];
-    same(&rt, data.as_slice(), &outbox[BEFORE_DATA..outbox.len() - 6]);
-    Ok(())
-}
-
-/// A line that begins with a dot gets one more in front, and one dot alone ends the data.
-#[test]
-fn mail_data_has_dots(rt: HostRuntime) -> Result<(), Fail> {
-    let flush = Flush {
-        header: b".\n..a: b\nc: .\n",
-        ..A1B2C3
-    };
-    let letter = letter(rt.alloc(), BOB, flush)?;
-    let data = mail_data(rt.alloc(), &site(rt.alloc())?, &letter)?;
-    assert!(rt; data.as_slice().ends_with(DOTTED_END));
-    Ok(())
-}
-
-/// The letter that was not posted, with the number of its fault.
-fn handed_back(posted: Result<(), PostFault>) -> Option<(u32, Letter)> {
-    let fault = posted.err()?;
-    let code = fault.code();
-    Some((code, fault.into_letter()))
 }
 
 #[test]
 fn outbox_fails_in_second_letter(rt: HostRuntime) -> Result<(), Fail> {
-    let first = about(rt.alloc(), b"K1")?;
-    let second = about(rt.alloc(), b"K2")?;
-    let third = about(rt.alloc(), b"K3")?;
-    let writer = FailsOnce {
-        held: Vec::new(rt.alloc()),
-        room: 21 + FIRST_LETTER + 20,
-    };
-    let mut poster = Poster::new(site(rt.alloc())?, Plain::new(writer));
-    assert!(rt; poster.post(first).is_ok());
-    let (code, back) = handed_back(poster.post(second)).ok_or("the second letter was posted")?;
-    same(&rt, code, 31);
-    same(&rt, back.key().id.bytes(), b"K2".as_slice());
-    let (code, back) = handed_back(poster.post(third)).ok_or("the third letter was posted")?;
-    same(&rt, code, 32);
-    same(&rt, back.key().id.bytes(), b"K3".as_slice());
-    let Ended { outbox, whole } = poster.finish();
-    assert!(rt; !whole);
-    let held = outbox.into_inner().held;
+    let posts: [(&[u8], (u32, u32)); 3] = [(b"K1", (0, 0)), (b"K2", (31, 32)), (b"K3", (32, 32))];
+    let held = held_after(&rt, 21 + FIRST_LETTER + 20, &posts, false)?;
     same(&rt, held.len(), 21 + FIRST_LETTER + 20);
-    assert!(rt;
-        held.as_slice()
-            .ends_with(b"\r\n.\r\nMAIL FROM:<>\r\nRCPT T")
-    );
+    let end = b"\r\n.\r\nMAIL FROM:<>\r\nRCPT T";
+    assert!(rt; held.as_slice().ends_with(end));
     Ok(())
 }
 
@@ -119,28 +119,38 @@ fn outbox_fails_in_second_letter(rt: HostRuntime) -> Result<(), Fail> {
 #[test]
 fn nothing_after_the_fault(rt: HostRuntime) -> Result<(), Fail> {
     for room in 0..OUTBOX.len() {
-        let writer = FailsOnce {
-            held: Vec::new(rt.alloc()),
-            room,
-        };
-        let mut poster = Poster::new(site(rt.alloc())?, Plain::new(writer));
-        let first = handed_back(poster.post(about(rt.alloc(), b"A1B2C3")?));
         // the transaction and its flush come before QUIT
-        same(
-            &rt,
-            (room, first.is_some()),
-            (room, room <= OUTBOX.len() - 6),
-        );
-        if let Some((code, back)) = first {
-            same(&rt, (room, code), (room, 31));
-            let (code, _) = handed_back(poster.post(back)).ok_or("a letter after the fault")?;
-            same(&rt, (room, code), (room, 32));
-        }
-        let Ended { outbox, whole } = poster.finish();
-        assert!(rt; !whole, "after {room} bytes");
-        let held = outbox.into_inner().held;
+        let want = if room <= OUTBOX.len() - 6 {
+            (31, 32)
+        } else {
+            (0, 0)
+        };
+        let held = held_after(&rt, room, &[(b"A1B2C3", want)], false)?;
         same(&rt, (room, held.as_slice()), (room, &OUTBOX[..room]));
     }
+    Ok(())
+}
+
+/// Mail data is what an outbox has between the command DATA and the next one.
+#[test]
+fn mail_data_stands_in_the_outbox(rt: HostRuntime) -> Result<(), Fail> {
+    let data = data_about_bob(rt.alloc(), &A1B2C3)?;
+    let outbox = &OUTBOX[..];
+    same(&rt, data.as_slice(), &outbox[BEFORE_DATA..outbox.len() - 6]);
+    Ok(())
+}
+
+/// Lines that begin with a dot.
+const DOTTED: Flush<'static> = Flush {
+    header: b".\n..a: b\nc: .\n",
+    ..A1B2C3
+};
+
+/// A line that begins with a dot gets one more in front, and one dot alone ends the data.
+#[test]
+fn mail_data_has_dots(rt: HostRuntime) -> Result<(), Fail> {
+    let data = data_about_bob(rt.alloc(), &DOTTED)?;
+    assert!(rt; data.as_slice().ends_with(DOTTED_END));
     Ok(())
 }
 

@@ -3,7 +3,6 @@ use crate::assert_same::same;
 use dsn_frame::{Spoken, decode_answer, encode_answer};
 use dsn_outcome::{Replied, Reply};
 use std::process::Abort;
-use std::test::Fail;
 
 /// Each reply, with its frame's bytes after the number.
 const ANSWERS: [(Reply, u8, [u8; 4]); 14] = [
@@ -112,41 +111,44 @@ fn serials_told_to_version_three(rt: HostRuntime) {
     same(&rt, refused.told_to(b"\x03"), refused);
 }
 
-#[test]
-fn bodies_that_are_no_answer(rt: HostRuntime) -> Result<(), Fail> {
-    for (bytes, want) in [
-        (b"".as_slice(), 23),
-        (b"\0".as_slice(), 21),
-        (b"\x02\x0b".as_slice(), 21),
-        (b"\x01".as_slice(), 23),
-        (b"\x01\0".as_slice(), 22),
-        (b"\x01\x0d".as_slice(), 23),
-        (b"\x01\x0e".as_slice(), 22),
-        (b"\x01\x0b".as_slice(), 23),
-        (b"\x01\x0b\0\0\0\0\0\0\0\x01".as_slice(), 34),
-        (b"\x01\x0c\0\0\0\0\x01\0\0\0".as_slice(), 34),
-        (b"\x01\x01".as_slice(), 23),
-        (b"\x01\x02\0\0\0\0\0\0\0\x05".as_slice(), 34),
-        (b"\x01\x03\0\0\0\0\0\0\x01\0".as_slice(), 34),
-        (b"\x01\x04\0\0\0\0\0\x01\0\0".as_slice(), 34),
-        (b"\x01\x05\0\0\0\0\x80\0\0\0".as_slice(), 34),
-        (b"\x01\x09\0\0\0\0\0\0\0\x01".as_slice(), 34),
-        (b"\x01\x02\0\0\0\0\0\0\x05".as_slice(), 23),
-        (b"\x01\x02\0\0\0\0\0\0\0\x05\0".as_slice(), 24),
-        (b"\x01\x07\0\0\0\0\0\0\0\x05\0".as_slice(), 24),
-        (b"\x01\x07\0\0\0\0\0\0\0\x05\0\0\0\0\0\0\x01".as_slice(), 24),
-        (
-            b"\x01\x07\0\0\0\0\0\0\0\x05\0\0\0\0\0\0\x01\x02\0".as_slice(),
-            24,
-        ),
-        (
-            b"\x01\x08\0\0\0\0\0\0\0\x05\0\0\0\0\0\0\x01\x02".as_slice(),
-            24,
-        ),
-        (b"\0\x0b\0\0\0\0\0\0\0\x05\0".as_slice(), 21),
-    ] {
-        let fault = decode_answer(bytes).err().ok_or("no fault")?;
-        same(&rt, (bytes, fault.code()), (bytes, want));
+/// Bytes that are no answer, each with the number of its fault.
+const NO_ANSWERS: [(&[u8], u32); 23] = [
+    (b"", 23),
+    (b"\0", 21),
+    (b"\x02\x0b", 21),
+    (b"\x01", 23),
+    (b"\x01\0", 22),
+    (b"\x01\x0d", 23),
+    (b"\x01\x0e", 22),
+    (b"\x01\x0b", 23),
+    (b"\x01\x0b\0\0\0\0\0\0\0\x01", 34),
+    (b"\x01\x0c\0\0\0\0\x01\0\0\0", 34),
+    (b"\x01\x01", 23),
+    (b"\x01\x02\0\0\0\0\0\0\0\x05", 34),
+    (b"\x01\x03\0\0\0\0\0\0\x01\0", 34),
+    (b"\x01\x04\0\0\0\0\0\x01\0\0", 34),
+    (b"\x01\x05\0\0\0\0\x80\0\0\0", 34),
+    (b"\x01\x09\0\0\0\0\0\0\0\x01", 34),
+    (b"\x01\x02\0\0\0\0\0\0\x05", 23),
+    (b"\x01\x02\0\0\0\0\0\0\0\x05\0", 24),
+    (b"\x01\x07\0\0\0\0\0\0\0\x05\0", 24),
+    (b"\x01\x07\0\0\0\0\0\0\0\x05\0\0\0\0\0\0\x01", 24),
+    (b"\x01\x07\0\0\0\0\0\0\0\x05\0\0\0\0\0\0\x01\x02\0", 24),
+    (b"\x01\x08\0\0\0\0\0\0\0\x05\0\0\0\0\0\0\x01\x02", 24),
+    (b"\0\x0b\0\0\0\0\0\0\0\x05\0", 21),
+];
+
+/// The number of the fault of these bytes, or 0.
+fn fault(bytes: &[u8]) -> u32 {
+    match decode_answer(bytes) {
+        Ok(_) => 0,
+        Err(fault) => fault.code(),
     }
-    Ok(())
+}
+
+#[test]
+fn bodies_that_are_no_answer(rt: HostRuntime) {
+    for (bytes, want) in &NO_ANSWERS {
+        same(&rt, (*bytes, fault(bytes)), (*bytes, *want));
+    }
 }

@@ -6,9 +6,15 @@ mod keys;
 
 use crate::assert_same::same;
 use dsn_frame::{decode_request, encode_request};
+use dsn_outcome::Body;
 use std::alloc::{AllocError, AllocGlobal, Global};
 use std::process::Abort;
 use std::test::Fail;
+
+/// The number of the request that a body is, and what it asks.
+fn decoded(alloc: Global, body: &[u8]) -> Result<(u32, Body), Fail> {
+    Ok(decode_request(alloc, body).ok().ok_or("it is refused")?)
+}
 
 /// The frame of the request that a body is, written anew.
 fn written_again(alloc: Global, body: &[u8]) -> Result<Vec<u8>, Fail> {
@@ -29,11 +35,23 @@ fn expect_written(
     Ok(())
 }
 
+/// Appends pieces, one after another.
+fn push_pieces(body: &mut Vec<u8>, pieces: &[&[u8]]) -> Result<(), AllocError> {
+    for piece in pieces {
+        body.extend_from_slice(piece)?;
+    }
+    Ok(())
+}
+
+/// A number of eight bytes.
+fn eight_bytes(number: u64) -> [u8; 8] {
+    number.to_be_bytes()
+}
+
 /// Appends a text as a body has it: its length in two bytes, and it.
 fn push_text(body: &mut Vec<u8>, text: &[u8]) -> Result<(), AllocError> {
-    let [_, _, _, _, _, _, high, low] = text.len().to_be_bytes();
-    body.extend_from_slice(&[high, low])?;
-    body.extend_from_slice(text)
+    let length = [(text.len() / 256 % 256) as u8, (text.len() % 256) as u8];
+    push_pieces(body, &[&length, text])
 }
 
 /// Appends texts, one after another.

@@ -1,4 +1,5 @@
 //! Frames through one buffer, beside the same bytes read frame by frame with memory of their own.
+use crate::assert_same::same;
 use crate::frame::frames::{PieceReader, source};
 use dsn_frame::{Frame, FrameBuffer, FrameFault, read_frame};
 use dsn_outcome::Plain;
@@ -9,7 +10,7 @@ use std::test::Fail;
 const END: u32 = 1;
 
 /// Appends a frame whose body is so many bytes, each of them this one.
-fn push_frame(input: &mut Vec<u8>, size: u32, byte: u8) -> Result<(), AllocError> {
+pub(super) fn push_frame(input: &mut Vec<u8>, size: u32, byte: u8) -> Result<(), AllocError> {
     input.extend_from_slice(&size.to_be_bytes())?;
     let end = input.len().saturating_add(size as usize);
     input.resize(end, byte)
@@ -86,8 +87,8 @@ fn short_frames_after_long_ones(rt: HostRuntime) -> Result<(), Fail> {
     for (last, seen) in [(0, END), (2, 13), (100, 13), (203, 13)] {
         let input = frames_then(&rt, last)?;
         for most in 1..4 {
-            let same = reads(&rt, &input, most, &[300, 3, 500, 1], seen);
-            assert!(rt; same, "{last} bytes of the last, by {most}");
+            let is_same = reads(&rt, &input, most, &[300, 3, 500, 1], seen);
+            same(&rt, (last, most, is_same), (last, most, true));
         }
     }
     Ok(())
@@ -100,7 +101,7 @@ fn lengths_after_a_frame(rt: HostRuntime) {
         (b"\0\0\0\x02ab\0\x01\0\x01".as_slice(), 11),
         (b"\0\0\0\x02ab\0\x01\0\0c".as_slice(), 13),
     ] {
-        assert!(rt; reads(&rt, input, 3, &[2], seen), "{seen}");
+        same(&rt, (seen, reads(&rt, input, 3, &[2], seen)), (seen, true));
     }
 }
 
@@ -111,6 +112,7 @@ fn long_frames_after_short_ones(rt: HostRuntime) -> Result<(), Fail> {
     push_frame(&mut input, 40_000, b'b')?;
     push_frame(&mut input, 65_536, b'c')?;
     push_frame(&mut input, 7, b'd')?;
-    assert!(rt; reads(&rt, &input, 5_000, &[20, 40_000, 65_536, 7], END));
+    let is_same = reads(&rt, &input, 5_000, &[20, 40_000, 65_536, 7], END);
+    same(&rt, is_same, true);
     Ok(())
 }

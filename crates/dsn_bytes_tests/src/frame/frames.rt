@@ -1,7 +1,8 @@
 //! Frames from readers that give them in pieces, end anywhere and fail anywhere.
-ghost use Rattle.std.specs.Prelude.{Some};
+ghost use Rattle.std.specs.Prelude.{None};
 
 use crate::assert_same::same;
+use crate::frame::buffers::push_frame;
 use dsn_frame::{Frame, LONGEST_BODY, read_frame};
 use dsn_outcome::Plain;
 use std::alloc::AllocGlobal;
@@ -20,7 +21,7 @@ pub(crate) struct PieceReader<'a> {
 }
 
 impl Read for PieceReader<'_> {
-    ghost remaining = { λ r. Some r.rest.now };
+    ghost remaining = { λ _. None };
 
     fn read(&mut self, buffer: &mut [u8]) -> io::Result<usize> {
         if self.good == 0 {
@@ -72,7 +73,8 @@ fn frames_in_pieces(rt: HostRuntime) -> Result<(), Fail> {
         let mut source = source(TWO_FRAMES, most, 100);
         expect_body(&rt, &mut source, b"abc")?;
         expect_body(&rt, &mut source, b"d")?;
-        assert!(rt; next_frame(&rt, &mut source)?.is_none(), "by {most}");
+        let is_end = next_frame(&rt, &mut source)?.is_none();
+        same(&rt, (most, is_end), (most, true));
     }
     Ok(())
 }
@@ -94,17 +96,6 @@ fn bad_lengths(rt: HostRuntime) {
 }
 
 #[test]
-fn long_bodies(rt: HostRuntime) -> Result<(), Fail> {
-    for size in [40_000u32, 65_536] {
-        let mut input = Vec::new(rt.alloc());
-        input.extend_from_slice(&size.to_be_bytes())?;
-        input.resize(4 + size as usize, 7)?;
-        expect_body(&rt, &mut source(&input, 5_000, 100), &input[4..])?;
-    }
-    Ok(())
-}
-
-#[test]
 fn a_reader_that_fails(rt: HostRuntime) {
     for good in 0..7 {
         same(&rt, (good, fault(&rt, TWO_FRAMES, good)), (good, 14));
@@ -120,6 +111,21 @@ fn reads_of(rt: &(impl Abort + AllocGlobal), input: &[u8], most: usize) -> Resul
     let mut source = source(input, most, 100_000);
     expect_body(rt, &mut source, body)?;
     Ok(100_000usize.saturating_sub(source.into_inner().good))
+}
+
+/// How many reads of 5,000 bytes it took to read a frame of so many bytes.
+fn reads_of_long(rt: &(impl Abort + AllocGlobal), size: u32) -> Result<usize, Fail> {
+    let mut input = Vec::new(rt.alloc());
+    push_frame(&mut input, size, 7)?;
+    reads_of(rt, &input, 5_000)
+}
+
+#[test]
+fn long_bodies(rt: HostRuntime) -> Result<(), Fail> {
+    // one for the length, and the body's
+    same(&rt, reads_of_long(&rt, 40_000)?, 9);
+    same(&rt, reads_of_long(&rt, 65_536)?, 15);
+    Ok(())
 }
 
 #[test]

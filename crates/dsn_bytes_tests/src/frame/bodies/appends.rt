@@ -1,10 +1,11 @@
 //! Appends: version 1, version 2 with two moments after the reason, and version 3 with types and
 //! extension fields after these.
-use super::{expect_written, longest_fields, push_texts, text_if};
+use super::{
+    decoded, eight_bytes, expect_written, longest_fields, push_pieces, push_texts, text_if,
+};
 use crate::assert_same::same;
-use crate::outcome::outcomes::expect_outcome;
-use dsn_frame::decode_request;
-use dsn_outcome::{BodyRef, LAST_MOMENT, Parts, Service, Stamp, Types};
+use crate::outcome::outcomes::{NONE, expect_outcome, moments_of};
+use dsn_outcome::{Body, LAST_MOMENT, Parts, Service, Types};
 use std::alloc::{AllocError, AllocGlobal, Global};
 use std::process::Abort;
 use std::test::Fail;
@@ -99,14 +100,12 @@ const UNCLEAN_TEXTS: &[u8] =
 
 /// An append says this.
 fn expect_append(rt: &(impl Abort + AllocGlobal), append: &Append) -> Result<(), Fail> {
-    let (number, body) = decode_request(rt.alloc(), append.body)
-        .ok()
-        .ok_or("it is refused")?;
-    let Some(BodyRef::Append(id, outcome)) = body.lent() else {
+    let (number, request) = decoded(rt.alloc(), append.body)?;
+    let Body::Append(id, node) = request else {
         return Err("no append")?;
     };
     same(rt, (number, id.bytes()), (append.number, append.id));
-    expect_outcome(rt, outcome, Service::Bounce, &append.parts);
+    expect_outcome(rt, node.outcome(), Service::Bounce, &append.parts);
     Ok(())
 }
 
@@ -124,56 +123,52 @@ const UNDATED: &[u8] =
     b"\x01\x01\0\0\0\0\x02\0\x02X1\0\0\0\x0fbob@example.org\x02\0\x054.4.1\0\0\0\0\0\0";
 
 /// The same of version 2, with these two moments.
-fn dated(alloc: Global, moments: [u64; 2]) -> Result<Vec<u8>, Fail> {
+fn dated(alloc: Global, moments: [u64; 2]) -> Result<Vec<u8>, AllocError> {
     let [last_attempt, retry_until] = moments;
+    let (last_attempt, retry_until) = (eight_bytes(last_attempt), eight_bytes(retry_until));
     let mut body = Vec::new(alloc);
-    body.extend_from_slice(b"\x02")?;
-    body.extend_from_slice(&UNDATED[1..])?;
-    body.extend_from_slice(&last_attempt.to_be_bytes())?;
-    body.extend_from_slice(&retry_until.to_be_bytes())?;
+    push_pieces(&mut body, &[b"\x02", &UNDATED[1..]])?;
+    push_pieces(&mut body, &[&last_attempt, &retry_until])?;
     Ok(body)
 }
 
 /// The last attempt and the retry until of an append.
-fn moments_of(alloc: Global, body: &[u8]) -> Result<[Option<u64>; 2], Fail> {
-    let (_, request) = decode_request(alloc, body).ok().ok_or("it is refused")?;
-    let Some(BodyRef::Append(_, outcome)) = request.lent() else {
+fn moments_in(alloc: Global, body: &[u8]) -> Result<[u64; 2], Fail> {
+    let (_, request) = decoded(alloc, body)?;
+    let Body::Append(_, node) = request else {
         return Err("no append")?;
     };
-    Ok([
-        outcome.last_attempt().map(Stamp::seconds),
-        outcome.retry_until().map(Stamp::seconds),
-    ])
+    Ok(moments_of(node.outcome()))
 }
 
-/// What stands for no moment.
-const NONE: u64 = u64::MAX;
+/// An append with these two moments has them, and is written as it is.
+fn expect_dated(rt: &(impl Abort + AllocGlobal), moments: [u64; 2]) -> Result<(), Fail> {
+    let body = dated(rt.alloc(), moments)?;
+    same(rt, moments_in(rt.alloc(), &body)?, moments);
+    expect_written(rt, &body, &body)
+}
 
 #[test]
 fn two_moments(rt: HostRuntime) -> Result<(), Fail> {
     let body = dated(rt.alloc(), [1_700_000_000, 1_700_432_000])?;
     let end = b"4.4.1\0\0\0\0\0\0\0\0\0\0\x65\x53\xf1\0\0\0\0\0\x65\x5a\x88\x80";
     assert!(rt; body.as_slice().ends_with(end));
-    for (moments, want) in [
-        (
-            [1_700_000_000, 1_700_432_000],
-            [Some(1_700_000_000), Some(1_700_432_000)],
-        ),
-        ([0, NONE], [Some(0), None]),
-        ([NONE, 0], [None, Some(0)]),
-        ([LAST_MOMENT, 1], [Some(LAST_MOMENT), Some(1)]),
-        (
-            [LAST_MOMENT, LAST_MOMENT],
-            [Some(LAST_MOMENT), Some(LAST_MOMENT)],
-        ),
+    for moments in [
+        [1_700_000_000, 1_700_432_000],
+        [0, NONE],
+        [NONE, 0],
+        [LAST_MOMENT, 1],
+        [LAST_MOMENT, LAST_MOMENT],
     ] {
-        let body = dated(rt.alloc(), moments)?;
-        same(&rt, moments_of(rt.alloc(), &body)?, want);
-        expect_written(&rt, &body, &body)?;
+        expect_dated(&rt, moments)?;
     }
-    // without a moment it is of version 1
+    Ok(())
+}
+
+#[test]
+fn no_moments_are_of_version_one(rt: HostRuntime) -> Result<(), Fail> {
     let body = dated(rt.alloc(), [NONE, NONE])?;
-    same(&rt, moments_of(rt.alloc(), &body)?, [None, None]);
+    same(&rt, moments_in(rt.alloc(), &body)?, [NONE, NONE]);
     expect_written(&rt, &body, UNDATED)
 }
 
@@ -187,9 +182,9 @@ fn plain_append(
 ) -> Result<Vec<u8>, AllocError> {
     let [original, mta, diagnostic, reason] = texts;
     let mut body = Vec::new(alloc);
-    body.extend_from_slice(&[1, 1, 0, 0, 0, 7, service])?;
+    push_pieces(&mut body, &[b"\x01\x01\0\0\0\x07", &[service]])?;
     push_texts(&mut body, &[b"Zz9", original, b"bob@example.org"])?;
-    body.push(action)?;
+    push_pieces(&mut body, &[&[action]])?;
     push_texts(&mut body, &[status, mta, diagnostic, reason])?;
     Ok(body)
 }
@@ -231,11 +226,12 @@ fn a_longest_append(rt: HostRuntime) -> Result<(), Fail> {
     let long = vec![in rt.alloc(); b'a'; 800]?;
     let (address, name, kind) = (&long[..256], &long[..255], &long[..32]);
     let mut body = Vec::new(rt.alloc());
-    body.extend_from_slice(b"\x03\x01\0\x0f\x42\x3f\x03")?;
+    push_pieces(&mut body, &[b"\x03\x01\0\x0f\x42\x3f\x03"])?;
     push_texts(&mut body, &[kind, address, address])?;
-    body.push(5)?;
+    push_pieces(&mut body, &[b"\x05"])?;
     push_texts(&mut body, &[b"2.999.999", name, &long, &long])?;
-    body.extend_from_slice(b"\0\0\0\0\x65\x53\xf1\0\xff\xff\xff\xff\xff\xff\xff\xff")?;
+    let moments = b"\0\0\0\0\x65\x53\xf1\0\xff\xff\xff\xff\xff\xff\xff\xff";
+    push_pieces(&mut body, &[moments])?;
     let fields = longest_fields(rt.alloc())?;
     push_texts(&mut body, &[kind, kind, kind, &fields])?;
     same(&rt, body.len(), 5_126);

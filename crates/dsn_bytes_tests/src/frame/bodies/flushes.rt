@@ -1,14 +1,17 @@
 //! Flushes: version 1, and version 3 with how many outcomes are expected after the header, what is returned, how the
 //! notice is worded, and the extension fields of the message.
-use super::{expect_written, longest_fields, push_text, push_texts, text_if};
+use super::{
+    decoded, eight_bytes, expect_written, longest_fields, push_pieces, push_text, push_texts,
+    text_if,
+};
 use crate::assert_same::same;
-use dsn_frame::decode_request;
-use dsn_outcome::{Address, BodyRef, EnvelopeId, Key, Returned, Service, Terms, Wording};
+use crate::outcome::terms::{expect_texts, moments_of, wishes_of};
+use dsn_outcome::{Body, Returned, Service, Wording};
 use std::alloc::{AllocError, AllocGlobal, Global};
 use std::process::Abort;
 use std::test::Fail;
 
-/// A flush of version 1, with what it says.
+/// A flush of version 1, with what it says: empty texts are none.
 struct Flush {
     body: &'static [u8],
     number: u32,
@@ -16,8 +19,8 @@ struct Flush {
     id: &'static [u8],
     moment: u64,
     arrival: u64,
-    return_path: Option<&'static [u8]>,
-    envelope_id: Option<&'static [u8]>,
+    return_path: &'static [u8],
+    envelope_id: &'static [u8],
     header: &'static [u8],
 }
 
@@ -30,8 +33,8 @@ const FLUSHES: [Flush; 3] = [
         id: b"A1B2C3",
         moment: 1_700_000_000,
         arrival: 1_699_996_400,
-        return_path: Some(b"ann@example.com"),
-        envelope_id: None,
+        return_path: b"ann@example.com",
+        envelope_id: b"",
         header: b"",
     },
     Flush {
@@ -41,8 +44,8 @@ const FLUSHES: [Flush; 3] = [
         id: b"A1B2C3",
         moment: 1_700_000_000,
         arrival: 1_699_996_400,
-        return_path: None,
-        envelope_id: None,
+        return_path: b"",
+        envelope_id: b"",
         header: b"",
     },
     Flush {
@@ -52,40 +55,23 @@ const FLUSHES: [Flush; 3] = [
         id: b"Q",
         moment: 1_700_000_000,
         arrival: 1_699_996_400,
-        return_path: Some(b"a@b"),
-        envelope_id: Some(b"Q1"),
+        return_path: b"a@b",
+        envelope_id: b"Q1",
         header: b"h\n\0",
     },
 ];
 
-/// Asserts what a flush says of its message.
-fn expect_message(rt: &impl Abort, terms: &Terms, want: &Flush) {
-    let moments = (terms.moment().seconds(), terms.arrival().seconds());
-    same(rt, moments, (want.moment, want.arrival));
-    same(
-        rt,
-        terms.return_path().map(Address::bytes),
-        want.return_path,
-    );
-    same(
-        rt,
-        terms.envelope_id().map(EnvelopeId::bytes),
-        want.envelope_id,
-    );
-    same(rt, terms.header().bytes(), want.header);
-}
-
 /// A flush says what it has.
 fn expect_flush(rt: &(impl Abort + AllocGlobal), want: &Flush) -> Result<(), Fail> {
-    let (number, request) = decode_request(rt.alloc(), want.body)
-        .ok()
-        .ok_or("it is refused")?;
-    let Some(BodyRef::Flush(Key { service, id }, terms)) = request.lent() else {
+    let (number, request) = decoded(rt.alloc(), want.body)?;
+    let Body::Flush(key, draft) = request else {
         return Err("no flush")?;
     };
-    let key = (want.number, want.service, want.id);
-    same(rt, (number, *service, id.bytes()), key);
-    expect_message(rt, terms, want);
+    let asked = (number, key.service, key.id.bytes());
+    same(rt, asked, (want.number, want.service, want.id));
+    let terms = draft.terms();
+    same(rt, moments_of(terms), (want.moment, want.arrival));
+    expect_texts(rt, terms, want.return_path, want.envelope_id, want.header);
     Ok(())
 }
 
@@ -103,11 +89,9 @@ const FIRST: &[u8] =
     b"\x01\x02\0\0\0\x08\x02\0\x01Q\0\0\0\0\x65\x53\xf1\0\0\0\0\0\x65\x53\xe2\xf0\0\x03a@b\0\0\0\x02h\n";
 
 /// The same of version 3, with this behind the header.
-fn third(alloc: Global, end: &[u8]) -> Result<Vec<u8>, Fail> {
+fn third(alloc: Global, end: &[u8]) -> Result<Vec<u8>, AllocError> {
     let mut body = Vec::new(alloc);
-    body.extend_from_slice(b"\x03")?;
-    body.extend_from_slice(&FIRST[1..])?;
-    body.extend_from_slice(end)?;
+    push_pieces(&mut body, &[b"\x03", &FIRST[1..], end])?;
     Ok(body)
 }
 
@@ -121,16 +105,26 @@ fn expect_wishes(
     want: Wished,
     extensions: &[u8],
 ) -> Result<(), Fail> {
-    let (_, request) = decode_request(rt.alloc(), body)
-        .ok()
-        .ok_or("it is refused")?;
-    let Some(BodyRef::Flush(_, terms)) = request.lent() else {
+    let (_, request) = decoded(rt.alloc(), body)?;
+    let Body::Flush(_, draft) = request else {
         return Err("no flush")?;
     };
-    let wished = (terms.expected(), terms.returned(), terms.wording());
-    same(rt, wished, want);
-    same(rt, terms.extensions(), extensions);
+    same(rt, wishes_of(draft.terms()), want);
+    same(rt, draft.terms().extensions(), extensions);
     Ok(())
+}
+
+/// The flush of version 3 with this behind the header wishes this, has these extension fields, and is
+/// written as it is.
+fn expect_third(
+    rt: &(impl Abort + AllocGlobal),
+    end: &[u8],
+    want: Wished,
+    extensions: &[u8],
+) -> Result<(), Fail> {
+    let body = third(rt.alloc(), end)?;
+    expect_wishes(rt, &body, want, extensions)?;
+    expect_written(rt, &body, &body)
 }
 
 /// What is usual.
@@ -145,10 +139,8 @@ fn expected_counts(rt: HostRuntime) -> Result<(), Fail> {
         (b"\x01\x02\x03\x04\0\0\0\0", 0x0102_0304),
         (b"\xff\xff\xff\xfe\0\0\0\0", 4_294_967_294),
     ] {
-        let body = third(rt.alloc(), end)?;
         let want = (Some(count), Returned::Header, Wording::ByService);
-        expect_wishes(&rt, &body, want, b"")?;
-        expect_written(&rt, &body, &body)?;
+        expect_third(&rt, end, want, b"")?;
     }
     Ok(())
 }
@@ -172,9 +164,7 @@ fn what_is_returned_and_how_it_is_worded(rt: HostRuntime) -> Result<(), Fail> {
             Wording::ByOutcome,
         ),
     ] {
-        let body = third(rt.alloc(), end)?;
-        expect_wishes(&rt, &body, (None, returned, wording), b"")?;
-        expect_written(&rt, &body, &body)?;
+        expect_third(&rt, end, (None, returned, wording), b"")?;
     }
     // what is usual is said by version 1
     let body = third(rt.alloc(), b"\xff\xff\xff\xff\0\0\0\0")?;
@@ -195,9 +185,7 @@ fn extension_fields(rt: HostRuntime) -> Result<(), Fail> {
             b"X-Postfix-Queue-ID: 4F9D195432C\nX-A: : b \n",
         ),
     ] {
-        let body = third(rt.alloc(), end)?;
-        expect_wishes(&rt, &body, USUAL, fields)?;
-        expect_written(&rt, &body, &body)?;
+        expect_third(&rt, end, USUAL, fields)?;
     }
     Ok(())
 }
@@ -209,10 +197,10 @@ fn plain_flush(
     arrival: u64,
     texts: &[&[u8]],
 ) -> Result<Vec<u8>, AllocError> {
+    let (moment, arrival) = (eight_bytes(moment), eight_bytes(arrival));
     let mut body = Vec::new(alloc);
-    body.extend_from_slice(b"\x01\x02\0\0\0\x01\x02\0\x01Q")?;
-    body.extend_from_slice(&moment.to_be_bytes())?;
-    body.extend_from_slice(&arrival.to_be_bytes())?;
+    let head = b"\x01\x02\0\0\0\x01\x02\0\x01Q";
+    push_pieces(&mut body, &[head, &moment, &arrival])?;
     push_texts(&mut body, texts)?;
     Ok(body)
 }
@@ -243,7 +231,7 @@ fn a_longest_flush(rt: HostRuntime) -> Result<(), Fail> {
     let mut body = plain_flush(rt.alloc(), 1_700_000_000, 1_699_996_400, &texts)?;
     same(&rt, body.len(), 33_156);
     expect_written(&rt, &body, &body)?;
-    body.extend_from_slice(b"\xff\xff\xff\xff\0\0")?;
+    push_pieces(&mut body, &[b"\xff\xff\xff\xff\0\0"])?;
     push_text(&mut body, &longest_fields(rt.alloc())?)?;
     let Some(version) = body.first_mut() else {
         return Err("no version")?;

@@ -1,17 +1,16 @@
 //! Bodies that say a key alone: discards and forgets.
-use super::expect_written;
+use super::{decoded, expect_written};
 use crate::assert_same::same;
-use dsn_frame::decode_request;
-use dsn_outcome::{BodyRef, Key, Service};
+use dsn_outcome::{Body, Key, Service};
 use std::alloc::Global;
 use std::test::Fail;
 
 /// The number of a request, whether it is a forget, and its key.
 fn asked(alloc: Global, body: &[u8]) -> Result<(u32, bool, Key), Fail> {
-    let (number, request) = decode_request(alloc, body).ok().ok_or("it is refused")?;
-    match request.lent() {
-        Some(BodyRef::Discard(key)) => Ok((number, false, *key)),
-        Some(BodyRef::Forget(key)) => Ok((number, true, *key)),
+    let (number, request) = decoded(alloc, body)?;
+    match &request {
+        Body::Discard(key) => Ok((number, false, *key)),
+        Body::Forget(key) => Ok((number, true, *key)),
         _ => Err("another request")?,
     }
 }
@@ -58,7 +57,7 @@ const BODIES: [(&[u8], u32, bool, Service, &[u8]); 5] = [
 
 #[test]
 fn discards_and_forgets(rt: HostRuntime) -> Result<(), Fail> {
-    for (body, number, is_forget, service, written) in BODIES {
+    for &(body, number, is_forget, service, written) in &BODIES {
         let (seen, forgets, key) = asked(rt.alloc(), body)?;
         same(&rt, (seen, forgets), (number, is_forget));
         same(

@@ -238,7 +238,15 @@ fn an_expired_message_has_failed_unless_it_is_done(rt: HostRuntime) -> Result<()
     expect_expired(&rt, &[REMOVED], b"")
 }
 
-/// There are two notices to Ann, of so many recipients.
+/// A failure notice to Ann of so many recipients, which gives the header back.
+fn expect_portion(rt: &impl Abort, notice: &PlannedNotice<'_>, size: usize) {
+    let ann = b"ann@example.com".as_slice();
+    same(rt, (notice.to, notice.outcomes.len()), (ann, size));
+    let kind = (Service::Bounce, ReturnedPart::Header);
+    same(rt, (notice.service, notice.returned), kind);
+}
+
+/// There are two such notices.
 fn expect_portions(
     rt: &impl Abort,
     notices: &[PlannedNotice<'_>],
@@ -247,9 +255,8 @@ fn expect_portions(
     let [first, second] = notices else {
         return Err("two notices".into());
     };
-    let ann = b"ann@example.com".as_slice();
-    same(rt, (first.to, first.outcomes.len()), (ann, first_size));
-    same(rt, (second.to, second.outcomes.len()), (ann, second_size));
+    expect_portion(rt, first, first_size);
+    expect_portion(rt, second, second_size);
     Ok(())
 }
 

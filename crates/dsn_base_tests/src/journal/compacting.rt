@@ -1,15 +1,19 @@
 //! Ledgers whose journal is put away for a shorter one: wherever the machine stops, the book that
 //! is found answers as before, and the letters that are to be posted come again, with their
 //! serials.
-use super::disks::{book_in, bytes_on, crashed, disk_after, open_disk, refusal};
+ghost use Rattle.std.specs.Prelude.{◌≡◌, true, []};
+ghost use Rattle.dsn_journal.specs.OpenLedger.{AwaitsRequests};
+
+use super::disks::{book_in, crashed, disk_after, open_disk, refusal, to_post};
 use super::ledgers::expect_plain;
-use super::marks::disk_of_three;
+use super::marks::{THREE, disk_of_three};
 use crate::assert_same::same;
-use crate::book::books::histories::generated;
+use crate::book::books::histories::{Told, addresses, generated, told};
+use crate::book::books::limits;
 use crate::book::books::plain::{Ask, PlainBook};
 use dsn_book::Limits;
-use dsn_journal::{LedgerError, MemoryDisk, Opened, open};
-use dsn_outcome::{Key, Letter};
+use dsn_journal::{Ledger, LedgerError, MemoryDisk, Opened, Replaceable};
+use dsn_outcome::Letter;
 use std::alloc::Global;
 use std::process::Abort;
 use std::test::Fail;
@@ -17,18 +21,11 @@ use std::test::Fail;
 /// How many bytes a disk has: room for all requests of a history, and for their letters.
 const SIZE: usize = 5_000;
 
-/// What a letter tells: its serial, its key, and how many outcomes it has.
-type Told = (u64, Key, usize);
-
 /// What letters tell.
-fn told(alloc: Global, letters: &[Letter]) -> Result<Vec<Told>, Fail> {
+fn told_by(alloc: Global, letters: &[Letter]) -> Result<Vec<Told>, Fail> {
     let mut all = Vec::new(alloc);
     for letter in letters {
-        let mut count = 0usize;
-        for _ in letter.outcomes() {
-            count = count.saturating_add(1);
-        }
-        all.push((letter.serial(), letter.key(), count))?;
+        all.push(told(alloc, letter)?)?;
     }
     Ok(all)
 }
@@ -45,7 +42,7 @@ fn plain_told(
     for ask in asks {
         if let (Ask::Flush(key, _, _), (_, Some(log))) = (*ask, plain.apply(*ask)?) {
             if serial >= mark {
-                all.push((serial, key, log.len()))?;
+                all.push((serial, key, addresses(alloc, &log)?))?;
             }
             serial = serial.saturating_add(1);
         }
@@ -61,13 +58,10 @@ fn put_away(
     limits: Limits,
     mark: u64,
 ) -> Result<(MemoryDisk, usize), Fail> {
-    let Ok(opened) = open(alloc, disk, limits, mark) else {
-        return Err(Fail::from("not opened"));
-    };
     let Opened {
         mut ledger,
         letters,
-    } = opened;
+    } = open_disk(alloc, disk, limits, mark)?;
     let sealed = ledger.book().sealed();
     if ledger.base() > 100 || sealed > 100 || letters.len() as u64 > sealed {
         return Err(Fail::from("too many letters"));
@@ -88,7 +82,7 @@ fn expect_letters(
     mark: u64,
 ) -> Result<(), Fail> {
     let wanted = plain_told(alloc, plain, asks, mark)?;
-    same(rt, told(alloc, letters)?.as_slice(), wanted.as_slice());
+    same(rt, told_by(alloc, letters)? == wanted, true);
     Ok(())
 }
 
@@ -151,7 +145,7 @@ fn compact_and_stop(
 #[test]
 fn each_moment_of_many_compactions(rt: HostRuntime) -> Result<(), Fail> {
     for seed in 0..300u32 {
-        let limits = Limits::new(1 + seed % 18, 1 + seed % 4, 100).ok_or("not limits")?;
+        let limits = limits(1 + seed % 18, 1 + seed % 4)?;
         let asks = generated(rt.alloc(), seed, 30)?;
         let mark = mark_for(rt.alloc(), limits, &asks, seed)?;
         compact_and_stop(&rt, rt.alloc(), limits, &asks, mark)?;
@@ -163,6 +157,18 @@ fn each_moment_of_many_compactions(rt: HostRuntime) -> Result<(), Fail> {
 /// when that is asked again, the base, and how many letters the book has sealed since.
 type Marked = (bool, bool, u64, u64);
 
+/// Has a ledger's journal put away where this mark counts all letters: whether it was.
+fn compact_marked<D: Replaceable>(
+    alloc: Global,
+    ledger: &mut Ledger<D>,
+    mark: u64,
+) -> Result<bool, Fail>
+    requires none { ledger.old.settled ≡ true → AwaitsRequests D.Disk ledger.old [] }
+    ensures none { ledger.new.settled ≡ true → AwaitsRequests D.Disk ledger.new [] }
+{
+    Ok(ledger.compact_all_marked(alloc, mark)?)
+}
+
 /// Opens a disk under a mark, and puts its journal away where another mark counts all letters.
 fn put_away_marked(
     alloc: Global,
@@ -172,8 +178,8 @@ fn put_away_marked(
     mark: u64,
 ) -> Result<(MemoryDisk, Marked), Fail> {
     let mut ledger = open_disk(alloc, disk, limits, opened_under)?.ledger;
-    let first = ledger.compact_all_marked(alloc, mark)?;
-    let again = ledger.compact_all_marked(alloc, mark)?;
+    let first = compact_marked(alloc, &mut ledger, mark)?;
+    let again = compact_marked(alloc, &mut ledger, mark)?;
     let came = (first, again, ledger.base(), ledger.book().sealed());
     Ok((ledger.into_disk(), came))
 }
@@ -189,14 +195,13 @@ fn expect_behind(
 ) -> Result<(), Fail> {
     let (behind, disk) = refusal(alloc, disk, limits, 2);
     same(rt, behind, wanted);
-    let (_, letters) = book_in(alloc, bytes_on(&disk)?, limits, 3)?;
-    same(rt, letters.len(), 0);
+    same(rt, to_post(alloc, &disk, limits, 3)?, 0);
     Ok(())
 }
 
 #[test]
 fn a_journal_is_put_away_once_all_its_letters_are_marked(rt: HostRuntime) -> Result<(), Fail> {
-    let limits = Limits::new(6, 4, 100).ok_or("not limits")?;
+    let limits = limits(THREE.0, THREE.1)?;
     let behind = Some(LedgerError::MarkBehind);
     for (opened_under, mark, wanted, refusal) in [
         (0, 0, (false, false, 0, 3), None),
@@ -208,7 +213,7 @@ fn a_journal_is_put_away_once_all_its_letters_are_marked(rt: HostRuntime) -> Res
         (2, 3, (true, true, 3, 0), behind),
         (3, 3, (true, true, 3, 0), behind),
     ] {
-        let disk = disk_of_three(rt.alloc(), limits)?;
+        let disk = disk_of_three(rt.alloc())?;
         let (disk, came) = put_away_marked(rt.alloc(), disk, limits, opened_under, mark)?;
         same(&rt, came, wanted);
         expect_behind(&rt, rt.alloc(), disk, limits, refusal)?;

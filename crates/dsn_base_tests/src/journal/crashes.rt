@@ -1,8 +1,8 @@
 //! Every moment of many histories at which a machine can stop: what is recovered then has each
 //! record that was told kept, and of the others none but the first, in their order.
-use super::disks::{Place, crashed, put, records_in, zeros};
+use super::disks::{Place, crashed, put, records_in, write, write_synced, zeros};
 use crate::assert_same::same;
-use dsn_journal::{Disk, MemoryDisk};
+use dsn_journal::MemoryDisk;
 use std::alloc::Global;
 use std::process::Abort;
 use std::test::Fail;
@@ -154,10 +154,11 @@ fn each_moment_of_many_histories(rt: HostRuntime) -> Result<(), Fail> {
 /// A file of four zeros over which two bytes are written, from the second on, and are then synced or
 /// not.
 fn written(alloc: Global, synced: bool) -> Result<MemoryDisk, Fail> {
-    let mut disk = MemoryDisk::new(alloc, vec![in alloc; 0; 4]?);
-    disk.write_at(1, &[8, 9])?;
+    let mut disk = zeros(alloc, 4)?;
     if synced {
-        disk.sync()?;
+        write_synced(&mut disk, 1, &[8, 9])?;
+    } else {
+        write(&mut disk, 1, &[8, 9])?;
     }
     Ok(disk)
 }

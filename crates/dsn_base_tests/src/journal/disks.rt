@@ -2,12 +2,15 @@
 //! library in one place, with plain values before and after it.
 ghost use Rattle.std.specs.Prelude.{[], IfOk};
 ghost use Rattle.dsn_journal.specs.OpenLedger.{AwaitsRequests};
+ghost use Rattle.dsn_journal.specs.Posting.{AreToPostUnderSome};
+ghost use Rattle.dsn_journal.specs.Records.{recovered};
 
 use crate::book::books::histories::body_of;
 use crate::book::books::plain::Ask;
-use dsn_book::{Book, Limits};
+use dsn_book::{Book, Limits, Step};
 use dsn_journal::{
-    Disk, Journal, JournalError, KeepError, LedgerError, MemoryDisk, Opened, open, recover,
+    Disk, Journal, JournalError, KeepError, LedgerError, LedgerNotOpened, MemoryDisk, Opened, open,
+    recover,
 };
 use dsn_outcome::{Letter, Reply, Request};
 use std::alloc::Global;
@@ -16,6 +19,33 @@ use std::test::Fail;
 /// A disk of zeros.
 pub(super) fn zeros(alloc: Global, size: usize) -> Result<MemoryDisk, Fail> {
     Ok(MemoryDisk::new(alloc, vec![in alloc; 0; size]?))
+}
+
+/// A disk with these bytes.
+pub(super) fn disk_with(alloc: Global, bytes: &[u8]) -> Result<MemoryDisk, Fail> {
+    Ok(MemoryDisk::new(alloc, bytes.to_vec(alloc)?))
+}
+
+/// Writes bytes over what stands at a place of a disk.
+pub(super) fn write<D: Disk>(disk: &mut D, at: usize, bytes: &[u8]) -> Result<(), Fail> {
+    let size = disk.size();
+    if at > size || bytes.len() > size - at {
+        return Err(Fail::from("no such place"));
+    }
+    Ok(disk.write_at(at, bytes)?)
+}
+
+/// Writes bytes over what stands at a place of a disk, and syncs it.
+pub(super) fn write_synced<D: Disk>(disk: &mut D, at: usize, bytes: &[u8]) -> Result<(), Fail> {
+    write(disk, at, bytes)?;
+    Ok(disk.sync()?)
+}
+
+/// All bytes of a disk, as it reads them.
+pub(super) fn all_of<D: Disk>(alloc: Global, disk: &mut D) -> Result<Vec<u8>, Fail> {
+    let mut bytes = vec![in alloc; 7; disk.size()]?;
+    disk.read(&mut bytes)?;
+    Ok(bytes)
 }
 
 /// What a crash leaves of a disk at a moment, with some bytes lost.
@@ -80,6 +110,20 @@ pub(super) fn make_group(alloc: Global, asks: &[Ask]) -> Result<Vec<Request>, Fa
     Ok(group)
 }
 
+/// Opens a ledger, or says why not.
+fn open_or_refuse<D: Disk>(
+    alloc: Global,
+    disk: D,
+    limits: Limits,
+    mark: u64,
+) -> Result<Opened<D>, LedgerNotOpened<D>>
+    ensures none { IfOk result (λ opened. AwaitsRequests D.Disk opened.ledger []) }
+    ensures letters { IfOk result (λ opened. AreToPostUnderSome opened.ledger.book.limits
+        (recovered (D.seen opened.ledger.journal.disk)) opened.letters.items) }
+{
+    open(alloc, disk, limits, mark)
+}
+
 /// Opens a ledger that is to be opened.
 pub(super) fn open_disk<D: Disk + Drop>(
     alloc: Global,
@@ -88,8 +132,10 @@ pub(super) fn open_disk<D: Disk + Drop>(
     mark: u64,
 ) -> Result<Opened<D>, Fail>
     ensures none { IfOk result (λ opened. AwaitsRequests D.Disk opened.ledger []) }
+    ensures letters { IfOk result (λ opened. AreToPostUnderSome opened.ledger.book.limits
+        (recovered (D.seen opened.ledger.journal.disk)) opened.letters.items) }
 {
-    match open(alloc, disk, limits, mark) {
+    match open_or_refuse(alloc, disk, limits, mark) {
         Ok(opened) => Ok(opened),
         Err(_left) => Err(Fail::from("not opened")),
     }
@@ -107,6 +153,16 @@ pub(super) fn book_in(
     Ok((ledger.into_book(), letters))
 }
 
+/// How many letters of a disk are to be posted under a mark.
+pub(super) fn to_post(
+    alloc: Global,
+    disk: &MemoryDisk,
+    limits: Limits,
+    mark: u64,
+) -> Result<usize, Fail> {
+    Ok(book_in(alloc, bytes_on(disk)?, limits, mark)?.1.len())
+}
+
 /// Why a disk isn't opened, if it isn't, and the disk.
 pub(super) fn refusal(
     alloc: Global,
@@ -114,35 +170,40 @@ pub(super) fn refusal(
     limits: Limits,
     mark: u64,
 ) -> (Option<LedgerError>, MemoryDisk) {
-    match open(alloc, disk, limits, mark) {
+    match open_or_refuse(alloc, disk, limits, mark) {
         Ok(opened) => (None, opened.ledger.into_disk()),
         Err(left) => (Some(left.cause), left.disk),
     }
 }
 
-/// Opens a disk, and has a group kept and carried out. The disk comes back, with the replies; none
+/// The replies of steps.
+fn replies_of(alloc: Global, steps: Vec<Step>) -> Result<Vec<Reply>, Fail> {
+    let mut replies = Vec::new(alloc);
+    for step in steps {
+        replies.push(step.answer.reply)?;
+    }
+    Ok(replies)
+}
+
+/// Opens a disk, and has what is asked kept and carried out as one group. The disk comes back, with the replies; none
 /// where there was no room.
 pub(super) fn carry_out(
     alloc: Global,
     disk: MemoryDisk,
     limits: Limits,
-    mut group: Vec<Request>,
+    asks: &[Ask],
 ) -> Result<(MemoryDisk, Vec<Reply>), Fail> {
-    let Opened { mut ledger, .. } = open_disk(alloc, disk, limits, 0)?;
+    let mut group = make_group(alloc, asks)?;
+    let mut ledger = open_disk(alloc, disk, limits, 0)?.ledger;
     if ledger.base() > 0 || ledger.book().sealed() > 1_000 || group.len() > 100 {
         return Err(Fail::from("too many"));
     }
-    let mut replies = Vec::new(alloc);
-    match ledger.apply_all(alloc, &mut group) {
-        Ok(steps) => {
-            for step in steps {
-                replies.push(step.answer.reply)?;
-            }
-        }
-        Err(KeepError::Journal(JournalError::Full)) => {}
+    let steps = match ledger.apply_all(alloc, &mut group) {
+        Ok(steps) => steps,
+        Err(KeepError::Journal(JournalError::Full)) => Vec::new(alloc),
         Err(_) => return Err(Fail::from("not kept")),
-    }
-    Ok((ledger.into_disk(), replies))
+    };
+    Ok((ledger.into_disk(), replies_of(alloc, steps)?))
 }
 
 /// The same of what is asked, on a new disk of so many bytes.
@@ -152,6 +213,5 @@ pub(super) fn disk_after(
     limits: Limits,
     asks: &[Ask],
 ) -> Result<MemoryDisk, Fail> {
-    let group = make_group(alloc, asks)?;
-    Ok(carry_out(alloc, zeros(alloc, size)?, limits, group)?.0)
+    Ok(carry_out(alloc, zeros(alloc, size)?, limits, asks)?.0)
 }

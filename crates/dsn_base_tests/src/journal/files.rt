@@ -1,6 +1,7 @@
 //! A file of the system as a disk: made, opened, written and opened anew.
+use super::disks::{all_of, write_synced};
 use crate::assert_same::same;
-use dsn_journal::{Disk, FileDisk, create_file};
+use dsn_journal::{FileDisk, create_file};
 use std::fs;
 use std::io::{self, ErrorKind};
 use std::test::Fail;
@@ -11,10 +12,10 @@ const FOLDER: &str = "dsn_journal_files";
 const PATH: &str = "dsn_journal_files/journal";
 
 /// Why a call of the system failed, if it did.
-fn kind_of<T: Drop>(answer: io::Result<T>) -> Option<ErrorKind> {
-    match answer {
-        Ok(_) => None,
-        Err(error) => Some(error.kind()),
+fn kind_of(error: Option<io::Error>) -> Option<ErrorKind> {
+    match error {
+        Some(error) => Some(error.kind()),
+        None => None,
     }
 }
 
@@ -28,24 +29,18 @@ fn a_file_keeps_what_was_written(rt: HostRuntime) -> Result<(), Fail> {
         fs::exists(&rt, "dsn_journal_files/journal.new")?,
         false,
     );
-    let again = kind_of(create_file(&rt, PATH, 10));
+    let again = kind_of(create_file(&rt, PATH, 10).err());
     same(&rt, again, Some(ErrorKind::AlreadyExists));
     let mut disk = FileDisk::open(&rt, PATH)?;
-    let second = kind_of(FileDisk::open(&rt, PATH));
+    let second = kind_of(FileDisk::open(&rt, PATH).err());
     same(&rt, second, Some(ErrorKind::WouldBlock));
-    if disk.size() != 5_000 {
-        return Err(Fail::from("another size"));
-    }
-    disk.write_at(4_990, b"abc")?;
-    disk.sync()?;
+    write_synced(&mut disk, 4_990, b"abc")?;
     drop(disk);
     let bytes = fs::read(&rt, PATH)?;
     same(&rt, bytes.len(), 5_000);
     let part = bytes.get(4_988..4_995);
     same(&rt, part, Some(b"\0\0abc\0\0".as_slice()));
-    let mut disk = FileDisk::open(&rt, PATH)?;
-    let mut read = vec![in rt.alloc(); 7; disk.size()]?;
-    disk.read(&mut read)?;
+    let read = all_of(rt.alloc(), &mut FileDisk::open(&rt, PATH)?)?;
     same(&rt, read == bytes, true);
     fs::remove_dir_all(&rt, FOLDER)?;
     Ok(())

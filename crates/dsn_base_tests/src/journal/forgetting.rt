@@ -1,11 +1,14 @@
 //! Ledgers whose closed keys are let go: the open logs stay as they were once the disk is opened
 //! anew, and the closed keys take outcomes again.
+ghost use Rattle.std.specs.Prelude.{◌≡◌, true, [], OnOk};
+ghost use Rattle.dsn_journal.specs.OpenLedger.{AwaitsRequests};
+
 use super::disks::{book_in, bytes_on, disk_after, open_disk};
-use super::ledgers::book_replies;
 use crate::assert_same::same;
-use crate::book::books::histories::scripted;
-use dsn_book::Limits;
-use dsn_journal::MemoryDisk;
+use crate::book::books::histories::{apply_asks, scripted};
+use crate::book::books::limits;
+use dsn_book::{Book, Limits};
+use dsn_journal::{Disk, Ledger, MemoryDisk};
 use dsn_outcome::Reply;
 use std::alloc::Global;
 use std::process::Abort;
@@ -13,6 +16,24 @@ use std::test::Fail;
 
 /// How many bytes a disk has: room for a header and for all requests of a test.
 const SIZE: usize = 2_000;
+
+/// How many keys a book holds.
+fn held_in(book: &Book) -> usize {
+    book.entries().len()
+}
+
+/// Has the closed keys of a ledger forgotten.
+fn forget<D: Disk>(alloc: Global, ledger: &mut Ledger<D>) -> Result<(), Fail>
+    requires none { ledger.old.settled ≡ true → AwaitsRequests D.Disk ledger.old [] }
+    ensures none { OnOk result (AwaitsRequests D.Disk ledger.new []) }
+{
+    Ok(ledger.forget_closed(alloc)?)
+}
+
+/// How many keys a ledger holds, and how many calls its disk has had.
+fn state_of(ledger: &Ledger<MemoryDisk>) -> (usize, usize) {
+    (held_in(ledger.book()), ledger.disk().moment())
+}
 
 /// Opens a disk, and has the closed keys forgotten twice. The disk comes back, with how many keys
 /// were held after each time, and how many calls were made by then.
@@ -22,10 +43,10 @@ fn forgotten(
     limits: Limits,
 ) -> Result<(MemoryDisk, [(usize, usize); 2]), Fail> {
     let mut ledger = open_disk(alloc, disk, limits, 0)?.ledger;
-    ledger.forget_closed(alloc)?;
-    let first = (ledger.book().entries().len(), ledger.disk().moment());
-    ledger.forget_closed(alloc)?;
-    let second = (ledger.book().entries().len(), ledger.disk().moment());
+    forget(alloc, &mut ledger)?;
+    let first = state_of(&ledger);
+    forget(alloc, &mut ledger)?;
+    let second = state_of(&ledger);
     Ok((ledger.into_disk(), [first, second]))
 }
 
@@ -41,18 +62,16 @@ fn expect_replies(
     wanted: [Reply; 4],
 ) -> Result<(), Fail> {
     let (mut book, letters) = book_in(alloc, bytes_on(disk)?, limits, 0)?;
-    same(rt, letters.len(), 1);
-    same(rt, book.entries().len(), held);
-    let asks = scripted(alloc, b"aBaDaTa3")?;
-    let replies = book_replies(rt, alloc, &mut book, &asks)?;
-    same(rt, replies.as_slice(), wanted.as_slice());
+    same(rt, (letters.len(), held_in(&book)), (1, held));
+    let came = apply_asks(rt, alloc, &mut book, &scripted(alloc, b"aBaDaTa3")?)?;
+    same(rt, came.replies.as_slice(), wanted.as_slice());
     Ok(())
 }
 
 #[test]
 fn closed_keys_take_outcomes_again(rt: HostRuntime) -> Result<(), Fail> {
     let open = Reply::Logged(1);
-    let limits = Limits::new(4, 10, 100).ok_or("not limits")?;
+    let limits = limits(4, 10)?;
     // Two open logs and two closed keys, of which one has a letter that is still to be posted. No
     // further key fits.
     let asks = scripted(rt.alloc(), b"aBaDaTdTa3f3")?;

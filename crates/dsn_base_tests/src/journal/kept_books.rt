@@ -6,7 +6,8 @@ ghost use Rattle.dsn_outcome.specs.History.{Exchange};
 use super::disks::{book_in, bytes_on, crashed, make_group, open_disk, zeros};
 use crate::assert_same::same;
 use crate::book::books::histories::scripted;
-use dsn_book::{Keeper, Limits, NotKept};
+use crate::book::books::{limits, lines_of};
+use dsn_book::{Keeper, NotKept};
 use dsn_journal::{
     KeptBook, MarkCount, MemoryDisk, NoMarkCount, SharedMarkCount, ledgers_have_one_history,
 };
@@ -67,23 +68,15 @@ fn carry_all<K: Keeper>(keeper: &mut K, mut requests: Vec<Request>) -> Carried
     came
 }
 
-/// The requests of a script, the last one first.
-fn requests_of(alloc: Global, script: &[u8]) -> Result<Vec<Request>, Fail> {
-    let mut requests = make_group(alloc, &scripted(alloc, script)?)?;
-    requests.reverse();
-    Ok(requests)
-}
-
-/// What came of a script on a disk of so many bytes, by a keeper with this count, and the disk.
+/// What came of a script, whose last request comes first, on a disk of so many bytes, by a keeper with this count, and the disk.
 fn kept_with<C: MarkCount + Drop>(
     alloc: Global,
     marks: C,
     size: usize,
     script: &[u8],
 ) -> Result<(Carried, MemoryDisk), Fail> {
-    let limits = Limits::new(6, 50, 100).ok_or("not limits")?;
-    let requests = requests_of(alloc, script)?;
-    let ledger = open_disk(alloc, zeros(alloc, size)?, limits, 0)?.ledger;
+    let requests = make_group(alloc, &scripted(alloc, script)?)?;
+    let ledger = open_disk(alloc, zeros(alloc, size)?, limits(6, 50)?, 0)?.ledger;
     if !ledger.is_settled() || ledger.base() > 0 || ledger.book().sealed() > 1_000 {
         return Err(Fail::from("not new"));
     }
@@ -95,9 +88,7 @@ fn kept_with<C: MarkCount + Drop>(
 
 /// How many logs a file leaves open, and how many outcomes are in the first of them.
 fn open_in(alloc: Global, file: Vec<u8>) -> Result<(usize, u32), Fail> {
-    let limits = Limits::new(6, 50, 100).ok_or("not limits")?;
-    let (book, _) = book_in(alloc, file, limits, 0)?;
-    let lines = book.open_lines(alloc)?;
+    let lines = lines_of(alloc, &book_in(alloc, file, limits(6, 50)?, 0)?.0)?;
     let count = match lines.first() {
         Some(line) => line.count,
         None => 0,
@@ -132,9 +123,10 @@ fn what_is_answered_is_found_again(rt: HostRuntime) -> Result<(), Fail> {
     Ok(())
 }
 
-/// Five times an append to K1, and then three times one to K2, which is then discarded and forgotten.
-const SCRIPT: &[u8] = b"aBa2d2g2a2d2g2a2d2g2aBa2d2g2a2d2g2a2d2g2aBa2d2g2a2d2g2a2d2g2\
-aBa2d2g2a2d2g2a2d2g2aBa2d2g2a2d2g2a2d2g2";
+/// Five times an append to K1, and then three times one to K2, which is then discarded and forgotten:
+/// the last request first.
+const SCRIPT: &[u8] = b"g2d2a2g2d2a2g2d2a2aBg2d2a2g2d2a2g2d2a2aBg2d2a2g2d2a2g2d2a2aB\
+g2d2a2g2d2a2g2d2a2aBg2d2a2g2d2a2g2d2a2aB";
 
 /// The outcomes of K1 that a crash leaves at each moment, with these bytes lost, are the first of
 /// five, and never fewer than before.

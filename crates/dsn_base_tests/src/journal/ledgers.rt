@@ -3,12 +3,14 @@
 //! each that was answered.
 use super::crashes::{Answered, is_within};
 use super::disks::{
-    book_in, carry_out, crashed, disk_after, make_group, records_in, refusal, zeros,
+    book_in, bytes_on, carry_out, crashed, disk_after, disk_with, records_in, refusal, to_post,
+    zeros,
 };
-use super::marks::disk_of_three;
+use super::marks::{THREE, disk_of_three};
 use crate::assert_same::same;
-use crate::book::books::histories::generated;
+use crate::book::books::histories::{apply_asks, generated};
 use crate::book::books::plain::{Ask, PlainBook};
+use crate::book::books::{limits, lines_of};
 use dsn_book::{Book, Limits};
 use dsn_journal::{JournalError, LedgerError, MemoryDisk};
 use dsn_outcome::Reply;
@@ -33,13 +35,14 @@ fn run_group(
     rt: &impl Abort,
     alloc: Global,
     disk: MemoryDisk,
+    limits: Limits,
     plain: &mut PlainBook,
     group: &[Ask],
     before: usize,
 ) -> Result<(MemoryDisk, Answered), Fail> {
     let wanted = plain_replies(alloc, plain, group)?;
     let began = disk.moment();
-    let (disk, replies) = carry_out(alloc, disk, plain.limits(), make_group(alloc, group)?)?;
+    let (disk, replies) = carry_out(alloc, disk, limits, group)?;
     same(rt, replies.as_slice(), wanted.as_slice());
     let answered = Answered {
         began,
@@ -57,7 +60,7 @@ fn run_groups(rt: &impl Abort, alloc: Global, limits: Limits, seed: u32) -> Resu
     let mut answered = Vec::new(alloc);
     let mut before = 0;
     for group in asks.chunks(3) {
-        let (then, came) = run_group(rt, alloc, disk, &mut plain, group, before)?;
+        let (then, came) = run_group(rt, alloc, disk, limits, &mut plain, group, before)?;
         disk = then;
         before = came.after;
         answered.push(came)?;
@@ -82,21 +85,6 @@ pub(super) fn plain_replies(
     Ok(replies)
 }
 
-/// What a book answers.
-pub(super) fn book_replies(
-    rt: &impl Abort,
-    alloc: Global,
-    book: &mut Book,
-    asks: &[Ask],
-) -> Result<Vec<Reply>, Fail> {
-    let mut replies = Vec::new(alloc);
-    for request in make_group(alloc, asks)? {
-        assert!(rt; book.sealed() < u64::MAX);
-        replies.push(book.apply(request).answer.reply)?;
-    }
-    Ok(replies)
-}
-
 /// A book has the open logs of the plain one, and answers requests as that does.
 pub(super) fn expect_plain(
     rt: &impl Abort,
@@ -106,10 +94,10 @@ pub(super) fn expect_plain(
     asks: &[Ask],
 ) -> Result<(), Fail> {
     let lines = plain.open_lines()?;
-    same(rt, book.open_lines(alloc)?.as_slice(), lines.as_slice());
+    same(rt, lines_of(alloc, book)?.as_slice(), lines.as_slice());
     let wanted = plain_replies(alloc, plain, asks)?;
-    let replies = book_replies(rt, alloc, book, asks)?;
-    same(rt, replies.as_slice(), wanted.as_slice());
+    let came = apply_asks(rt, alloc, book, asks)?;
+    same(rt, came.replies.as_slice(), wanted.as_slice());
     Ok(())
 }
 
@@ -156,7 +144,7 @@ fn stop_at_each(
 #[test]
 fn each_moment_of_many_ledgers(rt: HostRuntime) -> Result<(), Fail> {
     for seed in 0..1_000u32 {
-        let limits = Limits::new(1 + seed % 6, 1 + seed % 4, 100).ok_or("not limits")?;
+        let limits = limits(1 + seed % 6, 1 + seed % 4)?;
         let history = run_groups(&rt, rt.alloc(), limits, seed)?;
         stop_at_each(&rt, rt.alloc(), limits, &history)?;
     }
@@ -171,12 +159,11 @@ const BEGIN: [u8; 24] = [
 
 /// Why a disk with these bytes, one part after another, isn't opened.
 fn refusal_of(alloc: Global, parts: &[&[u8]]) -> Result<Option<LedgerError>, Fail> {
-    let limits = Limits::new(10, 10, 100).ok_or("not limits")?;
     let mut file = Vec::new(alloc);
     for part in parts {
         file.extend_from_slice(part)?;
     }
-    Ok(refusal(alloc, MemoryDisk::new(alloc, file), limits, 0).0)
+    Ok(refusal(alloc, disk_with(alloc, &file)?, limits(10, 10)?, 0).0)
 }
 
 /// Each disk is refused so, or opened.
@@ -299,13 +286,11 @@ fn expect_under(
     mark: u64,
     wanted: Result<usize, LedgerError>,
 ) -> Result<(), Fail> {
-    let limits = Limits::new(6, 4, 100).ok_or("not limits")?;
-    let disk = disk_of_three(alloc, limits)?;
-    let (cause, disk) = refusal(alloc, disk, limits, mark);
+    let limits = limits(THREE.0, THREE.1)?;
+    let (cause, disk) = refusal(alloc, disk_of_three(alloc)?, limits, mark);
     same(rt, cause, wanted.err());
     if let Ok(left) = wanted {
-        let (_, letters) = book_in(alloc, super::disks::bytes_on(&disk)?, limits, mark)?;
-        same(rt, letters.len(), left);
+        same(rt, to_post(alloc, &disk, limits, mark)?, left);
     }
     Ok(())
 }
@@ -326,11 +311,11 @@ fn a_mark_of_more_letters_is_refused(rt: HostRuntime) -> Result<(), Fail> {
 
 #[test]
 fn a_mark_ahead_of_a_new_disk_is_refused(rt: HostRuntime) -> Result<(), Fail> {
-    let limits = Limits::new(6, 4, 100).ok_or("not limits")?;
-    let (cause, disk) = refusal(rt.alloc(), zeros(rt.alloc(), 4_000)?, limits, 1);
+    let new = zeros(rt.alloc(), 4_000)?;
+    let (cause, disk) = refusal(rt.alloc(), new, limits(6, 4)?, 1);
     same(&rt, cause, Some(LedgerError::MarkAhead));
     // It was synced, and no header was written.
-    let left = crashed(&disk, disk.moment(), 0)?;
+    let left = bytes_on(&disk)?;
     same(&rt, (disk.moment(), left.contains(&74)), (1, false));
     Ok(())
 }
@@ -340,7 +325,7 @@ const FULL_SIZE: usize = 44;
 
 #[test]
 fn a_full_ledger_stays_and_keeps_less(rt: HostRuntime) -> Result<(), Fail> {
-    let limits = Limits::new(10, 10, 100).ok_or("not limits")?;
+    let limits = limits(10, 10)?;
     let mut disk = disk_after(rt.alloc(), FULL_SIZE, limits, &[])?;
     for (count, replies, calls) in [
         // Three calls open the disk, and two more keep a group.
@@ -351,9 +336,7 @@ fn a_full_ledger_stays_and_keeps_less(rt: HostRuntime) -> Result<(), Fail> {
         (1, 0, 3),
     ] {
         let before = disk.moment();
-        let goodbyes = vec![in rt.alloc(); Ask::Bye; count]?;
-        let group = make_group(rt.alloc(), &goodbyes)?;
-        let (then, answered) = carry_out(rt.alloc(), disk, limits, group)?;
+        let (then, answered) = carry_out(rt.alloc(), disk, limits, &[Ask::Bye; 4][..count])?;
         disk = then;
         same(&rt, answered.len(), replies);
         same(&rt, disk.moment(), before.wrapping_add(calls));

@@ -1,9 +1,9 @@
 //! Outboxes whose letters are marked in a journal of marks.
-use super::disks::{crashed, zeros};
-use super::marks::{SIZE, make_marks, mark_in_file, open_marks};
+use super::disks::{disk_with, zeros};
+use super::marks::{SIZE, expect_marked, make_marks, open_marks};
 use crate::assert_same::same;
 use dsn_device::{Drain, MemoryDrain};
-use dsn_journal::{FileDisk, MarkedOutbox, Marks, MemoryDisk, Replaceable};
+use dsn_journal::{FileDisk, MarkedOutbox, Replaceable};
 use std::alloc::Global;
 use std::fs::{self, Files};
 use std::process::Abort;
@@ -40,32 +40,47 @@ fn post<D: Replaceable>(
 /// outbox counts then.
 type Post = (&'static [u8], u64, bool, u64);
 
-/// What is left of an outbox: its text, the mark, whether the marks are settled, and their disk.
-fn left_of<D: Replaceable>(outbox: MarkedOutbox<MemoryDrain, D>) -> (Vec<u8>, u64, bool, D) {
-    let (drain, marks) = outbox.into_parts();
-    let (mark, settled) = (marks.mark(), marks.is_settled());
-    (drain.into_bytes(), mark, settled, marks.into_disk())
+/// Posts letters, one after another.
+fn post_each<D: Replaceable>(
+    rt: &impl Abort,
+    outbox: &mut MarkedOutbox<MemoryDrain, D>,
+    posts: &[Post],
+) -> Result<(), Fail> {
+    for (text, serial, is_marked, failures) in posts {
+        same(rt, post(outbox, text, *serial)?, *is_marked);
+        same(rt, outbox.failures(), *failures);
+    }
+    Ok(())
 }
 
-/// Posts letters over the marks of a disk. The text of all of them is in the outbox, and this is the
-/// mark then. The disk comes back.
-fn post_all(
+/// An outbox has this text, and its marks this mark, and they are settled or not. Their disk comes
+/// back.
+fn expect_left<D: Replaceable>(
+    rt: &impl Abort,
+    outbox: MarkedOutbox<MemoryDrain, D>,
+    text: &[u8],
+    mark: u64,
+    is_settled: bool,
+) -> D {
+    let (drain, marks) = outbox.into_parts();
+    same(rt, drain.into_bytes().as_slice(), text);
+    same(rt, (marks.mark(), marks.is_settled()), (mark, is_settled));
+    marks.into_disk()
+}
+
+/// Posts letters over the marks of a disk, which doesn't fail. The text of all of them is in the
+/// outbox, and this is the mark then. The disk comes back.
+fn post_all<D: Replaceable + Drop + Send>(
     rt: &impl Abort,
     alloc: Global,
-    disk: MemoryDisk,
+    disk: D,
     posts: &[Post],
     text: &[u8],
     mark: u64,
-) -> Result<MemoryDisk, Fail> {
+) -> Result<D, Fail> {
     let mut outbox = over(alloc, disk)?;
-    for (text, serial, is_marked, failures) in posts {
-        same(rt, post(&mut outbox, text, *serial)?, *is_marked);
-        same(rt, outbox.failures(), *failures);
-    }
-    let (written, counted, settled, disk) = left_of(outbox);
-    same(rt, written.as_slice(), text);
-    same(rt, (counted, settled), (mark, true));
-    Ok(disk)
+    post_each(rt, &mut outbox, posts)?;
+    Ok(expect_left(rt, outbox, text, mark, true))
 }
 
 #[test]
@@ -78,12 +93,7 @@ fn letters_are_marked_in_order(rt: HostRuntime) -> Result<(), Fail> {
     let disk = zeros(rt.alloc(), SIZE)?;
     let disk = post_all(&rt, rt.alloc(), disk, &posts, b"one two three", 3)?;
     // The third mark had no room behind the others, and took their place by one call.
-    let last = disk.moment();
-    for (moment, mark) in [(last, 3), (last.saturating_sub(1), 2)] {
-        let left = crashed(&disk, moment, u64::MAX)?;
-        same(&rt, mark_in_file(rt.alloc(), left)?, mark);
-    }
-    Ok(())
+    expect_marked(&rt, rt.alloc(), &disk, 2, 3)
 }
 
 /// The file of the last mark of 64 bits.
@@ -113,7 +123,7 @@ const ONE: &[u8] =
 #[test]
 fn a_letter_out_of_turn_or_without_room_is_not_marked(rt: HostRuntime) -> Result<(), Fail> {
     for (file, post, mark) in POSTS {
-        let disk = MemoryDisk::new(rt.alloc(), file.to_vec(rt.alloc())?);
+        let disk = disk_with(rt.alloc(), file)?;
         let disk = post_all(&rt, rt.alloc(), disk, &[post], b"one", mark)?;
         // Three calls opened the marks, and two more keep a mark.
         let (_, _, is_marked, _) = post;
@@ -138,27 +148,16 @@ fn fail_marking<R: Abort + Files, D: Replaceable + Drop + Send>(
     disk: D,
 ) -> Result<(), Fail> {
     let mut outbox = over(alloc, disk)?;
-    for (serial, is_marked, failures) in [
-        (0, true, 0),
-        (1, false, 1),
-        (1, false, 2),
-        (2, false, 3),
-    ] {
-        same(rt, post(&mut outbox, b"one", serial)?, is_marked);
-        same(rt, outbox.failures(), failures);
-        let _ = fs::create_dir(rt, NEXT);
-    }
-    let (_, mark, settled, _) = left_of(outbox);
-    same(rt, (mark, settled), (1, false));
+    post_each(rt, &mut outbox, &[(b"one", 0, true, 0)])?;
+    fs::create_dir(rt, NEXT)?;
+    let failing: [Post; 3] = [
+        (b"two", 1, false, 1),
+        (b"two", 1, false, 2),
+        (b"three", 2, false, 3),
+    ];
+    post_each(rt, &mut outbox, &failing)?;
+    expect_left(rt, outbox, b"onetwotwothree", 1, false);
     Ok(())
-}
-
-/// Posts the second letter over marks that are opened anew: whether it is marked, and the mark then.
-fn mark_second<D: Replaceable + Drop + Send>(alloc: Global, disk: D) -> Result<(bool, u64), Fail> {
-    let mut outbox = over(alloc, disk)?;
-    let is_marked = post(&mut outbox, b"two", 1)?;
-    let (_, mark, _, _) = left_of(outbox);
-    Ok((is_marked, mark))
 }
 
 #[test]
@@ -166,8 +165,8 @@ fn a_disk_that_failed_marks_no_letter(rt: HostRuntime) -> Result<(), Fail> {
     make_marks(&rt, FOLDER, PATH)?;
     fail_marking(&rt, rt.alloc(), FileDisk::open(&rt, PATH)?)?;
     fs::remove_dir(&rt, NEXT)?;
-    let second = mark_second(rt.alloc(), FileDisk::open(&rt, PATH)?)?;
-    same(&rt, second, (true, 2));
+    let disk = FileDisk::open(&rt, PATH)?;
+    post_all(&rt, rt.alloc(), disk, &[(b"two", 1, true, 0)], b"two", 2)?;
     fs::remove_dir_all(&rt, FOLDER)?;
     Ok(())
 }

@@ -2,14 +2,14 @@
 ghost use Rattle.std.specs.Prelude.{List, map};
 ghost use Rattle.dsn_outcome.specs.Letter.{Letter};
 
-use super::disks::{book_in, bytes_on, crashed, disk_after, zeros};
+use super::disks::{book_in, bytes_on, crashed, disk_after, disk_with, zeros};
 use crate::assert_same::same;
 use crate::book::books::histories::generated;
-use dsn_book::Limits;
+use crate::book::books::limits;
 use dsn_device::Broken;
 use dsn_journal::{
-    DeliveryError, FileDisk, JournalError, Marks, MarksError, MemoryDisk, Outlet, Replaceable,
-    create_file, deliver,
+    DeliveryError, FileDisk, JournalError, Marks, MarksError, MemoryDisk, NotOpened, Outlet,
+    Replaceable, create_file, deliver,
 };
 use dsn_outcome::Letter;
 use std::alloc::Global;
@@ -53,74 +53,95 @@ impl Outlet for Few {
     }
 }
 
-/// A disk with some requests that seal three letters.
-pub(super) fn disk_of_three(alloc: Global, limits: Limits) -> Result<MemoryDisk, Fail> {
+/// A disk with some requests that seal three letters, under these limits.
+pub(super) const THREE: (u32, u32) = (6, 4);
+
+/// A disk of three letters.
+pub(super) fn disk_of_three(alloc: Global) -> Result<MemoryDisk, Fail> {
+    let limits = limits(THREE.0, THREE.1)?;
     disk_after(alloc, 4_000, limits, &generated(alloc, 1, 40)?)
 }
 
 /// The letters of a journal that sealed three.
 fn three_letters(alloc: Global) -> Result<Vec<Letter>, Fail> {
-    let limits = Limits::new(6, 4, 100).ok_or("not limits")?;
-    let file = bytes_on(&disk_of_three(alloc, limits)?)?;
-    let (_, letters) = book_in(alloc, file, limits, 0)?;
-    Ok(letters)
+    let file = bytes_on(&disk_of_three(alloc)?)?;
+    Ok(book_in(alloc, file, limits(THREE.0, THREE.1)?, 0)?.1)
+}
+
+/// Opens a disk of marks, or says why not.
+fn open_or_refuse<D: Replaceable>(alloc: Global, disk: D) -> Result<Marks<D>, NotOpened<D>> {
+    Marks::open(alloc, disk)
 }
 
 /// Opens a disk of marks.
 pub(super) fn open_marks<D: Replaceable + Drop>(alloc: Global, disk: D) -> Result<Marks<D>, Fail> {
-    match Marks::open(alloc, disk) {
+    match open_or_refuse(alloc, disk) {
         Ok(marks) => Ok(marks),
         Err(_left) => Err(Fail::from("no marks")),
     }
 }
 
-/// The mark that a file says.
-pub(super) fn mark_in_file(alloc: Global, file: Vec<u8>) -> Result<u64, Fail> {
-    Ok(open_marks(alloc, MemoryDisk::new(alloc, file))?.mark())
-}
-
-/// What came of a letter: the answer, the mark then, and whether the marks are settled.
-type Came = (Result<(), DeliveryError>, u64, bool);
-
-/// Hands a letter to an outlet, over marks whose mark is low.
+/// Hands a letter to an outlet, over marks whose mark is low: the answer, and the mark then.
 fn deliver_one<D: Replaceable>(
     alloc: Global,
     letter: &Letter,
     outlet: &mut Few,
     marks: &mut Marks<D>,
-) -> Result<Came, Fail> {
+) -> Result<(Result<(), DeliveryError>, u64), Fail> {
     if marks.mark() > 100 {
         return Err(Fail::from("a late mark"));
     }
     let answer = deliver(alloc, letter, outlet, marks);
-    Ok((answer, marks.mark(), marks.is_settled()))
+    Ok((answer, marks.mark()))
 }
 
 /// A letter of three is handed over: which one, the answer, the mark then, how many letters were
 /// taken by then, and how often the outlet has failed.
 type Step = (usize, Result<(), DeliveryError>, u64, usize, u64);
 
-/// Opens marks, and takes a step over them. The disk comes back.
-fn take_step(
+/// Takes a step over marks.
+fn take_step<D: Replaceable>(
     rt: &impl Abort,
     alloc: Global,
-    disk: MemoryDisk,
+    marks: &mut Marks<D>,
     outlet: &mut Few,
     letters: &[Letter],
     step: Step,
-) -> Result<MemoryDisk, Fail> {
+) -> Result<(), Fail> {
     let (place, wanted, mark, taken, failures) = step;
     let letter = letters.get(place).ok_or("no letter")?;
-    let mut marks = open_marks(alloc, disk)?;
-    let came = deliver_one(alloc, letter, outlet, &mut marks)?;
-    same(rt, came, (wanted, mark, true));
+    same(
+        rt,
+        deliver_one(alloc, letter, outlet, marks)?,
+        (wanted, mark),
+    );
     same(rt, (outlet.taken.len(), outlet.failures), (taken, failures));
+    Ok(())
+}
+
+/// Opens marks, and takes a step over them, by which their disk doesn't fail. It comes back.
+fn take_one<D: Replaceable + Drop>(
+    rt: &impl Abort,
+    alloc: Global,
+    disk: D,
+    outlet: &mut Few,
+    letters: &[Letter],
+    step: Step,
+) -> Result<D, Fail> {
+    let mut marks = open_marks(alloc, disk)?;
+    take_step(rt, alloc, &mut marks, outlet, letters, step)?;
+    same(rt, marks.is_settled(), true);
     Ok(marks.into_disk())
+}
+
+/// The mark that a file says.
+fn mark_in_file(alloc: Global, file: &[u8]) -> Result<u64, Fail> {
+    Ok(open_file(alloc, file)?.0.ok().ok_or("no mark")?)
 }
 
 /// A crash leaves the mark that was told. Before the last call, the sync of a mark or the one call
 /// that replaces all, it left the mark before.
-fn expect_marked(
+pub(super) fn expect_marked(
     rt: &impl Abort,
     alloc: Global,
     disk: &MemoryDisk,
@@ -130,7 +151,7 @@ fn expect_marked(
     let last = disk.moment();
     for (moment, wanted) in [(last.saturating_sub(1), before), (last, mark)] {
         let left = crashed(disk, moment, u64::MAX)?;
-        same(rt, mark_in_file(alloc, left)?, wanted);
+        same(rt, mark_in_file(alloc, &left)?, wanted);
     }
     Ok(())
 }
@@ -148,7 +169,7 @@ fn take_steps(
     let mut disk = zeros(alloc, size)?;
     let mut before = 0;
     for step in steps {
-        disk = take_step(rt, alloc, disk, &mut outlet, &letters, *step)?;
+        disk = take_one(rt, alloc, disk, &mut outlet, &letters, *step)?;
         expect_marked(rt, alloc, &disk, before, step.2)?;
         before = step.2;
     }
@@ -218,7 +239,7 @@ fn a_letter_is_marked_in_its_turn_and_once_it_was_taken(rt: HostRuntime) -> Resu
 type Opened = (Result<u64, MarksError>, Vec<u8>, usize);
 
 fn open_file(alloc: Global, bytes: &[u8]) -> Result<Opened, Fail> {
-    let (came, disk) = match Marks::open(alloc, MemoryDisk::new(alloc, bytes.to_vec(alloc)?)) {
+    let (came, disk) = match open_or_refuse(alloc, disk_with(alloc, bytes)?) {
         Ok(marks) => (Ok(marks.mark()), marks.into_disk()),
         Err(left) => (Err(left.cause), left.disk),
     };
@@ -315,31 +336,15 @@ fn fail_marking<R: Abort + Files, D: Replaceable + Drop>(
     let unsettled = Err(DeliveryError::Unsettled);
     let mut outlet = takes(alloc, 3);
     let mut marks = open_marks(alloc, disk)?;
-    for (place, wanted, settled, taken) in [
-        (0usize, Ok(()), true, 1usize),
-        (1, failed, false, 2),
-        (1, unsettled, false, 2),
-        (0, unsettled, false, 2),
-    ] {
-        let letter = letters.get(place).ok_or("no letter")?;
-        let came = deliver_one(alloc, letter, &mut outlet, &mut marks)?;
-        same(rt, came, (wanted, 1, settled));
-        same(rt, outlet.taken.len(), taken);
-        let _ = fs::create_dir(rt, NEXT);
+    let first = (0, Ok(()), 1, 1, 0);
+    take_step(rt, alloc, &mut marks, &mut outlet, letters, first)?;
+    fs::create_dir(rt, NEXT)?;
+    for (place, wanted) in [(1, failed), (1, unsettled), (0, unsettled)] {
+        let step = (place, wanted, 1, 2, 0);
+        take_step(rt, alloc, &mut marks, &mut outlet, letters, step)?;
     }
+    same(rt, marks.is_settled(), false);
     Ok(())
-}
-
-/// Takes the second step over marks that are opened anew.
-fn mark_second<D: Replaceable + Drop>(
-    alloc: Global,
-    disk: D,
-    letters: &[Letter],
-) -> Result<Came, Fail> {
-    let second = letters.get(1).ok_or("no letter")?;
-    let mut outlet = takes(alloc, 1);
-    let mut marks = open_marks(alloc, disk)?;
-    deliver_one(alloc, second, &mut outlet, &mut marks)
 }
 
 #[test]
@@ -348,8 +353,10 @@ fn marks_whose_disk_failed_are_opened_anew(rt: HostRuntime) -> Result<(), Fail> 
     let letters = three_letters(rt.alloc())?;
     fail_marking(&rt, rt.alloc(), FileDisk::open(&rt, PATH)?, &letters)?;
     fs::remove_dir(&rt, NEXT)?;
-    let came = mark_second(rt.alloc(), FileDisk::open(&rt, PATH)?, &letters)?;
-    same(&rt, came, (Ok(()), 2, true));
+    let mut outlet = takes(rt.alloc(), 1);
+    let disk = FileDisk::open(&rt, PATH)?;
+    let second = (1, Ok(()), 2, 1, 0);
+    take_one(&rt, rt.alloc(), disk, &mut outlet, &letters, second)?;
     fs::remove_dir_all(&rt, FOLDER)?;
     Ok(())
 }

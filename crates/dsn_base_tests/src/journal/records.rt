@@ -1,8 +1,7 @@
 //! Records: their bytes on a disk, behind others and in place of them, what is read of bytes that a
 //! crash left, and a journal that is full.
-use super::disks::{Place, bytes_on, put, records_in};
+use super::disks::{Place, bytes_on, disk_with, put, records_in};
 use crate::assert_same::same;
-use dsn_journal::MemoryDisk;
 use std::alloc::Global;
 use std::process::Abort;
 use std::test::Fail;
@@ -27,8 +26,7 @@ fn expect_put(
     after: Option<&[u8]>,
 ) -> Result<(), Fail> {
     let group = group_of(alloc, records)?;
-    let disk = MemoryDisk::new(alloc, before.to_vec(alloc)?);
-    let (disk, has_room) = put(alloc, disk, &group, place)?;
+    let (disk, has_room) = put(alloc, disk_with(alloc, before)?, &group, place)?;
     same(rt, has_room, after.is_some());
     if let Some(after) = after {
         let bytes = bytes_on(&disk)?;

@@ -1,6 +1,6 @@
 //! Records put in place of others: wherever the machine stops, all of the old ones are recovered,
 //! or all of the new ones.
-use super::disks::{Place, crashed, put, records_in};
+use super::disks::{Place, crashed, disk_with, put, records_in};
 use super::records::{OLD, group_of};
 use crate::assert_same::same;
 use dsn_journal::MemoryDisk;
@@ -28,8 +28,7 @@ fn expect_first(
 fn each_moment_of_a_replacement(rt: HostRuntime) -> Result<(), Fail> {
     let alloc = rt.alloc();
     let new = group_of(alloc, &[b"D"])?;
-    let old = MemoryDisk::new(alloc, OLD.to_vec(alloc)?);
-    let (disk, _) = put(alloc, old, &new, Place::Instead)?;
+    let (disk, _) = put(alloc, disk_with(alloc, &OLD)?, &new, Place::Instead)?;
     let ended = disk.moment();
     let (disk, _) = put(alloc, disk, &new, Place::Behind)?;
     for moment in 0..=disk.moment() {

@@ -1,12 +1,12 @@
 //! Snapshots: their records, and the book that is opened over them, which goes on as the old one
 //! does.
-use super::disks::{Place, book_in, bytes_on, disk_after, make_group, put, records_in};
+use super::disks::{Place, book_in, bytes_on, disk_after, put, records_in};
 use crate::assert_same::same;
-use crate::book::books::histories::{generated, scripted};
+use crate::book::books::histories::{Came, apply_asks, generated, scripted, told};
 use crate::book::books::plain::Ask;
+use crate::book::books::{book, limits, lines_of};
 use dsn_book::{Book, Limits};
 use dsn_journal::write_snapshot;
-use dsn_outcome::{Letter, Reply};
 use std::alloc::Global;
 use std::process::Abort;
 use std::test::Fail;
@@ -14,42 +14,11 @@ use std::test::Fail;
 /// How many bytes a disk has: room for a header and for each snapshot of a test.
 const SIZE: usize = 8_192;
 
-/// What came of requests: the replies, and the letters that were sealed.
-#[derive(Drop)]
-struct Came {
-    replies: Vec<Reply>,
-    letters: Vec<Letter>,
-}
-
-/// Carries out what is asked.
-fn apply_asks(rt: &impl Abort, alloc: Global, book: &mut Book, asks: &[Ask]) -> Result<Came, Fail> {
-    let mut replies = Vec::new(alloc);
-    let mut letters = Vec::new(alloc);
-    for request in make_group(alloc, asks)? {
-        assert!(rt; book.sealed() < u64::MAX);
-        let step = book.apply(request);
-        replies.push(step.answer.reply)?;
-        if let Some(letter) = step.letter {
-            letters.push(letter)?;
-        }
-    }
-    Ok(Came { replies, letters })
-}
-
 /// The book that is opened over a disk with these records.
 fn opened_over(alloc: Global, limits: Limits, records: &[Vec<u8>]) -> Result<Book, Fail> {
     let disk = disk_after(alloc, SIZE, limits, &[])?;
     let (disk, _) = put(alloc, disk, records, Place::Behind)?;
     Ok(book_in(alloc, bytes_on(&disk)?, limits, 0)?.0)
-}
-
-/// Whom a letter goes to, and its recipients, in their order.
-fn addresses(alloc: Global, letter: &Letter) -> Result<Vec<u8>, Fail> {
-    let mut text = letter.return_path().bytes().to_vec(alloc)?;
-    for outcome in letter.outcomes() {
-        text.extend_from_slice(outcome.recipient())?;
-    }
-    Ok(text)
 }
 
 /// The same came of requests, once the serials are counted on from a base.
@@ -63,10 +32,10 @@ fn expect_same(
     same(rt, short.replies.as_slice(), long.replies.as_slice());
     same(rt, short.letters.len(), long.letters.len());
     for (long, short) in long.letters.iter().zip(&short.letters) {
-        same(rt, short.key(), long.key());
-        same(rt, short.serial().saturating_add(base), long.serial());
-        let (said, wanted) = (addresses(alloc, short)?, addresses(alloc, long)?);
-        same(rt, said.as_slice(), wanted.as_slice());
+        let (serial, key, text) = told(alloc, short)?;
+        let (wanted, wanted_key, wanted_text) = told(alloc, long)?;
+        same(rt, (serial.saturating_add(base), key), (wanted, wanted_key));
+        same(rt, text.as_slice(), wanted_text.as_slice());
     }
     Ok(())
 }
@@ -88,7 +57,7 @@ fn expect_alike(
 /// A flush of each open log of a book.
 fn flushes_of(alloc: Global, book: &Book) -> Result<Vec<Ask>, Fail> {
     let mut asks = Vec::new(alloc);
-    for line in book.open_lines(alloc)? {
+    for line in lines_of(alloc, book)? {
         asks.push(Ask::Flush(line.key, true, None))?;
     }
     Ok(asks)
@@ -96,8 +65,8 @@ fn flushes_of(alloc: Global, book: &Book) -> Result<Vec<Ask>, Fail> {
 
 /// Both books list the same open logs.
 fn expect_same_logs(rt: &impl Abort, alloc: Global, long: &Book, short: &Book) -> Result<(), Fail> {
-    let wanted = long.open_lines(alloc)?;
-    same(rt, short.open_lines(alloc)?.as_slice(), wanted.as_slice());
+    let wanted = lines_of(alloc, long)?;
+    same(rt, lines_of(alloc, short)?.as_slice(), wanted.as_slice());
     Ok(())
 }
 
@@ -142,7 +111,7 @@ fn expect_in_place(
     asks: &[Ask],
     posted: usize,
 ) -> Result<(), Fail> {
-    let mut long = Book::new(alloc, limits)?;
+    let mut long = book(alloc, limits)?;
     let (records, base) = snapshot_after(rt, alloc, &mut long, asks, posted)?;
     let mut short = opened_over(alloc, limits, &records)?;
     expect_to_go_on(rt, alloc, &mut long, &mut short, asks, base)
@@ -152,7 +121,7 @@ fn expect_in_place(
 fn books_over_snapshots_go_on(rt: HostRuntime) -> Result<(), Fail> {
     let alloc = rt.alloc();
     for seed in 0..40u32 {
-        let limits = Limits::new(1 + seed % 18, 1 + seed % 9, 100).ok_or("not limits")?;
+        let limits = limits(1 + seed % 18, 1 + seed % 9)?;
         let asks = generated(alloc, seed, 60)?;
         for posted in 0..3 {
             expect_in_place(&rt, alloc, limits, &asks, posted)?;
@@ -172,10 +141,10 @@ fn records_after(alloc: Global, limits: Limits, asks: &[Ask]) -> Result<Vec<Vec<
 #[test]
 fn a_snapshot_has_the_records_of_requests(rt: HostRuntime) -> Result<(), Fail> {
     let alloc = rt.alloc();
-    let limits = Limits::new(10, 10, 100).ok_or("not limits")?;
+    let limits = limits(10, 10)?;
     let asks = scripted(alloc, b"aBaBfBgBa2a2d3")?;
     let kept = records_after(alloc, limits, &asks)?;
-    let mut book = Book::new(alloc, limits)?;
+    let mut book = book(alloc, limits)?;
     let (records, _) = snapshot_after(&rt, alloc, &mut book, &asks, 0)?;
     let counts = (book.sealed(), kept.len(), records.len());
     same(&rt, counts, (1, 8, 7));

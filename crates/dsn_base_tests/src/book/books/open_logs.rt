@@ -1,20 +1,13 @@
 //! The open logs of a book, in their order.
-use super::histories::body_of;
+use super::histories::apply_asks;
 use super::plain::Ask;
-use super::{apply, book, key};
+use super::{book, key, limits, lines_of};
 use crate::assert_same::same;
-use dsn_book::{Book, OpenLine};
+use dsn_book::OpenLine;
 use dsn_outcome::Service;
 use std::alloc::Global;
 use std::process::Abort;
 use std::test::Fail;
-
-/// Asks a book.
-fn ask(rt: &impl Abort, alloc: Global, book: &mut Book, ask: Ask) -> Result<(), Fail> {
-    let body = body_of(alloc, ask)?;
-    apply(rt, book, 0, body);
-    Ok(())
-}
 
 /// A line tells this of an open log.
 fn expect_line(rt: &impl Abort, line: &OpenLine, service: Service, id: &[u8], count: u32) {
@@ -23,19 +16,12 @@ fn expect_line(rt: &impl Abort, line: &OpenLine, service: Service, id: &[u8], co
     same(rt, line.count, count);
 }
 
-/// The open logs of a book are these.
-fn expect_lines(
-    rt: &impl Abort,
-    alloc: Global,
-    book: &Book,
-    wanted: &[(Service, &[u8], u32)],
-) -> Result<(), Fail> {
-    let lines = book.open_lines(alloc)?;
+/// Lines tell this of open logs.
+fn expect_lines(rt: &impl Abort, lines: &[OpenLine], wanted: &[(Service, &[u8], u32)]) {
     same(rt, lines.len(), wanted.len());
     for (line, (service, id, count)) in lines.iter().zip(wanted) {
         expect_line(rt, line, *service, id, *count);
     }
-    Ok(())
 }
 
 /// The logs of nine appends, in the order in which they come.
@@ -63,18 +49,20 @@ const OPEN: [(Service, &[u8], u32); 7] = [
     (Service::Trace, b"Z9", 1),
 ];
 
-/// Opens the logs, and seals one.
-fn open_logs(rt: &impl Abort, alloc: Global, book: &mut Book) -> Result<(), Fail> {
+/// Appends that open the logs, and a flush that seals one.
+fn asks(alloc: Global) -> Result<Vec<Ask>, Fail> {
+    let mut asks = Vec::new(alloc);
     for (service, id) in APPENDS {
-        ask(rt, alloc, book, Ask::Append(key(service, id)?, 0))?;
+        asks.push(Ask::Append(key(service, id)?, 0))?;
     }
-    let gone = key(Service::Bounce, b"gone")?;
-    ask(rt, alloc, book, Ask::Flush(gone, true, None))
+    asks.push(Ask::Flush(key(Service::Bounce, b"gone")?, true, None))?;
+    Ok(asks)
 }
 
 #[test]
 fn open_logs_in_order(rt: HostRuntime) -> Result<(), Fail> {
-    let mut book = book(rt.alloc(), 10, 10)?;
-    open_logs(&rt, rt.alloc(), &mut book)?;
-    expect_lines(&rt, rt.alloc(), &book, &OPEN)
+    let mut book = book(rt.alloc(), limits(10, 10)?)?;
+    apply_asks(&rt, rt.alloc(), &mut book, &asks(rt.alloc())?)?;
+    expect_lines(&rt, &lines_of(rt.alloc(), &book)?, &OPEN);
+    Ok(())
 }

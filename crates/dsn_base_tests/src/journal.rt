@@ -3,6 +3,7 @@ mod compacting;
 mod crashes;
 mod disks;
 mod files;
+mod folders;
 mod forgetting;
 mod kept_books;
 mod ledgers;

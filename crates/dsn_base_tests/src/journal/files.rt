@@ -1,5 +1,6 @@
 //! A file of the system as a disk: made, opened, written and opened anew.
 use super::disks::{all_of, write_synced};
+use super::folders::{make_file, make_folder, open_file, remove_folder};
 use crate::assert_same::same;
 use dsn_journal::{FileDisk, create_file};
 use std::fs;
@@ -21,9 +22,8 @@ fn kind_of(error: Option<io::Error>) -> Option<ErrorKind> {
 
 #[test]
 fn a_file_keeps_what_was_written(rt: HostRuntime) -> Result<(), Fail> {
-    let _ = fs::remove_dir_all(&rt, FOLDER);
-    fs::create_dir(&rt, FOLDER)?;
-    create_file(&rt, PATH, 5_000)?;
+    make_folder(&rt, FOLDER)?;
+    make_file(&rt, PATH, 5_000)?;
     same(
         &rt,
         fs::exists(&rt, "dsn_journal_files/journal.new")?,
@@ -31,7 +31,7 @@ fn a_file_keeps_what_was_written(rt: HostRuntime) -> Result<(), Fail> {
     );
     let again = kind_of(create_file(&rt, PATH, 10).err());
     same(&rt, again, Some(ErrorKind::AlreadyExists));
-    let mut disk = FileDisk::open(&rt, PATH)?;
+    let mut disk = open_file(&rt, PATH)?;
     let second = kind_of(FileDisk::open(&rt, PATH).err());
     same(&rt, second, Some(ErrorKind::WouldBlock));
     write_synced(&mut disk, 4_990, b"abc")?;
@@ -40,8 +40,7 @@ fn a_file_keeps_what_was_written(rt: HostRuntime) -> Result<(), Fail> {
     same(&rt, bytes.len(), 5_000);
     let part = bytes.get(4_988..4_995);
     same(&rt, part, Some(b"\0\0abc\0\0".as_slice()));
-    let read = all_of(rt.alloc(), &mut FileDisk::open(&rt, PATH)?)?;
+    let read = all_of(rt.alloc(), &mut open_file(&rt, PATH)?)?;
     same(&rt, read == bytes, true);
-    fs::remove_dir_all(&rt, FOLDER)?;
-    Ok(())
+    remove_folder(&rt, FOLDER)
 }

@@ -1,9 +1,10 @@
 //! Outboxes whose letters are marked in a journal of marks.
 use super::disks::{disk_with, zeros};
+use super::folders::{open_file, remove_folder};
 use super::marks::{SIZE, expect_marked, make_marks, open_marks};
 use crate::assert_same::same;
 use dsn_device::{Drain, MemoryDrain};
-use dsn_journal::{FileDisk, MarkedOutbox, Replaceable};
+use dsn_journal::{MarkedOutbox, Replaceable};
 use std::alloc::Global;
 use std::fs::{self, Files};
 use std::process::Abort;
@@ -163,10 +164,9 @@ fn fail_marking<R: Abort + Files, D: Replaceable + Drop + Send>(
 #[test]
 fn a_disk_that_failed_marks_no_letter(rt: HostRuntime) -> Result<(), Fail> {
     make_marks(&rt, FOLDER, PATH)?;
-    fail_marking(&rt, rt.alloc(), FileDisk::open(&rt, PATH)?)?;
-    fs::remove_dir(&rt, NEXT)?;
-    let disk = FileDisk::open(&rt, PATH)?;
+    fail_marking(&rt, rt.alloc(), open_file(&rt, PATH)?)?;
+    remove_folder(&rt, NEXT)?;
+    let disk = open_file(&rt, PATH)?;
     post_all(&rt, rt.alloc(), disk, &[(b"two", 1, true, 0)], b"two", 2)?;
-    fs::remove_dir_all(&rt, FOLDER)?;
-    Ok(())
+    remove_folder(&rt, FOLDER)
 }

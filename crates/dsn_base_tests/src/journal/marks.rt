@@ -3,13 +3,14 @@ ghost use Rattle.std.specs.Prelude.{List, map};
 ghost use Rattle.dsn_outcome.specs.Letter.{Letter};
 
 use super::disks::{book_in, bytes_on, crashed, disk_after, disk_with, zeros};
+use super::folders::{make_file, make_folder, open_file, remove_folder};
 use crate::assert_same::same;
 use crate::book::books::histories::generated;
 use crate::book::books::limits;
 use dsn_device::Broken;
 use dsn_journal::{
-    DeliveryError, FileDisk, JournalError, Marks, MarksError, MemoryDisk, NotOpened, Outlet,
-    Replaceable, create_file, deliver,
+    DeliveryError, JournalError, Marks, MarksError, MemoryDisk, NotOpened, Outlet, Replaceable,
+    deliver,
 };
 use dsn_outcome::Letter;
 use std::alloc::Global;
@@ -53,10 +54,10 @@ impl Outlet for Few {
     }
 }
 
-/// A disk with some requests that seal three letters, under these limits.
+/// The limits of a disk of three letters: its logs, and the outcomes of each.
 pub(super) const THREE: (u32, u32) = (6, 4);
 
-/// A disk of three letters.
+/// A disk with some requests that seal three letters.
 pub(super) fn disk_of_three(alloc: Global) -> Result<MemoryDisk, Fail> {
     let limits = limits(THREE.0, THREE.1)?;
     disk_after(alloc, 4_000, limits, &generated(alloc, 1, 40)?)
@@ -136,7 +137,7 @@ fn take_one<D: Replaceable + Drop>(
 
 /// The mark that a file says.
 fn mark_in_file(alloc: Global, file: &[u8]) -> Result<u64, Fail> {
-    Ok(open_file(alloc, file)?.0.ok().ok_or("no mark")?)
+    Ok(open_bytes(alloc, file)?.0.ok().ok_or("no mark")?)
 }
 
 /// A crash leaves the mark that was told. Before the last call, the sync of a mark or the one call
@@ -238,7 +239,7 @@ fn a_letter_is_marked_in_its_turn_and_once_it_was_taken(rt: HostRuntime) -> Resu
 /// many calls were made.
 type Opened = (Result<u64, MarksError>, Vec<u8>, usize);
 
-fn open_file(alloc: Global, bytes: &[u8]) -> Result<Opened, Fail> {
+fn open_bytes(alloc: Global, bytes: &[u8]) -> Result<Opened, Fail> {
     let (came, disk) = match open_or_refuse(alloc, disk_with(alloc, bytes)?) {
         Ok(marks) => (Ok(marks.mark()), marks.into_disk()),
         Err(left) => (Err(left.cause), left.disk),
@@ -254,7 +255,7 @@ fn expect_opened(
     bytes: &[u8],
     wanted: Result<u64, MarksError>,
 ) -> Result<(), Fail> {
-    let (came, left, moment) = open_file(alloc, bytes)?;
+    let (came, left, moment) = open_bytes(alloc, bytes)?;
     same(rt, came, wanted);
     same(rt, moment, if wanted.is_ok() { 3 } else { 1 });
     same(rt, wanted.is_ok() || left.as_slice() == bytes, true);
@@ -318,11 +319,28 @@ const NEXT: &str = "dsn_journal_marks/marks.next";
 
 /// Makes a file of marks with room for one, in a folder of its own.
 pub(super) fn make_marks(rt: &HostRuntime, folder: &str, path: &str) -> Result<(), Fail> {
-    let _ = fs::remove_dir_all(rt, folder);
-    fs::create_dir(rt, folder)?;
-    create_file(rt, path, 17)?;
+    make_folder(rt, folder)?;
+    make_file(rt, path, 17)
+}
+
+/// Takes steps over marks, one after another.
+fn take_each<D: Replaceable>(
+    rt: &impl Abort,
+    alloc: Global,
+    marks: &mut Marks<D>,
+    outlet: &mut Few,
+    letters: &[Letter],
+    steps: &[Step],
+) -> Result<(), Fail> {
+    for step in steps {
+        take_step(rt, alloc, marks, outlet, letters, *step)?;
+    }
     Ok(())
 }
+
+const FAILED: Result<(), DeliveryError> = Err(DeliveryError::Marks(JournalError::Failed));
+
+const UNSETTLED: Result<(), DeliveryError> = Err(DeliveryError::Unsettled);
 
 /// Takes steps over a file of marks, which can't be replaced any more after the first: a mark would
 /// take the place of another one by a file that can't be made.
@@ -330,33 +348,42 @@ fn fail_marking<R: Abort + Files, D: Replaceable + Drop>(
     rt: &R,
     alloc: Global,
     disk: D,
-    letters: &[Letter],
 ) -> Result<(), Fail> {
-    let failed = Err(DeliveryError::Marks(JournalError::Failed));
-    let unsettled = Err(DeliveryError::Unsettled);
+    let letters = three_letters(alloc)?;
     let mut outlet = takes(alloc, 3);
     let mut marks = open_marks(alloc, disk)?;
-    let first = (0, Ok(()), 1, 1, 0);
-    take_step(rt, alloc, &mut marks, &mut outlet, letters, first)?;
+    take_step(
+        rt,
+        alloc,
+        &mut marks,
+        &mut outlet,
+        &letters,
+        (0, Ok(()), 1, 1, 0),
+    )?;
     fs::create_dir(rt, NEXT)?;
-    for (place, wanted) in [(1, failed), (1, unsettled), (0, unsettled)] {
-        let step = (place, wanted, 1, 2, 0);
-        take_step(rt, alloc, &mut marks, &mut outlet, letters, step)?;
-    }
+    let failing: [Step; 3] = [
+        (1, FAILED, 1, 2, 0),
+        (1, UNSETTLED, 1, 2, 0),
+        (0, UNSETTLED, 1, 2, 0),
+    ];
+    take_each(rt, alloc, &mut marks, &mut outlet, &letters, &failing)?;
     same(rt, marks.is_settled(), false);
+    Ok(())
+}
+
+/// Marks the second letter, over marks that are opened anew.
+fn mark_second<D: Replaceable + Drop>(rt: &impl Abort, alloc: Global, disk: D) -> Result<(), Fail> {
+    let letters = three_letters(alloc)?;
+    let mut outlet = takes(alloc, 1);
+    take_one(rt, alloc, disk, &mut outlet, &letters, (1, Ok(()), 2, 1, 0))?;
     Ok(())
 }
 
 #[test]
 fn marks_whose_disk_failed_are_opened_anew(rt: HostRuntime) -> Result<(), Fail> {
     make_marks(&rt, FOLDER, PATH)?;
-    let letters = three_letters(rt.alloc())?;
-    fail_marking(&rt, rt.alloc(), FileDisk::open(&rt, PATH)?, &letters)?;
-    fs::remove_dir(&rt, NEXT)?;
-    let mut outlet = takes(rt.alloc(), 1);
-    let disk = FileDisk::open(&rt, PATH)?;
-    let second = (1, Ok(()), 2, 1, 0);
-    take_one(&rt, rt.alloc(), disk, &mut outlet, &letters, second)?;
-    fs::remove_dir_all(&rt, FOLDER)?;
-    Ok(())
+    fail_marking(&rt, rt.alloc(), open_file(&rt, PATH)?)?;
+    remove_folder(&rt, NEXT)?;
+    mark_second(&rt, rt.alloc(), open_file(&rt, PATH)?)?;
+    remove_folder(&rt, FOLDER)
 }

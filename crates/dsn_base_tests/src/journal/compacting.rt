@@ -5,7 +5,7 @@ ghost use Rattle.std.specs.Prelude.{◌≡◌, true, []};
 ghost use Rattle.dsn_journal.specs.OpenLedger.{AwaitsRequests};
 
 use super::disks::{book_in, crashed, disk_after, open_disk, refusal, to_post};
-use super::ledgers::expect_plain;
+use super::ledgers::{expect_plain, plain_replies};
 use super::marks::{THREE, disk_of_three};
 use crate::assert_same::same;
 use crate::book::books::histories::{Told, addresses, generated, told};
@@ -13,7 +13,7 @@ use crate::book::books::limits;
 use crate::book::books::plain::{Ask, PlainBook};
 use dsn_book::Limits;
 use dsn_journal::{Ledger, LedgerError, MemoryDisk, Opened, Replaceable};
-use dsn_outcome::Letter;
+use dsn_outcome::{Key, Letter};
 use std::alloc::Global;
 use std::process::Abort;
 use std::test::Fail;
@@ -30,6 +30,14 @@ fn told_by(alloc: Global, letters: &[Letter]) -> Result<Vec<Told>, Fail> {
     Ok(all)
 }
 
+/// The log that the plain book seals where it is asked this, and its key.
+fn sealed_by(plain: &mut PlainBook, ask: Ask) -> Result<Option<(Key, Vec<u32>)>, Fail> {
+    match (ask, plain.apply(ask)?.1) {
+        (Ask::Flush(key, _, _), Some(log)) => Ok(Some((key, log))),
+        _ => Ok(None),
+    }
+}
+
 /// What the letters of the plain book tell that are not below a mark.
 fn plain_told(
     alloc: Global,
@@ -40,7 +48,7 @@ fn plain_told(
     let mut all = Vec::new(alloc);
     let mut serial = 0u64;
     for ask in asks {
-        if let (Ask::Flush(key, _, _), (_, Some(log))) = (*ask, plain.apply(*ask)?) {
+        if let Some((key, log)) = sealed_by(plain, *ask)? {
             if serial >= mark {
                 all.push((serial, key, addresses(alloc, &log)?))?;
             }
@@ -122,8 +130,8 @@ fn stop_with(
 /// The mark of a turn: none, one or two letters, as far as requests seal as many.
 fn mark_for(alloc: Global, limits: Limits, asks: &[Ask], turn: u32) -> Result<u64, Fail> {
     let mut plain = PlainBook::new(alloc, limits);
-    let sealed = plain_told(alloc, &mut plain, asks, 0)?.len();
-    Ok(u64::from(turn % 3).min(sealed as u64))
+    plain_replies(alloc, &mut plain, asks)?;
+    Ok(u64::from(turn % 3).min(plain.sealed()))
 }
 
 /// A journal of requests is put away for a shorter one, and the machine stops at each moment of it.

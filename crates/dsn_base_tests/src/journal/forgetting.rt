@@ -7,7 +7,7 @@ use super::disks::{book_in, bytes_on, disk_after, open_disk};
 use crate::assert_same::same;
 use crate::book::books::histories::{apply_asks, scripted};
 use crate::book::books::limits;
-use dsn_book::{Book, Limits};
+use dsn_book::Limits;
 use dsn_journal::{Disk, Ledger, MemoryDisk};
 use dsn_outcome::Reply;
 use std::alloc::Global;
@@ -17,11 +17,6 @@ use std::test::Fail;
 /// How many bytes a disk has: room for a header and for all requests of a test.
 const SIZE: usize = 2_000;
 
-/// How many keys a book holds.
-fn held_in(book: &Book) -> usize {
-    book.entries().len()
-}
-
 /// Has the closed keys of a ledger forgotten.
 fn forget<D: Disk>(alloc: Global, ledger: &mut Ledger<D>) -> Result<(), Fail>
     requires none { ledger.old.settled ≡ true → AwaitsRequests D.Disk ledger.old [] }
@@ -30,41 +25,35 @@ fn forget<D: Disk>(alloc: Global, ledger: &mut Ledger<D>) -> Result<(), Fail>
     Ok(ledger.forget_closed(alloc)?)
 }
 
-/// How many keys a ledger holds, and how many calls its disk has had.
-fn state_of(ledger: &Ledger<MemoryDisk>) -> (usize, usize) {
-    (held_in(ledger.book()), ledger.disk().moment())
-}
-
-/// Opens a disk, and has the closed keys forgotten twice. The disk comes back, with how many keys
-/// were held after each time, and how many calls were made by then.
+/// Opens a disk, and has the closed keys forgotten twice. The disk comes back, with how many calls
+/// were made by each time.
 fn forgotten(
     alloc: Global,
     disk: MemoryDisk,
     limits: Limits,
-) -> Result<(MemoryDisk, [(usize, usize); 2]), Fail> {
+) -> Result<(MemoryDisk, usize, usize), Fail> {
     let mut ledger = open_disk(alloc, disk, limits, 0)?.ledger;
     forget(alloc, &mut ledger)?;
-    let first = state_of(&ledger);
+    let first = ledger.disk().moment();
     forget(alloc, &mut ledger)?;
-    let second = state_of(&ledger);
-    Ok((ledger.into_disk(), [first, second]))
+    let second = ledger.disk().moment();
+    Ok((ledger.into_disk(), first, second))
 }
 
-/// Opens a disk: it has one letter to be posted and holds so many keys, and its book answers an
-/// append to each of the four logs with these replies, first to the open ones, and then to those that
-/// were closed.
+/// Opens a disk: it has one letter to be posted, and its book answers an append to each of the four
+/// logs with these replies, first to the open ones, and then to those that were closed, and one to
+/// a further log last.
 fn expect_replies(
     rt: &impl Abort,
     alloc: Global,
     disk: &MemoryDisk,
     limits: Limits,
-    held: usize,
-    wanted: [Reply; 4],
+    wanted: &[Reply],
 ) -> Result<(), Fail> {
     let (mut book, letters) = book_in(alloc, bytes_on(disk)?, limits, 0)?;
-    same(rt, (letters.len(), held_in(&book)), (1, held));
-    let came = apply_asks(rt, alloc, &mut book, &scripted(alloc, b"aBaDaTa3")?)?;
-    same(rt, came.replies.as_slice(), wanted.as_slice());
+    same(rt, letters.len(), 1);
+    let came = apply_asks(rt, alloc, &mut book, &scripted(alloc, b"aBaDaTa3a2")?)?;
+    same(rt, came.replies.as_slice(), wanted);
     Ok(())
 }
 
@@ -76,11 +65,13 @@ fn closed_keys_take_outcomes_again(rt: HostRuntime) -> Result<(), Fail> {
     // further key fits.
     let asks = scripted(rt.alloc(), b"aBaDaTdTa3f3")?;
     let disk = disk_after(rt.alloc(), SIZE, limits, &asks)?;
-    let closed = [open, open, Reply::Closed, Reply::Closed];
-    expect_replies(&rt, rt.alloc(), &disk, limits, 4, closed)?;
-    let (disk, [first, second]) = forgotten(rt.alloc(), disk, limits)?;
+    let closed = [open, open, Reply::Closed, Reply::Closed, Reply::TableFull];
+    expect_replies(&rt, rt.alloc(), &disk, limits, &closed)?;
+    let (disk, first, second) = forgotten(rt.alloc(), disk, limits)?;
     // The second time nothing is written.
-    same(&rt, (first, second), ((2, first.1), (2, first.1)));
-    let free = [open, open, Reply::Logged(0), Reply::Logged(0)];
-    expect_replies(&rt, rt.alloc(), &disk, limits, 2, free)
+    same(&rt, second, first);
+    // Just two keys are held: two more fit, and no third.
+    let new = Reply::Logged(0);
+    let free = [open, open, new, new, Reply::TableFull];
+    expect_replies(&rt, rt.alloc(), &disk, limits, &free)
 }

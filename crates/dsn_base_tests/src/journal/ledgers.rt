@@ -29,30 +29,38 @@ struct History {
     answered: Vec<Answered>,
 }
 
-/// Has a group kept and carried out, and answered as the plain book answers it. The disk comes back,
-/// with what it came to.
+/// Has a group kept and carried out. The disk comes back, with the replies and what it came to.
 fn run_group(
-    rt: &impl Abort,
     alloc: Global,
     disk: MemoryDisk,
     limits: Limits,
-    plain: &mut PlainBook,
     group: &[Ask],
     before: usize,
-) -> Result<(MemoryDisk, Answered), Fail> {
-    let wanted = plain_replies(alloc, plain, group)?;
+) -> Result<(MemoryDisk, Vec<Reply>, Answered), Fail> {
     let began = disk.moment();
     let (disk, replies) = carry_out(alloc, disk, limits, group)?;
-    same(rt, replies.as_slice(), wanted.as_slice());
     let answered = Answered {
         began,
         ended: disk.moment(),
         after: before.saturating_add(replies.len()),
     };
-    Ok((disk, answered))
+    Ok((disk, replies, answered))
 }
 
-/// Groups of up to three requests on an empty disk.
+/// Requests were answered as the plain book answers them.
+fn expect_plain_replies(
+    rt: &impl Abort,
+    alloc: Global,
+    plain: &mut PlainBook,
+    asks: &[Ask],
+    replies: &[Reply],
+) -> Result<(), Fail> {
+    let wanted = plain_replies(alloc, plain, asks)?;
+    same(rt, replies, wanted.as_slice());
+    Ok(())
+}
+
+/// Groups of up to three requests on an empty disk, answered as the plain book answers them.
 fn run_groups(rt: &impl Abort, alloc: Global, limits: Limits, seed: u32) -> Result<History, Fail> {
     let asks = generated(alloc, seed, 8)?;
     let mut disk = zeros(alloc, SIZE)?;
@@ -60,8 +68,9 @@ fn run_groups(rt: &impl Abort, alloc: Global, limits: Limits, seed: u32) -> Resu
     let mut answered = Vec::new(alloc);
     let mut before = 0;
     for group in asks.chunks(3) {
-        let (then, came) = run_group(rt, alloc, disk, limits, &mut plain, group, before)?;
+        let (then, replies, came) = run_group(alloc, disk, limits, group, before)?;
         disk = then;
+        expect_plain_replies(rt, alloc, &mut plain, group, &replies)?;
         before = came.after;
         answered.push(came)?;
     }
@@ -95,10 +104,8 @@ pub(super) fn expect_plain(
 ) -> Result<(), Fail> {
     let lines = plain.open_lines()?;
     same(rt, lines_of(alloc, book)?.as_slice(), lines.as_slice());
-    let wanted = plain_replies(alloc, plain, asks)?;
     let came = apply_asks(rt, alloc, book, asks)?;
-    same(rt, came.replies.as_slice(), wanted.as_slice());
-    Ok(())
+    expect_plain_replies(rt, alloc, plain, asks, &came.replies)
 }
 
 /// How many requests a file keeps, behind its header.

@@ -9,6 +9,5 @@ mod letters;
 mod limit;
 mod memory;
 mod opened;
-mod sixteen;
 mod turns;
 mod unkept;

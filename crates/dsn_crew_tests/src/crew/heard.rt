@@ -70,12 +70,13 @@ pub(super) fn answer(reply: u8, number: u32, value: u32) -> [u8; ANSWER] {
 }
 
 /// Asserts that answers begin with so many Logged, numbered from 0, whose places rise and are below
-/// `places`, and gives what comes after them.
+/// `places`, and gives what comes after them. The places are added to a sum.
 pub(super) fn after_logged<'a>(
     rt: &impl Abort,
     answers: &'a [u8],
     count: u32,
     places: u32,
+    sum: &mut u64,
 ) -> &'a [u8] {
     let mut rest = answers;
     let mut next = 0u32;
@@ -88,6 +89,7 @@ pub(super) fn after_logged<'a>(
         same(rt, first, answer(1, number, place).as_slice());
         assert!(rt; next <= place && place < places);
         next = place.saturating_add(1);
+        *sum = sum.wrapping_add(u64::from(place));
         rest = later;
     }
     rest

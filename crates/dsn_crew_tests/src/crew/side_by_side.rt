@@ -25,9 +25,11 @@ struct Case {
     open: &'static [[u8; 2]],
     /// each of so many outcomes.
     outcomes: u32,
+    /// The sum of the places at which the outcomes are: in each log each place once.
+    sum: u64,
 }
 
-const CASES: [Case; 3] = [
+const CASES: &[Case] = &[
     // One agent, which is held until the other is answered.
     Case {
         until: Until {
@@ -40,6 +42,7 @@ const CASES: [Case; 3] = [
         count: 1,
         open: &[*b"Q1", *b"Q2"],
         outcomes: 1,
+        sum: 0,
     },
     // Two agents, each of which is held until the other has begun its second request.
     Case {
@@ -53,6 +56,7 @@ const CASES: [Case; 3] = [
         count: 2,
         open: &[*b"Q1", *b"Q2"],
         outcomes: 2,
+        sum: 2,
     },
     // Sixteen agents, each of which is held until all have begun.
     Case {
@@ -65,6 +69,21 @@ const CASES: [Case; 3] = [
         count: 10,
         open: &[*b"Q1"],
         outcomes: 160,
+        sum: 12_720,
+    },
+    // Sixteen agents, each two of which append to a log of their own.
+    Case {
+        until: FREE,
+        logs: &[
+            *b"Q1", *b"Q1", *b"Q2", *b"Q2", *b"Q3", *b"Q3", *b"Q4", *b"Q4", *b"Q5", *b"Q5", *b"Q6",
+            *b"Q6", *b"Q7", *b"Q7", *b"Q8", *b"Q8",
+        ],
+        count: 500,
+        open: &[
+            *b"Q1", *b"Q2", *b"Q3", *b"Q4", *b"Q5", *b"Q6", *b"Q7", *b"Q8",
+        ],
+        outcomes: 1000,
+        sum: 8 * 499_500,
     },
 ];
 
@@ -77,7 +96,7 @@ fn held<R: Threads + Wait + Clock + Sync>(
     until: Until,
 ) -> Result<Seen, Fail> {
     let ports = ports_heard(alloc, all, heard)?;
-    run(rt, alloc, 100, ports, usize::MAX, until)
+    run(rt, alloc, 500, ports, usize::MAX, until)
 }
 
 /// What each agent of a case sends.
@@ -100,19 +119,29 @@ fn assert_empty(rt: &impl Abort, seen: &Seen, case: &Case) {
     same(rt, seen.outbox.as_slice(), EMPTY);
 }
 
-/// Asserts that each client heard so many Logged, with places below this one, and no more.
+/// Asserts that a client heard so many Logged, with places that rise and are below this one, and no
+/// more. The places are added to a sum.
 fn assert_logged(
     rt: &impl Abort,
     alloc: Global,
-    heard: &[Heard],
+    heard: &Heard,
     count: u32,
     places: u32,
+    sum: &mut u64,
 ) -> Result<(), Fail> {
+    let bytes = heard.bytes(alloc)?;
+    let rest = after_logged(rt, &bytes, count, places, sum);
+    same(rt, rest, [0; ANSWER].as_slice());
+    Ok(())
+}
+
+/// Asserts what the clients of a case heard: in all, each place of each log once.
+fn assert_heard(rt: &impl Abort, alloc: Global, heard: &[Heard], case: &Case) -> Result<(), Fail> {
+    let mut sum: u64 = 0;
     for it in heard {
-        let bytes = it.bytes(alloc)?;
-        let rest = after_logged(rt, &bytes, count, places);
-        same(rt, rest, [0; ANSWER].as_slice());
+        assert_logged(rt, alloc, it, case.count, case.outcomes, &mut sum)?;
     }
+    same(rt, sum, case.sum);
     Ok(())
 }
 
@@ -127,13 +156,13 @@ fn expect<R: Threads + Wait + Clock + Sync + Abort>(
     let seen = held(rt, alloc, &all, &heard, case.until)?;
     assert_empty(rt, &seen, case);
     expect_open(rt, &seen.open, case.open, case.outcomes)?;
-    assert_logged(rt, alloc, &heard, case.count, case.outcomes)
+    assert_heard(rt, alloc, &heard, case)
 }
 
 #[test]
 fn agents_work_side_by_side(rt: HostRuntime) -> Result<(), Fail> {
     for case in CASES {
-        expect(&rt, rt.alloc(), &case)?;
+        expect(&rt, rt.alloc(), case)?;
     }
     Ok(())
 }
@@ -199,7 +228,7 @@ fn fifty_each(alloc: Global) -> Result<[Vec<u8>; 2], Fail> {
 /// Asserts that a client heard fifty Logged, and after them this answer and no other byte.
 fn assert_fifty(rt: &impl Abort, alloc: Global, heard: &Heard, then: &[u8]) -> Result<(), Fail> {
     let bytes = heard.bytes(alloc)?;
-    let rest = after_logged(rt, &bytes, 50, 100);
+    let rest = after_logged(rt, &bytes, 50, 100, &mut 0);
     let (last, more) = rest.split_at(ANSWER.min(rest.len()));
     same(rt, last, then);
     same(rt, more, [0; ANSWER].as_slice());

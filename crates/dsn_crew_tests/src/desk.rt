@@ -7,7 +7,6 @@ mod collect;
 mod gone;
 mod letters;
 mod limit;
-mod memory;
 mod opened;
 mod turns;
 mod unkept;

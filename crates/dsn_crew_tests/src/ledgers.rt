@@ -2,6 +2,7 @@
 ghost use Rattle.std.specs.Prelude.{[], IfSome};
 ghost use Rattle.dsn_journal.specs.OpenLedger.{AwaitsRequests};
 
+use crate::open_logs::open_logs;
 use dsn_book::Limits;
 use dsn_journal::{Disk, Ledger, open};
 use std::alloc::Global;
@@ -19,7 +20,7 @@ pub(crate) fn open_disk<D: Disk + Drop>(alloc: Global, disk: D) -> Option<Ledger
 
 /// How many outcomes are in the only log of a ledger, if it has one.
 fn outcomes_in<D: Disk + Drop>(alloc: Global, ledger: &Ledger<D>) -> Option<u32> {
-    let logs = ledger.book().open_lines(alloc).ok()?;
+    let logs = open_logs(alloc, ledger.book()).ok()?;
     match logs.first() {
         Some(log) => Some(log.count),
         None => Some(0),

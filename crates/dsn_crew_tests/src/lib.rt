@@ -13,6 +13,10 @@ mod lane;
 #[cfg(test)]
 mod ledgers;
 #[cfg(test)]
+mod letter_id;
+#[cfg(test)]
+mod memory;
+#[cfg(test)]
 mod open_logs;
 #[cfg(test)]
 mod refusing;

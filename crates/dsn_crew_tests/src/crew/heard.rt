@@ -1,40 +1,10 @@
 //! What clients of a crew hear, for tests: the answers that are written to connections in memory.
 use super::memory_port::{MemoryPort, port};
 use crate::assert_same::same;
+use crate::memory::{ANSWER, Heard};
 use std::alloc::Global;
 use std::process::Abort;
-use std::sync::atomic::{AtomicU8, Ordering};
 use std::test::Fail;
-
-/// How many bytes the frame of an answer has.
-pub(super) const ANSWER: usize = 14;
-
-/// What is written to one connection. There is room for one answer more than is wanted, so that one
-/// too many shows.
-#[derive(Drop)]
-pub(super) struct Heard {
-    room: Vec<AtomicU8>,
-}
-
-impl Heard {
-    /// Nothing so far, with room for so many answers and one more.
-    pub(super) fn new(alloc: Global, answers: usize) -> Result<Heard, Fail> {
-        let mut room = Vec::new(alloc);
-        for _ in 0..answers.saturating_add(1).saturating_mul(ANSWER) {
-            room.push(AtomicU8::new(0))?;
-        }
-        Ok(Heard { room })
-    }
-
-    /// The bytes, with zeros after them.
-    pub(super) fn bytes(&self, alloc: Global) -> Result<Vec<u8>, Fail> {
-        let mut bytes = Vec::new(alloc);
-        for byte in &self.room {
-            bytes.push(byte.load(Ordering::SeqCst))?;
-        }
-        Ok(bytes)
-    }
-}
 
 /// Nothing so far of so many connections, with room for so many answers and one more each.
 pub(super) fn heard_of(
@@ -57,7 +27,7 @@ pub(super) fn ports_heard<'a>(
 ) -> Result<Vec<MemoryPort<'a>>, Fail> {
     let mut ports = Vec::new(alloc);
     for (frames, heard) in all.iter().zip(heard) {
-        ports.push(port(alloc, frames.as_slice(), heard.room.as_slice())?)?;
+        ports.push(port(alloc, &[(frames.as_slice(), true)], &heard.room)?)?;
     }
     Ok(ports)
 }

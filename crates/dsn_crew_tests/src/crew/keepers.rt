@@ -10,7 +10,7 @@ use super::frames::push_append;
 use super::memory_port::{MemoryPort, only_port};
 use crate::assert_same::same;
 use crate::ledgers::{open_disk, outcomes_on};
-use crate::open_logs::expect_open;
+use crate::open_logs::{expect_open, open_logs};
 use crate::refusing::Refusing;
 use dsn_book::{Book, Keeper, Limits, NotKept};
 use dsn_crew::{Account, CrewCause, CrewFault, NoGate, run_crew_over};
@@ -84,8 +84,9 @@ fn run_refusing<R: Threads + Wait + Sync>(
 fn refused_request_ends_a_crew(rt: HostRuntime) -> Result<(), Fail> {
     let (cause, keeper) = run_refusing(&rt, rt.alloc())?;
     same(&rt, (cause, keeper.left), (Some(NO_ROOM), 0));
-    let logs = keeper.book.open_lines(rt.alloc())?;
-    expect_open(&rt, &logs, &[*b"K1"], 1)
+    let logs = open_logs(rt.alloc(), &keeper.book)?;
+    expect_open(&rt, &logs, &[*b"K1"], 1);
+    Ok(())
 }
 
 /// What comes of a ledger over a new disk of so many bytes, and the disk.

@@ -1,7 +1,7 @@
 //! Crews whose agents serve ports to their ends: what each port and connection counts, and what the
 //! outbox holds.
 use super::hold::FREE;
-use super::memory_port::{MemoryPort, Text};
+use super::memory_port::{MemoryPort, Sent, port};
 use super::outbox_text::ONE_NOTICE;
 use super::whole_crew::{EMPTY, run};
 use crate::assert_same::same;
@@ -39,14 +39,11 @@ const FLUSH: &[u8] = b"\
 \0\0\0\0\x65\x53\xf1\0\0\0\0\0\x65\x53\xe2\xf0\
 \0\x0fann@example.com\0\0\0\0";
 
-/// What a connection sends, and whether its reads and writes go well.
-type Sent = (&'static [u8], bool);
-
 /// A connection with a discard.
-const DISCARDS: Sent = (DISCARD, true);
+const DISCARDS: Sent<'static> = (DISCARD, true);
 
 /// The connections of a port, and whether it fails after them.
-type Given = (&'static [Sent], bool);
+type Given = (&'static [Sent<'static>], bool);
 
 /// Ports, how many requests the agent of each may make, and what comes of a run over them.
 #[derive(Clone, Copy)]
@@ -193,27 +190,13 @@ const CASES: &[Case] = &[
     },
 ];
 
-/// A port with these connections, which fails after them if it is to.
-fn port_of(alloc: Global, given: &Given) -> Result<MemoryPort<'static>, Fail> {
-    let mut texts = Vec::new(alloc);
-    for (bytes, good) in given.0 {
-        texts.push(Text {
-            bytes: *bytes,
-            good: *good,
-            heard: &[],
-        })?;
-    }
-    Ok(MemoryPort {
-        texts: texts.into_iter(),
-        fails: given.1,
-    })
-}
-
 /// The ports of a case.
 fn ports_of(alloc: Global, all: &[Given]) -> Result<Vec<MemoryPort<'static>>, Fail> {
     let mut ports = Vec::new(alloc);
-    for given in all {
-        ports.push(port_of(alloc, given)?)?;
+    for (sent, fails) in all {
+        let mut port = port(alloc, sent, &[])?;
+        port.fails = *fails;
+        ports.push(port)?;
     }
     Ok(ports)
 }

@@ -82,5 +82,6 @@ fn notice_written_aside(rt: HostRuntime) -> Result<(), Fail> {
     let frames = flush_between(rt.alloc())?;
     let seen = run_one(&rt, rt.alloc(), &frames, usize::MAX, CROSSED)?;
     same(&rt, (seen.code, seen.letters, seen.whole), (0, 1, true));
-    expect_open(&rt, &seen.open, &[*b"K2"], 1)
+    expect_open(&rt, &seen.open, &[*b"K2"], 1);
+    Ok(())
 }

@@ -1,10 +1,11 @@
 //! Agents of a crew that work at the same time: each of these runs is held so that a crew which
 //! serves its connections one after another, or in turns, runs out.
 use super::frames::{appends, push_append, push_flush};
-use super::heard::{ANSWER, Heard, after_logged, answer, heard_of, ports_heard};
+use super::heard::{after_logged, answer, heard_of, ports_heard};
 use super::hold::{FREE, Until};
 use super::whole_crew::{EMPTY, Seen, line, run};
 use crate::assert_same::same;
+use crate::memory::{ANSWER, Heard};
 use crate::open_logs::expect_open;
 use std::alloc::Global;
 use std::process::Abort;
@@ -155,7 +156,7 @@ fn expect<R: Threads + Wait + Clock + Sync + Abort>(
     let heard = heard_of(alloc, all.len(), case.count as usize)?;
     let seen = held(rt, alloc, &all, &heard, case.until)?;
     assert_empty(rt, &seen, case);
-    expect_open(rt, &seen.open, case.open, case.outcomes)?;
+    expect_open(rt, &seen.open, case.open, case.outcomes);
     assert_heard(rt, alloc, &heard, case)
 }
 

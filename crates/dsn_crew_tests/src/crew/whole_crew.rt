@@ -2,10 +2,12 @@
 use super::hold::{Hold, Until};
 use super::memory_port::MemoryPort;
 use super::outbox::Outbox;
+use crate::letter_id::id_of;
+use crate::open_logs::open_logs;
 use dsn_book::{Limits, OpenLine};
 use dsn_crew::{Account, AgentLine, CrewFault, run_crew};
 use dsn_device::Plain;
-use dsn_outcome::{Letter, Letters};
+use dsn_outcome::Letters;
 use dsn_report::Site;
 use std::alloc::Global;
 use std::sync::Wait;
@@ -30,12 +32,6 @@ pub(super) struct Seen {
     pub(super) outbox: Vec<u8>,
 }
 
-/// Adds the queue id of a letter.
-fn push_id(ids: &mut Vec<u8>, letter: &Letter) -> Result<(), Fail> {
-    ids.extend_from_slice(letter.key().id.bytes())?;
-    Ok(())
-}
-
 /// The queue ids of these letters, one after another.
 fn ids_of(alloc: Global, mut letters: Letters) -> Result<Vec<u8>, Fail> {
     let mut ids = Vec::new(alloc);
@@ -43,7 +39,7 @@ fn ids_of(alloc: Global, mut letters: Letters) -> Result<Vec<u8>, Fail> {
         let Some(letter) = letters.pop() else {
             return Ok(ids);
         };
-        push_id(&mut ids, &letter)?;
+        ids.extend_from_slice(id_of(&letter).bytes())?;
     }
     Ok(ids)
 }
@@ -68,7 +64,7 @@ fn seen_of_account<R: Clock>(
         letters,
         unsent: ids_of(alloc, unsent)?,
         whole,
-        open: book.open_lines(alloc)?,
+        open: open_logs(alloc, &book)?,
         outbox: outbox.into_inner().text,
     })
 }

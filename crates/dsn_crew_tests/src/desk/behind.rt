@@ -1,7 +1,8 @@
 //! A collector that stops within a group of requests that were kept together: those behind the one
 //! that it carried out stand in the journal, and whoever opens it next carries them out.
-use super::asks::append_all;
-use super::turns::{Turn, take_turn};
+use super::asks::ask_all;
+use super::bodies::Kind;
+use super::turns::{REQUESTS, Stop, Turn, two_turns};
 use crate::assert_same::same;
 use crate::ledgers::{open_disk, outcomes_on};
 use dsn_crew::{Agent, Desk, open_crew_over};
@@ -16,6 +17,9 @@ use std::test::Fail;
 
 /// The file of a journal.
 const PATH: &str = "dsn_crew_behind.journal";
+
+/// What three agents ask.
+const APPENDS: [(Kind, &[u8]); 3] = [(Kind::Append, b"K1"); 3];
 
 /// A crew of three over the ledger of a new disk.
 fn crew_over<D: Replaceable + Drop>(
@@ -39,12 +43,9 @@ fn stops_within<D: Replaceable + Drop>(
     alloc: Global,
     disk: D,
 ) -> Option<[Turn; 2]> {
-    let (crew, mut desk) = crew_over(rt, alloc, disk)?;
-    let mut heard = append_all(rt, alloc, crew)?;
-    if !heard.is_empty() {
-        drop(heard.swap_remove(0));
-    }
-    Some([take_turn(rt, &mut desk), take_turn(rt, &mut desk)])
+    let (mut crew, mut desk) = crew_over(rt, alloc, disk)?;
+    let _heard = ask_all(rt, alloc, &mut crew, 0, &APPENDS)?;
+    Some(two_turns(rt, &mut desk))
 }
 
 #[test]
@@ -52,10 +53,11 @@ fn what_stands_behind_is_carried_out_by_the_next_run(rt: HostRuntime) -> Result<
     let alloc = rt.alloc();
     let _ = fs::remove_file(&rt, PATH);
     create_file(&rt, PATH, 1_000)?;
-    let stopped = stops_within(&rt, alloc, FileDisk::open(&rt, PATH)?).ok_or("a crew")?;
-    same(&rt, stopped, [Turn::Answers(0), Turn::Requests]);
-    let left = outcomes_on(alloc, FileDisk::open(&rt, PATH)?).ok_or("a ledger")?;
-    same(&rt, left, 3);
+    let stopped = stops_within(&rt, alloc, FileDisk::open(&rt, PATH)?);
+    let want = [Some(Err((Stop::Answers, 2, 0))), Some(Err(REQUESTS))];
+    same(&rt, stopped, Some(want));
+    let left = outcomes_on(alloc, FileDisk::open(&rt, PATH)?);
+    same(&rt, left, Some(3));
     fs::remove_file(&rt, PATH)?;
     Ok(())
 }

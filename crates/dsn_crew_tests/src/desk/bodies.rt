@@ -1,13 +1,20 @@
 //! Bodies for tests.
-ghost use Rattle.std.specs.Prelude.{◌≢◌, IfSome};
-ghost use Rattle.dsn_outcome.specs.Body.{body_of};
-ghost use Rattle.dsn_outcome.specs.Request;
-
 use dsn_outcome::{
     Address, Body, Draft, Key, Node, Outcome, Parts, QueueId, RawHeader, Service, Stamp, Types,
     Wishes,
 };
 use std::alloc::Global;
+
+/// What an agent asks for.
+#[derive(Clone, Copy)]
+pub(super) enum Kind {
+    /// An append of a failed recipient.
+    Append,
+    /// A flush for the sender.
+    Flush,
+    Discard,
+    Bye,
+}
 
 /// A failed recipient.
 fn failed(alloc: Global) -> Option<Box<Node>> {
@@ -25,13 +32,6 @@ fn failed(alloc: Global) -> Option<Box<Node>> {
         extensions: b"",
     };
     Outcome::new(alloc, Service::Bounce, parts).ok()
-}
-
-/// An append of a failed recipient to the log of this message.
-pub(super) fn append(alloc: Global, message: &[u8]) -> Option<Body>
-    ensures { IfSome result (λ body. body_of body ≢ Request.Bye) }
-{
-    Some(Body::Append(QueueId::new(message)?, failed(alloc)?))
 }
 
 /// A draft for the sender.
@@ -53,24 +53,20 @@ fn draft(alloc: Global) -> Option<Draft> {
 }
 
 /// The bounce log of this message.
-fn log(message: &[u8]) -> Option<Key> {
-    let id = QueueId::new(message)?;
-    Some(Key {
+fn log(id: QueueId) -> Key {
+    Key {
         service: Service::Bounce,
         id,
-    })
+    }
 }
 
-/// A flush of the log of this message, for its sender.
-pub(super) fn flush(alloc: Global, message: &[u8]) -> Option<Body>
-    ensures { IfSome result (λ body. body_of body ≢ Request.Bye) }
-{
-    Some(Body::Flush(log(message)?, draft(alloc)?))
-}
-
-/// A discard of a log.
-pub(super) fn discard() -> Option<Body>
-    ensures { IfSome result (λ body. body_of body ≢ Request.Bye) }
-{
-    Some(Body::Discard(log(b"K1")?))
+/// A body of this kind, about the bounce log of this message.
+pub(super) fn body(alloc: Global, kind: Kind, message: &[u8]) -> Option<Body> {
+    let id = QueueId::new(message)?;
+    match kind {
+        Kind::Append => Some(Body::Append(id, failed(alloc)?)),
+        Kind::Flush => Some(Body::Flush(log(id), draft(alloc)?)),
+        Kind::Discard => Some(Body::Discard(log(id))),
+        Kind::Bye => Some(Body::Bye),
+    }
 }

@@ -1,21 +1,17 @@
 //! Two agents on a thread beside their collector: what each is answered, the limit of its requests,
 //! and the close of the crew.
-ghost use Rattle.std.specs.Prelude.{◌≡◌, ◌≢◌, List, true, [], ◌∷◌, IfSome};
-ghost use Rattle.dsn_crew.specs.agents.Agent.{LaneHalves};
+ghost use Rattle.std.specs.Prelude.{◌≡◌, [], ◌∷◌, IfSome};
 ghost use Rattle.dsn_crew.specs.desk.Close.{AreCrew};
 ghost use Rattle.dsn_crew.specs.agents.Place.{place_of};
-ghost use Rattle.dsn_crew.specs.desk.Desk.{all_gone};
-ghost use Rattle.dsn_outcome.specs.Body.{body_of};
-ghost use Rattle.dsn_outcome.specs.Request.{Bye};
 
-use super::asks::{Asked, ask};
-use super::bodies::append;
+use super::asks::ask;
+use super::bodies::{Kind, body};
 use super::collect::collect;
 use crate::assert_same::same;
-use crate::open_logs::expect_open;
+use crate::open_logs::{expect_open, open_logs};
 use dsn_book::{Book, Limits};
 use dsn_crew::{Agent, Desk, Finished, close_crew, open_crew};
-use dsn_outcome::{Body, Reply};
+use dsn_outcome::Reply;
 use std::alloc::Global;
 use std::sync::Wait;
 use std::test::Fail;
@@ -31,26 +27,15 @@ struct Seen {
     second: Finished,
 }
 
-/// What an agent is answered that asks for this body. There is none without one.
-fn ask_some(rt: &impl Wait, agent: &mut Agent, body: Option<Body>) -> Option<Asked>
-    requires { IfSome body (λ body. body_of body ≢ Bye) }
-    ensures { place_of agent.new.halves ≡ place_of agent.old.halves }
-{
-    match body {
-        Some(body) => Some(ask(rt, agent, body)),
-        None => None,
-    }
-}
-
 /// The first agent asks twice, the second one not at all; both say goodbye.
 fn ask_and_leave(rt: &impl Wait, alloc: Global, first: Agent, second: Agent) -> Option<Seen>
     ensures { IfSome result (λ seen. (place_of seen.first ≡ place_of first.halves) × (place_of seen.second ≡ place_of second.halves)) }
 {
     let mut first = first;
-    let Some(Asked::Answered(reply)) = ask_some(rt, &mut first, append(alloc, b"K1")) else {
+    let Some(Ok(reply)) = ask(rt, &mut first, body(alloc, Kind::Append, b"K1")) else {
         return None;
     };
-    let Some(Asked::Limit) = ask_some(rt, &mut first, append(alloc, b"K1")) else {
+    let Some(Err((44, true))) = ask(rt, &mut first, body(alloc, Kind::Append, b"K1")) else {
         return None;
     };
     let first = first.bye(rt).ok()?;
@@ -62,13 +47,17 @@ fn ask_and_leave(rt: &impl Wait, alloc: Global, first: Agent, second: Agent) -> 
     })
 }
 
-/// What the agents of a crew of two were answered, how many requests each made, and the book at last.
+/// What the first agent of a crew of two was answered, how many requests each made, and the book at
+/// last.
+type Ended = (Reply, u32, u32, Book);
+
+/// What comes of a crew of two.
 fn two_agents<R: Threads + Wait + Sync>(
     rt: &R,
     alloc: Global,
     crew: Vec<Agent>,
     desk: Desk,
-) -> Option<(Reply, u32, u32, Book)>
+) -> Option<Ended>
     requires { (first : Agent) × (second : Agent) × (crew.items ≡ first ∷ second ∷ []) × AreCrew (first.halves ∷ second.halves ∷ []) desk }
 {
     let mut crew = crew;
@@ -80,7 +69,7 @@ fn two_agents<R: Threads + Wait + Sync>(
         move || collect(rt, desk),
     );
     let seen = seen?;
-    let (desk, _) = desk?;
+    let desk = desk?;
     let (first, second) = (seen.first.requests(), seen.second.requests());
     let mut ended = Vec::with_capacity(alloc, 2).ok()?;
     ended.push_reserved(seen.first);
@@ -90,10 +79,7 @@ fn two_agents<R: Threads + Wait + Sync>(
 }
 
 /// The same of a crew that was just opened.
-fn limit_of_one<R: Threads + Wait + Sync>(
-    rt: &R,
-    alloc: Global,
-) -> Option<(Reply, u32, u32, Book)> {
+fn limit_of_one<R: Threads + Wait + Sync>(rt: &R, alloc: Global) -> Option<Ended> {
     let limits = Limits::new(8, 8, 1)?;
     let Ok((crew, desk)) = open_crew(rt, alloc, limits, 2) else {
         return None;
@@ -106,5 +92,6 @@ fn agent_counts_and_request_limit(rt: HostRuntime) -> Result<(), Fail> {
     let seen = limit_of_one(&rt, rt.alloc()).ok_or("a crew that ends well")?;
     let (reply, first, second, book) = seen;
     same(&rt, (reply, first, second), (Reply::Logged(0), 1, 0));
-    expect_open(&rt, &book.open_lines(rt.alloc())?, &[*b"K1"], 1)
+    expect_open(&rt, &open_logs(rt.alloc(), &book)?, &[*b"K1"], 1);
+    Ok(())
 }

@@ -85,3 +85,21 @@ fn notice_written_aside(rt: HostRuntime) -> Result<(), Fail> {
     expect_open(&rt, &seen.open, &[*b"K2"], 1);
     Ok(())
 }
+
+/// The outbox's first write waits for the answer to the last flush: so all letters but the first one
+/// wait where the agent says goodbye, after which no letter is sealed.
+const HELD_TO_THE_END: Until = Until { write: 6, ..FREE };
+
+/// The end of the last letter, and of the outbox.
+const LAST: &[u8] = b"\r\n--B.K3.1700000000.0000--\r\n.\r\nQUIT\r\n";
+
+#[test]
+fn letters_that_wait_at_the_close_are_posted(rt: HostRuntime) -> Result<(), Fail> {
+    let frames = three_letters(rt.alloc())?;
+    let seen = run_one(&rt, rt.alloc(), &frames, usize::MAX, HELD_TO_THE_END)?;
+    same(&rt, (seen.code, seen.letters, seen.whole), (0, 3, true));
+    same(&rt, seen.unsent.len(), 0);
+    same(&rt, seen.outbox.len(), GREETING + 3 * SHORTER_LETTER + 6);
+    assert!(rt; seen.outbox.ends_with(LAST));
+    Ok(())
+}

@@ -7,7 +7,7 @@ use std::alloc::AllocError;
 use std::sync::Wait;
 
 /// An item that is its agent and its number.
-#[derive(Clone, Copy, Debug, PartialEq, Eq)]
+#[derive(Clone, Copy)]
 pub struct Item {
     pub agent: u32,
     pub number: u32,
@@ -49,11 +49,14 @@ pub(crate) fn send_many(rt: &impl Wait, half: &mut LaneIn<Item>, agent: u32, mor
     true
 }
 
+/// The agent and the number of an item.
+pub(crate) type Sent = (u32, u32);
+
 /// Takes so many items, or fewer where the lane ends before, and adds them to a list.
 pub(crate) fn take_many(
     rt: &impl Wait,
     out: &mut LaneOut<Item>,
-    items: &mut Vec<Item>,
+    items: &mut Vec<Sent>,
     more: u32,
 ) -> Result<(), AllocError>
     ensures { (out.new.lane ≡ out.old.lane) × (out.new.first ≡ out.old.first) × (out.new.past ≡ out.old.past) }
@@ -62,21 +65,21 @@ pub(crate) fn take_many(
         let Ok(item) = out.take(rt) else {
             return Ok(());
         };
-        items.push(item)?;
+        items.push((item.agent, item.number))?;
     }
     Ok(())
 }
 
 /// How many items of each agent a list has; `None` where those of one aren't numbered from 0 in
 /// their order.
-pub(crate) fn counts(items: &[Item]) -> Option<[u32; 16]> {
+pub(crate) fn counts(items: &[Sent]) -> Option<[u32; 16]> {
     let mut counts = [0; 16];
-    for item in items {
-        let count = counts.get_mut(item.agent as usize)?;
-        if *count != item.number {
+    for (agent, number) in items {
+        let count = counts.get_mut(*agent as usize)?;
+        if *count != *number {
             return None;
         }
-        *count = item.number.wrapping_add(1);
+        *count = number.wrapping_add(1);
     }
     Some(counts)
 }

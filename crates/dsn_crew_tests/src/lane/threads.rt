@@ -3,7 +3,7 @@ ghost use Rattle.std.specs.Prelude.{◌≡◌, ◌+◌, ◌≤◌};
 
 use crate::assert_same::same;
 use crate::lane::hands::{last_half, opened};
-use crate::lane::item::{Item, counts, send_many, take_many};
+use crate::lane::item::{Item, Sent, counts, send_many, take_many};
 use dsn_crew::LaneIn;
 use std::alloc::Global;
 use std::sync::Wait;
@@ -21,7 +21,7 @@ struct Agent {
 
 /// So many agents, each in a thread of its own, send so many items each over a lane for four
 /// items, while another thread takes as many as they send.
-fn run<R: Threads + Wait + Sync>(rt: &R, alloc: Global, agents: u32, each: u32) -> Option<Vec<Item>>
+fn run<R: Threads + Wait + Sync>(rt: &R, alloc: Global, agents: u32, each: u32) -> Option<Vec<Sent>>
     requires { (1 ≤ agents) × (agents ≤ 16) }
 {
     let (mut halves, mut out) = opened(rt, alloc, agents, 4)?;
@@ -45,7 +45,7 @@ fn run<R: Threads + Wait + Sync>(rt: &R, alloc: Global, agents: u32, each: u32) 
                 },
             )
         },
-        move || -> Option<Vec<Item>> {
+        move || -> Option<Vec<Sent>> {
             let mut items = Vec::new(alloc);
             take_many(rt, &mut out, &mut items, agents.wrapping_mul(each)).ok()?;
             Some(items)
@@ -60,19 +60,15 @@ fn run<R: Threads + Wait + Sync>(rt: &R, alloc: Global, agents: u32, each: u32) 
 
 #[test]
 fn two_threads_of_a_thousand(rt: HostRuntime) -> Result<(), Fail> {
-    let items = run(&rt, rt.alloc(), 2, 1000).expect(&rt, "it runs");
-    let counts = counts(&items).expect(&rt, "each agent's items in order");
-    same(&rt, counts[0], 1000);
-    same(&rt, counts[1], 1000);
-    same(&rt, items.len(), 2000);
+    let items = run(&rt, rt.alloc(), 2, 1000).ok_or("it runs")?;
+    let want = [1000, 1000, 0, 0, 0, 0, 0, 0, 0, 0, 0, 0, 0, 0, 0, 0];
+    same(&rt, counts(&items), Some(want));
     Ok(())
 }
 
 #[test]
 fn sixteen_threads_of_a_hundred(rt: HostRuntime) -> Result<(), Fail> {
-    let items = run(&rt, rt.alloc(), 16, 100).expect(&rt, "it runs");
-    let counts = counts(&items).expect(&rt, "each agent's items in order");
-    same(&rt, counts, [100; 16]);
-    same(&rt, items.len(), 1600);
+    let items = run(&rt, rt.alloc(), 16, 100).ok_or("it runs")?;
+    same(&rt, counts(&items), Some([100; 16]));
     Ok(())
 }

@@ -55,6 +55,28 @@ pub(super) fn push_flush(frames: &mut Vec<u8>, number: u32, message: [u8; 2]) ->
     Ok(())
 }
 
+/// What a client asks for.
+#[derive(Clone, Copy)]
+pub(super) enum Kind {
+    /// An append of `x@y`.
+    Append,
+    Flush,
+}
+
+/// What a client sends over a connection: each of these about the bounce log of its message.
+pub(super) fn frames_of(alloc: Global, asks: &[(Kind, [u8; 2])]) -> Result<Vec<u8>, Fail> {
+    let mut frames = Vec::new(alloc);
+    let mut number: u32 = 0;
+    for (kind, message) in asks {
+        match kind {
+            Kind::Append => push_append(&mut frames, number, *message, b"x@y")?,
+            Kind::Flush => push_flush(&mut frames, number, *message)?,
+        }
+        number = number.wrapping_add(1);
+    }
+    Ok(frames)
+}
+
 /// So many appends of `x@y` to the bounce log of this message.
 pub(super) fn appends(alloc: Global, count: u32, message: [u8; 2]) -> Result<Vec<u8>, Fail> {
     let mut frames = Vec::new(alloc);

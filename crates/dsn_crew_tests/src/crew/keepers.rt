@@ -6,7 +6,7 @@ ghost use Rattle.dsn_crew.specs.desk.Desk.{BeginsWith};
 ghost use Rattle.dsn_journal.specs.MemoryDisk.{memory_moment};
 ghost use Rattle.dsn_outcome.specs.History.{Exchange};
 
-use super::frames::push_append;
+use super::frames::{Kind, frames_of};
 use super::memory_port::{MemoryPort, only_port};
 use crate::assert_same::same;
 use crate::ledgers::{open_disk, outcomes_on};
@@ -26,12 +26,7 @@ use std::thread::Threads;
 const NO_ROOM: CrewCause = CrewCause::Unkept(NotKept::Full);
 
 /// Two appends to one log, over one connection.
-fn two_appends(alloc: Global) -> Result<Vec<u8>, Fail> {
-    let mut frames = Vec::new(alloc);
-    push_append(&mut frames, 0, *b"K1", b"bob@example.org")?;
-    push_append(&mut frames, 1, *b"K1", b"eve@example.org")?;
-    Ok(frames)
-}
+const TWO_APPENDS: [(Kind, [u8; 2]); 2] = [(Kind::Append, *b"K1"); 2];
 
 /// Why a run ended with a fault, if it did, and the keeper that it handed back.
 type Ended<B> = (Option<CrewCause>, Option<B>);
@@ -63,7 +58,7 @@ fn run_keeper<R: Threads + Wait + Sync, B: Keeper + Drop>(
     requires few { B.sealed keeper < 2 ^ 63 }
     requires begins { (before : List Exchange) × BeginsWith B.Keeper keeper before }
 {
-    let frames = two_appends(alloc)?;
+    let frames = frames_of(alloc, &TWO_APPENDS)?;
     let ports = only_port(alloc, &frames)?;
     let site = Site::new(alloc, b"mx.example.net")?;
     let (cause, keeper) = run_ports(rt, alloc, keeper, ports, site);

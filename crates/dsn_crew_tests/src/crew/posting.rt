@@ -1,5 +1,5 @@
 //! Letters of a crew that are written while requests are taken, and an outbox that fails.
-use super::frames::{push_append, push_flush};
+use super::frames::{Kind, frames_of};
 use super::hold::{FREE, Until};
 use super::memory_port::only_port;
 use super::whole_crew::{Seen, line, run};
@@ -18,38 +18,33 @@ const GREETING: usize = 21;
 /// bytes in place of six, five times, and whose recipient has three in place of fifteen, twice.
 const SHORTER_LETTER: usize = 1005 - GREETING - 6 - 5 * 4 - 2 * 12;
 
-/// What comes of a crew of one agent over one connection, over which this is sent.
+/// What comes of a crew of one agent over one connection, over which it asks for this.
 fn run_one<R: Threads + Wait + Clock + Sync>(
     rt: &R,
     alloc: Global,
-    frames: &[u8],
+    asks: &[(Kind, [u8; 2])],
     room: usize,
     until: Until,
 ) -> Result<Seen, Fail> {
-    let ports = only_port(alloc, frames)?;
+    let frames = frames_of(alloc, asks)?;
+    let ports = only_port(alloc, &frames)?;
     run(rt, alloc, 8, ports, room, until)
 }
 
-/// Adds an append and a flush of a log, with this number and the next.
-fn push_letter(frames: &mut Vec<u8>, number: u32, message: [u8; 2]) -> Result<(), Fail> {
-    push_append(frames, number, message, b"x@y")?;
-    push_flush(frames, number.wrapping_add(1), message)
-}
-
 /// An append and a flush of each of three logs.
-fn three_letters(alloc: Global) -> Result<Vec<u8>, Fail> {
-    let mut frames = Vec::new(alloc);
-    push_letter(&mut frames, 0, *b"K1")?;
-    push_letter(&mut frames, 2, *b"K2")?;
-    push_letter(&mut frames, 4, *b"K3")?;
-    Ok(frames)
-}
+const THREE_LETTERS: [(Kind, [u8; 2]); 6] = [
+    (Kind::Append, *b"K1"),
+    (Kind::Flush, *b"K1"),
+    (Kind::Append, *b"K2"),
+    (Kind::Flush, *b"K2"),
+    (Kind::Append, *b"K3"),
+    (Kind::Flush, *b"K3"),
+];
 
 #[test]
 fn outbox_fails_in_a_crew(rt: HostRuntime) -> Result<(), Fail> {
-    let frames = three_letters(rt.alloc())?;
     let room = GREETING + SHORTER_LETTER + 20;
-    let seen = run_one(&rt, rt.alloc(), &frames, room, FREE)?;
+    let seen = run_one(&rt, rt.alloc(), &THREE_LETTERS, room, FREE)?;
     same(&rt, (seen.code, seen.letters, seen.whole), (0, 1, false));
     same(&rt, seen.unsent.as_slice(), b"K2K3".as_slice());
     same(&rt, seen.agents.as_slice(), [line(6, 1)].as_slice());
@@ -59,13 +54,11 @@ fn outbox_fails_in_a_crew(rt: HostRuntime) -> Result<(), Fail> {
 }
 
 /// An append and a flush of `B K1`, and an append to `B K2`.
-fn flush_between(alloc: Global) -> Result<Vec<u8>, Fail> {
-    let mut frames = Vec::new(alloc);
-    push_append(&mut frames, 0, *b"K1", b"x@y")?;
-    push_flush(&mut frames, 1, *b"K1")?;
-    push_append(&mut frames, 2, *b"K2", b"x@y")?;
-    Ok(frames)
-}
+const FLUSH_BETWEEN: [(Kind, [u8; 2]); 3] = [
+    (Kind::Append, *b"K1"),
+    (Kind::Flush, *b"K1"),
+    (Kind::Append, *b"K2"),
+];
 
 /// The third ask waits for the outbox's first write, which waits for the answer to that ask: so a
 /// crew that posts its letters at the end runs out.
@@ -79,8 +72,7 @@ const CROSSED: Until = Until {
 
 #[test]
 fn notice_written_aside(rt: HostRuntime) -> Result<(), Fail> {
-    let frames = flush_between(rt.alloc())?;
-    let seen = run_one(&rt, rt.alloc(), &frames, usize::MAX, CROSSED)?;
+    let seen = run_one(&rt, rt.alloc(), &FLUSH_BETWEEN, usize::MAX, CROSSED)?;
     same(&rt, (seen.code, seen.letters, seen.whole), (0, 1, true));
     expect_open(&rt, &seen.open, &[*b"K2"], 1);
     Ok(())
@@ -95,8 +87,7 @@ const LAST: &[u8] = b"\r\n--B.K3.1700000000.0000--\r\n.\r\nQUIT\r\n";
 
 #[test]
 fn letters_that_wait_at_the_close_are_posted(rt: HostRuntime) -> Result<(), Fail> {
-    let frames = three_letters(rt.alloc())?;
-    let seen = run_one(&rt, rt.alloc(), &frames, usize::MAX, HELD_TO_THE_END)?;
+    let seen = run_one(&rt, rt.alloc(), &THREE_LETTERS, usize::MAX, HELD_TO_THE_END)?;
     same(&rt, (seen.code, seen.letters, seen.whole), (0, 3, true));
     same(&rt, seen.unsent.len(), 0);
     same(&rt, seen.outbox.len(), GREETING + 3 * SHORTER_LETTER + 6);

@@ -100,11 +100,11 @@ fn held<R: Threads + Wait + Clock + Sync>(
     run(rt, alloc, 500, ports, usize::MAX, until)
 }
 
-/// What each agent of a case sends.
-fn frames_of(alloc: Global, case: &Case) -> Result<Vec<Vec<u8>>, Fail> {
+/// What agents send, each of which appends so often to its log.
+fn appends_to(alloc: Global, logs: &[[u8; 2]], count: u32) -> Result<Vec<Vec<u8>>, Fail> {
     let mut all = Vec::new(alloc);
-    for log in case.logs {
-        all.push(appends(alloc, case.count, *log)?)?;
+    for log in logs {
+        all.push(appends(alloc, count, *log)?)?;
     }
     Ok(all)
 }
@@ -152,7 +152,7 @@ fn expect<R: Threads + Wait + Clock + Sync + Abort>(
     alloc: Global,
     case: &Case,
 ) -> Result<(), Fail> {
-    let all = frames_of(alloc, case)?;
+    let all = appends_to(alloc, case.logs, case.count)?;
     let heard = heard_of(alloc, all.len(), case.count as usize)?;
     let seen = held(rt, alloc, &all, &heard, case.until)?;
     assert_empty(rt, &seen, case);
@@ -258,13 +258,24 @@ const FLUSH_LAST: Until = Until {
     ..FREE
 };
 
+/// What comes of two agents whose clients send this.
+fn run_fifty<R: Threads + Wait + Clock + Sync>(
+    rt: &R,
+    alloc: Global,
+    heard: &[Heard],
+) -> Result<Seen, Fail> {
+    let all = fifty_each(alloc)?;
+    held(rt, alloc, &all, heard, FLUSH_LAST)
+}
+
 #[test]
 fn two_agents_one_log(rt: HostRuntime) -> Result<(), Fail> {
-    let alloc = rt.alloc();
-    let all = fifty_each(alloc)?;
-    let heard = [Heard::new(alloc, 51)?, Heard::new(alloc, 51)?];
-    let seen = held(&rt, alloc, &all, &heard, FLUSH_LAST)?;
+    let heard = heard_of(rt.alloc(), 2, 51)?;
+    let seen = run_fifty(&rt, rt.alloc(), &heard)?;
     assert_one_letter(&rt, &seen);
-    assert_fifty(&rt, alloc, &heard[0], &answer(7, 50, 100))?;
-    assert_fifty(&rt, alloc, &heard[1], &[0; ANSWER])
+    let then = [answer(7, 50, 100), [0; ANSWER]];
+    for (heard, then) in heard.iter().zip(&then) {
+        assert_fifty(&rt, rt.alloc(), heard, then)?;
+    }
+    Ok(())
 }

@@ -46,7 +46,8 @@ ROWS = (
 )
 # Scripts that run with little beside: wrong edits, and one other of these. They look at what a process keeps of memory or takes of time, try as
 # much as they can in a given time, or end daemons after some moments of work.
-QUIET = ("forgetting.py", "fuzz_batch.py", "fuzz_serve.py", "journal_kills.py", "journal_stops.py", "memory.py", "postfix_notices.py")
+# The longest stands first.
+QUIET = ("postfix_notices.py", "journal_kills.py", "journal_stops.py", "fuzz_batch.py", "fuzz_serve.py", "forgetting.py", "memory.py")
 COUNT = re.compile(r"^(\d+) (?:passed|refused), (\d+) failed$", re.M)
 
 

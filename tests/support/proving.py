@@ -1,9 +1,9 @@
 """Proves crates by more than one run of `rt ci`, each over a copy of some crates of the repository.
 
 Each crate is proved by a run of its own as soon as those below it are, as many side by side as there are processors. A proof has two
-processors on the longest chain of crates, which all others wait for, and where nothing else waits. Else it has one, and so have those of
-programs and of tests, for which no crate waits. With two, each loads anew what the other has: it is done sooner, but takes a fifth more of
-processor time, and of tests nearly twice as much. A run takes over what others proved, since `rt` keeps it beside the kit."""
+processors on the longest chains of crates, for which most others wait, and where nothing else waits. Else it has one, and so have those of
+programs and of tests, for which no crate waits. With two, each loads anew what the other has: it is done sooner, but takes more of processor
+time, and of tests nearly twice as much. A run takes over what others proved, since `rt` keeps it beside the kit."""
 import contextlib
 import os
 import re

@@ -14,9 +14,9 @@ import time
 from pathlib import Path
 
 sys.dont_write_bytecode = True
-from kit import RT  # noqa: E402
 
 ROOT = Path(__file__).resolve().parents[2]
+RT = os.environ.get("RT") or "rt"
 EXAMPLES = ROOT / "examples"
 sys.path.insert(0, str(EXAMPLES))
 import client  # noqa: E402

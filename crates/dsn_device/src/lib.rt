@@ -3,12 +3,8 @@
 //! first failure.
 #![tactic(auto)]
 
-#[cfg(test)]
-mod assert_same;
 mod broken;
 mod drain;
-#[cfg(test)]
-mod fake_devices;
 mod memory_drain;
 mod opaque_stream;
 mod quiet_writer;

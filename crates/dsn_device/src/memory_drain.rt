@@ -94,25 +94,3 @@ impl Drain for MemoryDrain {
         Ok(())
     }
 }
-
-#[cfg(test)]
-mod tests {
-    use super::*;
-    use crate::assert_same::same;
-
-    #[test]
-    fn texts_are_written_one_behind_another(rt: HostRuntime) {
-        let mut drain = MemoryDrain::new(Vec::new(rt.alloc()));
-        same(&rt, drain.write(b"QU"), Ok(2));
-        same(&rt, drain.write(b"IT"), Ok(2));
-        same(&rt, drain.unflushed, true);
-        same(&rt, drain.write(b""), Ok(0));
-        same(&rt, drain.flush(), Ok(()));
-        same(
-            &rt,
-            (drain.unflushed, drain.flushes, drain.failures),
-            (false, 1, 0),
-        );
-        same(&rt, drain.into_bytes().as_slice(), b"QUIT".as_slice());
-    }
-}

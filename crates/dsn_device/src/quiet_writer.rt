@@ -74,6 +74,3 @@ impl<D: Drain> QuietWriter<D> {
         self.writing.mark_letter(&mut self.drain, serial);
     }
 }
-
-#[cfg(test)]
-mod tests;

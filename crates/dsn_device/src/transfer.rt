@@ -67,6 +67,3 @@ pub fn fill<S: Source>(source: &mut S, buffer: &mut [u8]) -> Result<usize, Broke
     }
     Ok(filled)
 }
-
-#[cfg(test)]
-mod tests;

@@ -47,35 +47,3 @@ impl UntilFailure {
         self.failed = self.failed || drain.mark_letter(serial).is_err();
     }
 }
-
-#[cfg(test)]
-mod tests {
-    use super::*;
-    use crate::assert_same::same;
-    use crate::fake_devices::PieceWriter;
-    use crate::std_device::Plain;
-
-    #[test]
-    fn nothing_follows_a_failure(rt: HostRuntime) {
-        let mut drain = Plain::new(PieceWriter {
-            held: Vec::new(rt.alloc()),
-            most: 2,
-            room: 6,
-        });
-        let mut writing = UntilFailure::new();
-        writing.write(&mut drain, b"QUIT");
-        writing.flush(&mut drain);
-        assert!(rt; !writing.failed);
-        writing.write(&mut drain, b"QUIT");
-        assert!(rt; writing.failed);
-        // The drain works again, and gets nothing more.
-        writing.write(&mut drain, b"QUIT");
-        writing.flush(&mut drain);
-        assert!(rt; writing.failed);
-        same(
-            &rt,
-            drain.into_inner().held.as_slice(),
-            b"QUITQU".as_slice(),
-        );
-    }
-}

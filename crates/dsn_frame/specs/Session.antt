@@ -3,7 +3,7 @@
 use Rattle.std.specs.Prelude.{◌≡◌, ◌≢◌, ℕ, ◌+◌, ◌<◌, List, [], ◌∷◌, ◌++◌, length, Option, Some, None}
 use Rattle.std.specs.Io.KnownBytes.{Consumes, IsAtEnd}
 use Rattle.std.specs.List.{flat_map}
-use Rattle.dsn_text.specs.FaultCode.{connection_write_code, lane_lost_code, no_memory_code, notes_write_code, out_of_turn_code, used_up_code}
+use Rattle.dsn_text.specs.FaultCode.{connection_write_code, lane_lost_code, no_memory_code, notes_write_code, out_of_turn_code, too_many_frames_code, used_up_code}
 use Rattle.dsn_outcome.specs.Request.{Body}
 use Rattle.dsn_outcome.specs.declared.answer.Replied.{Replied}
 use Rattle.dsn_frame.specs.bodies.BodyFault.{body_fault_code}
@@ -100,7 +100,7 @@ pub data SessionEnds (medium : Medium) (limit count : ℕ) (made : Option ℕ)
       → SessionEnds medium limit count made left now (Some (frame_fault_code fault))
   -- as many frames as there may be were taken, and one more is read
   too_many : made ≡ None → (bytes : List ℕ) → count ≡ limit → IsFrameBody bytes
-      → Consumes left now (frame bytes) → SessionEnds medium limit count made left now (Some 47)
+      → Consumes left now (frame bytes) → SessionEnds medium limit count made left now (Some too_many_frames_code)
   -- memory for the logs of an input that is read alone is refused before anything is read
   no_memory_for_book : medium ≡ Input → made ≡ None → count ≡ 0 → left ≡ now
       → SessionEnds medium limit count made left now (Some no_memory_code)

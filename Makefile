@@ -1,39 +1,53 @@
-# What a user and CI call: `make demo` shows the proved program at work, `make try` the same without a proof, and `make check`
-# proves and tests all of it.
+# What a user and CI call. `make try` runs the program without a proof, `make build` proves and builds it, `make check` is the gate.
 # Logs go to out/, which is never committed.
 
 PREFIX  ?= /usr/local
 DESTDIR ?=
 RT      ?= $(shell command -v rt || echo /opt/rattle/bin/rt)
 BOOT    ?= /var/cache/noticed-boot
+JOBS    ?= 3
 
-NOTICED := crates/noticed/out/noticed
-PROBE   := crates/probe/out/probe
+export NOTICED ?= $(CURDIR)/crates/noticed/out/noticed
+export PROBE   ?= $(CURDIR)/crates/probe/out/probe
+export RT
+export PYTHONDONTWRITEBYTECODE := 1
+
+BUILT   := crates/noticed/out/noticed
+PROBES  := crates/probe/out/probe
 SOURCES := $(shell find crates -name out -prune -o -type f -print)
 EXAMPLE := examples/one-bounce
-FLAGS   := $(if $(ANEW),--anew) $(if $(RECORD),--record)
 
-SHELL := /bin/sh
-.SHELLFLAGS := -euc
+# The scripts of tests/. Those of QUIET run after the others, one at a time: they look at memory or time, end processes at random
+# moments, wait for seconds to pass, or listen at a port that they found to be free. Those of BOOTS want a Debian to boot.
+BOOTS   := boot boot_postfix
+QUIET   := feed feed_kills feed_restarts mailers stop idle postfix_beside postfix_faults postfix_notices journal_kills \
+           journal_stops fuzz_batch fuzz_serve forgetting memory
+LOUD    := $(filter-out __init__ $(BOOTS) $(QUIET),$(patsubst tests/%.py,%,$(wildcard tests/*.py)))
+
+SHELL := /bin/bash
+.SHELLFLAGS := -euo pipefail -c
 .ONESHELL:
 .DELETE_ON_ERROR:
-.PHONY: all build demo try check boot scripts walk edits refused bench planted install clean
+.PHONY: all build demo try check scripts test mutants boot bench planted install clean
 
 all: build
 
-build: $(NOTICED)
+build: $(BUILT)
 
-# The proved program, and that which the scripts run to refuse a crew, or a call, its memory and threads, and to measure a crew.
-# Each crate is named as it is proved.
-$(NOTICED) $(PROBE): $(SOURCES) crates.txt HANDLES
-	@RT="$(RT)" python3 tests/support/build.py $(@F)
+$(BUILT): $(SOURCES) crates.txt HANDLES
+	@$(RT) all check --jobs $(JOBS)
+	cd crates/noticed
+	$(RT) run -- batch build.example < /dev/null > /dev/null
 
-# A run of `batch`, with its standard output and standard error each under a heading of its own; then a daemon with two
-# clients at once.
-demo: $(NOTICED)
+$(PROBES): $(BUILT)
+	@cd crates/probe
+	$(RT) run -- call site < /dev/null
+
+# A run of `batch`, with its standard output and standard error each under a heading of its own; then a daemon with two clients.
+demo: $(BUILT)
 	@mkdir -p out
 	status=0
-	./$(NOTICED) batch mx.example.net < $(EXAMPLE).frames > out/demo.outbox 2> out/demo.notes || status=$$?
+	$(BUILT) batch mx.example.net < $(EXAMPLE).frames > out/demo.outbox 2> out/demo.notes || status=$$?
 	echo
 	echo "== Requests: $(EXAMPLE).frames, one append and one flush =="
 	od -A d -t x1 $(EXAMPLE).frames
@@ -46,65 +60,67 @@ demo: $(NOTICED)
 	echo
 	echo "== Exit status: $$status =="
 	echo
-	sh examples/demo.sh $(NOTICED)
+	sh examples/demo.sh $(BUILT)
 	exit $$status
 
 # The same runs without a proof, by `rt try`: nothing is proved, and no program is kept.
 try:
-	@RT="$(RT)" python3 tests/support/trial.py
+	@python3 -m tests.support.trial
 
-# The gate: every proof from nothing, the wrong edits that the record hasn't and a sample of those that it has, then the scripts of
-# tests/ on the programs that it built. ANEW=1 proves and tries all, RECORD=1 writes the record. The last line is
-# 'N passed, M failed'.
+# The gate: `rt ci`, then each script of tests/ on the programs that it built. The last line counts what both tried.
 check:
-	@command -v python3 > /dev/null || { echo "make check needs python3"; echo "0 passed, 1 failed"; exit 1; }
-	RT="$(RT)" exec python3 tests/support/gate.py $(FLAGS)
+	@mkdir -p out
+	$(RT) ci 2>&1 | tee out/ci.log
+	$(MAKE) --no-print-directory scripts BEFORE="$$(sed -n '$$s/ passed.*//p' out/ci.log)"
+
+# The scripts alone, on the programs that NOTICED and PROBE name. BEFORE is how many things passed before them.
+scripts: BEFORE := 0
+scripts:
+	@rm -rf out/scripts
+	mkdir -p out/scripts
+	$(MAKE) --no-print-directory -k -O -j$(JOBS) $(LOUD:%=script-%) || true
+	$(MAKE) --no-print-directory -k -j1 $(QUIET:%=script-%) || true
+	echo "== Skipped, since a program or a right is lacking:"
+	for it in out/scripts/*.log; do tail -n1 "$$it" | sed -n "s|.*skipped: |$$(basename "$$it" .log): |p"; done
+	passed=$$(find out/scripts -name '*.log' | wc -l)
+	failed=$$(($(words $(LOUD) $(QUIET)) - passed))
+	echo "$$((passed + $(BEFORE))) passed, $$failed failed"
+	[ "$$failed" = 0 ]
+
+script-%:
+	@if python3 -m tests.$* > out/scripts/$*.failed 2>&1; then
+	    mv out/scripts/$*.failed out/scripts/$*.log
+	    cat out/scripts/$*.log
+	else
+	    cat out/scripts/$*.failed
+	    exit 1
+	fi
+
+# Tries the wrong edits of mutants/ that the gate doesn't: those of the crates in CRATE, or those named in EDITS as CRATE/NAME.
+mutants:
+	@python3 -m tests.support.mutants $(CRATE) $(EDITS)
 
 # Boots a systemd of its own with the installed units, as root, and then one with Debian's Postfix, which comes from a mirror; not
 # part of `make check`. Debian's base system, which the first run makes, stays in BOOT.
-boot: $(NOTICED)
-	@export NOTICED="$(CURDIR)/$(NOTICED)" PYTHONDONTWRITEBYTECODE=1
-	python3 tests/boot.py "$(BOOT)"
-	python3 tests/boot_postfix.py "$(BOOT)"
+boot: $(BUILT)
+	@python3 -m tests.boot "$(BOOT)"
+	python3 -m tests.boot_postfix "$(BOOT)"
 
-# What each script of tests/ checks.
-scripts:
-	@PYTHONDONTWRITEBYTECODE=1 python3 tests/support/scripts.py
-
-# What a reader passes who follows one append through the code: functions, files, crates.
-walk:
-	@PYTHONDONTWRITEBYTECODE=1 python3 tests/support/walk.py
-
-# Which functions the wrong edits change that the gate must see refused.
-edits:
-	@PYTHONDONTWRITEBYTECODE=1 python3 tests/support/wrong_edits.py
-
-# Tries the wrong edits of the crates that CRATES names, or of all, with their controls, and says which clause refuses
-# each, and which refusals are weak; over what `rt all check` proved here before. What tests/support/edits_tried.txt has is taken
-# from there, but for a sample: ANEW=1 tries all. RECORD=1 writes that file.
-refused:
-	@RT="$(RT)" PYTHONDONTWRITEBYTECODE=1 python3 tests/support/refused.py $(FLAGS) $(CRATES)
-
-# Measures the program on workloads made from a seed, crews in memory, and the daemon over sockets; not part of
-# `make check`.
-bench: $(NOTICED) $(PROBE)
-	@export NOTICED="$(CURDIR)/$(NOTICED)" PROBE="$(CURDIR)/$(PROBE)" PYTHONDONTWRITEBYTECODE=1
-	python3 bench/crew.py
-	python3 bench/daemon.py
-	python3 bench/journal.py
-	python3 bench/bench.py
+# Measures the program on workloads made from a seed, crews in memory, and the daemon over sockets; not part of `make check`.
+bench: $(BUILT) $(PROBES)
+	@for it in crew daemon journal bench; do python3 -m bench.$$it; done
 
 # Shows that the fuzzers of tests/ find small wrong edits of the plain reading; takes a minute or two.
-planted: $(NOTICED)
-	@PYTHONDONTWRITEBYTECODE=1 python3 tests/support/planted.py
+planted: $(BUILT)
+	@python3 -m tests.support.planted
 
-install: $(NOTICED)
-	@install -D -m 755 $(NOTICED) "$(DESTDIR)$(PREFIX)/bin/noticed"
+install: $(BUILT)
+	@install -D -m 755 $(BUILT) "$(DESTDIR)$(PREFIX)/bin/noticed"
 	install -D -m 644 docs/noticed.8 "$(DESTDIR)$(PREFIX)/share/man/man8/noticed.8"
 	for it in docs/FORMATS.md docs/DEPLOY.md docs/FEEDER.md docs/REFUSALS.md examples/noticed.service \
-	    examples/noticed-postfix.service examples/noticed-feed.service examples/noticed-run.sh examples/feed.py examples/feed_mailers.py \
-	    examples/feed_outbox.py examples/feed_state.py examples/frames.py examples/client.py examples/agent.c \
-	    examples/one-bounce.frames; do
+	    examples/noticed-postfix.service examples/noticed-feed.service examples/noticed-run.sh examples/feed.py \
+	    examples/feed_mailers.py examples/feed_outbox.py examples/feed_state.py examples/frames.py examples/client.py \
+	    examples/agent.c examples/one-bounce.frames; do
 	    install -D -m 644 "$$it" "$(DESTDIR)$(PREFIX)/share/doc/noticed/$${it##*/}"
 	done
 	echo "installed $(DESTDIR)$(PREFIX)/bin/noticed, its manual page and $(DESTDIR)$(PREFIX)/share/doc/noticed"

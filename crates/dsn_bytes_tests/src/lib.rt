@@ -1,10 +1,12 @@
-//! Tests of outcomes, of frames, requests and answers in bytes, of notices and outboxes, and of what
-//! Postfix's programs ask and keep, over what their crates make public: so they are proved without
-//! the proofs of these, and beside their wrong edits.
+//! Tests of devices, of outcomes, of frames, requests and answers in bytes, of notices and outboxes,
+//! and of what Postfix's programs ask and keep, over what their crates make public: so they are proved
+//! without the proofs of these, and beside their wrong edits.
 #![tactic(auto)]
 
 #[cfg(test)]
 mod assert_same;
+#[cfg(test)]
+mod device;
 #[cfg(test)]
 mod frame;
 #[cfg(test)]

@@ -27,3 +27,5 @@ mod postfix_request;
 mod postfix_service;
 #[cfg(test)]
 mod report;
+#[cfg(test)]
+mod texts;

@@ -1,7 +1,92 @@
 //! Tests of values, over what `dsn_outcome` makes public, that of `dsn_text` among it.
-mod letters;
-pub(crate) mod outcomes;
-mod queue_ids;
-mod stamps;
-pub(crate) mod terms;
-pub(crate) mod texts;
+use crate::assert_same::same;
+use dsn_outcome::{
+    Address, Chain, Draft, Key, LAST_MOMENT, Letter, Letters, Outcome, Parts, QueueId, RawHeader,
+    Service, Stamp, Types, Wishes,
+};
+use std::alloc::Global;
+use std::process::Abort;
+use std::test::Fail;
+
+/// A moment has this date.
+fn expect_date(rt: &impl Abort, seconds: u64, want: &[u8; 31]) {
+    let date = match Stamp::new(seconds) {
+        Some(stamp) => Some(stamp.date()),
+        None => None,
+    };
+    same(rt, (seconds, date), (seconds, Some(*want)));
+}
+
+#[test]
+fn dates(rt: HostRuntime) {
+    for (seconds, want) in [
+        (0, b"Thu, 01 Jan 1970 00:00:00 +0000"),
+        (951_827_696, b"Tue, 29 Feb 2000 12:34:56 +0000"),
+        (1_700_000_000, b"Tue, 14 Nov 2023 22:13:20 +0000"),
+        (LAST_MOMENT, b"Fri, 31 Dec 9999 23:59:59 +0000"),
+    ] {
+        expect_date(&rt, seconds, want);
+    }
+}
+
+/// The extension fields of a letter's message.
+const EXTENSIONS: &[u8] = b"X-A: : b \n";
+
+/// A letter to Ann about one failed recipient of the message A, which returns this header.
+pub(crate) fn letter(alloc: Global, header: &[u8]) -> Result<Letter, Fail> {
+    let moment = Stamp::new(1).ok_or("the moment")?;
+    let id = QueueId::new(b"A").ok_or("the queue id")?;
+    let sender = Address::new(alloc, b"ann@example.com")?;
+    let header = RawHeader::new(alloc, header)?;
+    let wishes = Wishes::usual();
+    let draft = Draft::new(alloc, moment, moment, Some(sender), None, header, wishes)?;
+    let draft = draft.with_extensions(alloc, EXTENSIONS)?;
+    let parts = Parts {
+        recipient: b"bob@example.org",
+        original: b"",
+        action: 1,
+        status: b"5.1.1",
+        mta: b"",
+        diagnostic: b"",
+        reason: b"",
+        last_attempt: None,
+        retry_until: None,
+        types: Types::usual(),
+        extensions: b"",
+    };
+    let node = Outcome::new(alloc, Service::Bounce, parts)?;
+    let mut chain = Chain::new();
+    chain.push(node);
+    let key = Key {
+        service: Service::Bounce,
+        id,
+    };
+    Ok(Letter::seal(key, draft, chain, 0))
+}
+
+#[test]
+fn draft_takes_extension_fields(rt: HostRuntime) -> Result<(), Fail> {
+    let letter = letter(rt.alloc(), b"")?;
+    same(&rt, letter.terms().extensions(), EXTENSIONS);
+    Ok(())
+}
+
+/// Pushes letters.
+fn push_letters(alloc: Global, letters: &mut Letters, count: u32) -> Result<(), Fail> {
+    for _ in 0..count {
+        letters.push(letter(alloc, b"")?);
+    }
+    Ok(())
+}
+
+/// Letters are freed one after another, and not within one another, which would use up the stack.
+#[test]
+fn many_letters_are_freed(rt: HostRuntime) -> Result<(), Fail> {
+    let mut letters = Letters::new();
+    push_letters(rt.alloc(), &mut letters, 100_000)?;
+    same(&rt, letters.pop().is_some(), true);
+    push_letters(rt.alloc(), &mut letters, 1)?;
+    same(&rt, letters.len(), 100_000);
+    drop(letters);
+    Ok(())
+}

@@ -61,90 +61,11 @@ const OF_SOCKET: &[LogRecord<'static>] = &[BEHIND_A_SOCKET];
 
 const OF_SPACED: &[LogRecord<'static>] = &[REFUSED, SPACED];
 
-/// When a message from Ann came, if it is known, its envelope id, and to whom its notice goes.
+/// When the message from Ann came, if it is known, its envelope id, and to whom its notice goes.
 type About = (Option<u64>, &'static [u8], &'static [u8]);
 
-/// An hour before the notice.
-const ARRIVAL: Option<u64> = Some(1_699_996_400);
-
-/// Who sent the message.
-const ANN: &[u8] = b"ann@example.com";
-
-/// A message without an envelope id, of which Ann is told.
-const MESSAGE: About = (ARRIVAL, b"", ANN);
-
-/// The site that tells of itself.
-pub(crate) fn site(alloc: Global) -> Result<Site, Fail> {
-    Ok(Site::new(alloc, b"mx.example.net")?)
-}
-
-/// The moment of notices.
-pub(crate) fn moment() -> Result<Stamp, Fail> {
-    Ok(Stamp::new(1_700_000_000).ok_or("the moment")?)
-}
-
-/// The queue id of the message.
-fn queue_id() -> Result<QueueId, Fail> {
-    Ok(QueueId::new(b"090B8A85C9C").ok_or("the queue id")?)
-}
-
-/// The letter of a notice that gives the header back.
-fn letter_of(
-    alloc: Global,
-    (arrival, envelope_id, to): About,
-    service: Service,
-    records: &'static [LogRecord<'static>],
-) -> Result<Result<Letter, LetterFault>, Fail> {
-    let queue_id = queue_id()?;
-    let moment = moment()?;
-    let message = ReportedMessage {
-        queue_id,
-        arrival,
-        sender: ANN,
-        envelope_id,
-        text: b"Subject: hello\n\nHello.\n",
-        lifetime: 432_000,
-    };
-    let notice = PlannedNotice {
-        to,
-        delimiters: None,
-        service,
-        returned: ReturnedPart::Header,
-        outcomes: records.to_vec(alloc)?,
-    };
-    Ok(letter_of_notice(alloc, &message, &notice, moment, 7))
-}
-
-/// The text of a letter.
-fn text_of(alloc: Global, letter: &Letter) -> Result<Vec<u8>, Fail> {
-    let site = site(alloc)?;
-    Ok(notice(alloc, &site, letter)?)
-}
-
-/// A notice of a service, with these records, becomes a letter whose text ends so.
-fn expect_text(
-    rt: &(impl AllocGlobal + Abort),
-    service: Service,
-    records: &'static [LogRecord<'static>],
-    end: &[u8],
-) -> Result<(), Fail> {
-    let letter = letter_of(rt.alloc(), MESSAGE, service, records)??;
-    let text = text_of(rt.alloc(), &letter)?;
-    same(rt, text.ends_with(end), true);
-    Ok(())
-}
-
-/// A notice of failure, about a message and with these records, becomes no letter, for this reason.
-fn expect_fault(
-    rt: &(impl AllocGlobal + Abort),
-    about: About,
-    records: &'static [LogRecord<'static>],
-    fault: LetterFault,
-) -> Result<(), Fail> {
-    let letter = letter_of(rt.alloc(), about, Service::Bounce, records)?;
-    same(rt, letter.err(), Some(fault));
-    Ok(())
-}
+/// A message that came an hour before its notice, without an envelope id.
+const MESSAGE: About = (Some(1_699_996_400), b"", b"ann@example.com");
 
 /// The parts for programs of a notice of failure.
 const REFUSED_STATUS: &[u8] = b"\r\n\r\n\
@@ -184,28 +105,112 @@ Subject: hello\r\n\
 \r\n\
 --D.090B8A85C9C.1700000000.0000--\r\n";
 
+/// The site that tells of itself.
+pub(crate) fn site(alloc: Global) -> Result<Site, Fail> {
+    Ok(Site::new(alloc, b"mx.example.net")?)
+}
+
+/// The moment of notices.
+pub(crate) fn moment() -> Result<Stamp, Fail> {
+    Ok(Stamp::new(1_700_000_000).ok_or("the moment")?)
+}
+
+/// The letter of a planned notice that gives the header back. (The fault is `NoMemory` also if a
+/// value can't be made: no test wants it.)
+fn letter_of(
+    alloc: Global,
+    (arrival, envelope_id, to): About,
+    service: Service,
+    records: &[LogRecord<'_>],
+) -> Result<Letter, LetterFault> {
+    let queue_id = QueueId::new(b"090B8A85C9C").ok_or(LetterFault::NoMemory)?;
+    let moment = Stamp::new(1_700_000_000).ok_or(LetterFault::NoMemory)?;
+    let message = ReportedMessage {
+        queue_id,
+        arrival,
+        sender: b"ann@example.com",
+        envelope_id,
+        text: b"Subject: hello\n\nHello.\n",
+        lifetime: 432_000,
+    };
+    let notice = PlannedNotice {
+        to,
+        delimiters: None,
+        service,
+        returned: ReturnedPart::Header,
+        outcomes: records.to_vec(alloc)?,
+    };
+    letter_of_notice(alloc, &message, &notice, moment, 7)
+}
+
+/// The text of a letter.
+fn text_of(alloc: Global, letter: &Letter) -> Result<Vec<u8>, Fail> {
+    let site = site(alloc)?;
+    Ok(notice(alloc, &site, letter)?)
+}
+
+/// A planned notice becomes a letter whose text ends so, or none, for this reason.
+fn expect_planned(
+    rt: &(impl AllocGlobal + Abort),
+    about: About,
+    service: Service,
+    records: &[LogRecord<'_>],
+    want: Result<&[u8], LetterFault>,
+) -> Result<(), Fail> {
+    match letter_of(rt.alloc(), about, service, records) {
+        Ok(letter) => {
+            let text = text_of(rt.alloc(), &letter)?;
+            let end = want.ok().ok_or("a letter")?;
+            same(rt, text.ends_with(end), true);
+        }
+        Err(fault) => same(rt, Some(fault), want.err()),
+    }
+    Ok(())
+}
+
+/// What can't be said of a message, and why.
+const UNSAID: [(About, LetterFault); 3] = [
+    ((None, b"", b"ann@example.com"), LetterFault::Arrival),
+    (
+        (Some(1_699_996_400), b"a\tb", b"ann@example.com"),
+        LetterFault::Draft(DraftFault::EnvelopeId),
+    ),
+    (
+        (Some(1_699_996_400), b"", b"a..b@example.com"),
+        LetterFault::Quotes,
+    ),
+];
+
 #[test]
-fn a_record_becomes_an_outcome(rt: HostRuntime) -> Result<(), Fail> {
-    expect_text(&rt, Service::Bounce, OF_REFUSED, REFUSED_STATUS)?;
-    // a reason stands for a diagnostic
-    expect_text(&rt, Service::Defer, OF_UNREACHED, UNREACHED_GROUP)
+fn what_no_letter_says_of_a_message(rt: HostRuntime) -> Result<(), Fail> {
+    for (about, fault) in &UNSAID {
+        expect_planned(&rt, *about, Service::Bounce, OF_REFUSED, Err(*fault))?;
+    }
+    Ok(())
+}
+
+/// A notice of failure with these records is no letter, for this reason.
+fn expect_fault(
+    rt: &(impl AllocGlobal + Abort),
+    records: &[LogRecord<'_>],
+    fault: LetterFault,
+) -> Result<(), Fail> {
+    expect_planned(rt, MESSAGE, Service::Bounce, records, Err(fault))
 }
 
 #[test]
-fn what_no_letter_says(rt: HostRuntime) -> Result<(), Fail> {
-    expect_fault(&rt, MESSAGE, &[], LetterFault::Count)?;
-    let unknown = (None, b"".as_slice(), ANN);
-    expect_fault(&rt, unknown, OF_REFUSED, LetterFault::Arrival)?;
-    let tabbed = (ARRIVAL, b"a\tb".as_slice(), ANN);
-    let fault = LetterFault::Draft(DraftFault::EnvelopeId);
-    expect_fault(&rt, tabbed, OF_REFUSED, fault)
+fn records_become_outcomes(rt: HostRuntime) -> Result<(), Fail> {
+    let refused = Ok(REFUSED_STATUS);
+    expect_planned(&rt, MESSAGE, Service::Bounce, OF_REFUSED, refused)?;
+    // a reason stands for a diagnostic
+    let unreached = Ok(UNREACHED_GROUP);
+    expect_planned(&rt, MESSAGE, Service::Defer, OF_UNREACHED, unreached)
 }
 
 #[test]
 fn whom_no_letter_tells(rt: HostRuntime) -> Result<(), Fail> {
-    let quoted = (ARRIVAL, b"".as_slice(), b"a..b@example.com".as_slice());
-    expect_fault(&rt, quoted, OF_REFUSED, LetterFault::Quotes)?;
-    expect_fault(&rt, MESSAGE, OF_SOCKET, LetterFault::RemoteType)?;
+    expect_fault(&rt, &[], LetterFault::Count)?;
+    expect_fault(&rt, OF_SOCKET, LetterFault::RemoteType)?;
     let fault = LetterFault::Outcome(OutcomeFault::BadRecipient);
-    expect_fault(&rt, MESSAGE, OF_SPACED, fault)
+    expect_fault(&rt, OF_SPACED, fault)
 }

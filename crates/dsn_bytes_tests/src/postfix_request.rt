@@ -3,7 +3,7 @@ use crate::assert_same::same;
 use dsn_postfix::{
     PostfixRequest, PostfixVersion, RequestFault, decode_postfix_request, encode_postfix_request,
 };
-use std::alloc::{AllocError, AllocGlobal, Global};
+use std::alloc::{AllocGlobal, Global};
 use std::process::Abort;
 use std::test::Fail;
 
@@ -99,52 +99,23 @@ const NEWER_VERP: &[u8] =
 const NEWER_TRACE: &[u8] =
     b"nrequest\05\0flags\00\0queue_name\0active\0queue_id\0B7B42A7C1C4\0encoding\0\0sendopts\00\0sender\0ann@example.com\0envelope_id\0\0ret_flags\01\0\0";
 
-/// Appends texts, one after another.
-pub(crate) fn append_all(all: &mut Vec<u8>, texts: &[&[u8]]) -> Result<(), AllocError> {
-    for text in texts {
-        all.extend_from_slice(text)?;
-    }
-    Ok(())
-}
-
-/// Texts one after another.
-pub(crate) fn joined(alloc: Global, texts: &[&[u8]]) -> Result<Vec<u8>, AllocError> {
-    let mut all = Vec::new(alloc);
-    append_all(&mut all, texts)?;
-    Ok(all)
-}
-
-/// A text of so many bytes, which begins and ends so.
-pub(crate) fn text_of_size(
-    alloc: Global,
-    start: &[u8],
-    size: usize,
-    end: &[u8],
-) -> Result<Vec<u8>, AllocError> {
-    let mut text = Vec::new(alloc);
-    text.extend_from_slice(start)?;
-    text.resize(size.saturating_sub(end.len()), b'a')?;
-    text.extend_from_slice(end)?;
-    Ok(text)
-}
-
 /// What bytes ask in a version, or why they are no request.
 fn decoded_in(version: PostfixVersion, bytes: &[u8]) -> Result<PostfixRequest<'_>, RequestFault> {
     decode_postfix_request(version, bytes)
 }
 
-/// What bytes ask of 3.7, which must be a request.
-pub(crate) fn decoded(bytes: &[u8]) -> Result<PostfixRequest<'_>, Fail> {
-    Ok(decoded_in(PostfixVersion::V3_7, bytes)?)
+/// What bytes ask of 3.7, or why they are no request.
+pub(crate) fn decoded(bytes: &[u8]) -> Result<PostfixRequest<'_>, RequestFault> {
+    decoded_in(PostfixVersion::V3_7, bytes)
 }
 
-/// The bytes of a request in a version.
+/// The bytes of a request in a version; none where there is no memory.
 fn written(
     alloc: Global,
     version: PostfixVersion,
     request: &PostfixRequest<'_>,
-) -> Result<Vec<u8>, Fail> {
-    Ok(encode_postfix_request(alloc, version, request)?)
+) -> Option<Vec<u8>> {
+    encode_postfix_request(alloc, version, request).ok()
 }
 
 /// What is asked, as a word, and what a message that is to be told of needs.
@@ -165,13 +136,10 @@ fn read_and_written(
     alloc: Global,
     version: PostfixVersion,
     bytes: &[u8],
-) -> Result<Result<((&'static str, u32), Vec<u8>), RequestFault>, Fail> {
+) -> (Result<(&'static str, u32), RequestFault>, Option<Vec<u8>>) {
     match decoded_in(version, bytes) {
-        Ok(request) => {
-            let written = written(alloc, version, &request)?;
-            Ok(Ok((asked(&request), written)))
-        }
-        Err(fault) => Ok(Err(fault)),
+        Ok(request) => (Ok(asked(&request)), written(alloc, version, &request)),
+        Err(fault) => (Err(fault), None),
     }
 }
 
@@ -181,24 +149,15 @@ fn expect_request(
     version: PostfixVersion,
     bytes: &[u8],
     want: Result<(&str, u32), RequestFault>,
-) -> Result<(), Fail> {
-    match read_and_written(rt.alloc(), version, bytes)? {
-        Ok((asked, written)) => {
-            same(rt, Ok(asked), want);
-            same(rt, written.as_slice(), bytes);
-        }
-        Err(fault) => same(rt, (bytes, Err(fault)), (bytes, want)),
+) {
+    let (asked, written) = read_and_written(rt.alloc(), version, bytes);
+    same(rt, asked, want);
+    if let Some(written) = written {
+        same(rt, written.as_slice(), bytes);
+    } else {
+        // a request is written again
+        same(rt, want.is_err(), true);
     }
-    Ok(())
-}
-
-/// A request was sent by a version, asks this, and says this of what its message needs.
-fn expect_sent(
-    rt: &(impl Abort + AllocGlobal),
-    version: PostfixVersion,
-    &(bytes, kind, needs): &(&[u8], &str, u32),
-) -> Result<(), Fail> {
-    expect_request(rt, version, bytes, Ok((kind, needs)))
 }
 
 /// Requests of 3.7, what they ask, and what their messages need.
@@ -219,14 +178,6 @@ const OLDER_SENT: [(&[u8], &str, u32); 14] = [
     (TRACE, "trace", 0),
 ];
 
-#[test]
-fn what_postfix_sent_is_read_and_written_again(rt: HostRuntime) -> Result<(), Fail> {
-    for request in &OLDER_SENT {
-        expect_sent(&rt, PostfixVersion::V3_7, request)?;
-    }
-    Ok(())
-}
-
 /// Requests of 3.10.
 const NEWER_SENT: [(&[u8], &str, u32); 10] = [
     (NEWER_APPEND, "append", 0),
@@ -242,12 +193,13 @@ const NEWER_SENT: [(&[u8], &str, u32); 10] = [
 ];
 
 #[test]
-fn what_a_newer_postfix_sent_is_read_and_written_again(rt: HostRuntime) -> Result<(), Fail> {
-    for request in &NEWER_SENT {
-        expect_sent(&rt, PostfixVersion::V3_10, request)?;
+fn what_postfix_sent_is_read_and_written_again(rt: HostRuntime) {
+    for (bytes, kind, needs) in &OLDER_SENT {
+        expect_request(&rt, PostfixVersion::V3_7, bytes, Ok((*kind, *needs)));
     }
-    let other_layout = Err(RequestFault::Name);
-    expect_request(&rt, PostfixVersion::V3_10, VERP, other_layout)
+    for (bytes, kind, needs) in &NEWER_SENT {
+        expect_request(&rt, PostfixVersion::V3_10, bytes, Ok((*kind, *needs)));
+    }
 }
 
 /// The versions that name the fifth attribute of a notice `smtputf8`.
@@ -259,13 +211,14 @@ const OLDER: [PostfixVersion; 4] = [
 ];
 
 #[test]
-fn a_notice_is_read_in_the_layout_of_its_version(rt: HostRuntime) -> Result<(), Fail> {
+fn notice_is_read_in_the_layout_of_its_version(rt: HostRuntime) {
+    let other_layout = Err(RequestFault::Name);
+    expect_request(&rt, PostfixVersion::V3_10, VERP, other_layout);
     for version in OLDER {
-        expect_request(&rt, version, VERP, Ok(("verp", 0)))?;
-        expect_request(&rt, version, NEWER_APPEND, Ok(("append", 0)))?;
-        expect_request(&rt, version, NEWER_VERP, Err(RequestFault::Name))?;
+        expect_request(&rt, version, VERP, Ok(("verp", 0)));
+        expect_request(&rt, version, NEWER_APPEND, Ok(("append", 0)));
+        expect_request(&rt, version, NEWER_VERP, other_layout);
     }
-    Ok(())
 }
 
 /// Bytes that are no request, and why.
@@ -290,19 +243,11 @@ const NO_REQUESTS: [(&[u8], RequestFault); 9] = [
     ),
 ];
 
-/// Bytes are no request of 3.7, for this reason.
-fn expect_none(
-    rt: &(impl Abort + AllocGlobal),
-    &(bytes, fault): &(&[u8], RequestFault),
-) -> Result<(), Fail> {
-    expect_request(rt, PostfixVersion::V3_7, bytes, Err(fault))
-}
-
 #[test]
-fn what_is_no_request_is_refused(rt: HostRuntime) -> Result<(), Fail> {
-    for case in &NO_REQUESTS {
-        expect_none(&rt, case)?;
+fn what_is_no_request_is_refused(rt: HostRuntime) {
+    for (bytes, fault) in &NO_REQUESTS {
+        expect_request(&rt, PostfixVersion::V3_7, bytes, Err(*fault));
     }
     let cut = &WARN[..WARN.len() - 1];
-    expect_none(&rt, &(cut, RequestFault::Unended))
+    expect_request(&rt, PostfixVersion::V3_7, cut, Err(RequestFault::Unended));
 }

@@ -1,81 +1,150 @@
-//! Bodies from outside: what they say, and that they are written again as they are. (Those that are refused, and
-//! those at the bounds of each field, are given to the built program by tests/refused_bodies.py.)
-mod appends;
-mod flushes;
-mod keys;
-
+//! Bodies from outside are read, and written again. (Bodies that are refused, and those at the bounds of
+//! each field, are passed to the built program by tests/refused_bodies.py; tests/fuzz_batch.py compares
+//! what each says with a plain reading of docs/FORMATS.md.)
 use crate::assert_same::same;
-use dsn_frame::{decode_request, encode_request};
-use dsn_outcome::Body;
-use std::alloc::{AllocError, AllocGlobal, Global};
+use crate::texts::text_of_size;
+use dsn_frame::{decode_request, encode_request, next_request};
+use std::alloc::{AllocGlobal, Global};
 use std::process::Abort;
 use std::test::Fail;
 
-/// The number of the request that a body is, and what it asks.
-fn decoded(alloc: Global, body: &[u8]) -> Result<(u32, Body), Fail> {
-    Ok(decode_request(alloc, body).ok().ok_or("it is refused")?)
+/// Bodies, each with what is written of it.
+const BODIES: [(&[u8], &[u8]); 19] = [
+    // an append without optional texts, one with all of them, and one with a tab and a line's end
+    (BOB, BOB),
+    (ALL_TEXTS, ALL_TEXTS),
+    (
+        b"\x01\x01\0\0\0\0\x01\0\x02K1\0\x15bob.alias@example.org\0\x0fbob@example.org\x01\0\x055.1.1\0\x10mail.example.org\0\x03a\tb\0\x17host said:\nno such user",
+        ALL_TEXTS,
+    ),
+    // two moments
+    (DATED, DATED),
+    // no moments are of version 1
+    (
+        b"\x02\x01\0\0\0\0\x02\0\x02X1\0\0\0\x0fbob@example.org\x02\0\x054.4.1\0\0\0\0\0\0\xff\xff\xff\xff\xff\xff\xff\xff\xff\xff\xff\xff\xff\xff\xff\xff",
+        b"\x01\x01\0\0\0\0\x02\0\x02X1\0\0\0\x0fbob@example.org\x02\0\x054.4.1\0\0\0\0\0\0",
+    ),
+    // a recipient of the type fax, whose original address is of the type x400, with a diagnostic of
+    // the mail system's own; and two extension fields
+    (TYPED, TYPED),
+    (EXTENDED, EXTENDED),
+    // flushes with a return path alone, with none, and with all texts
+    (ANN, ANN),
+    (NOBODY, NOBODY),
+    (ALL_OF_A_FLUSH, ALL_OF_A_FLUSH),
+    // what is usual is said by version 1
+    (
+        b"\x03\x02\0\0\0\x08\x02\0\x01Q\0\0\0\0\x65\x53\xf1\0\0\0\0\0\x65\x53\xe2\xf0\0\x03a@b\0\0\0\x02h\n\xff\xff\xff\xff\0\0\0\0",
+        b"\x01\x02\0\0\0\x08\x02\0\x01Q\0\0\0\0\x65\x53\xf1\0\0\0\0\0\x65\x53\xe2\xf0\0\x03a@b\0\0\0\x02h\n",
+    ),
+    // how many outcomes are expected, what is returned, how it is worded, and extension fields
+    (EXPECTING, EXPECTING),
+    (RETURNING, RETURNING),
+    (WORDED, WORDED),
+    (WITH_FIELDS, WITH_FIELDS),
+    // discards and forgets; in later versions they are as in the first one that has them
+    (DISCARD, DISCARD),
+    (b"\x03\x03\xff\xff\xff\xff\x03\0\x02K1", DISCARD),
+    (FORGET, FORGET),
+    (b"\x03\x04\0\0\0\0\x01\0\x02K1", FORGET),
+];
+
+const BOB: &[u8] =
+    b"\x01\x01\0\0\0\0\x01\0\x06A1B2C3\0\0\0\x0fbob@example.org\x01\0\x055.1.1\0\0\0\0\0\0";
+
+const ALL_TEXTS: &[u8] =
+    b"\x01\x01\0\0\0\0\x01\0\x02K1\0\x15bob.alias@example.org\0\x0fbob@example.org\x01\0\x055.1.1\0\x10mail.example.org\0\x03a?b\0\x17host said:?no such user";
+
+const DATED: &[u8] =
+    b"\x02\x01\0\0\0\0\x02\0\x02X1\0\0\0\x0fbob@example.org\x02\0\x054.4.1\0\0\0\0\0\0\0\0\0\0\x65\x53\xf1\0\0\0\0\0\x65\x5a\x88\x80";
+
+const TYPED: &[u8] =
+    b"\x03\x01\0\0\0\x05\x01\0\x02K1\0\x05/C=US\0\x03x@y\x01\0\x055.0.0\0\0\0\x04busy\0\0\xff\xff\xff\xff\xff\xff\xff\xff\xff\xff\xff\xff\xff\xff\xff\xff\0\x03fax\0\x04x400\0\x09X-Postfix\0\0";
+
+const EXTENDED: &[u8] =
+    b"\x03\x01\0\0\0\x05\x01\0\x02K1\0\0\0\x03x@y\x01\0\x055.0.0\0\0\0\0\0\0\xff\xff\xff\xff\xff\xff\xff\xff\xff\xff\xff\xff\xff\xff\xff\xff\0\0\0\0\0\0\0\x0eX-A: b\nX-C: d\n";
+
+const ANN: &[u8] =
+    b"\x01\x02\0\0\0\x01\x01\0\x06A1B2C3\0\0\0\0\x65\x53\xf1\0\0\0\0\0\x65\x53\xe2\xf0\0\x0fann@example.com\0\0\0\0";
+
+const NOBODY: &[u8] =
+    b"\x01\x02\0\0\0\x01\x01\0\x06A1B2C3\0\0\0\0\x65\x53\xf1\0\0\0\0\0\x65\x53\xe2\xf0\0\0\0\0\0\0";
+
+const ALL_OF_A_FLUSH: &[u8] =
+    b"\x01\x02\0\0\0\x08\x02\0\x01Q\0\0\0\0\x65\x53\xf1\0\0\0\0\0\x65\x53\xe2\xf0\0\x03a@b\0\x02Q1\0\x03h\n\0";
+
+const EXPECTING: &[u8] =
+    b"\x03\x02\0\0\0\x08\x02\0\x01Q\0\0\0\0\x65\x53\xf1\0\0\0\0\0\x65\x53\xe2\xf0\0\x03a@b\0\0\0\x02h\n\x01\x02\x03\x04\0\0\0\0";
+
+const RETURNING: &[u8] =
+    b"\x03\x02\0\0\0\x08\x02\0\x01Q\0\0\0\0\x65\x53\xf1\0\0\0\0\0\x65\x53\xe2\xf0\0\x03a@b\0\0\0\x02h\n\xff\xff\xff\xff\x01\0\0\0";
+
+const WORDED: &[u8] =
+    b"\x03\x02\0\0\0\x08\x02\0\x01Q\0\0\0\0\x65\x53\xf1\0\0\0\0\0\x65\x53\xe2\xf0\0\x03a@b\0\0\0\x02h\n\xff\xff\xff\xff\0\x01\0\0";
+
+const WITH_FIELDS: &[u8] =
+    b"\x03\x02\0\0\0\x08\x02\0\x01Q\0\0\0\0\x65\x53\xf1\0\0\0\0\0\x65\x53\xe2\xf0\0\x03a@b\0\0\0\x02h\n\xff\xff\xff\xff\0\0\0\x2aX-Postfix-Queue-ID: 4F9D195432C\nX-A: : b \n";
+
+const DISCARD: &[u8] = b"\x01\x03\xff\xff\xff\xff\x03\0\x02K1";
+
+const FORGET: &[u8] = b"\x02\x04\0\0\0\0\x01\0\x02K1";
+
+/// The frame of a body's request, written again; `None` if the body or the memory is refused.
+fn written_again(alloc: Global, body: &[u8]) -> Option<Vec<u8>> {
+    match decode_request(alloc, body) {
+        Ok((number, request)) => encode_request(alloc, number, &request).ok(),
+        Err(_) => None,
+    }
 }
 
-/// The frame of the request that a body is, written anew.
-fn written_again(alloc: Global, body: &[u8]) -> Result<Vec<u8>, Fail> {
-    let (number, request) = decode_request(alloc, body).ok().ok_or("it is refused")?;
-    Ok(encode_request(alloc, number, &request)?)
-}
-
-/// The request that the first body is, is written as the second one, in a frame of its length.
+/// The first body's request is written as the second body, in a frame of that length.
 fn expect_written(
-    rt: &(impl Abort + AllocGlobal),
+    rt: &(impl AllocGlobal + Abort),
     body: &[u8],
     written: &[u8],
 ) -> Result<(), Fail> {
-    let frame = written_again(rt.alloc(), body)?;
+    let frame = written_again(rt.alloc(), body).ok_or("it is refused")?;
     let (length, rest) = frame.split_first_chunk::<4>().ok_or("no length")?;
     same(rt, rest, written);
     same(rt, u32::from_be_bytes(*length) as usize, written.len());
     Ok(())
 }
 
-/// Appends pieces, one after another.
-fn push_pieces(body: &mut Vec<u8>, pieces: &[&[u8]]) -> Result<(), AllocError> {
-    for piece in pieces {
-        body.extend_from_slice(piece)?;
+#[test]
+fn bodies_are_written_again(rt: HostRuntime) -> Result<(), Fail> {
+    for (body, written) in &BODIES {
+        expect_written(&rt, body, written)?;
     }
     Ok(())
 }
 
-/// A number of eight bytes.
-fn eight_bytes(number: u64) -> [u8; 8] {
-    number.to_be_bytes()
+/// A flush up to its header, which has 32,768 bytes.
+const BEFORE_LONGEST_HEADER: &[u8] =
+    b"\x01\x02\0\0\0\x08\x02\0\x01Q\0\0\0\0\x65\x53\xf1\0\0\0\0\0\x65\x53\xe2\xf0\0\x03a@b\0\0\x80\0";
+
+#[test]
+fn longest_header_is_written_again(rt: HostRuntime) -> Result<(), Fail> {
+    let size = BEFORE_LONGEST_HEADER.len() + 32_768;
+    let body = text_of_size(rt.alloc(), BEFORE_LONGEST_HEADER, size, b"")?;
+    expect_written(&rt, &body, &body)
 }
 
-/// Appends a text as a body has it: its length in two bytes, and it.
-fn push_text(body: &mut Vec<u8>, text: &[u8]) -> Result<(), AllocError> {
-    let length = [(text.len() / 256 % 256) as u8, (text.len() % 256) as u8];
-    push_pieces(body, &[&length, text])
-}
-
-/// Appends texts, one after another.
-fn push_texts(body: &mut Vec<u8>, texts: &[&[u8]]) -> Result<(), AllocError> {
-    for text in texts {
-        push_text(body, text)?;
+/// Whether the frame at this place asks about a key; or the number of its refusal, and whether the session
+/// ends with it.
+fn asked(alloc: Global, place: u32, bytes: &[u8]) -> Result<bool, (u32, bool)> {
+    match next_request(alloc, place, bytes) {
+        Ok(body) => Ok(body.key().is_some()),
+        Err(refusal) => Err((refusal.code(), refusal.ends())),
     }
-    Ok(())
 }
 
-/// The text, or an empty one.
-fn text_if(there: bool, text: &'static [u8]) -> &'static [u8] {
-    if there { text } else { b"" }
-}
-
-/// Eight extension fields, each with the longest name and the longest value.
-pub(crate) fn longest_fields(alloc: Global) -> Result<Vec<u8>, AllocError> {
-    let mut fields = Vec::new(alloc);
-    for _ in 0..8 {
-        fields.extend_from_slice(b"X-")?;
-        fields.resize(fields.len().saturating_add(62), b'a')?;
-        fields.extend_from_slice(b": ")?;
-        fields.resize(fields.len().saturating_add(255), b'a')?;
-        fields.push(b'\n')?;
+#[test]
+fn frames_in_turn_are_asked(rt: HostRuntime) {
+    for (place, bytes, want) in [
+        (u32::MAX, DISCARD, Ok(true)),
+        (2, DISCARD, Err((46, true))),
+        (2, &DISCARD[..9], Err((23, false))),
+    ] {
+        same(&rt, (place, asked(rt.alloc(), place, bytes)), (place, want));
     }
-    Ok(fields)
 }

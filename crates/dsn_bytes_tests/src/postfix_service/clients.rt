@@ -1,5 +1,6 @@
 //! Postfix's programs as clients: what each is told, what is done for it, and where it goes wrong.
 use crate::assert_same::same;
+use crate::device::ALWAYS;
 use crate::postfix_letter::site;
 use crate::postfix_service::memory_system::{MemorySystem, UNHEARD};
 use crate::postfix_service::requests::{APPEND, RECORD};
@@ -13,9 +14,6 @@ use std::cell::RefCell;
 use std::process::Abort;
 use std::test::Fail;
 use std::time::Clock;
-
-/// Calls that never fail.
-const ALWAYS: usize = 1_000_000;
 
 /// What a client is told first.
 const ANNOUNCED: &[u8] = b"protocol\0delivery_status_protocol\0\0";

@@ -1,5 +1,6 @@
 //! Notices that are handed to a mail server: whole dialogues, refusals at each step, and a device that fails at each call.
 use crate::assert_same::same;
+use crate::device::ALWAYS;
 use crate::postfix_service::server::{Server, host, path, refused_at};
 use dsn_outcome::{Plain, Stream};
 use dsn_postfix_service::{
@@ -10,9 +11,6 @@ use std::alloc::{AllocGlobal, Global};
 use std::cell::RefCell;
 use std::process::Abort;
 use std::test::Fail;
-
-/// Calls that never fail.
-const ALWAYS: usize = 1_000_000;
 
 /// A message with the line of one dot.
 const MESSAGE: &[u8] = b"Subject: no\r\n\r\n..\r\n.\r\n";

@@ -1,7 +1,7 @@
 //! A mail system in memory, which writes down what is asked of it, and fails at a set deed.
 ghost use Rattle.std.specs.Prelude.{None};
 
-use crate::postfix_request::{append_all, joined};
+use crate::texts::{append_all, joined};
 use dsn_postfix::{PostfixRequest, QueueName};
 use dsn_postfix_service::{
     DeedFault, HandInFault, HandInStep, MailSystem, ReplyBuffer, ReplyFault,

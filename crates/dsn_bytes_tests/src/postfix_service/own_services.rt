@@ -1,14 +1,12 @@
 //! Requests that are passed on to one of Postfix's own services, and what it answers.
 use crate::assert_same::same;
+use crate::device::ALWAYS;
 use crate::postfix_service::server::Server;
 use dsn_outcome::Plain;
 use dsn_postfix_service::{DeedFault, ask_own_service};
 use std::alloc::{AllocGlobal, Global};
 use std::cell::RefCell;
 use std::process::Abort;
-
-/// Calls that never fail.
-const ALWAYS: usize = 1_000_000;
 
 /// What a service says that answers 7.
 const ANSWERS: &[u8] = b"|protocol\0delivery_status_protocol\0\0|status\07\0\0";

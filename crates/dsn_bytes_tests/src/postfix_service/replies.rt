@@ -1,16 +1,13 @@
 //! Replies, from readers that give them in pieces, end anywhere and fail anywhere, and the queue ids in them.
 use crate::assert_same::same;
-use crate::frame::frames::source;
-use crate::postfix_request::text_of_size;
+use crate::device::{ALWAYS, reader};
+use crate::texts::text_of_size;
 use dsn_postfix_service::{
     LONGEST_REPLY, ReplyBuffer, ReplyClass, ReplyCode, ReplyFault, queue_id_in,
 };
 use std::alloc::AllocGlobal;
 use std::process::Abort;
 use std::test::Fail;
-
-/// Calls that never fail.
-const ALWAYS: usize = 1_000_000;
 
 /// A reply of three lines (RFC 5321 section 4.2.1).
 const EXTENSIONS: &[u8] = b"250-mx.example.org\r\n250-PIPELINING\r\n250 8BITMIME\r\n";
@@ -22,7 +19,7 @@ fn read_next(
     most: usize,
     good: usize,
 ) -> Result<[u8; 3], ReplyFault> {
-    match buffer.read_next(&mut source(input, most, good)) {
+    match buffer.read_next(&mut reader(input, most, good)) {
         Ok(code) => Ok(code.digits()),
         Err(fault) => Err(fault),
     }

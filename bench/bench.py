@@ -1,10 +1,9 @@
-#!/usr/bin/env python3
 """Measures `noticed batch` on the workloads of bench/workloads.py: frames, notices and MB a second, peak memory, reads
 and writes (strace -c), user instructions an item (valgrind --tool=callgrind; those of an empty run are taken off),
 beside `cat` of the same input and a plain reading of the formats in Python (bench/plain.py), whose outbox must be the
 same.
 
-    python3 bench/bench.py [WORD ..]      only the workloads whose names have one of these words
+    python3 -m bench.bench [WORD ..]      only the workloads whose names have one of these words
 
 What strace, valgrind and GNU time would tell is left out where they aren't installed. The last line is 'within its limits' or says what was over; the exit status is 1 then.
 """
@@ -16,12 +15,11 @@ import tempfile
 import time
 from pathlib import Path
 
-sys.path.insert(0, str(Path(__file__).resolve().parent))
-from workloads import all_workloads  # noqa: E402
-from running import HOST, ROOT, program  # noqa: E402
+from bench.workloads import all_workloads
+from tests.support.running import HOST, ROOT, program
 
 BATCH = [program(), "batch", HOST]
-PLAIN = [sys.executable, str(ROOT / "bench" / "plain.py")]
+PLAIN = [sys.executable, "-m", "bench.plain"]
 COLLECTED = re.compile(r"Collected : (\d+)")
 BLOCK = 8192  # bytes of input or output that one read or write may be counted for
 KEPT = 8_000_000  # the most peak memory, in bytes, where logs are flushed as they come
@@ -31,7 +29,7 @@ def timed(words, source: Path, outbox: Path, notes: Path) -> float:
     """Runs a command: its seconds."""
     with source.open("rb") as given, outbox.open("wb") as out, notes.open("wb") as err:
         began = time.monotonic()
-        subprocess.run(words, stdin=given, stdout=out, stderr=err, check=False)
+        subprocess.run(words, cwd=ROOT, stdin=given, stdout=out, stderr=err, check=False)
         return time.monotonic() - began
 
 

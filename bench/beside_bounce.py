@@ -1,11 +1,10 @@
-#!/usr/bin/env python3
 """Measures appends that are kept: `noticed serve --journal` beside Postfix's own bounce(8), on the same disk, with 1, 4 and 16
 clients at once (bench/appends.c), each of which waits for an answer before it asks again. A client of the daemon keeps its connection; one of
 bounce(8) makes a connection for each request, as Postfix's programs do. The two take turns, since a disk's rates swing: the median
 of the runs is shown, and between which bounds they lay. It needs gcc, and as root Debian's postfix, of which it runs an
 instance of its own, without mail.
 
-    python3 bench/beside_bounce.py [REQUESTS [FOLDER]]      so many requests a run, 8,000 unless said, on the disk that the folder
+    python3 -m bench.beside_bounce [REQUESTS [FOLDER]]      so many requests a run, 8,000 unless said, on the disk that the folder
                                                             is on, /var/tmp unless said; Postfix's account has to reach it
 """
 import os
@@ -17,11 +16,9 @@ import tempfile
 import time
 from pathlib import Path
 
-ROOT = Path(__file__).resolve().parents[1]
-sys.path[:0] = [str(ROOT / "examples"), str(ROOT / "tests/support")]
-sys.dont_write_bytecode = True
-import frames  # noqa: E402
-from running import program  # noqa: E402
+from tests.support.running import ROOT, example_module, program
+
+frames = example_module("frames")
 
 CLIENTS, RUNS, LOG = (1, 4, 16), 5, 100  # a log has so many outcomes
 HEARD = b"550 5.1.1 <no.bob>: no such user here"

@@ -1,8 +1,7 @@
-#!/usr/bin/env python3
 """Measures crews of 1, 4 and 16 agents over connections in memory (the program probe): requests a second, and
 processor time a request. Beside them two threads that exchange as many messages over the same kind of channels alone.
 
-    python3 bench/crew.py [REQUESTS]      so many requests in all, 400,000 unless said
+    python3 -m bench.crew [REQUESTS]      so many requests in all, 400,000 unless said
 """
 import os
 import resource

@@ -1,9 +1,8 @@
-#!/usr/bin/env python3
 """Measures `noticed serve` over real sockets, with clients of `noticed send`: requests a second and the daemon's
 processor time a request with 1, 4 and 16 clients at once; its memory with 4,096 logs of ten outcomes; and reads and
 writes a request (strace -c, left out where that isn't installed).
 
-    python3 bench/daemon.py [REQUESTS]      so many requests in all, 200,000 unless said
+    python3 -m bench.daemon [REQUESTS]      so many requests in all, 200,000 unless said
 """
 import os
 import re
@@ -14,9 +13,8 @@ import tempfile
 import time
 from pathlib import Path
 
-sys.path.insert(0, str(Path(__file__).resolve().parents[1] / "tests" / "support"))
-from daemon_and_clients import Daemon, frames  # noqa: E402
-from running import program  # noqa: E402
+from tests.support.daemon_and_clients import Daemon, frames
+from tests.support.running import program
 
 LOG = 1000  # outcomes of a log, as many as it takes
 KEYS, OUTCOMES = 4096, 10  # of the daemon whose memory is told

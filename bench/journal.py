@@ -1,10 +1,9 @@
-#!/usr/bin/env python3
 """Measures a ledger over a real file (the program probe): requests a second, alone and in groups of 4 and of 16, each group kept
 by one write and one sync. Beside it a program in C (bench/plain_journal.c) that writes the same bytes by as many writes and
 syncs, and keeps nothing in memory. The two take turns, since a disk's rates swing: the median of the runs is shown, and between
 which bounds they lay. And how long an opening of the file takes, empty and with the requests, which are carried out again.
 
-    python3 bench/journal.py [REQUESTS [FOLDER]]      so many requests, 6,000 unless said, on the disk that the folder is on, the
+    python3 -m bench.journal [REQUESTS [FOLDER]]      so many requests, 6,000 unless said, on the disk that the folder is on, the
                                                       current one unless said
 """
 import os
@@ -15,15 +14,13 @@ import tempfile
 import time
 from pathlib import Path
 
-ROOT = Path(__file__).resolve().parents[1]
+from tests.support.running import ROOT, example_module
+
 PROBE = os.environ.get("PROBE") or str(ROOT / "crates/probe/out/probe")
 SIZE = 16 * 2**20  # bytes of the file
 RUNS = 5
 GROUPS = (1, 4, 16)
-sys.path.insert(0, str(ROOT / "examples"))
-sys.dont_write_bytecode = True
-import frames  # noqa: E402
-
+frames = example_module("frames")
 DIAGNOSTIC = b"550 5.1.1 <recipient@example.org>: Recipient address rejected: User unknown in local recipient table"
 
 

@@ -1,11 +1,10 @@
-#!/usr/bin/env python3
 """Measures a Postfix at load, of this script's own on loopback: messages of one failing recipient each, from the first that is sent to
 the last notice that arrives. One side makes the notices by bounce(8), the other by `noticed postfix` in front of it; they take turns, since
 a disk's rates swing, and the median of the runs is shown with the bounds between which they lay. The processor time is that of all of
 Postfix's processes, and the service's own apart. Postfix's own smtp-sink takes the place of the servers that refuse the messages and take
 the notices, so that these cost little. It needs root and Debian's postfix.
 
-    python3 bench/postfix.py [MESSAGES [RUNS [FOLDER]]]      so many messages a run, 2,000 unless said, and so many runs of each side, 3.
+    python3 -m bench.postfix [MESSAGES [RUNS [FOLDER]]]      so many messages a run, 2,000 unless said, and so many runs of each side, 3.
                                                              The queue stands in FOLDER: /dev/shm leaves out the disk"""
 import os
 import re
@@ -17,10 +16,8 @@ import tempfile
 import time
 from pathlib import Path
 
-sys.path.insert(0, str(Path(__file__).resolve().parents[1] / "tests" / "support"))
-sys.dont_write_bytecode = True
-from private_postfix import Postfix, comes_true, free_ports, is_open, lacks  # noqa: E402
-from running import program, run  # noqa: E402
+from tests.support.private_postfix import Postfix, comes_true, free_ports, is_open, lacks
+from tests.support.running import program, run
 
 SOURCE, SINK, CLIENTS, PATIENCE = "/usr/sbin/smtp-source", "/usr/sbin/smtp-sink", 8, 300
 TICK = os.sysconf("SC_CLK_TCK")
@@ -116,4 +113,5 @@ def main():
         print(f"  {name}: {rate} messages a second; processor a message: Postfix {postfix} ms, the service {front} ms")
 
 
-main()
+if __name__ == "__main__":
+    main()

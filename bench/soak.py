@@ -1,9 +1,8 @@
-#!/usr/bin/env python3
 """Runs a daemon of 16 agents for some minutes with clients that come and go: they append, flush, discard and forget, hold
 their connections without a word, leave in the middle of a frame, or before an answer. At the end its memory, descriptors
 and threads must be what they were after the first minute, and each of its agents must serve. It isn't part of `make check`.
 
-    python3 bench/soak.py [MINUTES]      8 unless said
+    python3 -m bench.soak [MINUTES]      8 unless said
 """
 import random
 import socket
@@ -12,10 +11,9 @@ import threading
 import time
 from pathlib import Path
 
-sys.path.insert(0, str(Path(__file__).resolve().parents[1] / "tests" / "support"))
-from daemon_and_clients import Daemon, asked, frames, heard  # noqa: E402
-from formats.logs import CLOSED, DISCARDED, FORGOTTEN, LOG_FULL, LOGGED, NO_RETURN, NOT_CLOSED, NOTHING, REFUSED, SEALED  # noqa: E402
-from running import Checks, program  # noqa: E402
+from tests.support.daemon_and_clients import Daemon, asked, frames, heard
+from tests.support.formats.logs import CLOSED, DISCARDED, FORGOTTEN, LOG_FULL, LOGGED, NO_RETURN, NOT_CLOSED, NOTHING, REFUSED, SEALED
+from tests.support.running import Checks, program
 
 AGENTS, USES, CLIENTS, BOUNCE = 16, 1_000_000, 24, 1
 WARM, EACH = 60, 60  # seconds before the first look, and between two lines
@@ -152,4 +150,5 @@ def main():
     checks.done()
 
 
-main()
+if __name__ == "__main__":
+    main()

@@ -1,11 +1,8 @@
 """The workloads of `make bench`: request streams made from a seed, so that each run measures the same bytes."""
 import random
-import sys
 from dataclasses import dataclass
-from pathlib import Path
 
-sys.path.insert(0, str(Path(__file__).resolve().parents[1] / "tests" / "support"))
-from running import frames_module  # noqa: E402
+from tests.support.running import example_module
 
 SEED = 20231114
 BOUNCE, FAILED = 1, 1
@@ -14,7 +11,7 @@ LOGS, ENTRIES, FRAMES = 4096, 1000, 1_000_000  # the limits of `noticed batch`
 MESSAGES = 4000
 HEADER = 32_768  # the longest returned header, in bytes
 
-frames = frames_module()
+frames = example_module("frames")
 
 
 @dataclass

@@ -1,14 +1,11 @@
-#!/usr/bin/env python3
 """Builds examples/agent.c, a client written from docs/FORMATS.md alone, and compares what it writes and reads with the
 two exchanges of that document and with what the program makes of them."""
 import re
 import subprocess
-import sys
 import tempfile
 from pathlib import Path
 
-sys.path.insert(0, str(Path(__file__).parent / "support"))
-from running import EXAMPLES, ROOT, Checks, batch  # noqa: E402
+from tests.support.running import EXAMPLES, ROOT, Checks, batch
 
 BOB = ["bob@example.org", "1", "5.1.1"]
 TEXTS = ["bob.alias@example.org", "mail.example.org", "550 5.1.1 no such user", "host said:\nno such user"]
@@ -118,4 +115,5 @@ def main():
     checks.done()
 
 
-main()
+if __name__ == "__main__":
+    main()

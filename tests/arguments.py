@@ -1,10 +1,6 @@
-#!/usr/bin/env python3
 """Checks wrong arguments (status 2, nothing on standard output, the usage line on standard error) and odd ones that are right."""
-import sys
-from pathlib import Path
 
-sys.path.insert(0, str(Path(__file__).parent / "support"))
-from running import EXAMPLES, Checks, Ran, empty_outbox, run  # noqa: E402
+from tests.support.running import EXAMPLES, Checks, Ran, empty_outbox, run
 
 USAGE = b"usage: noticed batch HOST | serve [[--journal FOLDER] --outbox PATH] [--idle SECONDS] [--end-on-fault] [--log] SOCKET HOST AGENTS MAX-USE | stop SOCKET | send SOCKET | journal FOLDER | postfix [--postfix VERSION] [--lifetime SECONDS] [--double-bounce ADDRESS] [--hash-queue-names NAMES] [--hash-queue-depth DEPTH] [--inherited] QUEUE-FOLDER HOST HAND-IN\n"
 PATH = b"the path of the socket must have 1 to 107 bytes\n"
@@ -204,4 +200,5 @@ def main():
     checks.done()
 
 
-main()
+if __name__ == "__main__":
+    main()

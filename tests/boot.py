@@ -1,10 +1,9 @@
-#!/usr/bin/env python3
 """Boots a real systemd in a container, does there what docs/DEPLOY.md has a new administrator do, and checks what comes
 of it: the units start where nothing is there, an agent's account gets its notice made and can't read it, runs follow one
 another, a stop and a reboot are orderly, and a daemon that can't start isn't tried too often.
 
     make boot
-    NOTICED=/path/to/noticed python3 tests/boot.py FOLDER
+    NOTICED=/path/to/noticed python3 -m tests.boot FOLDER
 
 It needs root and Debian's packages systemd-container and debootstrap. FOLDER is Debian's base system: debootstrap makes it
 the first time, in a minute or two and 300 MB (`make boot` has it in /var/cache/noticed-boot). A run takes about a minute, on
@@ -18,10 +17,9 @@ import sys
 import time
 from pathlib import Path
 
-sys.path.insert(0, str(Path(__file__).parent / "support"))
-from daemon_and_clients import FIRST_FRAME, FRAMES, NOTES, OUTBOX  # noqa: E402
-from running import ROOT, Checks, empty_outbox, program  # noqa: E402
-from system import Container, base_system, deploy_block, lacking, until  # noqa: E402
+from tests.support.daemon_and_clients import FIRST_FRAME, FRAMES, NOTES, OUTBOX
+from tests.support.running import ROOT, Checks, empty_outbox, program
+from tests.support.system import Container, base_system, deploy_block, lacking, until
 
 TOOLS = {"systemd-nspawn": "systemd-container", "debootstrap": "debootstrap", "nsenter": "util-linux", "make": "make"}
 PATIENCE = 60  # seconds that one step in the container may take
@@ -231,7 +229,7 @@ def check_all(checks: Checks, it: Machine):
 def main():
     checks = Checks("boot: the units under a systemd of their own")
     if len(sys.argv) != 2:
-        print("  skipped: python3 tests/boot.py FOLDER boots a Debian that it makes in FOLDER")
+        print("  skipped: python3 -m tests.boot FOLDER boots a Debian that it makes in FOLDER")
         checks.done()
     if lacking(TOOLS):
         print(f"  skipped: it needs {' and '.join(lacking(TOOLS))}")
@@ -244,4 +242,5 @@ def main():
     checks.done()
 
 
-main()
+if __name__ == "__main__":
+    main()

@@ -1,9 +1,8 @@
-#!/usr/bin/env python3
 """Boots a real systemd in a container with Debian's Postfix, and does there what docs/DEPLOY.md has an administrator do to put
 `noticed postfix` in front of it: the first notice arrives, what can't be said comes from bounce(8), nothing is lost over a kill, a
 stop and a reboot, a main.cf that refuses everything keeps no notice out, and bounce(8) goes on with the logs that wait.
 
-    NOTICED=/path/to/noticed python3 tests/boot_postfix.py FOLDER
+    NOTICED=/path/to/noticed python3 -m tests.boot_postfix FOLDER
 
 It needs root, Debian's packages systemd-container and debootstrap, and a mirror of Debian, from which Postfix comes. FOLDER is
 that of tests/boot.py. Without a FOLDER, as in `make check`, it boots nothing."""
@@ -13,9 +12,8 @@ import subprocess
 import sys
 from pathlib import Path
 
-sys.path.insert(0, str(Path(__file__).parent / "support"))
-from running import HOST, ROOT, Checks, program  # noqa: E402
-from system import Container, base_system, deploy_block, installed, lacking, until  # noqa: E402
+from tests.support.running import HOST, ROOT, Checks, program
+from tests.support.system import Container, base_system, deploy_block, installed, lacking, until
 
 TOOLS = {"systemd-nspawn": "systemd-container", "debootstrap": "debootstrap", "nsenter": "util-linux", "make": "make"}
 ANSWERS = f"postfix postfix/main_mailer_type select Internet Site\npostfix postfix/mailname string {HOST}\n"
@@ -158,7 +156,7 @@ def check_back(checks: Checks, it: Machine):
 def main():
     checks = Checks("boot_postfix: docs/DEPLOY.md from Debian's Postfix to noticed and back, under a systemd of its own")
     if len(sys.argv) != 2:
-        print("  skipped: python3 tests/boot_postfix.py FOLDER boots a Debian that it makes in FOLDER")
+        print("  skipped: python3 -m tests.boot_postfix FOLDER boots a Debian that it makes in FOLDER")
         checks.done()
     if lacking(TOOLS):
         print(f"  skipped: it needs {' and '.join(lacking(TOOLS))}")
@@ -179,4 +177,5 @@ def main():
     checks.done()
 
 
-main()
+if __name__ == "__main__":
+    main()

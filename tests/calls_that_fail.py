@@ -1,23 +1,20 @@
-#!/usr/bin/env python3
 """Lets each read and each write of the program's devices fail in turn, by a small library that is preloaded
 (tests/support/fail.c, compiled here with gcc): with an error, interrupted, and as a write that takes no byte. What came
 before stands, what is lost is told, and nothing comes after, as a plain reading of docs/FORMATS.md has it. A daemon's
 accept, or a read or write of its connections, that is interrupted is made again, and nobody sees it."""
 import errno
-import sys
 import tempfile
 from pathlib import Path
 from typing import Optional
 
-sys.path.insert(0, str(Path(__file__).parent / "support"))
-from daemon_and_clients import Daemon, conversation, line, socket_fault  # noqa: E402
-from formats import sessions  # noqa: E402
-from formats.logs import REFUSED, Limits, Logs  # noqa: E402
-from formats.notices import crlf, mail, outbox  # noqa: E402
-from preloading import built, preloading  # noqa: E402
-from running import EXAMPLES, HOST, Checks, Ran, batch, frames_module  # noqa: E402
+from tests.support.daemon_and_clients import Daemon, conversation, line, socket_fault
+from tests.support.formats import sessions
+from tests.support.formats.logs import REFUSED, Limits, Logs
+from tests.support.formats.notices import crlf, mail, outbox
+from tests.support.preloading import built, preloading
+from tests.support.running import EXAMPLES, HOST, Checks, Ran, batch, example_module
 
-FRAMES = frames_module()
+FRAMES = example_module("frames")
 FAILS = {"an error": errno.EIO, "an interruption": errno.EINTR, "a write that takes no byte": 0}
 MOST = 2000  # calls of a run; more than this and the sweep is broken
 
@@ -161,4 +158,5 @@ def main():
     checks.done()
 
 
-main()
+if __name__ == "__main__":
+    main()

@@ -1,17 +1,13 @@
-#!/usr/bin/env python3
 """Changes each byte of the first exchange to each other value, and compares what comes of it with a plain reading of
 docs/FORMATS.md: on standard input, and on connections to a daemon, one after another."""
 import os
-import sys
 from concurrent.futures import ThreadPoolExecutor
-from pathlib import Path
 
-sys.path.insert(0, str(Path(__file__).parent / "support"))
-from daemon_and_clients import Daemon, conversation, line  # noqa: E402
-from formats import sessions  # noqa: E402
-from formats.logs import REFUSED, Limits, Logs  # noqa: E402
-from formats.notices import outbox  # noqa: E402
-from running import EXAMPLES, HOST, Checks, Ran, batch  # noqa: E402
+from tests.support.daemon_and_clients import Daemon, conversation, line
+from tests.support.formats import sessions
+from tests.support.formats.logs import REFUSED, Limits, Logs
+from tests.support.formats.notices import outbox
+from tests.support.running import EXAMPLES, HOST, Checks, Ran, batch
 
 
 def changes(given: bytes) -> list:
@@ -58,4 +54,5 @@ def main():
     checks.done()
 
 
-main()
+if __name__ == "__main__":
+    main()

@@ -1,9 +1,7 @@
-#!/usr/bin/env python3
 """Runs examples/client.py against a real daemon, and against small false daemons of this script's own: one for each row of
 the table in docs/FORMATS.md section 7, no socket, one that nobody listens on, one that ends or is silent, answers that
 are none; and requests that can't be made."""
 import contextlib
-import importlib.util
 import io
 import json
 import os
@@ -13,17 +11,13 @@ import sys
 import tempfile
 import threading
 import time
-from pathlib import Path
 
-sys.path.insert(0, str(Path(__file__).parent / "support"))
-from daemon_and_clients import OUTBOX, Daemon, answer, append, asked, flush, frames, heard, line  # noqa: E402
-from formats.logs import CLOSED, DIFFERS, DISCARDED, FORGOTTEN, GONE, LOG_FULL, LOGGED, NO_RETURN, NOT_CLOSED, NOTHING, REFUSED, SEALED, TABLE_FULL  # noqa: E402
-from running import EXAMPLES, LIMIT, Checks, Ran, empty_outbox  # noqa: E402
+from tests.support.daemon_and_clients import OUTBOX, Daemon, answer, append, asked, flush, frames, heard, line
+from tests.support.formats.logs import CLOSED, DIFFERS, DISCARDED, FORGOTTEN, GONE, LOG_FULL, LOGGED, NO_RETURN, NOT_CLOSED, NOTHING, REFUSED, SEALED, TABLE_FULL
+from tests.support.running import EXAMPLES, LIMIT, Checks, Ran, empty_outbox, example_module
 
 CLIENT = EXAMPLES / "client.py"
-spec = importlib.util.spec_from_file_location("client", CLIENT)
-CLIENT_MODULE = importlib.util.module_from_spec(spec)
-spec.loader.exec_module(CLIENT_MODULE)
+CLIENT_MODULE = example_module("client")
 END, SILENCE = "end", "silence"  # what a false daemon may do in place of an answer
 GREETED = (REFUSED, 21)
 ONE, TWO = "append . bounce Q1 x@y failed 5.0.0\n", "append . bounce Q1 z@y failed 5.0.0\n"
@@ -316,4 +310,5 @@ def main():
     checks.done()
 
 
-main()
+if __name__ == "__main__":
+    main()

@@ -1,17 +1,13 @@
-#!/usr/bin/env python3
 """Runs the program with standard streams that are closed: no socket gets the descriptor of one, so that no client reads
 another sender's notices, and `send` neither reads frames from its socket nor writes its lines into it."""
 import itertools
 import os
 import socket
 import subprocess
-import sys
 import tempfile
-from pathlib import Path
 
-sys.path.insert(0, str(Path(__file__).parent / "support"))
-from daemon_and_clients import FRAMES, NOTES, PATIENCE, Daemon, answer, asked, until  # noqa: E402
-from running import HOST, Checks, program  # noqa: E402
+from tests.support.daemon_and_clients import FRAMES, NOTES, PATIENCE, Daemon, answer, asked, until
+from tests.support.running import HOST, Checks, program
 
 STREAMS = (0, 1, 2)
 
@@ -74,4 +70,5 @@ def main():
     checks.done()
 
 
-main()
+if __name__ == "__main__":
+    main()

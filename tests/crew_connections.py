@@ -1,4 +1,3 @@
-#!/usr/bin/env python3
 """A crew of one agent over connections in memory (the program probe), with reads of one, two, three and many bytes,
 beside a plain reading of docs/FORMATS.md: the first exchange cut after each byte, with each byte changed to each other,
 with lengths that no frame has, and without an end; and each read, each write, each post and each flush of a run
@@ -8,21 +7,19 @@ import struct
 import subprocess
 import sys
 from dataclasses import dataclass, field
-from pathlib import Path
 from typing import Optional
 
-sys.path.insert(0, str(Path(__file__).parent / "support"))
-from formats import sessions  # noqa: E402
-from formats.logs import CLOSED, DISCARDED, REFUSED, Limits, Logs  # noqa: E402
-from formats.notices import crlf, mail, outbox  # noqa: E402
-from running import EXAMPLES, HOST, ROOT, Checks, frames_module  # noqa: E402
+from tests.support.formats import sessions
+from tests.support.formats.logs import CLOSED, DISCARDED, REFUSED, Limits, Logs
+from tests.support.formats.notices import crlf, mail, outbox
+from tests.support.running import EXAMPLES, HOST, ROOT, Checks, example_module
 
 PROBE = os.environ.get("PROBE") or str(ROOT / "crates/probe/out/probe")
 PATIENCE = 120  # seconds that a run may take
 MANY = 65_536  # more bytes than a connection of these runs sends
 FAILURES = ("error", "interruption", "nothing")
 FIRST = (EXAMPLES / "one-bounce.frames").read_bytes()
-FRAMES = frames_module()
+FRAMES = example_module("frames")
 
 
 @dataclass
@@ -247,4 +244,5 @@ def main():
     checks.done()
 
 
-main()
+if __name__ == "__main__":
+    main()

@@ -1,14 +1,11 @@
-#!/usr/bin/env python3
 """Runs `noticed serve` on real sockets, with `noticed send` and with clients of this script's own: one after another,
 many at once, and some that send slowly, leave in the middle of a frame, or never read."""
 import re
-import sys
 import threading
 from pathlib import Path
 
-sys.path.insert(0, str(Path(__file__).parent / "support"))
-from daemon_and_clients import FRAMES, NOTES, OUTBOX, Daemon, answer, append, asked, flush, frames, heard, is_ended, line  # noqa: E402
-from running import Checks, Ran, empty_outbox  # noqa: E402
+from tests.support.daemon_and_clients import FRAMES, NOTES, OUTBOX, Daemon, answer, append, asked, flush, frames, heard, is_ended, line
+from tests.support.running import Checks, Ran, empty_outbox
 
 
 def socket_end_to_end(checks: Checks):
@@ -174,4 +171,5 @@ def main():
     checks.done()
 
 
-main()
+if __name__ == "__main__":
+    main()

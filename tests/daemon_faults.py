@@ -1,17 +1,13 @@
-#!/usr/bin/env python3
 """Runs `noticed serve` where something is wanting: the socket, an output, descriptors, memory or a thread. Each end is
 one that is written down, and nobody waits for ever."""
 import os
-import re
 import resource
-import sys
 import tempfile
 from pathlib import Path
 
-sys.path.insert(0, str(Path(__file__).parent / "support"))
-from daemon_and_clients import FIRST_FRAME, FRAMES, NOTES, OUTBOX, PATIENCE, Daemon, answer, append, asked, closed_pipe, flush, line, socket_fault  # noqa: E402
-from preloading import built, compare_ends, each_refused, preloading  # noqa: E402
-from running import HOST, Checks, Ran, empty_outbox, run  # noqa: E402
+from tests.support.daemon_and_clients import FIRST_FRAME, FRAMES, NOTES, OUTBOX, PATIENCE, Daemon, answer, append, asked, closed_pipe, flush, line, socket_fault
+from tests.support.preloading import built, compare_ends, each_refused, preloading
+from tests.support.running import HOST, Checks, Ran, empty_outbox, run
 
 MOST = 200  # growths of a run; more than this and the sweep is broken
 IN_USE = "Address already in use (os error 98)"
@@ -197,4 +193,5 @@ def main():
     checks.done()
 
 
-main()
+if __name__ == "__main__":
+    main()

@@ -1,19 +1,15 @@
-#!/usr/bin/env python3
 """Takes a daemon to each of its limits and one step further: 4,096 keys, 1,000 outcomes in a log, 1,000,000 frames of a
 connection, 1,000,000 requests of an agent, the connections of an agent (3, and 60,000); and 70,000 letters through one
 daemon, each of which is in the outbox, with open logs at its end. It takes half a minute."""
 import contextlib
 import socket
 import struct
-import sys
-from pathlib import Path
 
-sys.path.insert(0, str(Path(__file__).parent / "support"))
-from daemon_and_clients import PATIENCE, Daemon, answer, answers_to, append, asked, flush, frames, heard, is_ended, line  # noqa: E402
-from formats.bodies import FAILED, Draft, Outcome  # noqa: E402
-from formats.logs import CLOSED, DISCARDED, FORGOTTEN, LOG_FULL, LOGGED, REFUSED, SEALED, TABLE_FULL, Letter  # noqa: E402
-from formats.notices import mail  # noqa: E402
-from running import HOST, Checks, Ran, empty_outbox  # noqa: E402
+from tests.support.daemon_and_clients import PATIENCE, Daemon, answer, answers_to, append, asked, flush, frames, heard, is_ended, line
+from tests.support.formats.bodies import FAILED, Draft, Outcome
+from tests.support.formats.logs import CLOSED, DISCARDED, FORGOTTEN, LOG_FULL, LOGGED, REFUSED, SEALED, TABLE_FULL, Letter
+from tests.support.formats.notices import mail
+from tests.support.running import HOST, Checks, Ran, empty_outbox
 
 LOGS, ENTRIES, REQUESTS = 4096, 1000, 1_000_000
 LETTERS, OPEN = 70_000, 500
@@ -152,4 +148,5 @@ def main():
     checks.done()
 
 
-main()
+if __name__ == "__main__":
+    main()

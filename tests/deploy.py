@@ -1,4 +1,3 @@
-#!/usr/bin/env python3
 """Runs what docs/DEPLOY.md describes, in a folder of this script's own: examples/noticed-run.sh, which runs one daemon
 after another, each on a new outbox; messages written in words and sent by `noticed send`; and the feeder, which follows
 the outbox and hands each notice to a submission program. The same with a journal."""
@@ -8,9 +7,8 @@ import sys
 import tempfile
 from pathlib import Path
 
-sys.path.insert(0, str(Path(__file__).parent / "support"))
-from daemon_and_clients import PATIENCE, line, until  # noqa: E402
-from running import EXAMPLES, HOST, Checks, program  # noqa: E402
+from tests.support.daemon_and_clients import PATIENCE, line, until
+from tests.support.running import EXAMPLES, HOST, Checks, program
 
 FRAMES = [sys.executable, str(EXAMPLES / "frames.py"), "-"]
 FEED = [sys.executable, str(EXAMPLES / "feed.py")]
@@ -83,4 +81,5 @@ def main():
     checks.done()
 
 
-main()
+if __name__ == "__main__":
+    main()

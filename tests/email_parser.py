@@ -1,21 +1,17 @@
-#!/usr/bin/env python3
 """Reads the program's own notices with the email package of Python's standard library, as a mail program would.
 
 Each notice has to parse without a defect, and its header, its parts, each field of its delivery status and its returned
 header have to be the values that stand beside the input here. Spoiled notices have to be rejected, or the checks
 themselves would be worth nothing.
 """
-import sys
 from dataclasses import dataclass, field
 from email import policy
 from email.parser import BytesParser
 from email.utils import parsedate_to_datetime
-from pathlib import Path
 
-sys.path.insert(0, str(Path(__file__).parent / "support"))
-from running import HOST, Checks, batch, frames_module  # noqa: E402
+from tests.support.running import HOST, Checks, batch, example_module
 
-FRAMES = frames_module()
+FRAMES = example_module("frames")
 SERVICES = FRAMES.SERVICES
 ACTIONS = FRAMES.ACTIONS
 
@@ -296,4 +292,5 @@ def main():
     checks.done()
 
 
-main()
+if __name__ == "__main__":
+    main()

@@ -1,4 +1,3 @@
-#!/usr/bin/env python3
 """Runs each stored example and compares outbox, notes and exit status with the stored ones, byte by byte. The outboxes that
 tests of the crates compare with, which can read no file, must be those of the examples.
 
@@ -8,8 +7,7 @@ import re
 import sys
 from pathlib import Path
 
-sys.path.insert(0, str(Path(__file__).parent / "support"))
-from running import EXAMPLES, ROOT, Checks, batch  # noqa: E402
+from tests.support.running import EXAMPLES, ROOT, Checks, batch
 
 TEXT = re.compile(r'const (\w+): &\[u8; \d+\] = b"((?:[^"\\]|\\.|\\\n)*)";', re.DOTALL)
 
@@ -55,4 +53,5 @@ def main():
     checks.done()
 
 
-main()
+if __name__ == "__main__":
+    main()

@@ -1,11 +1,9 @@
-#!/usr/bin/env python3
 """Checks examples/feed.py: it hands each notice of an outbox to a mail server, one at a time, tries again what is refused
 for now, and leaves out what is refused for good; or to a submission program. The server is a small one of this script's
 own, and aiosmtpd where that is installed; the outbox is the built program's."""
 import re
 import socket
 import subprocess
-import sys
 import tempfile
 from pathlib import Path
 
@@ -14,9 +12,8 @@ try:
 except ImportError:
     Controller = None
 
-sys.path.insert(0, str(Path(__file__).parent / "support"))
-from feeding import PATIENCE, Fed, Following, MailServer, StrictServer, comes_to, feed, messages_of, outbox_for, outbox_of, submission  # noqa: E402
-from running import HOST, Checks  # noqa: E402
+from tests.support.feeding import PATIENCE, Fed, Following, MailServer, StrictServer, comes_to, feed, messages_of, outbox_for, outbox_of, submission
+from tests.support.running import HOST, Checks
 
 MESSAGES = 6
 SOON = ["--retry", "1", "--give-up", "5"]  # so that each is tried five times at most, and twice also where a try takes seconds
@@ -373,4 +370,5 @@ def main():
     checks.done()
 
 
-main()
+if __name__ == "__main__":
+    main()

@@ -1,10 +1,9 @@
-#!/usr/bin/env python3
 """Kills examples/feed.py (SIGKILL) while it hands in the notices of outboxes that grow, are cut short and are moved away:
 each notice is handed in, and at most one twice for each kill, the one in hand. A server that refuses some of them for now,
 and a submission program. And
 kills the daemon: each notice that is whole in its outbox arrives.
 
-    python3 tests/feed_kills.py [KILLS]     kills for each of the three, 5 unless said"""
+    python3 -m tests.feed_kills [KILLS]     kills for each of the three, 5 unless said"""
 import contextlib
 import random
 import re
@@ -15,10 +14,9 @@ import time
 from collections import Counter
 from pathlib import Path
 
-sys.path.insert(0, str(Path(__file__).parent / "support"))
-from daemon_and_clients import Daemon  # noqa: E402
-from feeding import Following, MailServer, comes_to, frames, outbox_of, submission  # noqa: E402
-from running import Checks  # noqa: E402
+from tests.support.daemon_and_clients import Daemon
+from tests.support.feeding import Following, MailServer, comes_to, frames, outbox_of, submission
+from tests.support.running import Checks
 
 RUN = 40  # notices of an outbox
 MESSAGE_ID = re.compile(rb"^Message-ID: <(\S+)>", re.MULTILINE)
@@ -180,4 +178,5 @@ def main():
     checks.done()
 
 
-main()
+if __name__ == "__main__":
+    main()

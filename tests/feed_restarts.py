@@ -1,4 +1,3 @@
-#!/usr/bin/env python3
 """Checks what examples/feed.py keeps from one start to the next: what was handed in isn't sent again, what was put off waits
 on from its first refusal, outboxes that earlier runs left are finished first and then removed or renamed, two feeders
 aren't at one outbox, and a state file that is damaged or can't be written. The server is a small one of the tests' own; the
@@ -8,21 +7,14 @@ import re
 import resource
 import signal
 import socket
-import sys
 import tempfile
 import time
 from pathlib import Path
 
-sys.path.insert(0, str(Path(__file__).parent / "support"))
-from feeding import PATIENCE, Following, MailServer, comes_to, feed, feed_file, messages_of, outbox_of  # noqa: E402
-from running import EXAMPLES, Checks  # noqa: E402
+from tests.support.feeding import PATIENCE, Following, MailServer, comes_to, feed, feed_file, messages_of, outbox_of
+from tests.support.running import Checks, example_module
 
-sys.path.insert(0, str(EXAMPLES))
-try:
-    from feed_state import State, line_of_state  # noqa: E402
-except ImportError:
-    line_of_state = None
-
+feed_state = example_module("feed_state")
 MESSAGES = 6
 
 
@@ -281,9 +273,6 @@ def two_feeders(checks: Checks, outbox: bytes):
 def number_used_again(checks: Checks, outbox: bytes):
     """An outbox with the inode number of one that was done is another one, unless it has the same size and time or bytes;
     two of the same bytes are two."""
-    if line_of_state is None:
-        checks.true("there is a state", False)
-        return
     with tempfile.TemporaryDirectory() as room:
         path, state = Path(room) / "outbox", Path(room) / "feed.outbox.state"
         path.write_bytes(outbox)
@@ -294,7 +283,7 @@ def number_used_again(checks: Checks, outbox: bytes):
             ("one not done", [("outbox", inode), ("left", 300, "0" * 64)]),
         ):
             server = MailServer()
-            state.write_bytes(b"".join(line_of_state(7, *it) for it in lines))
+            state.write_bytes(b"".join(feed_state.line_of_state(7, *it) for it in lines))
             with Following(path, server.address) as it:
                 checks.true(f"the number of {about}", comes_to(lambda its=server: len(its.taken), MESSAGES))
                 it.end()
@@ -335,7 +324,7 @@ def short_write(checks: Checks):
     """A line of the state that was written in part is taken off, and the next ones stand where it began."""
     with tempfile.TemporaryDirectory() as room:
         path = str(Path(room) / "state")
-        state = State(path, lambda: False)
+        state = feed_state.State(path, lambda: False)
         record = state.begin(5)
         os.write(state.file.fileno(), b"a part of a line")
         for position in (10, 20):
@@ -343,7 +332,7 @@ def short_write(checks: Checks):
         text = Path(path).read_bytes()
         checks.equal("a short write: the lines", (text.count(b"\n"), text.count(b"\0"), text.count(b"part")), (3, 0, 0))
         state.file.close()
-        checks.equal("a short write: the next start", [it.position for it in State(path, lambda: False).records.values()], [20])
+        checks.equal("a short write: the next start", [it.position for it in feed_state.State(path, lambda: False).records.values()], [20])
 
 
 def full_disk(checks: Checks, outbox: bytes):
@@ -434,4 +423,5 @@ def main():
     checks.done()
 
 
-main()
+if __name__ == "__main__":
+    main()

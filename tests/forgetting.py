@@ -1,23 +1,20 @@
-#!/usr/bin/env python3
 """A daemon whose clients forget what they close goes on within 4,096 keys: its memory stays where it was, and a request
 costs no more late than early.
 
-    python3 tests/forgetting.py [REQUESTS]
+    python3 -m tests.forgetting [REQUESTS]
 
 Without an argument it makes 60,000 requests. With 10000000 it makes ten million, which takes some minutes.
 """
 import os
 import sys
-from pathlib import Path
 
-sys.path.insert(0, str(Path(__file__).parent / "support"))
-from daemon_and_clients import Daemon  # noqa: E402
-from running import Checks, frames_module  # noqa: E402
+from tests.support.daemon_and_clients import Daemon
+from tests.support.running import Checks, example_module
 
 LOGS, MOST, BOUNCE = 4096, 1_000_000, 1
 SLACK = 256  # KiB that a process may gain beside what it keeps of requests
 
-frames = frames_module()
+frames = example_module("frames")
 
 
 def queue_id(turn: int) -> bytes:
@@ -68,4 +65,5 @@ def main():
     checks.done()
 
 
-main()
+if __name__ == "__main__":
+    main()

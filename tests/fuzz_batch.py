@@ -1,8 +1,7 @@
-#!/usr/bin/env python3
 """Runs `noticed batch` on random sessions (tests/support/hostile.py) and compares outbox, notes and status with a plain
 reading of docs/FORMATS.md (tests/support/formats), which shares nothing with the program.
 
-    python3 tests/fuzz_batch.py [--seconds S] [--sessions N] [--seed SEED] [--from INDEX]
+    python3 -m tests.fuzz_batch [--seconds S] [--sessions N] [--seed SEED] [--from INDEX]
 
 A session follows from the seed and its index alone: what is printed of one that differs is enough to run it again."""
 import argparse
@@ -10,12 +9,10 @@ import os
 import random
 import sys
 import time
-from pathlib import Path
 
-sys.path.insert(0, str(Path(__file__).parent / "support"))
-from formats import sessions  # noqa: E402
-from hostile import Hostile  # noqa: E402
-from running import HOST, batch, shown  # noqa: E402
+from tests.support.formats import sessions
+from tests.support.hostile import Hostile
+from tests.support.running import HOST, batch, shown
 
 SECONDS = 5  # in make check
 

@@ -1,9 +1,8 @@
-#!/usr/bin/env python3
 """Runs `noticed serve` with many clients at once, random and hostile: they ask what other clients ask too, dribble,
 leave within a frame or before an answer, and send what isn't legal. Afterwards the answers, the open logs and the outbox
 must be those of one history of requests (tests/support/histories.py).
 
-    python3 tests/fuzz_serve.py [--seconds S] [--runs N] [--seed SEED] [--from INDEX]
+    python3 -m tests.fuzz_serve [--seconds S] [--runs N] [--seed SEED] [--from INDEX]
 
 What clients send follows from the seed and the run's index; which of them is served first doesn't."""
 import argparse
@@ -14,18 +13,16 @@ import socket
 import sys
 import threading
 import time
-from pathlib import Path
 
-sys.path.insert(0, str(Path(__file__).parent / "support"))
-from daemon_and_clients import Daemon, heard  # noqa: E402
-from formats.bodies import Refused, decoded  # noqa: E402
-from formats.logs import REFUSED, SEALED  # noqa: E402
-from formats.notices import SERVICE_LETTERS  # noqa: E402
-from formats.sessions import OUT_OF_TURN, answer  # noqa: E402
-from histories import Asked  # noqa: E402
-from histories import Daemon as Done  # noqa: E402
-from hostile import Hostile  # noqa: E402
-from running import HOST, shown  # noqa: E402
+from tests.support.daemon_and_clients import Daemon, heard
+from tests.support.formats.bodies import Refused, decoded
+from tests.support.formats.logs import REFUSED, SEALED
+from tests.support.formats.notices import SERVICE_LETTERS
+from tests.support.formats.sessions import OUT_OF_TURN, answer
+from tests.support.histories import Asked
+from tests.support.histories import Daemon as Done
+from tests.support.hostile import Hostile
+from tests.support.running import HOST, shown
 
 SECONDS = 5  # in make check
 SERIAL_FOLLOWS = b"\0\0\0\x12"  # the length of an answer with a serial

@@ -1,4 +1,3 @@
-#!/usr/bin/env python3
 """Refuses the first, the second, .. growth of memory by a small library that is preloaded (tests/support/refuse.c,
 compiled here with gcc): of a run of `batch` until it is whole, each of whose ends is one that want of memory may have;
 and of each public call that takes memory (the program probe makes the values before it, then the call), which
@@ -9,9 +8,8 @@ import sys
 import tempfile
 from pathlib import Path
 
-sys.path.insert(0, str(Path(__file__).parent / "support"))
-from preloading import built, compare_ends, each_refused, preloading  # noqa: E402
-from running import EXAMPLES, ROOT, Checks, Ran, batch, empty_outbox  # noqa: E402
+from tests.support.preloading import built, compare_ends, each_refused, preloading
+from tests.support.running import EXAMPLES, ROOT, Checks, Ran, batch, empty_outbox
 
 PROBE = os.environ.get("PROBE") or str(ROOT / "crates/probe/out/probe")
 MOST = 200  # growths of a run; more than this and the sweep is broken
@@ -114,4 +112,5 @@ def main():
     checks.done()
 
 
-main()
+if __name__ == "__main__":
+    main()

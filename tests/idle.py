@@ -1,13 +1,9 @@
-#!/usr/bin/env python3
 """Checks `serve --idle`: a client that says nothing, or reads nothing, for so long is cut off, and its agent serves the
 next one; a client that is slow and not silent isn't. Without the option nobody is cut off."""
-import sys
 import time
-from pathlib import Path
 
-sys.path.insert(0, str(Path(__file__).parent / "support"))
-from daemon_and_clients import Daemon, answer, append, asked, flush, heard, is_ended, line  # noqa: E402
-from running import Checks  # noqa: E402
+from tests.support.daemon_and_clients import Daemon, answer, append, asked, flush, heard, is_ended, line
+from tests.support.running import Checks
 
 IDLE = ("--idle", "2")
 GAP = 1.2  # seconds between two bytes of a slow client, of which each is more than one look of the daemon's
@@ -80,4 +76,5 @@ def main():
     checks.done()
 
 
-main()
+if __name__ == "__main__":
+    main()

@@ -1,4 +1,3 @@
-#!/usr/bin/env python3
 """Runs `noticed serve --journal` where something is wrong with its folder, a file of it or its outbox: another daemon has it, it isn't
 there, it can't be written, it is another program's, damaged, older or of another journal, or a write or a sync fails, once or for
 good (by a small library that is preloaded, tests/support/power.c, compiled here with gcc). Each has its number and status, what
@@ -9,16 +8,14 @@ import os
 import re
 import shutil
 import subprocess
-import sys
 import tempfile
 from pathlib import Path
 
-sys.path.insert(0, str(Path(__file__).parent / "support"))
-from daemon_and_clients import Daemon, answer, append, asked, flush, line  # noqa: E402
-from formats import journal  # noqa: E402
-from formats.logs import Limits  # noqa: E402
-from preloading import built, preloading  # noqa: E402
-from running import HOST, Checks, Ran, program  # noqa: E402
+from tests.support.daemon_and_clients import Daemon, answer, append, asked, flush, line
+from tests.support.formats import journal
+from tests.support.formats.logs import Limits
+from tests.support.preloading import built, preloading
+from tests.support.running import HOST, Checks, Ran, program
 
 SIZE = 65_536  # bytes of a journal here: its start is soon over
 MARKS = 4_096
@@ -270,4 +267,5 @@ def main():
     checks.done()
 
 
-main()
+if __name__ == "__main__":
+    main()

@@ -1,4 +1,3 @@
-#!/usr/bin/env python3
 """A ledger over a real file (the program probe), beside a plain reading of docs/FORMATS.md, section 18: what is answered and
 what the file has; a file without room, whose journal is put away for a shorter one; and by a small library that is preloaded (tests/support/crash.c, compiled here with
 gcc) each call on the file failing in turn, and the machine stopping within each in turn, where all, some or none of what
@@ -7,16 +6,14 @@ one and within the group that was being kept, and the ledger that is opened goes
 import os
 import random
 import subprocess
-import sys
 import tempfile
 from dataclasses import dataclass, field
 from pathlib import Path
 
-sys.path.insert(0, str(Path(__file__).parent / "support"))
-from formats import bodies, journal, sessions  # noqa: E402
-from formats.logs import Limits  # noqa: E402
-from preloading import built, preloading  # noqa: E402
-from running import ROOT, Checks, frames_module  # noqa: E402
+from tests.support.formats import bodies, journal, sessions
+from tests.support.formats.logs import Limits
+from tests.support.preloading import built, preloading
+from tests.support.running import ROOT, Checks, example_module
 
 PROBE = os.environ.get("PROBE") or str(ROOT / "crates/probe/out/probe")
 PATIENCE = 60  # seconds that a run may take
@@ -25,7 +22,7 @@ SMALL = 700  # bytes of a file that is full after a few requests, and has room f
 GROUP = 3
 STOPPED = 77  # the status of a run whose machine stopped
 EIO, ENOSPC = 5, 28
-FRAMES = frames_module()
+FRAMES = example_module("frames")
 LIMITS = Limits(logs=3, entries=3, requests=100)
 KEYS = [(1, b"K1"), (1, b"K2"), (2, b"K3"), (3, b"K4")]
 VALUES = {1: (1, b"5.1.1"), 2: (2, b"4.4.1"), 3: (3, b"2.0.0")}  # an action and a status of each service

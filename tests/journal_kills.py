@@ -1,11 +1,10 @@
-#!/usr/bin/env python3
 """Kills daemons that have a journal (SIGKILL), at any moment, under 16 clients of which some are hostile, and starts the next one
 on the same folder, with a new outbox. After each start all that was answered is there, in the journal and by what is answered
 from then on; of what was sent and not answered it may be there or not. Each sealed log has its notice, byte for byte as a plain
 reading of docs/FORMATS.md has it; the last one of a run may come again. A small
 journal gets full again and again, and is put away for a shorter one: no run ends by it. Then a clean end, and a last start.
 
-    python3 tests/journal_kills.py [KILLS [SEED]]     40 kills unless said, and a seed of the moment, which is printed"""
+    python3 -m tests.journal_kills [KILLS [SEED]]     40 kills unless said, and a seed of the moment, which is printed"""
 import random
 import signal
 import sys
@@ -13,9 +12,8 @@ import tempfile
 import time
 from pathlib import Path
 
-sys.path.insert(0, str(Path(__file__).parent / "support"))
-from journal_load import HOSTILE, Load  # noqa: E402
-from running import Checks  # noqa: E402
+from tests.support.journal_load import HOSTILE, Load
+from tests.support.running import Checks
 
 SMALL = 98_304  # bytes of a journal that is soon full, and has room for what the clients hold
 IN_A_START = 0.25  # how often a daemon is killed while it starts
@@ -56,4 +54,5 @@ def main():
     checks.done()
 
 
-main()
+if __name__ == "__main__":
+    main()

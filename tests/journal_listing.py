@@ -1,4 +1,3 @@
-#!/usr/bin/env python3
 """Runs `noticed journal` on folders that daemons left, after a kill and after an end in order, and on random ones: it prints what a
 plain reading of docs/FORMATS.md has of them, and no byte, name, mode or time of a folder is changed. Where a daemon has the folder,
 a file isn't there or is none of a journal, a line can't be written, or memory is refused, it has its number and status."""
@@ -10,14 +9,13 @@ import tempfile
 import time
 from pathlib import Path
 
-sys.path.insert(0, str(Path(__file__).parent / "support"))
-from daemon_and_clients import Daemon, answer, append, asked, flush, frames, until  # noqa: E402
-from formats import journal, listing  # noqa: E402
-from formats.bodies import Refused, decoded  # noqa: E402
-from formats.logs import Limits  # noqa: E402
-from hostile import Hostile  # noqa: E402
-from preloading import built, each_refused  # noqa: E402
-from running import Checks, Ran, program, run  # noqa: E402
+from tests.support.daemon_and_clients import Daemon, answer, append, asked, flush, frames, until
+from tests.support.formats import journal, listing
+from tests.support.formats.bodies import Refused, decoded
+from tests.support.formats.logs import Limits
+from tests.support.hostile import Hostile
+from tests.support.preloading import built, each_refused
+from tests.support.running import Checks, Ran, program, run
 
 SIZE, MARKS = 16_384, 4_096  # bytes of a journal and of marks here
 FOLDERS = 60  # random ones
@@ -229,4 +227,5 @@ def main():
     checks.done()
 
 
-main()
+if __name__ == "__main__":
+    main()

@@ -1,20 +1,18 @@
-#!/usr/bin/env python3
 """The machine of daemons that have a journal stops, again and again, under the load of tests/journal_kills.py: of what no sync has
 put on the disk, of the journal, of the marks, of the outbox and of the names in their folder, all, some or none is left, as a small
 library has it that is preloaded (tests/support/power.c, compiled here with gcc). After each start all that was answered is there, and
 each sealed log has its notice. It stops within a start, within a request, within a mark or within a notice, as it comes.
 
-    python3 tests/journal_stops.py [STOPS [SEED]]     60 stops unless said, and a seed of the moment, which is printed"""
+    python3 -m tests.journal_stops [STOPS [SEED]]     60 stops unless said, and a seed of the moment, which is printed"""
 import random
 import sys
 import tempfile
 import time
 from pathlib import Path
 
-sys.path.insert(0, str(Path(__file__).parent / "support"))
-from journal_load import HOSTILE, Load  # noqa: E402
-from preloading import built, preloading  # noqa: E402
-from running import Checks  # noqa: E402
+from tests.support.journal_load import HOSTILE, Load
+from tests.support.preloading import built, preloading
+from tests.support.running import Checks
 
 SMALL = 262_144  # bytes of a journal: its start is soon over
 SMALLEST = 98_304  # bytes of a journal that is soon full, and has room for what the clients hold
@@ -90,4 +88,5 @@ def main():
     checks.done()
 
 
-main()
+if __name__ == "__main__":
+    main()

@@ -1,15 +1,11 @@
-#!/usr/bin/env python3
 """Runs `batch` with texts of each length that they may have, beside the plain reading: hosts, queue ids, addresses, envelope
 ids, names of remote MTAs, diagnostics and reasons of each length, headers of some five hundred lengths, frames and logs of many.
 So memory that is refused at some lengths alone, or a text that is cut there, shows. It takes some seconds."""
 import random
-import sys
-from pathlib import Path
 
-sys.path.insert(0, str(Path(__file__).parent / "support"))
-from formats import sessions  # noqa: E402
-from formats.bodies import LONGEST_HEADER, LONGEST_TEXT  # noqa: E402
-from running import EXAMPLES, HOST, Checks, Ran, frames_module, run  # noqa: E402
+from tests.support.formats import sessions
+from tests.support.formats.bodies import LONGEST_HEADER, LONGEST_TEXT
+from tests.support.running import EXAMPLES, HOST, Checks, Ran, example_module, run
 
 BOUNCE, DEFER, FAILED, DELAYED = 1, 2, 1, 2
 ADDRESS, ID, MTA, HOST_NAME, ENVELOPE = 256, 32, 255, 255, 100  # the longest of each, in bytes
@@ -18,7 +14,7 @@ STEP = 89  # bytes between two lengths of headers; those below it are all tried
 ALONE = 331  # bytes between two lengths of the only frame of a run
 EXAMPLE = (EXAMPLES / "all-optional-fields.frames").read_bytes()
 
-frames = frames_module()
+frames = example_module("frames")
 dice = random.Random(20231114)
 
 
@@ -125,4 +121,5 @@ def main():
     checks.done()
 
 
-main()
+if __name__ == "__main__":
+    main()

@@ -1,20 +1,16 @@
-#!/usr/bin/env python3
 """Takes the program to each of its limits and one step further: 4,096 keys, 1,000 outcomes in a log, 1,000,000
 frames; letters that are longer than the program's buffers, up to the longest that it can make; and many letters, after
 which logs are open."""
-import sys
 from itertools import chain
-from pathlib import Path
 
-sys.path.insert(0, str(Path(__file__).parent / "support"))
-from running import HOST, Checks, batch, empty_outbox, frames_module  # noqa: E402
+from tests.support.running import HOST, Checks, batch, empty_outbox, example_module
 
 LOGS, ENTRIES, FRAMES = 4096, 1000, 1_000_000
 LETTERS, OPEN = 1000, 1000
 BUFFER = 65_536  # bytes of each of the program's buffers
 BOUNCE, FAILED, STATUS = 1, 1, b"5.1.1"
 
-frames = frames_module()
+frames = example_module("frames")
 
 
 def queue_id(number: int) -> bytes:
@@ -125,4 +121,5 @@ def main():
     checks.done()
 
 
-main()
+if __name__ == "__main__":
+    main()

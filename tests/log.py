@@ -1,18 +1,14 @@
-#!/usr/bin/env python3
 """Checks `serve --log`: a line on standard error for what happens, when it happens, before the notes; and
 `serve --end-on-fault`: a daemon whose outbox can't be written ends at once, in order. Without them neither."""
 import os
-import sys
-from pathlib import Path
 
-sys.path.insert(0, str(Path(__file__).parent / "support"))
-from daemon_and_clients import OUTBOX, Daemon, answer, append, asked, flush, is_ended, line  # noqa: E402
-from running import HOST, Checks, frames_module, run  # noqa: E402
+from tests.support.daemon_and_clients import OUTBOX, Daemon, answer, append, asked, flush, is_ended, line
+from tests.support.running import HOST, Checks, example_module, run
 
 LOG = ("--log",)
 FULL = b"fault 31: No space left on device (os error 28)\n"
 
-frames = frames_module()
+frames = example_module("frames")
 
 
 def start(daemon: Daemon, agents: int, uses: int) -> bytes:
@@ -112,4 +108,5 @@ def main():
     checks.done()
 
 
-main()
+if __name__ == "__main__":
+    main()

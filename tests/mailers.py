@@ -1,9 +1,8 @@
-#!/usr/bin/env python3
 """Hands notices of the daemon's outboxes to the mail programs that this machine has, by examples/feed.py, and counts that each
 arrives once, for its one recipient: aiosmtpd, msmtpd, and the submission programs of msmtp, nullmailer, exim and Postfix, each
 with a configuration of this script's own, which relays to a small server of this script. What is missing is skipped.
 
-    python3 tests/mailers.py [--full] [NAME]...     two runs of the daemon for each, 20 with --full"""
+    python3 -m tests.mailers [--full] [NAME]...     two runs of the daemon for each, 20 with --full"""
 import contextlib
 import os
 import re
@@ -23,11 +22,10 @@ try:
 except ImportError:
     Controller = None
 
-sys.path.insert(0, str(Path(__file__).parent / "support"))
-from daemon_and_clients import Daemon  # noqa: E402
-from feeding import Following, frames  # noqa: E402
-from running import ROOT, Checks, program  # noqa: E402
-from system import KEPT, Layer, base_system, installed, lacking  # noqa: E402
+from tests.support.daemon_and_clients import Daemon
+from tests.support.feeding import Following, frames
+from tests.support.running import ROOT, Checks, program
+from tests.support.system import KEPT, Layer, base_system, installed, lacking
 
 RUN = 12  # notices of a run
 TOOLS = {"debootstrap": "debootstrap", "unshare": "util-linux"}
@@ -301,7 +299,8 @@ def apart(checks: Checks, name: str, package: str, words: list):
         failed = installed(it, package)
         checks.equal(f"{name}: {package} is installed", failed, "")
         if not failed:
-            ran = it.inside("/usr/bin/python3", "/noticed/tests/mailers.py", *words, name, NOTICED="/usr/local/bin/noticed")
+            script = ["env", "--chdir=/noticed", "/usr/bin/python3", "-m", "tests.mailers", *words, name]
+            ran = it.inside(*script, NOTICED="/usr/local/bin/noticed")
             print("".join(f"{line}\n" for line in ran.stdout.splitlines() if line.startswith("  ")), end="", flush=True)
             counted = re.search(r"^  (\d+) held, 0 failed$", ran.stdout, re.MULTILINE)
             checks.true(f"{name}: each notice arrives once", ran.returncode == 0 and counted and int(counted[1]) > 0)
@@ -331,4 +330,5 @@ def main():
     checks.done()
 
 
-main()
+if __name__ == "__main__":
+    main()

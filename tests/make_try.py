@@ -1,14 +1,11 @@
-#!/usr/bin/env python3
 """Checks `make try`, with a stand-in for `rt try` that runs the built program on the same two cases: it shows the answers and
 the notices of both, says before and after them that nothing was proved, and fails where a run fails."""
 import os
 import subprocess
-import sys
 import tempfile
 from pathlib import Path
 
-sys.path.insert(0, str(Path(__file__).parent / "support"))
-from running import EXAMPLES, ROOT, Checks, program  # noqa: E402
+from tests.support.running import EXAMPLES, ROOT, Checks, program
 
 PATIENCE = 120  # seconds that one run of make may take
 TRIES = """#!/usr/bin/env python3
@@ -59,4 +56,5 @@ def main():
     checks.done()
 
 
-main()
+if __name__ == "__main__":
+    main()

@@ -1,9 +1,8 @@
-#!/usr/bin/env python3
 """A daemon gives back what it takes for requests, letters and connections: its memory stays where it was while they come, of
 each kind so much that one piece that was kept of each would show; so do its descriptors and threads. It takes some
 seconds.
 
-    python3 tests/memory.py [TIMES]      so many times as many rounds, 1 unless said
+    python3 -m tests.memory [TIMES]      so many times as many rounds, 1 unless said
 """
 import subprocess
 import sys
@@ -11,10 +10,9 @@ from dataclasses import dataclass
 from pathlib import Path
 from typing import Callable
 
-sys.path.insert(0, str(Path(__file__).parent / "support"))
-from daemon_and_clients import Daemon, answers_to, asked, frames, heard  # noqa: E402
-from formats.logs import CLOSED, DISCARDED, FORGOTTEN, LOG_FULL, LOGGED, NO_RETURN, NOTHING, REFUSED, SEALED, TABLE_FULL  # noqa: E402
-from running import Checks  # noqa: E402
+from tests.support.daemon_and_clients import Daemon, answers_to, asked, frames, heard
+from tests.support.formats.logs import CLOSED, DISCARDED, FORGOTTEN, LOG_FULL, LOGGED, NO_RETURN, NOTHING, REFUSED, SEALED, TABLE_FULL
+from tests.support.running import Checks
 
 BOUND = 3072  # KiB that the daemon's memory may grow by while the rounds of a kind go on
 SHOWS = 3  # times the bound: what one piece kept of each round comes to, at least
@@ -178,4 +176,5 @@ def main():
     checks.done()
 
 
-main()
+if __name__ == "__main__":
+    main()

@@ -1,4 +1,3 @@
-#!/usr/bin/env python3
 """Checks that an outbox that failed once gets nothing more, though it works again: not by a later letter, and not at the end;
 in `batch` and in a daemon.
 
@@ -6,14 +5,11 @@ The outbox is a pipe that doesn't block and is full at the first letter, so that
 """
 import os
 import subprocess
-import sys
-from pathlib import Path
 
-sys.path.insert(0, str(Path(__file__).parent / "support"))
-from daemon_and_clients import Daemon, answer, asked, line  # noqa: E402
-from running import HOST, LIMIT, Checks, frames_module, program  # noqa: E402
+from tests.support.daemon_and_clients import Daemon, answer, asked, line
+from tests.support.running import HOST, LIMIT, Checks, example_module, program
 
-FRAMES = frames_module()
+FRAMES = example_module("frames")
 ON_THE_WAY = 18  # letters that a daemon may not have tried to write though their flushes are answered
 LOGGED, SEALED = 1, 7
 
@@ -92,4 +88,5 @@ def main():
     checks.done()
 
 
-main()
+if __name__ == "__main__":
+    main()

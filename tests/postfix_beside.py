@@ -1,9 +1,8 @@
-#!/usr/bin/env python3
 """Sends the same messages, of over 80 kinds, to two Postfixes of this script's own on loopback, one with its own bounce(8), the other with
 `noticed postfix` in front: each recipient is told once on both sides, and the notices differ only in what is named here. Needs root and
 Debian's package postfix, and is left out without them.
 
-    python3 tests/postfix_beside.py [--itself] [NAME]...      with --itself bounce(8) on both sides, where nothing may differ; some
+    python3 -m tests.postfix_beside [--itself] [NAME]...      with --itself bounce(8) on both sides, where nothing may differ; some
                                                               kinds of message, or all"""
 import contextlib
 import re
@@ -11,16 +10,13 @@ import sys
 import time
 from collections import Counter
 from dataclasses import dataclass
-from pathlib import Path
 
-sys.path.insert(0, str(Path(__file__).parent / "support"))
-from private_postfix import Mailbox, Postfix, comes_true, lacks, mail_filter  # noqa: E402
-from running import Checks, program, run  # noqa: E402
-from told import Told, differences, retry_seconds, taken_apart  # noqa: E402
-
-import cases  # noqa: E402  (of tests/postfix/capture, as private_postfix finds it)
-from cases import Case  # noqa: E402
-from submit import by_sendmail, by_smtp  # noqa: E402
+from tests.postfix.capture import cases
+from tests.postfix.capture.cases import Case
+from tests.postfix.capture.submit import by_sendmail, by_smtp
+from tests.support.private_postfix import Mailbox, Postfix, comes_true, lacks, mail_filter
+from tests.support.running import Checks, program, run
+from tests.support.told import Told, differences, retry_seconds, taken_apart
 
 # What error(8) says of these has a byte past the end of a text, which may be any.
 UNEVEN = {"without-words", "words-of-none"}
@@ -300,4 +296,5 @@ def main():
     checks.done()
 
 
-main()
+if __name__ == "__main__":
+    main()

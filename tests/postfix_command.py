@@ -1,4 +1,3 @@
-#!/usr/bin/env python3
 """`noticed postfix` without a Postfix: a queue folder made up of what Postfix wrote (tests/postfix/files/), clients that ask as its
 programs do, a mail server that refuses at each step, and services of its own that take what is passed on. What was asked is answered
 0 only once the server took the notice; else the log stays. And kills, two processes, a log that is locked, a disk that is full, and
@@ -10,16 +9,14 @@ import re
 import resource
 import signal
 import socket
-import sys
 import tempfile
 import threading
 import time
 from pathlib import Path
 
-sys.path.insert(0, str(Path(__file__).parent / "support"))
-from daemon_and_clients import until  # noqa: E402
-from postfix_folder import ANNOUNCEMENT, FAILED, FILES, SERVICES, Client, OwnService, Postfix, append, asked_in, heard, heard_to_end, listed, mode_of, notice  # noqa: E402
-from running import HOST, ROOT, Checks, Ran, run  # noqa: E402
+from tests.support.daemon_and_clients import until
+from tests.support.postfix_folder import ANNOUNCEMENT, FAILED, FILES, SERVICES, Client, OwnService, Postfix, append, asked_in, heard, heard_to_end, listed, mode_of, notice
+from tests.support.running import HOST, Checks, Ran, run
 
 ONE = "090B8A85C9C"  # the queue id of the message `one`
 LOG_OF = {"failure": "bounce", "delay": "defer", "expired": "defer", "success": "trace"}
@@ -636,4 +633,5 @@ def main():
     checks.done()
 
 
-main()
+if __name__ == "__main__":
+    main()

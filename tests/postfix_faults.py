@@ -1,10 +1,9 @@
-#!/usr/bin/env python3
 """Runs a Postfix of this script's own on loopback with `noticed postfix` in front of its bounce(8), and harms it: the service is killed at
 load, mail can't be handed in, Postfix is loaded anew or stopped while logs wait, logs and queue files are damaged, locked, or meet a full
 disk, and clients send what no program of Postfix sends. No recipient is lost, and few are told twice. Needs root and Debian's package
 postfix, and is left out without them.
 
-    python3 tests/postfix_faults.py [--itself] [--full] [NAME]...     with --itself bounce(8) alone; 50 kills in place of 12; some
+    python3 -m tests.postfix_faults [--itself] [--full] [NAME]...     with --itself bounce(8) alone; 50 kills in place of 12; some
                                                                       checks, or all"""
 import contextlib
 import fcntl
@@ -21,13 +20,11 @@ import time
 from collections import Counter
 from pathlib import Path
 
-sys.path.insert(0, str(Path(__file__).parent / "support"))
-from hand_in_gate import AWAY, LATER, OPEN, SILENT, Gate  # noqa: E402
-from private_postfix import FRONT, Mailbox, Postfix, asked, attributes, comes_true, lacks  # noqa: E402
-from running import Checks, program, run  # noqa: E402
-
-from cases import Case  # noqa: E402  (of tests/postfix/capture, as private_postfix finds it)
-from submit import by_smtp  # noqa: E402
+from tests.postfix.capture.cases import Case
+from tests.postfix.capture.submit import by_smtp
+from tests.support.hand_in_gate import AWAY, LATER, OPEN, SILENT, Gate
+from tests.support.private_postfix import FRONT, Mailbox, Postfix, asked, attributes, comes_true, lacks
+from tests.support.running import Checks, program, run
 
 SLOW = {"queue_run_delay": "3000s", "minimal_backoff_time": "4000s", "maximal_backoff_time": "4000s"}
 # Postfix leaves a message alone for a minute if it comes back to it while a delivery has the file locked, so not after one second.
@@ -153,7 +150,7 @@ def hand_in_fails(checks: Checks, serves, full: bool):
             for at in range(WAITING):
                 it.send(f"{way}{at}")
             if way == SILENT:
-                comes_true(lambda: len(it.mailbox.notices) >= 2 * WAITING)  # noqa: B023
+                comes_true(lambda: len(it.mailbox.notices) >= 2 * WAITING)
             else:
                 it.wait_for_logs(checks, f"the hand-in is {way}", WAITING)
                 time.sleep(2)
@@ -288,7 +285,7 @@ def damaged_queue_files(checks: Checks, serves, full: bool):
                 file.write_bytes(text)
             asks = asked_again if kind is None else asked_status  # the reference alone is asked again
             answers = [asks(it, "bounce", flush_request(it_id)) for it_id in it.sent]
-            comes_true(lambda: len(it.mailbox.notices) >= len(damages), 15)  # noqa: B023
+            comes_true(lambda: len(it.mailbox.notices) >= len(damages), 15)
             found[kind] = (answers, it.told(), len(it.postfix.logs("bounce")))
             if it.postfix.front:
                 checks.equal("damaged queue files: the service runs", it.postfix.front.running.poll(), None)
@@ -462,7 +459,7 @@ def hostile(checks: Checks, serves, full: bool):
             for _ in range(rounds):
                 for request in hostile_requests():
                     send_badly(it.postfix.service(dice.choice(["bounce", "defer", "trace"])), request, dice)
-            comes_true(lambda: threads_of(service) <= before[2] and len(os.listdir(f"/proc/{service}/fd")) <= before[1], 10)  # noqa: B023
+            comes_true(lambda: threads_of(service) <= before[2] and len(os.listdir(f"/proc/{service}/fd")) <= before[1], 10)
         after = (memory(service), len(os.listdir(f"/proc/{service}/fd")), threads_of(service))
         print(f"  hostile clients: memory {before[0]} KiB before and {after[0]} after, {before[1]} and {after[1]} files, {before[2]} and {after[2]} threads")
         if memory(service, "VmSize") > SANITIZED:
@@ -524,4 +521,5 @@ def main():
     checks.done()
 
 
-main()
+if __name__ == "__main__":
+    main()

@@ -1,4 +1,3 @@
-#!/usr/bin/env python3
 """Files that Postfix wrote (tests/postfix/), read by the program probe: each log file is written again as it was, also after a record
 that was cut short, which is told as damage; of each queue file the records that count come in the order and with the bytes that
 Postfix's own postcat shows. A log of which the last write was cut short at any byte, and after which another write came, has no
@@ -9,11 +8,8 @@ import random
 import re
 import struct
 import subprocess
-import sys
-from pathlib import Path
 
-sys.path.insert(0, str(Path(__file__).parent / "support"))
-from running import ROOT, Checks  # noqa: E402
+from tests.support.running import ROOT, Checks
 
 PROBE = os.environ.get("PROBE") or str(ROOT / "crates/probe/out/probe")
 FILES = ROOT / "tests/postfix"
@@ -143,4 +139,5 @@ def main():
     checks.done()
 
 
-main()
+if __name__ == "__main__":
+    main()

@@ -1,16 +1,13 @@
-#!/usr/bin/env python3
 """Refuses `noticed postfix` one growth of its memory after another, from the moment at which it listens, within an append and within a
 flush: it goes on, what isn't carried out is answered -1 or not at all and leaves the log as it was, and asked again it is carried out.
 So no recipient is lost."""
 import os
-import sys
 import tempfile
 from pathlib import Path
 
-sys.path.insert(0, str(Path(__file__).parent / "support"))
-from postfix_folder import HOST, Postfix, append, asked_in  # noqa: E402
-from preloading import built  # noqa: E402
-from running import Checks  # noqa: E402
+from tests.support.postfix_folder import HOST, Postfix, append, asked_in
+from tests.support.preloading import built
+from tests.support.running import Checks
 
 FAILED = 4294967295
 MOST = 400  # growths, of which no two requests have so many

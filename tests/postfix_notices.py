@@ -1,4 +1,3 @@
-#!/usr/bin/env python3
 """What Postfix keeps of 85 messages, and the notices that its bounce(8) made of that (tests/postfix/files/): the program probe plans
 the notices of the same requests from the same logs and queue files, and writes them. They go to the same addresses, tell of the same
 recipients with the same fields, and give back the same text or header; where Postfix made none, none is planned. What differs is
@@ -10,11 +9,9 @@ import os
 import re
 import struct
 import subprocess
-import sys
 from pathlib import Path
 
-sys.path.insert(0, str(Path(__file__).parent / "support"))
-from running import ROOT, Checks  # noqa: E402
+from tests.support.running import ROOT, Checks
 
 PROBE = os.environ.get("PROBE") or str(ROOT / "crates/probe/out/probe")
 FILES = ROOT / "tests/postfix/files"
@@ -198,4 +195,5 @@ def main():
     checks.done()
 
 
-main()
+if __name__ == "__main__":
+    main()

@@ -1,14 +1,11 @@
-#!/usr/bin/env python3
 """Keeps docs/REFUSALS.md true: each number of docs/FORMATS.md has a row there, with the same words, and no other has; each
 test that a row names is there, in a file that has the number. A number has one home in the code, the module fault_code, and
 one in the contracts, FaultCode: both have exactly these numbers under the same names, each is named by a shipped crate, and
 no other file says a number where a refusal or a fault is meant."""
 import re
-import sys
 from pathlib import Path
 
-sys.path.insert(0, str(Path(__file__).parent / "support"))
-from running import ROOT, Checks  # noqa: E402
+from tests.support.running import ROOT, Checks
 
 FORMATS, REFUSALS = (ROOT / "docs" / name for name in ("FORMATS.md", "REFUSALS.md"))
 ROW = re.compile(r"^\| (\d+) \| ([^|]+) \| ([^|]+) \|$", re.M)
@@ -71,4 +68,5 @@ def main():
     checks.done()
 
 
-main()
+if __name__ == "__main__":
+    main()

@@ -1,13 +1,9 @@
-#!/usr/bin/env python3
 """Bodies at the bounds of each field and one byte past them, one byte away from a legal one, or cut: whether the program
 accepts each as its first request, and else the number of its refusal (docs/FORMATS.md, sections 3 and 4)."""
 import os
-import sys
 from concurrent.futures import ThreadPoolExecutor
-from pathlib import Path
 
-sys.path.insert(0, str(Path(__file__).parent / "support"))
-from running import Checks, batch  # noqa: E402
+from tests.support.running import Checks, batch
 
 ACCEPTED = 0
 LAST_MOMENT = 253_402_300_799  # the last second of the year 9999
@@ -198,4 +194,5 @@ def main():
     checks.done()
 
 
-main()
+if __name__ == "__main__":
+    main()

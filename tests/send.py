@@ -1,18 +1,15 @@
-#!/usr/bin/env python3
 """Runs `noticed send` against small daemons of this script's own, which answer wrongly, cut off, or not at all; with
 broken inputs and outputs; with no daemon; and with each growth of its memory refused in turn."""
 import contextlib
 import os
 import socket
-import sys
 import tempfile
 import threading
 from pathlib import Path
 
-sys.path.insert(0, str(Path(__file__).parent / "support"))
-from daemon_and_clients import FIRST_FRAME, FRAMES, NOTES, PATIENCE, answer, closed_pipe, heard, socket_fault  # noqa: E402
-from preloading import built, each_refused  # noqa: E402
-from running import Checks, Ran, run  # noqa: E402
+from tests.support.daemon_and_clients import FIRST_FRAME, FRAMES, NOTES, PATIENCE, answer, closed_pipe, heard, socket_fault
+from tests.support.preloading import built, each_refused
+from tests.support.running import Checks, Ran, run
 
 MOST = 100  # growths of a run; more than this and the sweep is broken
 TOO_LONG = Ran(b"", b"the path of the socket must have 1 to 107 bytes\n", 2)
@@ -184,4 +181,5 @@ def main():
     checks.done()
 
 
-main()
+if __name__ == "__main__":
+    main()

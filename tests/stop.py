@@ -1,4 +1,3 @@
-#!/usr/bin/env python3
 """Stops daemons by `noticed stop`: agents finish what they have in hand and take no further connection, the outbox is
 finished, the notes name what is open, the socket's file is gone, and nothing that was answered is lost. A daemon that has
 the path by then goes on. A daemon whose file is removed ends too; one that is halted for a while (SIGSTOP) loses nobody."""
@@ -17,9 +16,8 @@ import threading
 import time
 from pathlib import Path
 
-sys.path.insert(0, str(Path(__file__).parent / "support"))
-from daemon_and_clients import OUTBOX, PATIENCE, Daemon, answer, append, asked, flush, heard, is_ended, line, socket_fault, until  # noqa: E402
-from running import Checks, Ran, empty_outbox, program, run  # noqa: E402
+from tests.support.daemon_and_clients import OUTBOX, PATIENCE, Daemon, answer, append, asked, flush, heard, is_ended, line, socket_fault, until
+from tests.support.running import Checks, Ran, empty_outbox, program, run
 
 NOBODY = 65534
 STOPPED = Ran(b"", b"", 0)
@@ -423,4 +421,5 @@ def main():
     checks.done()
 
 
-main()
+if __name__ == "__main__":
+    main()

@@ -1,15 +1,11 @@
-#!/usr/bin/env python3
 """Checks that the stored request frames are what their descriptions say, and that the program's stored run is the first example."""
-import sys
-from pathlib import Path
 
-sys.path.insert(0, str(Path(__file__).parent / "support"))
-from running import EXAMPLES, ROOT, Checks, frames_module  # noqa: E402
+from tests.support.running import EXAMPLES, ROOT, Checks, example_module
 
 
 def main():
     checks = Checks("stored frames: each .frames file of examples/ against its description")
-    frames = frames_module()
+    frames = example_module("frames")
     descriptions = sorted(EXAMPLES.glob("*.requests"))
     checks.true("there are descriptions", descriptions)
     for description in descriptions:
@@ -27,4 +23,5 @@ def main():
     checks.done()
 
 
-main()
+if __name__ == "__main__":
+    main()

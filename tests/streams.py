@@ -1,13 +1,9 @@
-#!/usr/bin/env python3
 """Checks what comes of input that arrives in pieces, is cut or can't be read, and of output that can't be written."""
 import os
 import subprocess
-import sys
 import time
-from pathlib import Path
 
-sys.path.insert(0, str(Path(__file__).parent / "support"))
-from running import EXAMPLES, HOST, LIMIT, Checks, Ran, batch, empty_outbox, program  # noqa: E402
+from tests.support.running import EXAMPLES, HOST, LIMIT, Checks, Ran, batch, empty_outbox, program
 
 PAUSE = 0.0005  # seconds between two pieces, so that the program reads them one by one
 
@@ -123,4 +119,5 @@ def main():
     checks.done()
 
 
-main()
+if __name__ == "__main__":
+    main()

@@ -1,4 +1,3 @@
-#!/usr/bin/env python3
 """Refuses the first, the second, .. start of a thread, and the first, the second, .. growth of memory, of a crew over
 connections in memory (the program probe), by small libraries that are preloaded (tests/support/refuse_thread.c and
 refuse.c, compiled here with gcc). Each run ends, and as it should: without its poster nothing is begun, without an agent
@@ -10,9 +9,8 @@ import tempfile
 from pathlib import Path
 from typing import Optional
 
-sys.path.insert(0, str(Path(__file__).parent / "support"))
-from preloading import built, compare_ends, each_refused, preloading  # noqa: E402
-from running import EXAMPLES, ROOT, Checks, Ran, empty_outbox  # noqa: E402
+from tests.support.preloading import built, compare_ends, each_refused, preloading
+from tests.support.running import EXAMPLES, ROOT, Checks, Ran, empty_outbox
 
 PROBE = os.environ.get("PROBE") or str(ROOT / "crates/probe/out/probe")
 PATIENCE = 20  # seconds that a run may take
@@ -96,4 +94,5 @@ def main():
     checks.done()
 
 
-main()
+if __name__ == "__main__":
+    main()

@@ -1,4 +1,3 @@
-#!/usr/bin/env python3
 """Checks examples/noticed.service without systemd: its keys, by a parser; its steps in systemd's own order (the outputs
 are opened, then the folders are made, then the commands run), in a folder of this script's own with nothing there; the
 modes and owners that come of it; the runs that follow one another, and their ends, by signals too; and the whole of it by
@@ -15,15 +14,13 @@ import shutil
 import signal
 import stat
 import subprocess
-import sys
 import tempfile
 import time
 from dataclasses import dataclass
 from pathlib import Path
 
-sys.path.insert(0, str(Path(__file__).parent / "support"))
-from daemon_and_clients import FIRST_FRAME, FRAMES, NOTES, OUTBOX, PATIENCE, is_listened_on, until  # noqa: E402
-from running import EXAMPLES, HOST, ROOT, Checks, Ran, empty_outbox, program  # noqa: E402
+from tests.support.daemon_and_clients import FIRST_FRAME, FRAMES, NOTES, OUTBOX, PATIENCE, is_listened_on, until
+from tests.support.running import EXAMPLES, HOST, ROOT, Checks, Ran, empty_outbox, program
 
 UNIT = EXAMPLES / "noticed.service"
 FEEDER = EXAMPLES / "noticed-feed.service"
@@ -510,4 +507,5 @@ def main():
     checks.done()
 
 
-main()
+if __name__ == "__main__":
+    main()

@@ -1,14 +1,11 @@
-#!/usr/bin/env python3
 """No definition's name stands in two modules of specs/, of one crate or of two, so that a contract can be read by its words
 alone. And nothing in specs/ and proofs/ of a crate is there for nobody: each definition and each lemma is used outside its own
 text, by a contract, by another definition or by a proof. The worked examples, which nothing cites, stand in modules named
 after them; the answers to the prover's goals (Answers.antt, Invariants.antt) are used by the prover."""
 import re
-import sys
 from pathlib import Path
 
-sys.path.insert(0, str(Path(__file__).parent / "support"))
-from running import ROOT, Checks  # noqa: E402
+from tests.support.running import ROOT, Checks
 
 IMPORT = re.compile(r"^\s*(?:ghost )?(?:pub )?use ([\w.:-]+?)[.:]+\{([^}]*)\}", re.M)
 WHOLE_IMPORT = re.compile(r"^\s*(?:ghost )?(?:pub )?use .*$", re.M)
@@ -91,4 +88,5 @@ def main():
     checks.done()
 
 
-main()
+if __name__ == "__main__":
+    main()

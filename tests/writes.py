@@ -1,18 +1,15 @@
-#!/usr/bin/env python3
 """Counts the program's reads and writes on a thousand messages, by a small library that is preloaded
 (tests/support/record.c, compiled here with gcc).
 
 Each read of the input asks for 65,536 bytes; a letter is one write of the outbox; an answer's line is one write of
 the notes; and a letter is out before its answer's line.
 """
-import sys
 import tempfile
 import time
 from pathlib import Path
 
-sys.path.insert(0, str(Path(__file__).parent / "support"))
-from preloading import built, preloading  # noqa: E402
-from running import HOST, Checks, batch, frames_module  # noqa: E402
+from tests.support.preloading import built, preloading
+from tests.support.running import HOST, Checks, batch, example_module
 
 MESSAGES = 1000
 READ = 65536
@@ -20,7 +17,7 @@ READ = 65536
 
 def requests() -> bytes:
     """An append and a flush for each of a thousand messages."""
-    frames, made = frames_module(), []
+    frames, made = example_module("frames"), []
     for message in range(MESSAGES):
         queue_id = b"M%04d" % message
         made.append(frames.append(2 * message, 1, queue_id, b"bob@example.org", 1, b"5.1.1"))
@@ -91,4 +88,5 @@ def main():
     checks.done()
 
 
-main()
+if __name__ == "__main__":
+    main()

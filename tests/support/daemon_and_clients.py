@@ -9,7 +9,7 @@ import tempfile
 import time
 from pathlib import Path
 
-from running import EXAMPLES, HOST, Ran, frames_module, program, run
+from tests.support.running import EXAMPLES, HOST, Ran, example_module, program, run
 
 PATIENCE = 60  # seconds that a daemon or a client may take for one step, on a slow and busy machine; more is a hang
 PIECE = 32_768  # bytes that are written to a socket at once: less than its buffer holds
@@ -20,7 +20,7 @@ OUTBOX = (EXAMPLES / "one-bounce.outbox").read_bytes()
 NOTES = (EXAMPLES / "one-bounce.notes").read_bytes()
 FIRST_FRAME = 52  # bytes of the example's append
 
-frames = frames_module()
+frames = example_module("frames")
 
 
 def answer(reply: int, number: int = 0, value: int = 0) -> bytes:

@@ -12,14 +12,14 @@ import time
 from collections import Counter
 from pathlib import Path
 
-from running import EXAMPLES, LIMIT, batch, frames_module
+from tests.support.running import EXAMPLES, LIMIT, batch, example_module
 
 FEEDER = os.environ.get("FEEDER") or str(EXAMPLES / "feed.py")
 FEED = [sys.executable, FEEDER]
 WATCHED = str(Path(__file__).parent / "watched.py")
 PATIENCE = 120  # seconds that anything may take that is waited for, on a machine that is slow or busy
 
-frames = frames_module()
+frames = example_module("frames")
 
 
 def outbox_of(messages: int, names: bytes = b"K") -> bytes:

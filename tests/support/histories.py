@@ -4,9 +4,9 @@ and whose letters and open logs are those that the daemon wrote."""
 from dataclasses import dataclass
 from typing import Optional
 
-from formats.bodies import Request
-from formats.logs import Letter, Limits, Logs
-from formats.notices import mail
+from tests.support.formats.bodies import Request
+from tests.support.formats.logs import Letter, Limits, Logs
+from tests.support.formats.notices import mail
 
 
 @dataclass

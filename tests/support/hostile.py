@@ -2,7 +2,7 @@
 several faults in one body, bytes changed, frames cut. Everything follows from a `random.Random` that is handed in."""
 import random
 
-from formats.bodies import ACTIONS, ANY_COUNT, APPEND, CLASSES, DISCARD, FLUSH, FORGET, LAST_MOMENT, LONGEST_HEADER, LONGEST_TEXT, NO_MOMENT
+from tests.support.formats.bodies import ACTIONS, ANY_COUNT, APPEND, CLASSES, DISCARD, FLUSH, FORGET, LAST_MOMENT, LONGEST_HEADER, LONGEST_TEXT, NO_MOMENT
 
 VISIBLE = bytes(range(33, 127))
 ADDRESS_BYTES = VISIBLE.replace(b"<", b"").replace(b">", b"")

@@ -13,16 +13,16 @@ import threading
 import time
 from pathlib import Path
 
-from daemon_and_clients import Daemon, heard
-from formats import journal
-from formats.bodies import APPEND, DISCARD, FLUSH, Request, decoded
-from formats.logs import CLOSED, FORGOTTEN, NOT_CLOSED, Letter, Limits, Logs
-from formats.notices import SERVICE_LETTERS, mail
-from formats.sessions import Fault, answer, answers
-from hostile import LETTERS_AND_DIGITS, Hostile
-from running import HOST, Checks, Ran, frames_module, run
+from tests.support.daemon_and_clients import Daemon, heard
+from tests.support.formats import journal
+from tests.support.formats.bodies import APPEND, DISCARD, FLUSH, Request, decoded
+from tests.support.formats.logs import CLOSED, FORGOTTEN, NOT_CLOSED, Letter, Limits, Logs
+from tests.support.formats.notices import SERVICE_LETTERS, mail
+from tests.support.formats.sessions import Fault, answer, answers
+from tests.support.hostile import LETTERS_AND_DIGITS, Hostile
+from tests.support.running import HOST, Checks, Ran, example_module, run
 
-FRAMES = frames_module()
+FRAMES = example_module("frames")
 CLIENTS, HOSTILE = 16, 4  # clients, and how many of them are hostile
 SWITCH = 0.0002  # seconds that one of them may keep the others waiting
 LOOK = 0.005  # seconds between two looks at the journal's file

@@ -66,4 +66,5 @@ def main():
     print(f"listening in {folder} for {host}", file=sys.stderr, flush=True)
 
 
-main()
+if __name__ == "__main__":
+    main()

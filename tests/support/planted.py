@@ -1,4 +1,3 @@
-#!/usr/bin/env python3
 """Shows that the fuzzers find faults: plants small wrong edits into a copy of the plain reading, one at a time, and runs
 the fuzzer that must tell it from the program within ten seconds. `make planted` runs it; it isn't part of `make check`."""
 import os
@@ -9,7 +8,7 @@ import tempfile
 import time
 from pathlib import Path
 
-from running import program
+from tests.support.running import program
 
 TESTS = Path(__file__).resolve().parents[1]
 SECONDS = 10
@@ -67,8 +66,8 @@ def is_found(fuzzer: str, file: str, old: str, new: str) -> bool:
         assert text.count(old) == 1, f"{file} doesn't have once: {old}"
         (copy / "support" / file).write_text(text.replace(old, new))
         began = time.monotonic()
-        words = [sys.executable, str(copy / f"fuzz_{fuzzer}.py"), "--seconds", str(SECONDS), *sys.argv[1:]]
-        ended = subprocess.run(words, check=False, capture_output=True, text=True, env={**os.environ, "NOTICED": program()})
+        words = [sys.executable, "-m", f"tests.fuzz_{fuzzer}", "--seconds", str(SECONDS), *sys.argv[1:]]
+        ended = subprocess.run(words, cwd=room, check=False, capture_output=True, text=True, env={**os.environ, "NOTICED": os.path.abspath(program())})
         found = ended.returncode == 1 and "FAILED" in ended.stdout
         print(f"  {'found' if found else 'NOT FOUND'} in {time.monotonic() - began:.1f} s by fuzz_{fuzzer}: {file}: {old!r} -> {new!r}")
         return found

@@ -10,8 +10,8 @@ import tempfile
 import threading
 from pathlib import Path
 
-from daemon_and_clients import PATIENCE, is_listened_on, until
-from running import HOST, ROOT, program
+from tests.support.daemon_and_clients import PATIENCE, is_listened_on, until
+from tests.support.running import HOST, ROOT, program
 
 FILES = ROOT / "tests/postfix/files"
 SERVICES = ("bounce", "defer", "trace")

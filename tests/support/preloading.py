@@ -4,7 +4,7 @@ import os
 import subprocess
 from pathlib import Path
 
-from running import Checks
+from tests.support.running import Checks
 
 SUPPORT = Path(__file__).resolve().parent
 

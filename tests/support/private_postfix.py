@@ -15,9 +15,7 @@ import tempfile
 import time
 from pathlib import Path
 
-sys.path.insert(0, str(Path(__file__).resolve().parents[1] / "postfix" / "capture"))
-import milter  # noqa: E402
-import upstream  # noqa: E402
+from tests.postfix.capture import milter, upstream
 
 HOST = "mx.example.net"
 SBIN = Path("/usr/lib/postfix/sbin")

@@ -1,4 +1,5 @@
 """What the scripts of tests/ share: the program under test, running it, and counting what failed."""
+import functools
 import importlib.util
 import os
 import subprocess
@@ -53,10 +54,12 @@ def empty_outbox(host=HOST) -> bytes:
     return f"EHLO {host}\r\nQUIT\r\n".encode()
 
 
-def frames_module():
-    """examples/frames.py, which writes request frames."""
-    spec = importlib.util.spec_from_file_location("frames", EXAMPLES / "frames.py")
-    module = importlib.util.module_from_spec(spec)
+@functools.cache
+def example_module(name: str):
+    """The module of examples/NAME.py. Users run these files by their paths, so examples/ isn't a package: the file is loaded
+    under the name by which the others there import it."""
+    spec = importlib.util.spec_from_file_location(name, EXAMPLES / f"{name}.py")
+    module = sys.modules[name] = importlib.util.module_from_spec(spec)
     spec.loader.exec_module(module)
     return module
 

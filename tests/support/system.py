@@ -9,7 +9,7 @@ import tempfile
 import time
 from pathlib import Path
 
-from running import ROOT
+from tests.support.running import ROOT
 
 KEPT = Path("/var/cache/noticed-boot")  # where it is kept, unless another folder is named
 PACKAGES = "systemd,systemd-sysv,dbus,python3"

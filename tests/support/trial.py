@@ -1,4 +1,3 @@
-#!/usr/bin/env python3
 """What `make try` runs: the demo without a proof. `rt try` compiles the program once, with checks that stop it at an index out
 of bounds, an overflow or a bad access, and runs it twice: `batch` on an example, then a daemon of two agents. The daemon's two
 clients are this script's, by the connection of examples/client.py, in the place of `noticed send`. Nothing is proved by it,
@@ -13,16 +12,11 @@ import threading
 import time
 from pathlib import Path
 
-sys.dont_write_bytecode = True
+from tests.support.running import EXAMPLES, HOST, ROOT, example_module
 
-ROOT = Path(__file__).resolve().parents[2]
 RT = os.environ.get("RT") or "rt"
-EXAMPLES = ROOT / "examples"
-sys.path.insert(0, str(EXAMPLES))
-import client  # noqa: E402
-
+client = example_module("client")
 EXAMPLE = "one-bounce.frames"
-HOST = "mx.example.net"
 RUNS = ("batch", "daemon")  # in this order
 MOMENT = 0.05  # seconds between two looks for the socket
 CASE = re.compile(r"^case=(\w+) run=(.*)\n", re.MULTILINE)

@@ -1,4 +1,3 @@
-#!/usr/bin/env python3
 """Makes tests/postfix/files/: what a real Postfix keeps of each message of cases.py, and the notices that its bounce(8) makes of that.
 
 Runs as root where Debian's package `postfix` is installed, on ports of loopback; nothing of it is in the gate. Twice for each of the
@@ -12,12 +11,9 @@ import sys
 import time
 from pathlib import Path
 
-sys.path.insert(0, str(Path(__file__).parent))
-import cases  # noqa: E402
-import milter  # noqa: E402
-import upstream  # noqa: E402
-from instance import FILTERED, MILTER, SMTP, UPSTREAM, Instance, has_postfix, request_bytes  # noqa: E402
-from submit import by_sendmail, by_smtp  # noqa: E402
+from tests.postfix.capture import cases, milter, upstream
+from tests.postfix.capture.instance import FILTERED, MILTER, SMTP, UPSTREAM, Instance, has_postfix, request_bytes
+from tests.postfix.capture.submit import by_sendmail, by_smtp
 
 FILES = Path(__file__).parents[1] / "files"
 SERVICES = ("bounce", "defer", "trace")
@@ -152,4 +148,5 @@ def main():
     print(f"{len(list(FILES.iterdir()))} messages in {FILES}")
 
 
-main()
+if __name__ == "__main__":
+    main()

@@ -4,8 +4,8 @@ import socket
 import subprocess
 import time
 
-from cases import Case
-from instance import Instance
+from tests.postfix.capture.cases import Case
+from tests.postfix.capture.instance import Instance
 
 
 def say(stream, line: bytes) -> bytes:

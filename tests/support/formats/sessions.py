@@ -2,7 +2,7 @@
 import struct
 from typing import Optional
 
-from running import Ran
+from tests.support.running import Ran
 
 from .bodies import Refused, decoded
 from .logs import (

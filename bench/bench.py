@@ -5,7 +5,8 @@ same.
 
     python3 -m bench.bench [WORD ..]      only the workloads whose names have one of these words
 
-What strace, valgrind and GNU time would tell is left out where they aren't installed. The last line is 'within its limits' or says what was over; the exit status is 1 then.
+What strace, valgrind and GNU time would tell is left out where they aren't installed. The last line is 'within its
+limits' or says what was over; the exit status is 1 then.
 """
 import re
 import shutil
@@ -34,8 +35,7 @@ def timed(words, source: Path, outbox: Path, notes: Path) -> float:
 
 
 def peak_memory(source: Path):
-    """The peak memory of a run in KiB, or None where GNU time isn't there. (A child of this script would be told with
-    the script's own.)"""
+    """The peak memory of a run in KiB, or None without GNU time. (getrusage would count this script as well.)"""
     if not shutil.which("time"):
         return None
     with tempfile.TemporaryDirectory() as room, source.open("rb") as given:
@@ -79,8 +79,14 @@ def measure(workload, room: Path, empty) -> list:
     size, lines = outbox.stat().st_size, notes.read_bytes().count(b"\n")
     letters = outbox.read_bytes().count(b"\r\nMAIL FROM:<>\r\n")
     over = [] if outbox.read_bytes() == plain.read_bytes() else ["the plain reading's outbox differs"]
-    print(f"{workload.name}: {workload.items} {workload.item}s in {workload.frames} frames of {len(workload.stream)} bytes; {size} bytes out, {letters} notices, {lines} lines")
-    print(f"  {seconds:.2f} s: {workload.frames / seconds:.0f} frames, {letters / seconds:.0f} notices, {size / seconds / 1e6:.1f} MB out a second; cat {cat_seconds:.2f} s, plain reading {plain_seconds:.2f} s")
+    print(
+        f"{workload.name}: {workload.items} {workload.item}s in {workload.frames} frames of {len(workload.stream)} "
+        f"bytes; {size} bytes out, {letters} notices, {lines} lines"
+    )
+    print(
+        f"  {seconds:.2f} s: {workload.frames / seconds:.0f} frames, {letters / seconds:.0f} notices, "
+        f"{size / seconds / 1e6:.1f} MB out a second; cat {cat_seconds:.2f} s, plain reading {plain_seconds:.2f} s"
+    )
     memory = peak_memory(source)
     print(f"  peak memory {memory} KiB")
     if memory and letters == workload.items and memory * 1024 > KEPT:

@@ -1,11 +1,13 @@
-"""Measures appends that are kept: `noticed serve --journal` beside Postfix's own bounce(8), on the same disk, with 1, 4 and 16
-clients at once (bench/appends.c), each of which waits for an answer before it asks again. A client of the daemon keeps its connection; one of
-bounce(8) makes a connection for each request, as Postfix's programs do. The two take turns, since a disk's rates swing: the median
-of the runs is shown, and between which bounds they lay. It needs gcc, and as root Debian's postfix, of which it runs an
-instance of its own, without mail.
+"""Measures appends that are kept: `noticed serve --journal` beside Postfix's own bounce(8), on the same disk, with 1, 4
+and 16 clients at once (bench/appends.c), each of which waits for an answer before it asks again. A client of the daemon
+keeps its connection; one of bounce(8) makes a connection for each request, as Postfix's programs do. The two take
+turns, since a disk's rates swing: the median of the runs is shown, and between which bounds they lay. It needs gcc, and
+as root Debian's postfix, of which it runs an instance of its own, without mail.
 
-    python3 -m bench.beside_bounce [REQUESTS [FOLDER]]      so many requests a run, 8,000 unless said, on the disk that the folder
-                                                            is on, /var/tmp unless said; Postfix's account has to reach it
+    python3 -m bench.beside_bounce [REQUESTS [FOLDER]]
+
+REQUESTS is the number of requests of a run (default 8,000). FOLDER is on the disk to be measured (default /var/tmp);
+Postfix's account must be able to reach it.
 """
 import os
 import shutil
@@ -48,15 +50,31 @@ def queue_id(run: int, client: int, at: int) -> bytes:
 def frame(run: int, client: int, at: int) -> bytes:
     """An append as the daemon takes it."""
     recipient = b"no.bob%d@example.org" % at
-    return frames.append(at, 1, queue_id(run, client, at), recipient, 1, b"5.1.1", b"rfc822;" + recipient, b"127.0.0.1", HEARD, b"")
+    return frames.append(
+        at, 1, queue_id(run, client, at), recipient, 1, b"5.1.1", b"rfc822;" + recipient, b"127.0.0.1", HEARD, b""
+    )
 
 
 def request(run: int, client: int, at: int) -> bytes:
     """The same append as bounce(8) takes it, behind its length."""
     recipient = b"no.bob%d@example.org" % at
-    names = [(b"nrequest", b"0"), (b"flags", b"0"), (b"queue_id", queue_id(run, client, at)), (b"original_recipient", recipient), (b"recipient", recipient),
-             (b"offset", b"727"), (b"dsn_orig_rcpt", b"rfc822;" + recipient), (b"notify_flags", b"0"), (b"status", b"5.1.1"), (b"diag_type", b"smtp"),
-             (b"diag_text", HEARD), (b"mta_type", b"dns"), (b"mta_mname", b"127.0.0.1"), (b"action", b"failed"), (b"reason", REASON)]
+    names = [
+        (b"nrequest", b"0"),
+        (b"flags", b"0"),
+        (b"queue_id", queue_id(run, client, at)),
+        (b"original_recipient", recipient),
+        (b"recipient", recipient),
+        (b"offset", b"727"),
+        (b"dsn_orig_rcpt", b"rfc822;" + recipient),
+        (b"notify_flags", b"0"),
+        (b"status", b"5.1.1"),
+        (b"diag_type", b"smtp"),
+        (b"diag_text", HEARD),
+        (b"mta_type", b"dns"),
+        (b"mta_mname", b"127.0.0.1"),
+        (b"action", b"failed"),
+        (b"reason", REASON),
+    ]
     body = b"".join(name + b"\0" + value + b"\0" for name, value in names) + b"\0"
     return len(body).to_bytes(4, "big") + body
 
@@ -76,7 +94,18 @@ def rate(room: Path, kind: str, socket: Path, made, run: int, clients: int, tota
 def of_daemon(room: Path, run: int, clients: int, total: int) -> float:
     """Those of a daemon over a new journal."""
     folder, socket = Path(tempfile.mkdtemp(dir=room)), room / "socket"
-    words = [program(), "serve", "--journal", folder, "--outbox", folder / "outbox", socket, "mx.example.net", clients, 1]
+    words = [
+        program(),
+        "serve",
+        "--journal",
+        folder,
+        "--outbox",
+        folder / "outbox",
+        socket,
+        "mx.example.net",
+        clients,
+        1,
+    ]
     with subprocess.Popen(list(map(str, words)), stdout=subprocess.DEVNULL, stderr=subprocess.DEVNULL) as daemon:
         while not socket.exists():
             time.sleep(0.01)
@@ -100,7 +129,9 @@ class Postfix:
         (self.conf / "master.cf").write_text(MASTER)
 
     def ask(self, word: str):
-        subprocess.run(["postfix", "-c", self.conf, word], check=True, stdout=subprocess.DEVNULL, stderr=subprocess.DEVNULL)
+        subprocess.run(
+            ["postfix", "-c", self.conf, word], check=True, stdout=subprocess.DEVNULL, stderr=subprocess.DEVNULL
+        )
 
     def __enter__(self):
         self.ask("start")
@@ -126,14 +157,22 @@ def main():
     with tempfile.TemporaryDirectory(dir=place) as name:
         room = Path(name).resolve()
         room.chmod(0o755)
-        subprocess.run(["gcc", "-O2", "-Wall", "-Wextra", "-pthread", "-o", room / "appends", ROOT / "bench/appends.c"], check=True)
+        subprocess.run(
+            ["gcc", "-O2", "-Wall", "-Wextra", "-pthread", "-o", room / "appends", ROOT / "bench/appends.c"], check=True
+        )
         with Postfix(room) as bounce:
             for clients in CLIENTS:
                 found = {"noticed": [], "bounce(8)": []}
                 for run in range(RUNS):
                     found["noticed"].append(of_daemon(room, run, clients, total))
-                    found["bounce(8)"].append(rate(room, "requests", bounce, request, 16 * clients + run, clients, total))
-                print(f"{clients} clients: " + "; ".join(f"{name} {shown(rates)} a second" for name, rates in found.items()), flush=True)
+                    found["bounce(8)"].append(
+                        rate(room, "requests", bounce, request, 16 * clients + run, clients, total)
+                    )
+                print(
+                    f"{clients} clients: "
+                    + "; ".join(f"{name} {shown(rates)} a second" for name, rates in found.items()),
+                    flush=True,
+                )
 
 
 if __name__ == "__main__":

@@ -28,7 +28,11 @@ def show(what: str, count: int, measure: tuple):
     """One line: so many items of a kind, with what they took."""
     seconds, own, system = measure
     each = 1e6 * (own + system) / count
-    print(f"{what}: {count} in {seconds:.2f} s, {count / seconds:.0f} a second; {each:.2f} us of processor time each ({1e6 * own / count:.2f} its own, {1e6 * system / count:.2f} the system's)")
+    print(
+        f"{what}: {count} in {seconds:.2f} s, {count / seconds:.0f} a second; "
+        f"{each:.2f} us of processor time each ({1e6 * own / count:.2f} its own, "
+        f"{1e6 * system / count:.2f} the system's)"
+    )
     sys.stdout.flush()
 
 

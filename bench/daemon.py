@@ -25,7 +25,9 @@ CALLS = ("read", "write", "recvfrom", "sendto", "recvmsg", "sendmsg")
 
 def appends(client: int, count: int) -> bytes:
     """So many appends of a client, to logs of its own."""
-    made = (frames.append(at, 1, b"C%dL%d" % (client, at // LOG), b"bob@example.org", 1, b"5.1.1") for at in range(count))
+    made = (
+        frames.append(at, 1, b"C%dL%d" % (client, at // LOG), b"bob@example.org", 1, b"5.1.1") for at in range(count)
+    )
     return b"".join(made)
 
 
@@ -65,14 +67,20 @@ def speed(room: Path, clients: int, total: int):
         own, system = processor_time(daemon.running.pid)
     done = count * clients
     each = 1e6 * (own + system) / done
-    print(f"{clients} clients: {done} requests in {seconds:.2f} s, {done / seconds:.0f} a second; {each:.1f} us of the daemon's processor time each ({1e6 * own / done:.1f} its own, {1e6 * system / done:.1f} the system's)")
+    print(
+        f"{clients} clients: {done} requests in {seconds:.2f} s, {done / seconds:.0f} a second; "
+        f"{each:.1f} us of the daemon's processor time each ({1e6 * own / done:.1f} its own, "
+        f"{1e6 * system / done:.1f} the system's)"
+    )
     sys.stdout.flush()
 
 
 def memory(room: Path):
     """A daemon with as many logs as it takes, each with ten outcomes."""
     given = room / "logs"
-    made = (frames.append(at, 1, b"K%d" % (at % KEYS), b"bob@example.org", 1, b"5.1.1") for at in range(KEYS * OUTCOMES))
+    made = (
+        frames.append(at, 1, b"K%d" % (at % KEYS), b"bob@example.org", 1, b"5.1.1") for at in range(KEYS * OUTCOMES)
+    )
     given.write_bytes(b"".join(made))
     with Daemon(2, 1) as daemon:
         daemon.listens()
@@ -81,7 +89,10 @@ def memory(room: Path):
         after = peak_memory(daemon.running.pid)
         daemon.connect().close()
         lines = daemon.end().notes.count(b"open B K")
-    print(f"{lines} open logs of {OUTCOMES} outcomes: {after} KiB, {before} KiB before; {1024 * (after - before) // (KEYS * OUTCOMES)} bytes an outcome")
+    print(
+        f"{lines} open logs of {OUTCOMES} outcomes: {after} KiB, {before} KiB before; "
+        f"{1024 * (after - before) // (KEYS * OUTCOMES)} bytes an outcome"
+    )
 
 
 def counted(words, **how) -> tuple:

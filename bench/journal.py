@@ -1,10 +1,12 @@
-"""Measures a ledger over a real file (the program probe): requests a second, alone and in groups of 4 and of 16, each group kept
-by one write and one sync. Beside it a program in C (bench/plain_journal.c) that writes the same bytes by as many writes and
-syncs, and keeps nothing in memory. The two take turns, since a disk's rates swing: the median of the runs is shown, and between
-which bounds they lay. And how long an opening of the file takes, empty and with the requests, which are carried out again.
+"""Measures a ledger over a real file (the program probe): requests a second, alone and in groups of 4 and of 16, each
+group kept by one write and one sync. Beside it a program in C (bench/plain_journal.c) that writes the same bytes by as
+many writes and syncs, and keeps nothing in memory. The two take turns, since a disk's rates swing: the median of the
+runs is shown, and between which bounds they lay. And how long an opening of the file takes, empty and with the
+requests, which are carried out again.
 
-    python3 -m bench.journal [REQUESTS [FOLDER]]      so many requests, 6,000 unless said, on the disk that the folder is on, the
-                                                      current one unless said
+    python3 -m bench.journal [REQUESTS [FOLDER]]
+
+REQUESTS is the number of requests (default 6,000). FOLDER is on the disk to be measured (default: the current folder).
 """
 import os
 import statistics
@@ -32,7 +34,16 @@ def request(number: int) -> bytes:
         return frames.flush(number, 1, queue_id)
     if step == 5:
         return frames.forget(number, 1, queue_id)
-    return frames.append(number, 1, queue_id, b"recipient%d@example.org" % step, 1, b"5.1.1", mta=b"mx.example.org", diagnostic=DIAGNOSTIC)
+    return frames.append(
+        number,
+        1,
+        queue_id,
+        b"recipient%d@example.org" % step,
+        1,
+        b"5.1.1",
+        mta=b"mx.example.org",
+        diagnostic=DIAGNOSTIC,
+    )
 
 
 def timed(path: Path, given: bytes, group: int) -> float:
@@ -80,14 +91,19 @@ def main():
                 ours.append(timed(path, given, group) - openings[-1])
                 replays.append(timed(path, b"", group))
                 used = len(path.read_bytes().rstrip(b"\0"))
-                records, syncs, seconds = subprocess.run([plain, path, room / "plain", str(group)], stdout=subprocess.PIPE, check=True).stdout.split()
+                records, syncs, seconds = subprocess.run(
+                    [plain, path, room / "plain", str(group)], stdout=subprocess.PIPE, check=True
+                ).stdout.split()
                 theirs.append(float(seconds))
                 if int(records) != 1 + count:  # the header, and a record a request
                     raise RuntimeError(f"{int(records)} records of a header and {count}")
             print(f"groups of {group}: {count} requests, {int(syncs)} syncs, {used / count:.0f} bytes a request")
             show("  the ledger", count, ours)
             show("  write and fdatasync of the same bytes in C", count, theirs)
-        print(f"opening a file of {SIZE >> 20} MiB: {1e3 * statistics.median(openings):.0f} ms; with {count} requests: {1e3 * statistics.median(replays):.0f} ms")
+        print(
+            f"opening a file of {SIZE >> 20} MiB: {1e3 * statistics.median(openings):.0f} ms; "
+            f"with {count} requests: {1e3 * statistics.median(replays):.0f} ms"
+        )
 
 
 if __name__ == "__main__":

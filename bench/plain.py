@@ -1,5 +1,5 @@
-"""The same notices by the plain reading of docs/FORMATS.md that the fuzzers use: reads request frames from standard input
-and writes the outbox. `make bench` runs it beside `noticed batch`, and compares what both write."""
+"""The same notices by the plain reading of docs/FORMATS.md that the fuzzers use: reads request frames from standard
+input and writes the outbox. `make bench` runs it beside `noticed batch`, and compares what both write."""
 import sys
 
 from tests.support.formats.sessions import batch

@@ -1,11 +1,14 @@
-"""Measures a Postfix at load, of this script's own on loopback: messages of one failing recipient each, from the first that is sent to
-the last notice that arrives. One side makes the notices by bounce(8), the other by `noticed postfix` in front of it; they take turns, since
-a disk's rates swing, and the median of the runs is shown with the bounds between which they lay. The processor time is that of all of
-Postfix's processes, and the service's own apart. Postfix's own smtp-sink takes the place of the servers that refuse the messages and take
-the notices, so that these cost little. It needs root and Debian's postfix.
+"""Measures a Postfix at load, of this script's own on loopback: messages of one failing recipient each, from the first
+that is sent to the last notice that arrives. One side makes the notices by bounce(8), the other by `noticed postfix` in
+front of it; they take turns, since a disk's rates swing, and the median of the runs is shown with the bounds between
+which they lay. The processor time is that of all of Postfix's processes, and the service's own apart. Postfix's own
+smtp-sink takes the place of the servers that refuse the messages and take the notices, so that these cost little. It
+needs root and Debian's postfix.
 
-    python3 -m bench.postfix [MESSAGES [RUNS [FOLDER]]]      so many messages a run, 2,000 unless said, and so many runs of each side, 3.
-                                                             The queue stands in FOLDER: /dev/shm leaves out the disk"""
+    python3 -m bench.postfix [MESSAGES [RUNS [FOLDER]]]
+
+MESSAGES is the number of messages of a run (default 2,000), RUNS the number of runs of each side (default 3). The queue
+is in FOLDER: with /dev/shm the disk isn't measured."""
 import os
 import re
 import signal
@@ -61,7 +64,7 @@ def processor_time(process: int) -> tuple:
 
 
 def of_postfix(postfix: Postfix) -> float:
-    """The processor seconds of all processes of a Postfix, also of those that have ended: they are children of its master."""
+    """The processor seconds of all processes of a Postfix, with those that ended: all are children of its master."""
     return sum(processor_time(it)[0] for it in postfix.processes()) + processor_time(postfix.master.pid)[1]
 
 
@@ -71,18 +74,38 @@ def of_front(postfix: Postfix) -> float:
 
 
 def one_run(serves, messages: int, place) -> tuple:
-    """One run of a side: messages a second, and milliseconds of processor a message of Postfix and of the program in front."""
-    with Sink() as box, Sink(refuses=True) as refusing, Postfix(box, serves, place=place, transport_maps=REFUSED_BY.format(refusing.port)) as postfix:
+    """One run of a side: messages a second, and processor milliseconds a message of Postfix and of the program."""
+    with Sink() as box, Sink(refuses=True) as refusing, Postfix(
+        box, serves, place=place, transport_maps=REFUSED_BY.format(refusing.port)
+    ) as postfix:
         postfix.start()
         before, began = (of_postfix(postfix), of_front(postfix)), time.monotonic()
-        words = [SOURCE, "-d", "-s", str(CLIENTS), "-m", str(messages), "-l", "1000", "-f", "ann@example.com", "-t", "no.bob@example.org", f"127.0.0.1:{postfix.smtp}"]
+        words = [
+            SOURCE,
+            "-d",
+            "-s",
+            str(CLIENTS),
+            "-m",
+            str(messages),
+            "-l",
+            "1000",
+            "-f",
+            "ann@example.com",
+            "-t",
+            "no.bob@example.org",
+            f"127.0.0.1:{postfix.smtp}",
+        ]
         subprocess.run(words, check=True, timeout=PATIENCE, stdout=subprocess.DEVNULL)
         if not comes_true(lambda: box.taken() >= messages, PATIENCE, 0.02):
             raise RuntimeError(f"{box.taken()} notices of {messages}")
         took = time.monotonic() - began
-        spent = [(after - first) * 1000 / messages for after, first in zip((of_postfix(postfix), of_front(postfix)), before)]
+        spent = [
+            (after - first) * 1000 / messages for after, first in zip((of_postfix(postfix), of_front(postfix)), before)
+        ]
         left = postfix.left(30, empty=True)
-        if postfix.front and re.search(r"VmSize:\s+\d{10}", Path(f"/proc/{postfix.front.running.pid}/status").read_text()):
+        if postfix.front and re.search(
+            r"VmSize:\s+\d{10}", Path(f"/proc/{postfix.front.running.pid}/status").read_text()
+        ):
             print("  the program was built with a sanitizer: its figures say little", flush=True)
         if left or box.taken() != messages:
             raise RuntimeError(f"{box.taken()} notices of {messages}; left {left[:5]}")
@@ -107,7 +130,10 @@ def main():
     for _ in range(int(runs)):
         for name, serves in sides.items():
             figures[name].append(one_run(serves, int(messages), place))
-    print(f"{messages} messages of one failing recipient each, {CLIENTS} clients, {runs} runs of each side: the median, and the bounds")
+    print(
+        f"{messages} messages of one failing recipient each, {CLIENTS} clients, {runs} runs of each side: "
+        "the median, and the bounds"
+    )
     for name, all_of_it in figures.items():
         rate, postfix, front = (shown([it[at] for it in all_of_it]) for at in range(3))
         print(f"  {name}: {rate} messages a second; processor a message: Postfix {postfix} ms, the service {front} ms")

@@ -1,6 +1,7 @@
-"""Runs a daemon of 16 agents for some minutes with clients that come and go: they append, flush, discard and forget, hold
-their connections without a word, leave in the middle of a frame, or before an answer. At the end its memory, descriptors
-and threads must be what they were after the first minute, and each of its agents must serve. It isn't part of `make check`.
+"""Runs a daemon of 16 agents for some minutes with clients that come and go: they append, flush, discard and forget,
+hold their connections without a word, leave in the middle of a frame, or before an answer. At the end its memory,
+descriptors and threads must be what they were after the first minute, and each of its agents must serve. It isn't part
+of `make check`.
 
     python3 -m bench.soak [MINUTES]      8 unless said
 """
@@ -12,7 +13,18 @@ import time
 from pathlib import Path
 
 from tests.support.daemon_and_clients import Daemon, asked, frames, heard
-from tests.support.formats.logs import CLOSED, DISCARDED, FORGOTTEN, LOG_FULL, LOGGED, NO_RETURN, NOT_CLOSED, NOTHING, REFUSED, SEALED
+from tests.support.formats.logs import (
+    CLOSED,
+    DISCARDED,
+    FORGOTTEN,
+    LOG_FULL,
+    LOGGED,
+    NO_RETURN,
+    NOT_CLOSED,
+    NOTHING,
+    REFUSED,
+    SEALED,
+)
 from tests.support.running import Checks, program
 
 AGENTS, USES, CLIENTS, BOUNCE = 16, 1_000_000, 24, 1
@@ -22,9 +34,12 @@ KEYS = 50  # of each client
 PAUSE = 0.02  # seconds that a client lets pass between two connections, at most
 QUIET = 0.5  # seconds until the daemon has seen that its clients have left
 LEGAL = {
-    "append": (LOGGED, CLOSED, LOG_FULL), "flush": (SEALED, NOTHING, NO_RETURN, CLOSED), "discard": (DISCARDED, CLOSED),
-    "forget": (FORGOTTEN, NOT_CLOSED), "refused": (REFUSED,),
-}  # fmt: skip
+    "append": (LOGGED, CLOSED, LOG_FULL),
+    "flush": (SEALED, NOTHING, NO_RETURN, CLOSED),
+    "discard": (DISCARDED, CLOSED),
+    "forget": (FORGOTTEN, NOT_CLOSED),
+    "refused": (REFUSED,),
+}
 
 
 class Client(threading.Thread):
@@ -43,7 +58,9 @@ class Client(threading.Thread):
             return frames.append(place, BOUNCE, key, b"x@y", 1, b"5.0.0", diagnostic=long, reason=long)
         if what == "flush":
             path = self.dice.choice([b"ann@example.com", b"ann@example.com", b""])
-            return frames.flush(place, BOUNCE, key, return_path=path, header=b"X: y\n" * self.dice.choice([0, 10, 6000]))
+            return frames.flush(
+                place, BOUNCE, key, return_path=path, header=b"X: y\n" * self.dice.choice([0, 10, 6000])
+            )
         if what == "refused":
             return frames.frame(bytes(self.dice.choice([1, 100, 65_536])))
         return getattr(frames, what)(place, BOUNCE, key)
@@ -58,7 +75,9 @@ class Client(threading.Thread):
     def converse(self, stream: socket.socket):
         """One connection: a message's events, and then one of the ways to leave."""
         key = b"C%dK%d" % (self.number, self.dice.randrange(KEYS))
-        events = ["append"] * self.dice.choice([0, 1, 1, 2, 30]) + self.dice.choice([["flush", "forget"], ["discard", "forget"], ["refused"], []])
+        events = ["append"] * self.dice.choice([0, 1, 1, 2, 30]) + self.dice.choice(
+            [["flush", "forget"], ["discard", "forget"], ["refused"], []]
+        )
         for place, what in enumerate(events):
             self.ask(stream, what, place, key)
         leaves = self.dice.random()
@@ -93,7 +112,7 @@ def look(daemon: Daemon) -> tuple:
 
 
 def run_clients(daemon: Daemon, seconds: float) -> list:
-    """Lets clients come and go for so long, says each minute how it stands, and gives the clients once all have left."""
+    """Lets clients come and go for this time, prints the figures each minute, and returns the clients at the end."""
     stop, began = threading.Event(), time.monotonic()
     clients = [Client(daemon, number, stop) for number in range(CLIENTS)]
     for it in clients:
@@ -102,7 +121,11 @@ def run_clients(daemon: Daemon, seconds: float) -> list:
         time.sleep(min(EACH, max(0.0, seconds - (time.monotonic() - began))))
         done = sum(it.connections for it in clients), sum(it.answers for it in clients)
         memory, descriptors, threads = look(daemon)
-        print(f"  {time.monotonic() - began:.0f} s: {done[0]} connections, {done[1]} answers; {memory} KiB, {descriptors} descriptors, {threads} threads", flush=True)
+        print(
+            f"  {time.monotonic() - began:.0f} s: {done[0]} connections, {done[1]} answers; {memory} KiB, "
+            f"{descriptors} descriptors, {threads} threads",
+            flush=True,
+        )
     stop.set()
     for it in clients:
         it.join()

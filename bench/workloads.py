@@ -46,7 +46,9 @@ class Stream:
 
     def broken(self):
         """A body whose status no table has."""
-        self.parts.append(frames.append(len(self.parts), BOUNCE, b"REFUSED", b"somebody.else@mail.example.org", FAILED, b"5.01.1"))
+        self.parts.append(
+            frames.append(len(self.parts), BOUNCE, b"REFUSED", b"somebody.else@mail.example.org", FAILED, b"5.01.1")
+        )
 
     def bytes(self) -> bytes:
         """All of them."""
@@ -116,7 +118,12 @@ def long_messages() -> Workload:
     for number in range(MESSAGES):
         for at in range(10):
             stream.append(long_id(number), b"user%02d-%05d@example.org" % (at, number), **texts_of(source))
-        stream.flush(long_id(number), return_path=b"sender%05d@example.com" % number, envelope=b"envelope-%024d" % number, header=header_of(source, 2048))
+        stream.flush(
+            long_id(number),
+            return_path=b"sender%05d@example.com" % number,
+            envelope=b"envelope-%024d" % number,
+            header=header_of(source, 2048),
+        )
     return Workload("long messages", "message", MESSAGES, 54_500, stream.bytes(), len(stream.parts))
 
 

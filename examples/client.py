@@ -4,9 +4,9 @@ r"""A delivery agent's client: it asks a daemon what becomes of one message, ove
     python3 examples/client.py [--connect S] [--wait S] [--answer S] [--give-up S] [--json] SOCKET [FILE]
 
 FILE, or standard input, has the message's requests in their order: the lines of examples/frames.py (the numbers there
-are left aside), or with --json a list of objects such as these. A flush says its return path ("" or return= for the null
-one), its moment and its arrival: there are no others in their place. It may say how many outcomes its log is to have
-(expects=2 or "expected": 2): no notice is made of another number.
+are left aside), or with --json a list of objects such as these. A flush says its return path ("" or return= for the
+null one), its moment and its arrival: there are no others in their place. It may say how many outcomes its log is to
+have (expects=2 or "expected": 2): no notice is made of another number.
 
     {"request": "append", "service": "bounce", "queue_id": "A1B2C3", "recipient": "bob@example.org",
      "action": "failed", "status": "5.1.1", "diagnostic": "550 5.1.1 no such user"}
@@ -15,12 +15,12 @@ one), its moment and its arrival: there are no others in their place. It may say
 
 Each answer is a line on standard output: the request's place from 0, and the words of docs/FORMATS.md section 6. What
 else the caller has to know is a line on standard error: an address that can't be logged, an outcome that may stand in
-the log twice, a request that wasn't carried out, a notice that lacks an outcome. What an answer means, and when a request
-is asked again, is the table of docs/FORMATS.md section 7.
+the log twice, a request that wasn't carried out, a notice that lacks an outcome. What an answer means, and when a
+request is asked again, is the table of docs/FORMATS.md section 7.
 
-The status is 0 where all was carried out, 1 where something can't be, which is told, 2 for wrong arguments or requests, 75
-(EX_TEMPFAIL) where no daemon did it in time, or none can be reached. Hand in the whole message again later: then no outcome
-is missing, and those that were logged may be in the notice twice.
+The status is 0 where all was carried out, 1 where something can't be, which is told, 2 for wrong arguments or requests,
+75 (EX_TEMPFAIL) where no daemon did it in time, or none can be reached. Hand in the whole message again later: then no
+outcome is missing, and those that were logged may be in the notice twice.
 """
 import argparse
 import json
@@ -36,15 +36,42 @@ sys.dont_write_bytecode = True
 sys.path.insert(0, os.path.dirname(os.path.abspath(__file__)))
 import frames  # noqa: E402
 
-(LOGGED, CLOSED, TABLE_FULL, LOG_FULL, NOTHING, NO_RETURN, SEALED, DISCARDED, GONE, REFUSED, FORGOTTEN, NOT_CLOSED,
- DIFFERS) = range(1, 14)
-WORDS = ["logged %d", "closed", "table full", "log full", "nothing", "no return %d", "sealed %d", "discarded %d", "gone", "refused %d",
-         "forgotten", "not closed", "differs %d"]
+(
+    LOGGED,
+    CLOSED,
+    TABLE_FULL,
+    LOG_FULL,
+    NOTHING,
+    NO_RETURN,
+    SEALED,
+    DISCARDED,
+    GONE,
+    REFUSED,
+    FORGOTTEN,
+    NOT_CLOSED,
+    DIFFERS,
+) = range(1, 14)
+WORDS = [
+    "logged %d",
+    "closed",
+    "table full",
+    "log full",
+    "nothing",
+    "no return %d",
+    "sealed %d",
+    "discarded %d",
+    "gone",
+    "refused %d",
+    "forgotten",
+    "not closed",
+    "differs %d",
+]
 NO_MEMORY, USED_UP, OUT_OF_TURN = 9, 44, 46
 ADDRESS = re.compile(rb"[!-;=?-~]{1,256}")  # what the daemon takes for one
 LONGEST_TEXT, LONGEST_HEADER = 800, 32_768
 PAUSE, LONGEST_PAUSE = 0.05, 5  # seconds before a request is asked again: the first, each twice the last, and the most
-FOR_NOW = (FileNotFoundError, ConnectionError, TimeoutError, BlockingIOError)  # no daemon, one that ended, one that is busy
+# No daemon, one that ended, one that is busy.
+FOR_NOW = (FileNotFoundError, ConnectionError, TimeoutError, BlockingIOError)
 OF_A_FLUSH = ("return_path", "moment", "arrival")  # what examples/frames.py would make up
 GREETING = frames.frame(b"\0")  # a body that is refused, and changes nothing: its answer says that an agent is there
 
@@ -59,7 +86,8 @@ class GivenUp(Exception):
 
 @dataclass
 class Patience:
-    """Seconds: to connect, for the first answer (agents may all be busy), for each later one, and for the whole message."""
+    """Seconds: to connect, for the first answer (agents may all be busy), for each later one, and for the whole
+    message."""
 
     connect: float = 5
     wait: float = 60
@@ -98,7 +126,11 @@ class Connection:
         """Writes the frame of the next number, and reads its answer: reply and value."""
         self.stream.sendall(frame_of(self.number))
         length, version, reply, number, value = struct.unpack(">IBBII", self.read(14))
-        if (version, number) != (1, self.number) or not 1 <= reply <= len(WORDS) or length not in (10, 18 if reply == SEALED else 10):
+        if (
+            (version, number) != (1, self.number)
+            or not 1 <= reply <= len(WORDS)
+            or length not in (10, 18 if reply == SEALED else 10)
+        ):
             raise Ended(f"no answer: reply {reply} to {number}")
         self.read(length - 10)  # the notice's serial, to a flush of version 3
         self.number += 1
@@ -116,8 +148,8 @@ class Connection:
 
 
 class Message:
-    """The requests of one message. What the caller must know is told by `warn`; `is_lacking` says whether something couldn't
-    be carried out."""
+    """The requests of one message. What the caller must know is told by `warn`; `is_lacking` says whether something
+    couldn't be carried out."""
 
     def __init__(self, path: str, requests: list, patience: Patience, warn):
         self.path, self.patience, self.warn, self.is_lacking = path, patience, warn, False
@@ -156,8 +188,8 @@ class Message:
         return reply, value
 
     def fits(self, request: Request) -> bool:
-        """Whether a request can be asked; what is too long and may be cut is cut, and an original recipient that can't be
-        told is left out."""
+        """Whether a request can be asked; what is too long and may be cut is cut, and an original recipient that can't
+        be told is left out."""
         fields = request.fields
         for it in ("diagnostic", "reason"):
             if it in fields:
@@ -181,7 +213,9 @@ class Message:
                 self.connection = self.connection or Connection(self.path, self.patience)
                 sent = True
                 reply, value = self.connection.ask(lambda number: frames.frame_of(request.kind, number, request.fields))
-                if reply not in (TABLE_FULL, GONE) and (reply, value) not in [(REFUSED, it) for it in (NO_MEMORY, USED_UP, OUT_OF_TURN)]:
+                if reply not in (TABLE_FULL, GONE) and (reply, value) not in [
+                    (REFUSED, it) for it in (NO_MEMORY, USED_UP, OUT_OF_TURN)
+                ]:
                     return reply, value
                 why = words_of(reply, value)
             except OSError as failed:
@@ -197,8 +231,8 @@ class Message:
             pause = min(2 * pause, LONGEST_PAUSE)
 
     def append(self, request: Request) -> tuple:
-        """Adds an outcome; where its log was closed empty, or is full, to the key's next one. Earlier ones that went to a daemon
-        that has ended are logged again, and told where they can't be."""
+        """Adds an outcome; where its log was closed empty, or is full, to the key's next one. Earlier ones that went to
+        a daemon that has ended are logged again, and told where they can't be."""
         reply, value = self.asked(request)
         key = request.key()
         flush = next((it for it in self.requests if it and it.kind == "flush" and it.key() == key), None)
@@ -216,9 +250,9 @@ class Message:
         return reply, value
 
     def flush(self, request: Request, again: bool = True) -> tuple:
-        """Closes a log; where it has nothing of what was logged, a daemon has ended with it, and it is logged again, once. Where
-        it has a part of it, the notice is made: what it lacks is told. A flush that says how many outcomes it expects makes no
-        notice then, and leaves the log open, which is told too."""
+        """Closes a log; where it has nothing of what was logged, a daemon has ended with it, and it is logged again,
+        once. Where it has a part of it, the notice is made: what it lacks is told. A flush that says how many outcomes
+        it expects makes no notice then, and leaves the log open, which is told too."""
         reply, value = self.asked(request)
         key = request.key()
         logged = self.logged.pop(key, [])
@@ -277,7 +311,14 @@ def from_json(text: str) -> list:
     """The requests of a list of objects."""
     codes, found = {"service": frames.SERVICES, "action": frames.ACTIONS}, []
     for it in json.loads(text):
-        fields = {name: codes[name].get(value, value) if name in codes else value.encode() if isinstance(value, str) else value for name, value in it.items()}
+        fields = {
+            name: codes[name].get(value, value)
+            if name in codes
+            else value.encode()
+            if isinstance(value, str)
+            else value
+            for name, value in it.items()
+        }
         found.append(Request(fields.pop("request").decode(), fields))
     return found
 

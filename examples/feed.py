@@ -12,24 +12,24 @@ submission program, run once for each notice with `-f <> -- RECIPIENT` after the
 With --follow the outbox is a file that grows. Once it was moved away to OUTBOX.TIME, and another one stands under its
 name (that of the next daemon), it is read to its end, and then the next: first each OUTBOX.* that isn't done, in the
 order of their names, also those of before the feeder's start. What became of each notice is kept in a state file
-(feed.OUTBOX.state beside the outbox, or --state), so that a feeder that is started anew goes on where it was. It ends by
-SIGTERM or SIGINT, once the notice in hand is done. --done says what becomes of an outbox that was moved away and of which
-no notice waits: it is kept, removed or renamed to done.OUTBOX.TIME.
+(feed.OUTBOX.state beside the outbox, or --state), so that a feeder that is started anew goes on where it was. It ends
+by SIGTERM or SIGINT, once the notice in hand is done. --done says what becomes of an outbox that was moved away and of
+which no notice waits: it is kept, removed or renamed to done.OUTBOX.TIME.
 
 A notice that is refused for now (a reply 4yz, no server, a lost connection; of a program any status but 64, 65 and 67,
 a signal that ended it, or that it could not be run) is put off: it is tried again once a minute, for four days, while
 later ones are handed in (RFC 5321 section 4.5.4.1; --retry and --give-up say other times, in seconds). One that is
 refused for good, or for so long, is left out: it must not cause another notice. Each of both is said once, by a line on
-standard error with its key and the reply. Of a pipe what is put off is kept in memory: where a hundred wait nothing more
-is read, and those that still wait when a signal comes are left out. A notice is sent twice where it was taken and its
-reply was late or lost, or the feeder was killed before it had written that down. With
---once a notice is left out where the state has that it was handed in before, byte for byte: a daemon that keeps a journal
-may post a letter again after it was killed.
+standard error with its key and the reply. Of a pipe what is put off is kept in memory: where a hundred wait nothing
+more is read, and those that still wait when a signal comes are left out. A notice is sent twice where it was taken and
+its reply was late or lost, or the feeder was killed before it had written that down. With --once a notice is left out
+where the state has that it was handed in before, byte for byte: a daemon that keeps a journal may post a letter again
+after it was killed.
 
-The last line says how many were handed in, how many were left out, how many were handed in before, and how many wait for
-the next start. The status is 0 where none was left out and each outbox was whole, 1 where one was left out or cut short or
-not read to its end, 2 for wrong arguments, 3 where nothing could be done: another feeder is at work, or a file can't be
-used. FEEDER.md has more.
+The last line says how many were handed in, how many were left out, how many were handed in before, and how many wait
+for the next start. The status is 0 where none was left out and each outbox was whole, 1 where one was left out or cut
+short or not read to its end, 2 for wrong arguments, 3 where nothing could be done: another feeder is at work, or a file
+can't be used. FEEDER.md has more.
 """
 import argparse
 import contextlib
@@ -64,8 +64,8 @@ def moved_away(path: str) -> list:
 
 
 def stands(name: str) -> Optional[tuple]:
-    """What tells whether a file is the one of before: its inode number, size and time. None where there is none, OSError where
-    that can't be told."""
+    """What tells whether a file is the one of before: its inode number, size and time. None where there is none,
+    OSError where that can't be told."""
     try:
         found = os.stat(name)
     except FileNotFoundError:
@@ -244,8 +244,8 @@ class Feeder:
         time.sleep(seconds)
 
     def finish(self, record: Record):
-        """Removes or renames an outbox that was moved away and read to its end, once no notice of it waits. One that was
-        cut, or of which a notice was left out, is never removed."""
+        """Removes or renames an outbox that was moved away and read to its end, once no notice of it waits. One that
+        was cut, or of which a notice was left out, is never removed."""
         if self.given.done == "keep" or record.end is None or record.waiting or not self.path:
             return
         name = record.name
@@ -263,8 +263,8 @@ class Feeder:
         self.synced(record, name)
 
     def synced(self, record: Record, name: str):
-        """Forgets an outbox that was removed or renamed, once no stop of the machine brings it back: where that isn't sure it
-        is known until the next start, so that it would not be handed in again."""
+        """Forgets an outbox that was removed or renamed, once no stop of the machine brings it back: where that isn't
+        sure it is known until the next start, so that it would not be handed in again."""
         try:
             sync_folder(name)
         except OSError as why:
@@ -295,8 +295,8 @@ class Feeder:
         return record, hashlib.sha256()
 
     def opened(self, name: str):
-        """The record of an outbox that isn't read to its end yet, its file opened and locked, and the sum over what was read
-        of it; None for one that is, or that is none, or that can't be read now."""
+        """The record of an outbox that isn't read to its end yet, its file opened and locked, and the sum over what was
+        read of it; None for one that is, or that is none, or that can't be read now."""
         if time.monotonic() < self.aside.get(name, 0):
             return None
         try:
@@ -313,7 +313,7 @@ class Feeder:
         return found
 
     def put_aside(self, name: str, why: OSError):
-        """Has a file or a folder that can't be read tried again after a while. It is said once, until it can be read."""
+        """Has a file or a folder that can't be read tried again after a while. It is reported once."""
         if name not in self.aside:
             say(f"{name} is left alone: {why.strerror}")
         self.aside[name] = time.monotonic() + self.given.retry
@@ -359,8 +359,8 @@ class Feeder:
         return None
 
     def next_outbox(self):
-        """Waits for an outbox that isn't read to its end: the first of those that were moved away, else the one that grows,
-        unless it was moved away meanwhile."""
+        """Waits for an outbox that isn't read to its end: the first of those that were moved away, else the one that
+        grows, unless it was moved away meanwhile."""
         while True:
             grows, names = stands(self.path), self.listed()
             for name in names or ():
@@ -393,8 +393,8 @@ class Feeder:
         return found is not None and found[0] != record.inode
 
     def forget_removed(self):
-        """Lets go of the outboxes that aren't there any more. OSError where that can't be told of one of the names: it may be that
-        of any, so that none is let go."""
+        """Lets go of the outboxes that aren't there any more. OSError where that can't be told of one of the names: it
+        may be that of any, so that none is let go."""
         grows = stands(self.path)  # before the folder is listed: it may be moved away meanwhile
         there = {it[0] for it in (grows, *map(stands, moved_away(self.path))) if it}
         for record in [it for it in self.state.records.values() if it.inode not in there]:
@@ -408,7 +408,14 @@ class Feeder:
             while True:
                 record, read = self.next_outbox()
                 with contextlib.suppress(Elsewhere):
-                    self.feed(Growing(record, read, lambda it=record: self.is_replaced(it), lambda seconds, it=record: self.pause_within(it, seconds)))
+                    self.feed(
+                        Growing(
+                            record,
+                            read,
+                            lambda it=record: self.is_replaced(it),
+                            lambda seconds, it=record: self.pause_within(it, seconds),
+                        )
+                    )
                     self.ends(record)
                 record.file.close()
                 record.file = None
@@ -442,7 +449,7 @@ class Feeder:
             self.ends(record)
 
     def end(self) -> int:
-        """Leaves out what still waits where no state keeps it, ends the mailer, says the counts, and gives the exit status."""
+        """Leaves out what still waits and no state keeps, ends the mailer, prints the counts, returns the status."""
         waits = [it for of in self.state.records.values() for it in of.waiting.values()]
         if self.state.path is None:
             for it in waits:
@@ -450,7 +457,10 @@ class Feeder:
             waits = []
         self.mailer.close()
         more = ((self.repeated, "repeated"), (len(waits), "wait"))
-        say(f"{self.handed} handed in, {self.left_out} left out" + "".join(f", {count} {what}" for count, what in more if count))
+        say(
+            f"{self.handed} handed in, {self.left_out} left out"
+            + "".join(f", {count} {what}" for count, what in more if count)
+        )
         return 1 if self.left_out or self.cut or self.state.is_behind else 0
 
 
@@ -471,13 +481,29 @@ def done_name(name: str) -> str:
 
 def options():
     """The command line."""
-    reader = argparse.ArgumentParser(description=__doc__.split("\n", maxsplit=1)[0], usage="%(prog)s [OPTION]... HOST:PORT | PROGRAM [WORD]...")
+    reader = argparse.ArgumentParser(
+        description=__doc__.split("\n", maxsplit=1)[0], usage="%(prog)s [OPTION]... HOST:PORT | PROGRAM [WORD]..."
+    )
     reader.add_argument("--follow", metavar="OUTBOX", help="a file that grows, in place of standard input")
-    reader.add_argument("--state", metavar="FILE", help="where it is kept what became of each notice (with --follow feed.OUTBOX.state beside OUTBOX)")
-    reader.add_argument("--done", choices=("keep", "remove", "rename"), help="with --follow: what becomes of an outbox that is done (keep)")
-    reader.add_argument("--once", action="store_true", help="leave out a notice that was handed in before, byte for byte")
-    reader.add_argument("--retry", type=float, default=RETRY, metavar="SECONDS", help="between two tries of a notice (%(default)s)")
-    reader.add_argument("--give-up", type=float, default=GIVE_UP, metavar="SECONDS", help="for which one is tried (%(default)s)")
+    reader.add_argument(
+        "--state",
+        metavar="FILE",
+        help="where it is kept what became of each notice (with --follow feed.OUTBOX.state beside OUTBOX)",
+    )
+    reader.add_argument(
+        "--done",
+        choices=("keep", "remove", "rename"),
+        help="with --follow: what becomes of an outbox that is done (keep)",
+    )
+    reader.add_argument(
+        "--once", action="store_true", help="leave out a notice that was handed in before, byte for byte"
+    )
+    reader.add_argument(
+        "--retry", type=float, default=RETRY, metavar="SECONDS", help="between two tries of a notice (%(default)s)"
+    )
+    reader.add_argument(
+        "--give-up", type=float, default=GIVE_UP, metavar="SECONDS", help="for which one is tried (%(default)s)"
+    )
     reader.add_argument("mailer", nargs=argparse.REMAINDER, help=argparse.SUPPRESS)
     given = reader.parse_args()
     if not given.mailer:
@@ -499,7 +525,9 @@ def main():
     given = options()
     is_server = len(given.mailer) == 1 and re.fullmatch(r"[^/]*:[0-9]+", given.mailer[0])
     try:
-        feeder = Feeder(given, Server(given.mailer[0], given.retry, PATIENCE) if is_server else Program(given.mailer, PATIENCE))
+        feeder = Feeder(
+            given, Server(given.mailer[0], given.retry, PATIENCE) if is_server else Program(given.mailer, PATIENCE)
+        )
         feeder.follow() if given.follow else feeder.feed_input()
         sys.exit(feeder.end())
     except Stopped:

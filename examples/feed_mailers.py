@@ -16,7 +16,8 @@ FINAL = (os.EX_USAGE, os.EX_DATAERR, os.EX_NOUSER)  # 64, 65, 67: statuses of a 
 
 DOT_STRING = re.compile(rb"[A-Za-z0-9!#$%&'*+/=?^_`{|}~-]+(\.[A-Za-z0-9!#$%&'*+/=?^_`{|}~-]+)*")  # section 4.1.2
 QUOTED_STRING = re.compile(rb'"([\x20\x21\x23-\x5b\x5d-\x7e]|\\[\x20-\x7e])*"')
-DOMAIN = re.compile(rb"[A-Za-z0-9_-]+(\.[A-Za-z0-9_-]+)*|\[[A-Za-z0-9:.-]+\]")  # of address literals (section 4.1.3) what no program splits
+# Of address literals (section 4.1.3) only what no program splits.
+DOMAIN = re.compile(rb"[A-Za-z0-9_-]+(\.[A-Za-z0-9_-]+)*|\[[A-Za-z0-9:.-]+\]")
 
 
 class Refused(Exception):
@@ -32,8 +33,8 @@ class Closed(Refused):
 
 
 class Server:
-    """A mail server, with a connection that is made when the first notice comes. Where none can be made, none is tried for
-    as long as a notice waits for another try."""
+    """A mail server, with a connection that is made when the first notice comes. Where none can be made, none is tried
+    for as long as a notice waits for another try."""
 
     def __init__(self, address: str, retry: float, patience: float):
         host, _, port = address.rpartition(":")
@@ -43,8 +44,8 @@ class Server:
         self.absent, self.why = 0.0, ""
 
     def send(self, notice: Notice):
-        """Hands in one notice from the null sender. Where the server has closed the connection of the one before, it took
-        nothing yet: the notice is sent on a new one."""
+        """Hands in one notice from the null sender. Where the server has closed the connection of the one before, it
+        took nothing yet: the notice is sent on a new one."""
         if self.connection is not None:
             with contextlib.suppress(Closed):
                 self.transact(notice)
@@ -164,8 +165,8 @@ class Program:
         self.words, self.patience = words, patience
 
     def send(self, notice: Notice):
-        """Runs the program on one notice. It reads a file in memory that is whole before it starts, so that it never takes a
-        part of a message for the message, as it would from a pipe whose writer was killed."""
+        """Runs the program on one notice. It reads a file in memory that is whole before it starts, so that it never
+        takes a part of a message for the message, as it would from a pipe whose writer was killed."""
         words = [*self.words, "-f", "<>", "--", for_program(notice.path)]
         try:
             with open(os.memfd_create("notice"), "w+b") as message:

@@ -18,8 +18,8 @@ class CutShort(Exception):
 
 @dataclass
 class Notice:
-    """One mail transaction of an outbox: the host that says it, the path of its RCPT, and what follows DATA, with the dots
-    of the transfer and the line of one dot."""
+    """One mail transaction of an outbox: the host that says it, the path of its RCPT, and what follows DATA, with the
+    dots of the transfer and the line of one dot."""
 
     host: bytes
     path: bytes
@@ -35,7 +35,7 @@ class Notice:
         return hashlib.sha256(b"\r\n".join((self.host, self.path, self.data))).hexdigest()
 
     def message(self) -> bytes:
-        """The message as a program takes it: without the dots of the transfer, and with lines that end with LF alone."""
+        """The message as a program takes it: without the dots of the transfer, and with LF at the ends of lines."""
         lines = self.data.split(b"\r\n")[:-2]
         return b"".join(it.removeprefix(b".") + b"\n" for it in lines)
 

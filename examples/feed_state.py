@@ -39,8 +39,8 @@ class Waiting:
 @dataclass
 class Record:
     """What is known of one outbox: up to where each notice was handed in, left out or put off, the digest of the bytes
-    before that, what waits by its place, whether one was left out, whether it was cut, and its size and time once it was
-    read to its end. The name and the open file aren't kept."""
+    before that, what waits by its place, whether one was left out, whether it was cut, and its size and time once it
+    was read to its end. The name and the open file aren't kept."""
 
     number: int
     inode: int
@@ -86,8 +86,8 @@ def line_of_state(*words) -> bytes:
 
 
 class State:
-    """What is known of the outboxes, in a file that is appended to and synced after each reply, or in memory alone; and,
-    with --once, the digests of the notices that were handed in last. `is_stopped` says whether a signal came. No
+    """What is known of the outboxes, in a file that is appended to and synced after each reply, or in memory alone;
+    and, with --once, the digests of the notices that were handed in last. `is_stopped` says whether a signal came. No
     two feeders have one such file: it is locked. `is_behind` says that a line could not be written."""
 
     def __init__(self, path: Optional[str], is_stopped):
@@ -122,7 +122,9 @@ class State:
                 self.apply(int(number), what, *rest)
             except (ValueError, KeyError, TypeError) as why:
                 if at < len(lines) - 1 or (at == len(lines) - 1 and lines[-1]):
-                    raise Unusable(f"{self.path} is damaged at line {at}; without it all that lies there is handed in again") from why
+                    raise Unusable(
+                        f"{self.path} is damaged at line {at}; without it all that lies there is handed in again"
+                    ) from why
 
     def apply(self, number: int, what: str, *rest):
         """Does what a line says."""
@@ -156,7 +158,7 @@ class State:
             raise ValueError
 
     def know(self, *digests):
-        """Keeps the digest of a notice that was handed in, if there is one, and lets the oldest go where there are too many."""
+        """Keeps the digest of a notice that was handed in, if it has one; drops the oldest if there are too many."""
         for it in digests:
             self.known.pop(it, None)
             self.known[it] = None

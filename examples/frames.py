@@ -17,13 +17,13 @@ standard input, and each frame is written as soon as its line is there.
     forget NUMBER SERVICE ID
     hex DIGITS               these bytes as they are, for input that is not as it should be
 
-NUMBER is the frame's place, from 0; a dot stands for it. SERVICE is bounce, defer or trace, ACTION is failed, delayed, delivered, relayed or expanded (or either is the
-byte's number). A word may stand in quotes, as in a shell, and in a text T, RECIPIENT, STATUS and ID these stand
-for other bytes: \n LF, \r CR, \t tab, \s space, \\ a backslash, \xE9 the byte of that number, \{1200*a} so many
-times the one character. A flush has moment=1700000000, arrival=1699996400 and return=ann@example.com unless said;
-return= is the null return path, moment=now and arrival=now are this moment; with expects=N it is carried out only
-where its log has N outcomes; with returns=message the text of header= is the message, which is returned whole where
-it can be. The word extension may be repeated; LF follows each.
+NUMBER is the frame's place, from 0; a dot stands for it. SERVICE is bounce, defer or trace, ACTION is failed, delayed,
+delivered, relayed or expanded (or either is the byte's number). A word may stand in quotes, as in a shell, and in a
+text T, RECIPIENT, STATUS and ID these stand for other bytes: \n LF, \r CR, \t tab, \s space, \\ a backslash, \xE9 the
+byte of that number, \{1200*a} so many times the one character. A flush has moment=1700000000, arrival=1699996400 and
+return=ann@example.com unless said; return= is the null return path, moment=now and arrival=now are this moment; with
+expects=N it is carried out only where its log has N outcomes; with returns=message the text of header= is the message,
+which is returned whole where it can be. The word extension may be repeated; LF follows each.
 
 docs/FORMATS.md has the layout of the frames. Nothing here tests a value: the daemon does.
 """
@@ -60,11 +60,25 @@ def start(kind: int, number: int, service: int, queue_id: bytes, version: int = 
 
 
 def append(
-    number, service, queue_id, recipient, action, status, original=b"", mta=b"", diagnostic=b"", reason=b"", last_attempt=None, retry_until=None,
-    recipient_type=b"", original_type=b"", diagnostic_type=b"", extensions=b"",
-):  # fmt: skip
-    """The frame of a request to add one recipient's outcome to a log; it is of version 3 where it says a type or has extension
-    fields (each a line that LF ends), else of version 2 where it has one of the two moments."""
+    number,
+    service,
+    queue_id,
+    recipient,
+    action,
+    status,
+    original=b"",
+    mta=b"",
+    diagnostic=b"",
+    reason=b"",
+    last_attempt=None,
+    retry_until=None,
+    recipient_type=b"",
+    original_type=b"",
+    diagnostic_type=b"",
+    extensions=b"",
+):
+    """The frame of a request to add one recipient's outcome to a log; it is of version 3 where it says a type or has
+    extension fields (each a line that LF ends), else of version 2 where it has one of the two moments."""
     moments = [NO_MOMENT if it is None else it for it in (last_attempt, retry_until)]
     types = [recipient_type, original_type, diagnostic_type, extensions]
     version = THIRD_VERSION if any(types) else VERSION if moments == [NO_MOMENT, NO_MOMENT] else SECOND_VERSION
@@ -75,15 +89,27 @@ def append(
 
 
 def flush(
-    number, service, queue_id, return_path=b"ann@example.com", moment=1700000000, arrival=1699996400, envelope=b"", header=b"", expected=None,
-    returned=0, wording=0, extensions=b"",
-):  # fmt: skip
-    """The frame of a request to close a log and to make its notice; it is of version 3 where it says how many outcomes the
-    log is to have, that the header is a message, or that the words go by the outcome, or has extension fields (each a line
-    that LF ends)."""
+    number,
+    service,
+    queue_id,
+    return_path=b"ann@example.com",
+    moment=1700000000,
+    arrival=1699996400,
+    envelope=b"",
+    header=b"",
+    expected=None,
+    returned=0,
+    wording=0,
+    extensions=b"",
+):
+    """The frame of a request to close a log and to make its notice; it is of version 3 where it says how many outcomes
+    the log is to have, that the header is a message, or that the words go by the outcome, or has extension fields (each
+    a line that LF ends)."""
     wishes = struct.pack(">IBB", ANY_COUNT if expected is None else expected, returned, wording) + text(extensions)
     usual = wishes == struct.pack(">IBB", ANY_COUNT, 0, 0) + text(b"")
-    body = start(FLUSH, number, service, queue_id, VERSION if usual else THIRD_VERSION) + struct.pack(">QQ", moment, arrival)
+    body = start(FLUSH, number, service, queue_id, VERSION if usual else THIRD_VERSION) + struct.pack(
+        ">QQ", moment, arrival
+    )
     return frame(body + text(return_path) + text(envelope) + text(header) + (b"" if usual else wishes))
 
 
@@ -130,12 +156,17 @@ def moment_of(word: str) -> int:
 
 
 # The options of a description that fields have other names for.
-NAMES = {"return": "return_path", "type": "recipient_type", "original-type": "original_type", "diagnostic-type": "diagnostic_type"}
+NAMES = {
+    "return": "return_path",
+    "type": "recipient_type",
+    "original-type": "original_type",
+    "diagnostic-type": "diagnostic_type",
+}
 
 
 def request_of_line(line: str) -> tuple:
-    """What one line of a description asks: the request, its number (None for a dot), and its fields as append, flush, discard
-    and forget take them."""
+    """What one line of a description asks: the request, its number (None for a dot), and its fields as append, flush,
+    discard and forget take them."""
     kind, *words = words_of(line)
     named = {"append": 6, "flush": 3, "discard": 3, "forget": 3}.get(kind)
     if named is None or len(words) < named:
@@ -147,8 +178,16 @@ def request_of_line(line: str) -> tuple:
     fields = {"service": SERVICES.get(fixed[1]) or int(fixed[1]), "queue_id": unescaped(fixed[2])}
     fields |= {"extensions": b"".join(unescaped(it) + b"\n" for it in extensions)} if extensions else {}
     if kind == "append":
-        fields |= {"recipient": unescaped(fixed[3]), "action": ACTIONS.get(fixed[4]) or int(fixed[4]), "status": unescaped(fixed[5])}
-        fields |= {name: moment_of(options.pop(it)) for it, name in (("attempt", "last_attempt"), ("retry", "retry_until")) if it in options}
+        fields |= {
+            "recipient": unescaped(fixed[3]),
+            "action": ACTIONS.get(fixed[4]) or int(fixed[4]),
+            "status": unescaped(fixed[5]),
+        }
+        fields |= {
+            name: moment_of(options.pop(it))
+            for it, name in (("attempt", "last_attempt"), ("retry", "retry_until"))
+            if it in options
+        }
     elif kind == "flush":
         fields |= {it: moment_of(options.pop(it)) for it in ("moment", "arrival") if it in options}
         fields |= {"expected": int(options.pop("expects"))} if "expects" in options else {}

@@ -50,7 +50,7 @@ def exchange_of(name: str):
 
 
 def frames_of_exchanges(program: Path) -> dict:
-    """The frames of both exchanges, as the client writes them; the discard with a byte too many is none that it can write."""
+    """The frames of both exchanges as the client writes them. It can't write the discard with a byte too many."""
     append = written(program, ["append", "0", "1", "A1B2C3", *BOB])
     flush = written(program, ["flush", "1", "1", "A1B2C3", *TIMES])
     full = written(program, ["append", "0", "1", "A1B2C3", *BOB, *TEXTS])
@@ -58,7 +58,10 @@ def frames_of_exchanges(program: Path) -> dict:
     discard[3] += 1
     told_flush = written(program, ["flush", "2", "1", "A1B2C3", *TIMES, "QQ314159"], HEADER)
     late = written(program, ["append", "3", "1", "A1B2C3", *BOB])
-    return {"one-append-one-flush": ("one-bounce", append + flush), "exchange-with-refusal": ("exchange-with-refusal", full + bytes(discard) + told_flush + late)}
+    return {
+        "one-append-one-flush": ("one-bounce", append + flush),
+        "exchange-with-refusal": ("exchange-with-refusal", full + bytes(discard) + told_flush + late),
+    }
 
 
 def check_exchange(checks: Checks, program: Path, title: str, stored: Path, frames: bytes):
@@ -82,14 +85,31 @@ def check_moments(checks: Checks, program: Path):
     delayed = ["append", "0", "2", "X1", "bob@example.org", "2", "4.4.1", "", "", "", ""]
     absent = bytes.fromhex("ffffffffffffffff")
     checks.equal("an append with two moments", written(program, [*delayed, "1700000000", "1700432000"]), stored[:64])
-    checks.equal("one without a last attempt", written(program, [*delayed, "", "1700432000"]), stored[:48] + absent + stored[56:64])
+    checks.equal(
+        "one without a last attempt",
+        written(program, [*delayed, "", "1700432000"]),
+        stored[:48] + absent + stored[56:64],
+    )
     checks.equal("one without a retry until", written(program, [*delayed, "1700000000"]), stored[:56] + absent)
 
 
 def check_answers(checks: Checks, program: Path):
     """Every reply, and answers that are none, with the number that docs/FORMATS.md gives them."""
-    replies = ["logged 5", "closed", "table full", "log full", "nothing", "no return 5", "sealed 5", "discarded 5", "gone", "refused 5",
-               "forgotten", "not closed", "differs 5"]
+    replies = [
+        "logged 5",
+        "closed",
+        "table full",
+        "log full",
+        "nothing",
+        "no return 5",
+        "sealed 5",
+        "discarded 5",
+        "gone",
+        "refused 5",
+        "forgotten",
+        "not closed",
+        "differs 5",
+    ]
     for at, words in enumerate(replies, 1):
         value = "00000005" if words.endswith("5") else "00000000"
         answer = bytes.fromhex(f"0000000a 01 {at:02x} 000f423f {value}")
@@ -97,15 +117,30 @@ def check_answers(checks: Checks, program: Path):
     serial = bytes.fromhex("00000012 01 07 000f423f 00000005 0000000000000102")
     checks.equal("a notice with its serial", told(program, serial), (b"999999 sealed 5\n", 0))
     for digits, fault in [
-        ("0000000a 0102000000000000 0005", 34), ("00000002 0101", 23), ("00000001 00", 21), ("00000002 010d", 23), ("00000002 010e", 22), ("0000000a 010b000000000000 0001", 34), ("00000002 0100", 22),
-        ("0000000b 0107000000000000 0000 00", 24), ("00000012 0108000000000000 0005 0000000000000102", 24), ("00000013 0107000000000000 0005 0000000000000102 00", 24), ("00000000", 12), ("00010001", 11), ("0000", 13), ("0000000a 01", 13), ("00000002 000b", 21),
-    ]:  # fmt: skip
+        ("0000000a 0102000000000000 0005", 34),
+        ("00000002 0101", 23),
+        ("00000001 00", 21),
+        ("00000002 010d", 23),
+        ("00000002 010e", 22),
+        ("0000000a 010b000000000000 0001", 34),
+        ("00000002 0100", 22),
+        ("0000000b 0107000000000000 0000 00", 24),
+        ("00000012 0108000000000000 0005 0000000000000102", 24),
+        ("00000013 0107000000000000 0005 0000000000000102 00", 24),
+        ("00000000", 12),
+        ("00010001", 11),
+        ("0000", 13),
+        ("0000000a 01", 13),
+        ("00000002 000b", 21),
+    ]:
         checks.equal(f"no answer: {digits}", told(program, bytes.fromhex(digits)), (f"fault {fault}\n".encode(), 1))
     checks.equal("no answers", told(program, b""), (b"", 0))
 
 
 def main():
-    checks = Checks("a client in C, written from docs/FORMATS.md: the frames that it writes and the answers that it reads")
+    checks = Checks(
+        "a client in C, written from docs/FORMATS.md: the frames that it writes and the answers that it reads"
+    )
     with tempfile.TemporaryDirectory() as folder:
         program = build(Path(folder))
         for title, (stored, frames) in frames_of_exchanges(program).items():

@@ -1,8 +1,14 @@
-"""Checks wrong arguments (status 2, nothing on standard output, the usage line on standard error) and odd ones that are right."""
+"""Checks wrong arguments (status 2, no standard output, the usage line on standard error) and unusual correct ones."""
 
 from tests.support.running import EXAMPLES, Checks, Ran, empty_outbox, run
 
-USAGE = b"usage: noticed batch HOST | serve [[--journal FOLDER] --outbox PATH] [--idle SECONDS] [--end-on-fault] [--log] SOCKET HOST AGENTS MAX-USE | stop SOCKET | send SOCKET | journal FOLDER | postfix [--postfix VERSION] [--lifetime SECONDS] [--double-bounce ADDRESS] [--hash-queue-names NAMES] [--hash-queue-depth DEPTH] [--inherited] QUEUE-FOLDER HOST HAND-IN\n"
+USAGE = (
+    b"usage: noticed batch HOST"
+    b" | serve [[--journal FOLDER] --outbox PATH] [--idle SECONDS] [--end-on-fault] [--log] SOCKET HOST AGENTS MAX-USE"
+    b" | stop SOCKET | send SOCKET | journal FOLDER"
+    b" | postfix [--postfix VERSION] [--lifetime SECONDS] [--double-bounce ADDRESS] [--hash-queue-names NAMES]"
+    b" [--hash-queue-depth DEPTH] [--inherited] QUEUE-FOLDER HOST HAND-IN\n"
+)
 PATH = b"the path of the socket must have 1 to 107 bytes\n"
 HOST = "mx.example.net"
 SOCKET = "/nonexistent/noticed.socket"
@@ -56,12 +62,53 @@ WRONG = {
     "serve with an idle limit without seconds": ["serve", "--idle", SOCKET, HOST, "2", "1"],
     "serve with an idle limit in one word": ["serve", "--idle=1", SOCKET, HOST, "2", "1"],
     "serve with an outbox and no path": ["serve", "--outbox", SOCKET, HOST, "2", "1"],
-    "serve with a journal whose folder is no UTF-8": ["serve", "--journal", b"/\xff", "--outbox", "/nonexistent/o", SOCKET, HOST, "2", "1"],
+    "serve with a journal whose folder is no UTF-8": [
+        "serve",
+        "--journal",
+        b"/\xff",
+        "--outbox",
+        "/nonexistent/o",
+        SOCKET,
+        HOST,
+        "2",
+        "1",
+    ],
     "serve with an option and no socket": ["serve", "--end-on-fault", "--log", HOST, "2"],
     "serve with a journal and no outbox": ["serve", "--journal", "/nonexistent", SOCKET, HOST, "2", "1"],
-    "serve with two journals": ["serve", "--journal", "/nonexistent", "--journal", "/nonexistent", "--outbox", "/nonexistent/o", SOCKET, HOST, "2", "1"],
-    "serve with two outboxes": ["serve", "--outbox", "/nonexistent/o", "--outbox", "/nonexistent/o", SOCKET, HOST, "2", "1"],
-    "serve with a journal without a folder": ["serve", "--outbox", "/nonexistent/o", "--journal", SOCKET, HOST, "2", "1"],
+    "serve with two journals": [
+        "serve",
+        "--journal",
+        "/nonexistent",
+        "--journal",
+        "/nonexistent",
+        "--outbox",
+        "/nonexistent/o",
+        SOCKET,
+        HOST,
+        "2",
+        "1",
+    ],
+    "serve with two outboxes": [
+        "serve",
+        "--outbox",
+        "/nonexistent/o",
+        "--outbox",
+        "/nonexistent/o",
+        SOCKET,
+        HOST,
+        "2",
+        "1",
+    ],
+    "serve with a journal without a folder": [
+        "serve",
+        "--outbox",
+        "/nonexistent/o",
+        "--journal",
+        SOCKET,
+        HOST,
+        "2",
+        "1",
+    ],
     "serve with an empty folder": ["serve", "--journal", "", "--outbox", "/nonexistent/o", SOCKET, HOST, "2", "1"],
     "serve with an empty outbox": ["serve", "--outbox", "", SOCKET, HOST, "2", "1"],
     "SERVE in capitals": ["SERVE", SOCKET, HOST, "2", "1"],
@@ -102,20 +149,66 @@ WRONG = {
 }
 
 # the options of `postfix`, with a value that is right
-POSTFIX_OPTIONS = {"--postfix": "3.7", "--lifetime": "1", "--double-bounce": "a@b", "--hash-queue-names": "defer", "--hash-queue-depth": "1"}
+POSTFIX_OPTIONS = {
+    "--postfix": "3.7",
+    "--lifetime": "1",
+    "--double-bounce": "a@b",
+    "--hash-queue-names": "defer",
+    "--hash-queue-depth": "1",
+}
 NO_VERSIONS = ["", "3", "3.", "3.5", "3.11", "3.07", "3.7.11", "v3.7", "3.7 ", "4.0"]
 NO_NAMES = ["defer;bounce", "../defer", "a_b", "defer\n", "d\u00e9fer", "x" * 101, "defer, " + "x" * 101]
 # wrong as HAND-IN: no IP address with a port
 NO_HAND_INS = [
-    "", "25", ":25", "127.0.0.1", "127.0.0.1:", "127.0.0.1:x", "127.0.0.1:-1", "127.0.0.1:+1", "127.0.0.1:65536", "127.0.0.1:25 ", " 127.0.0.1:25",
-    "127.0.0.1:25\n", "127.1:25", "127.0.0.256:25", "0127.0.0.1:25", "localhost:25", "mx.example.net:25", "::1:25", "[::1]", "[::1:25", "inet:127.0.0.1:25",
-    "unix:private/smtp", "/run/socket", b"\xff:25",
-]  # fmt: skip
+    "",
+    "25",
+    ":25",
+    "127.0.0.1",
+    "127.0.0.1:",
+    "127.0.0.1:x",
+    "127.0.0.1:-1",
+    "127.0.0.1:+1",
+    "127.0.0.1:65536",
+    "127.0.0.1:25 ",
+    " 127.0.0.1:25",
+    "127.0.0.1:25\n",
+    "127.1:25",
+    "127.0.0.256:25",
+    "0127.0.0.1:25",
+    "localhost:25",
+    "mx.example.net:25",
+    "::1:25",
+    "[::1]",
+    "[::1:25",
+    "inet:127.0.0.1:25",
+    "unix:private/smtp",
+    "/run/socket",
+    b"\xff:25",
+]
 
 # wrong as AGENTS and as MAX-USE: not a decimal number of at least 1 without leading zeros
 NO_NUMBERS = [
-    "", "0", "00", "01", "001", "+1", "-1", " 1", "1 ", "1\n", "1.0", "1.", "1e3", "0x1", "1_0", "1,0", "two", "\u0661",
-    "18446744073709551617", "4294967297", "340282366920938463463374607431768211457",
+    "",
+    "0",
+    "00",
+    "01",
+    "001",
+    "+1",
+    "-1",
+    " 1",
+    "1 ",
+    "1\n",
+    "1.0",
+    "1.",
+    "1e3",
+    "0x1",
+    "1_0",
+    "1,0",
+    "two",
+    "\u0661",
+    "18446744073709551617",
+    "4294967297",
+    "340282366920938463463374607431768211457",
 ]
 NO_AGENTS = [*NO_NUMBERS, "17", "100", "016"]
 NO_USES = [*NO_NUMBERS, "1000001", "01000000", "4294967296"]
@@ -169,7 +262,12 @@ def wrong_of_postfix() -> dict:
         wrong[f"postfix with {option} twice"] = ["postfix", option, value, option, value, *place]
         wrong[f"postfix with {option} without a value"] = ["postfix", option, *place]
         wrong[f"postfix with {option} alone"] = ["postfix", option, value]
-    for option, values in (("--postfix", NO_VERSIONS), ("--lifetime", NO_LIFETIMES), ("--hash-queue-depth", NO_DEPTHS), ("--hash-queue-names", NO_NAMES)):
+    for option, values in (
+        ("--postfix", NO_VERSIONS),
+        ("--lifetime", NO_LIFETIMES),
+        ("--hash-queue-depth", NO_DEPTHS),
+        ("--hash-queue-names", NO_NAMES),
+    ):
         wrong |= {f"postfix with {option} {it!r}": ["postfix", option, it, *place] for it in values}
     return wrong
 
@@ -193,7 +291,11 @@ def main():
         checks.equal(what, run(words, given), Ran(b"", f"fault 61\n{path}: {why}\n".encode(), 1))
     for what, words in RIGHT_OF_POSTFIX.items():
         why = "Bad file descriptor (os error 9)" if "--inherited" in words else "No such file or directory (os error 2)"
-        checks.equal(f"postfix with {what}", run(["postfix", *words], given), Ran(b"", f"fault 61\n{QUEUE}/private: {why}\n".encode(), 1))
+        checks.equal(
+            f"postfix with {what}",
+            run(["postfix", *words], given),
+            Ran(b"", f"fault 61\n{QUEUE}/private: {why}\n".encode(), 1),
+        )
     for host in ODD_HOSTS:
         checks.equal(f"batch {host[:20]}", run(["batch", host]), Ran(empty_outbox(host), b"", 0))
     print(f"  {len(wrong)} wrong, {len(RIGHT) + len(RIGHT_OF_POSTFIX) + len(ODD_HOSTS)} odd and right")

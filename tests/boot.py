@@ -1,14 +1,14 @@
 """Boots a real systemd in a container, does there what docs/DEPLOY.md has a new administrator do, and checks what comes
-of it: the units start where nothing is there, an agent's account gets its notice made and can't read it, runs follow one
-another, a stop and a reboot are orderly, and a daemon that can't start isn't tried too often.
+of it: the units start where nothing is there, an agent's account gets its notice made and can't read it, runs follow
+one another, a stop and a reboot are orderly, and a daemon that can't start isn't tried too often.
 
     make boot
     NOTICED=/path/to/noticed python3 -m tests.boot FOLDER
 
-It needs root and Debian's packages systemd-container and debootstrap. FOLDER is Debian's base system: debootstrap makes it
-the first time, in a minute or two and 300 MB (`make boot` has it in /var/cache/noticed-boot). A run takes about a minute, on
-an overlay over FOLDER, which it leaves as it is. Without a FOLDER, as in `make check`, it boots nothing. tests/unit.py takes
-the unit's steps without systemd."""
+It needs root and Debian's packages systemd-container and debootstrap. FOLDER is Debian's base system: debootstrap makes
+it the first time, in a minute or two and 300 MB (`make boot` has it in /var/cache/noticed-boot). A run takes about a
+minute, on an overlay over FOLDER, which it leaves as it is. Without a FOLDER, as in `make check`, it boots nothing.
+tests/unit.py takes the unit's steps without systemd."""
 import os
 import re
 import signal
@@ -30,7 +30,12 @@ MODES = [f"{mode} noticed noticed" for mode in ("drwxr-x---", "srwxrwx---", "drw
 # A submission program that goes on with a delivery of its own after it has ended, as exim does.
 SENDMAIL = """#!/bin/sh
 cat > /var/lib/noticed/handed-in.part && mv /var/lib/noticed/handed-in.part /var/lib/noticed/handed-in
-(sleep 3; echo > /home/delivered/home; echo > /usr/local/delivered/usr; echo > /tmp/delivered) < /dev/null > /dev/null 2>&1 &
+(
+    sleep 3
+    echo > /home/delivered/home
+    echo > /usr/local/delivered/usr
+    echo > /tmp/delivered
+) < /dev/null > /dev/null 2>&1 &
 """
 DELIVERED = ("/home/delivered/home", "/usr/local/delivered/usr", "/tmp/delivered")
 USE_UP = f"""
@@ -53,7 +58,9 @@ class Machine(Container):
 
     def modes(self) -> list:
         """The modes and owners of the socket, the outbox and their folders."""
-        return self.said("stat", "--format=%A %U %G", "/run/noticed", SOCKET, OUTBOXES, f"{OUTBOXES}/outbox").splitlines()
+        return self.said(
+            "stat", "--format=%A %U %G", "/run/noticed", SOCKET, OUTBOXES, f"{OUTBOXES}/outbox"
+        ).splitlines()
 
     def outbox(self) -> bytes:
         """The outbox that grows, as far as it has come."""
@@ -75,11 +82,21 @@ class Machine(Container):
 
 def install(it: Machine):
     """`make install`, and the steps of docs/DEPLOY.md up to the start of the units, as they stand there."""
-    words = ["make", "--silent", f"--old-file={program()}", "install", f"NOTICED={program()}", f"DESTDIR={it.root}", "PREFIX=/usr/local"]
+    words = [
+        "make",
+        "--silent",
+        f"--old-file={program()}",
+        "install",
+        f"NOTICED={program()}",
+        f"DESTDIR={it.root}",
+        "PREFIX=/usr/local",
+    ]
     subprocess.run(words, cwd=ROOT, stdout=subprocess.DEVNULL, check=True)
     for name in ("agent", "stranger"):
         it.run("useradd", "--system", name).check_returncode()
-    steps = deploy_block("groupadd ").replace("AGENT", "agent") + deploy_block("cd /usr/local/share/doc/noticed\ncp ").replace("editor ", "test -w ")
+    steps = deploy_block("groupadd ").replace("AGENT", "agent") + deploy_block(
+        "cd /usr/local/share/doc/noticed\ncp "
+    ).replace("editor ", "test -w ")
     it.run("sh", "-c", f"set -e\n{steps.partition(' && systemctl enable')[0]}").check_returncode()
     for name in DELIVERED[:2]:
         it.run("mkdir", "--mode=777", os.path.dirname(name)).check_returncode()
@@ -98,7 +115,9 @@ def check_first_start(checks: Checks, it: Machine):
     checks.true("the notice stands in the outbox", until(lambda: it.outbox() == notice, 10))
     checks.equal("an account that isn't in the group", it.sent(FRAMES, "stranger"), b"")
     for command in (f"cat {OUTBOXES}/outbox", f"ls {OUTBOXES}", f"rm {SOCKET}", f"noticed stop {SOCKET}"):
-        checks.true(f"an agent can't {command}", it.run("runuser", "-u", "agent", "--", *command.split()).returncode != 0)
+        checks.true(
+            f"an agent can't {command}", it.run("runuser", "-u", "agent", "--", *command.split()).returncode != 0
+        )
     checks.true("a line for the notice", "notice B.A1B2C3." in it.said("journalctl", "--unit=noticed", "--output=cat"))
 
 
@@ -108,7 +127,8 @@ def check_next_run(checks: Checks, it: Machine):
     checks.equal("connections to the last", it.run("runuser", "-u", "agent", "--", "python3", "-c", USE_UP).stderr, b"")
     began = time.monotonic()
     checks.true("the next run has begun", until(lambda: len(it.outboxes()) > before, 10) and it.listens())
-    checks.true("it began at once", time.monotonic() - began < 4)  # sooner than a unit that failed, which waits for 5 seconds
+    # (a unit that failed waits for 5 seconds)
+    checks.true("it began at once", time.monotonic() - began < 4)
     checks.equal("the unit wasn't started anew", it.shows("NRestarts"), "0")
     checks.equal("an agent's answers of the next run", it.sent(FRAMES), NOTES)
 
@@ -118,7 +138,11 @@ def check_by_hand(checks: Checks, it: Machine):
     for start in (f"$ python3 {INSTALLED}/frames.py - <<'END'", "$ cat > mine.requests <<'END'"):
         typed, _, answers = deploy_block(start).rpartition("\n0 ")
         script = re.sub(r"^\$ ", "", typed, flags=re.M).replace("A1B2C3", "HAND")  # a key that isn't closed in this run
-        checks.equal(f"by hand: {start}", it.said("runuser", "-u", "agent", "--", "sh", "-c", f"cd /tmp\n{script}\n"), f"0 {answers}".strip())
+        checks.equal(
+            f"by hand: {start}",
+            it.said("runuser", "-u", "agent", "--", "sh", "-c", f"cd /tmp\n{script}\n"),
+            f"0 {answers}".strip(),
+        )
     before = len(it.outboxes())
     checks.equal("noticed stop", it.run("runuser", "-u", "noticed", "--", "noticed", "stop", SOCKET).returncode, 0)
     checks.true("the next run begins at once", until(lambda: len(it.outboxes()) > before, 2) and it.listens())
@@ -162,7 +186,10 @@ def check_stop(checks: Checks, it: Machine):
     checks.true("it took no long time", time.monotonic() - began < 10)
     checks.equal("the unit's result", (it.shows("Result"), it.shows("ActiveState")), ("success", "inactive"))
     checks.equal("the outbox has its QUIT", it.outbox(), empty_outbox())
-    checks.true("the journal names what is open", "open B A1B2C3 1" in it.said("journalctl", "--unit=noticed", "--output=cat").splitlines())
+    checks.true(
+        "the journal names what is open",
+        "open B A1B2C3 1" in it.said("journalctl", "--unit=noticed", "--output=cat").splitlines(),
+    )
     checks.true("no socket is left", it.run("test", "-e", SOCKET).returncode)
 
 
@@ -175,12 +202,14 @@ def check_fails(checks: Checks, it: Machine):
     time.sleep(13)
     checks.true("it is tried again, and not too often", 1 <= int(it.shows("NRestarts")) - before <= 4)
     it.run("rmdir", SOCKET)
-    checks.true("it starts once it can", until(lambda: it.run("test", "-S", SOCKET).returncode == 0, 15) and it.listens())
+    checks.true(
+        "it starts once it can", until(lambda: it.run("test", "-S", SOCKET).returncode == 0, 15) and it.listens()
+    )
 
 
 def check_reboot(checks: Checks, it: Machine):
-    """A reboot is orderly, and the daemon is there after it, with an outbox of its own; and the mode of its folder is the
-    unit's, also where it was another."""
+    """A reboot is orderly, and the daemon is there after it, with an outbox of its own; and the mode of its folder is
+    the unit's, also where it was another."""
     checks.equal("systemctl enable", it.run("systemctl", "enable", "noticed", "noticed-feed").returncode, 0)
     checks.equal("an agent's answers before the reboot", it.sent(FRAMES), NOTES)
     before = len(it.outboxes())
@@ -190,20 +219,26 @@ def check_reboot(checks: Checks, it: Machine):
     outboxes = it.outboxes()
     checks.equal("the outbox of before the reboot", outboxes[before:], [OUTBOX])
     checks.equal("the folder's mode", it.said("stat", "--format=%A", OUTBOXES), "drwx------")
-    checks.equal("units that failed", it.said("systemctl", "list-units", "--failed", "--plain", "--no-legend", "noticed*"), "")
+    checks.equal(
+        "units that failed", it.said("systemctl", "list-units", "--failed", "--plain", "--no-legend", "noticed*"), ""
+    )
 
 
 def check_feeder(checks: Checks, it: Machine):
-    """The feeder's unit hands in what is sealed after the reboot. What the mail program goes on with isn't killed when the unit
-    is stopped, and has the machine's own files."""
+    """The feeder's unit hands in what is sealed after the reboot. What the mail program goes on with isn't killed when
+    the unit is stopped, and has the machine's own files."""
     checks.equal("an agent's answers after the reboot", it.sent(FRAMES), NOTES)
     checks.equal("the feeder after the reboot", it.said("systemctl", "is-active", "noticed-feed"), "active")
     handed_in = it.file(f"{OUTBOXES}/handed-in")
-    checks.true("the notice is handed in", until(lambda: handed_in.exists() and b"<B.A1B2C3." in handed_in.read_bytes(), 15))
+    checks.true(
+        "the notice is handed in", until(lambda: handed_in.exists() and b"<B.A1B2C3." in handed_in.read_bytes(), 15)
+    )
     checks.true("what the mail program began is done, on the machine's own files", until(lambda: is_delivered(it), 15))
     it.run("rm", *DELIVERED)
     handed_in.unlink()
-    checks.equal("an agent's answers before the feeder is stopped", it.sent(FRAMES.replace(b"A1B2C3", b"A1B2C4")), NOTES)
+    checks.equal(
+        "an agent's answers before the feeder is stopped", it.sent(FRAMES.replace(b"A1B2C3", b"A1B2C4")), NOTES
+    )
     checks.true("the next notice is handed in", until(handed_in.exists, 15))
     checks.equal("systemctl stop of the feeder", it.run("systemctl", "stop", "noticed-feed").returncode, 0)
     checks.true("what the mail program began is done all the same", until(lambda: is_delivered(it), 15))
@@ -216,7 +251,17 @@ def is_delivered(it: Machine) -> bool:
 
 def check_all(checks: Checks, it: Machine):
     """Each part, with what the journal says where one fails; the first only, where the unit doesn't start."""
-    parts = (check_first_start, check_next_run, check_by_hand, check_killed, check_stop, check_fails, check_reboot, check_feeder, check_run_file)
+    parts = (
+        check_first_start,
+        check_next_run,
+        check_by_hand,
+        check_killed,
+        check_stop,
+        check_fails,
+        check_reboot,
+        check_feeder,
+        check_run_file,
+    )
     for check in parts:
         failed = checks.failed
         check(checks, it)

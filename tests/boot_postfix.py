@@ -1,11 +1,12 @@
-"""Boots a real systemd in a container with Debian's Postfix, and does there what docs/DEPLOY.md has an administrator do to put
-`noticed postfix` in front of it: the first notice arrives, what can't be said comes from bounce(8), nothing is lost over a kill, a
-stop and a reboot, a main.cf that refuses everything keeps no notice out, and bounce(8) goes on with the logs that wait.
+"""Boots a real systemd in a container with Debian's Postfix, and does there what docs/DEPLOY.md has an administrator do
+to put `noticed postfix` in front of it: the first notice arrives, what can't be said comes from bounce(8), nothing is
+lost over a kill, a stop and a reboot, a main.cf that refuses everything keeps no notice out, and bounce(8) goes on with
+the logs that wait.
 
     NOTICED=/path/to/noticed python3 -m tests.boot_postfix FOLDER
 
-It needs root, Debian's packages systemd-container and debootstrap, and a mirror of Debian, from which Postfix comes. FOLDER is
-that of tests/boot.py. Without a FOLDER, as in `make check`, it boots nothing."""
+It needs root, Debian's packages systemd-container and debootstrap, and a mirror of Debian, from which Postfix comes.
+FOLDER is that of tests/boot.py. Without a FOLDER, as in `make check`, it boots nothing."""
 import re
 import signal
 import subprocess
@@ -19,26 +20,52 @@ TOOLS = {"systemd-nspawn": "systemd-container", "debootstrap": "debootstrap", "n
 ANSWERS = f"postfix postfix/main_mailer_type select Internet Site\npostfix postfix/mailname string {HOST}\n"
 QUEUE = "/var/spool/postfix"
 STEPS = {
-    "entry": "127.0.0.1:10025 inet", "unit": "cp /usr/local/share/doc/noticed/noticed-postfix.service", "switch": "postconf -e bounce_service_name",
-    "test": "printf 'Subject: a test", "back": "postconf -X bounce_service_name",
-}  # fmt: skip
+    "entry": "127.0.0.1:10025 inet",
+    "unit": "cp /usr/local/share/doc/noticed/noticed-postfix.service",
+    "switch": "postconf -e bounce_service_name",
+    "test": "printf 'Subject: a test",
+    "back": "postconf -X bounce_service_name",
+}
 # Settings of main.cf each of which would keep a notice out, or change it.
 AGAINST = (
-    "smtpd_milters=inet:127.0.0.1:9", "non_smtpd_milters=inet:127.0.0.1:9", "milter_default_action=tempfail", "header_checks=static:REJECT",
-    "body_checks=static:REJECT", "nested_header_checks=static:REJECT", "mime_header_checks=static:REJECT", "content_filter=smtp:[127.0.0.1]:9",
-    "smtpd_client_restrictions=reject", "smtpd_helo_restrictions=reject", "smtpd_sender_restrictions=reject", "smtpd_relay_restrictions=reject",
-    "smtpd_recipient_restrictions=reject", "smtpd_data_restrictions=reject", "smtpd_end_of_data_restrictions=reject", "smtpd_helo_required=yes",
-    "smtpd_delay_reject=no", "smtpd_reject_unlisted_recipient=yes", "smtpd_proxy_filter=127.0.0.1:9", "smtpd_command_filter=static:QUIT",
-    "smtpd_client_connection_count_limit=1", "smtpd_client_connection_rate_limit=1", "smtpd_client_message_rate_limit=1",
-    "smtpd_client_event_limit_exceptions=", "smtpd_tls_security_level=encrypt", "smtpd_upstream_proxy_protocol=haproxy", "mynetworks=10.0.0.0/8",
-    "message_size_limit=100", f"always_bcc=copy@{HOST}",
-)  # fmt: skip
+    "smtpd_milters=inet:127.0.0.1:9",
+    "non_smtpd_milters=inet:127.0.0.1:9",
+    "milter_default_action=tempfail",
+    "header_checks=static:REJECT",
+    "body_checks=static:REJECT",
+    "nested_header_checks=static:REJECT",
+    "mime_header_checks=static:REJECT",
+    "content_filter=smtp:[127.0.0.1]:9",
+    "smtpd_client_restrictions=reject",
+    "smtpd_helo_restrictions=reject",
+    "smtpd_sender_restrictions=reject",
+    "smtpd_relay_restrictions=reject",
+    "smtpd_recipient_restrictions=reject",
+    "smtpd_data_restrictions=reject",
+    "smtpd_end_of_data_restrictions=reject",
+    "smtpd_helo_required=yes",
+    "smtpd_delay_reject=no",
+    "smtpd_reject_unlisted_recipient=yes",
+    "smtpd_proxy_filter=127.0.0.1:9",
+    "smtpd_command_filter=static:QUIT",
+    "smtpd_client_connection_count_limit=1",
+    "smtpd_client_connection_rate_limit=1",
+    "smtpd_client_message_rate_limit=1",
+    "smtpd_client_event_limit_exceptions=",
+    "smtpd_tls_security_level=encrypt",
+    "smtpd_upstream_proxy_protocol=haproxy",
+    "mynetworks=10.0.0.0/8",
+    "message_size_limit=100",
+    f"always_bcc=copy@{HOST}",
+)
 HAND_IN = """
 import smtplib
 for to in ("root", "nosuch"):
     with smtplib.SMTP("127.0.0.1", 10025, local_hostname="HOST") as server:
         server.sendmail("", [to + "@HOST"], "Subject: by hand\\r\\n\\r\\n" + 100 * "a notice\\r\\n")
-""".replace("HOST", HOST)
+""".replace(
+    "HOST", HOST
+)
 
 
 class Machine(Container):
@@ -61,8 +88,12 @@ class Machine(Container):
     def bounces(self, name: str) -> tuple:
         """Sends a message to nobody of that name, and waits until its notice is in the mailbox: who made it."""
         before = len(self.notices())
-        self.shell(f"printf 'Subject: to {name}\\n\\nx\\n' | sendmail -f root@{HOST} '{name}@{HOST}'").check_returncode()
-        came = until(lambda: f"Final-Recipient: rfc822; {name}@{HOST}" in self.mailbox() and len(self.notices()) > before)
+        self.shell(
+            f"printf 'Subject: to {name}\\n\\nx\\n' | sendmail -f root@{HOST} '{name}@{HOST}'"
+        ).check_returncode()
+        came = until(
+            lambda: f"Final-Recipient: rfc822; {name}@{HOST}" in self.mailbox() and len(self.notices()) > before
+        )
         return self.notices()[-1] if came else ("", "")
 
     def main_process(self) -> str:
@@ -71,17 +102,28 @@ class Machine(Container):
 
     def is_empty(self) -> bool:
         """Whether nothing is in the queue, and no log is left."""
-        return self.said("mailq") == "Mail queue is empty" and not self.said("find", f"{QUEUE}/bounce", f"{QUEUE}/defer", "-type", "f")
+        return self.said("mailq") == "Mail queue is empty" and not self.said(
+            "find", f"{QUEUE}/bounce", f"{QUEUE}/defer", "-type", "f"
+        )
 
 
 def check_steps(checks: Checks, it: Machine):
     """DEPLOY's steps, as they stand there, from the entry of master.cf to the first notice."""
     with open(it.file("/etc/postfix/master.cf"), "a", encoding="ascii") as file:
         file.write(deploy_block(STEPS["entry"]))
-    checks.equal("postfix reload", it.shell("postconf -e myhostname=mx.example.net; postfix reload; postfix check").stdout, b"")
+    checks.equal(
+        "postfix reload", it.shell("postconf -e myhostname=mx.example.net; postfix reload; postfix check").stdout, b""
+    )
     checks.true("the entry listens", until(lambda: "127.0.0.1:10025" in it.said("ss", "-ltn"), 10))
     checks.equal("the unit", it.shell(deploy_block(STEPS["unit"]).replace("editor ", "test -w ")).returncode, 0)
-    checks.true("it listens", until(lambda: f"listening in {QUEUE} for {HOST}" in it.said("journalctl", "--unit=noticed-postfix", "--output=cat"), 10))
+    checks.true(
+        "it listens",
+        until(
+            lambda: f"listening in {QUEUE} for {HOST}"
+            in it.said("journalctl", "--unit=noticed-postfix", "--output=cat"),
+            10,
+        ),
+    )
     checks.equal("the switch", it.shell(deploy_block(STEPS["switch"])).returncode, 0)
     test, look = deploy_block(STEPS["test"]).strip().splitlines()
     it.shell(test).check_returncode()
@@ -108,7 +150,10 @@ def check_ends(checks: Checks, it: Machine):
     checks.equal("after a kill", it.bounces("killed")[0], it.main_process())
     it.run("systemctl", "stop", "noticed-postfix")
     it.shell(f"printf 'Subject: x\n\nx\n' | sendmail -f root@{HOST} stopped@{HOST}")
-    checks.true("while it is stopped the message is kept", until(lambda: "deferred (noticed-bounce" in it.said("journalctl", "--identifier=postfix/local")))
+    checks.true(
+        "while it is stopped the message is kept",
+        until(lambda: "deferred (noticed-bounce" in it.said("journalctl", "--identifier=postfix/local")),
+    )
     it.run("systemctl", "start", "noticed-postfix")
     checks.true("and is told then", until(lambda: f"rfc822; stopped@{HOST}" in it.mailbox()))
     checks.true("a reboot", it.reboot())
@@ -119,14 +164,28 @@ def check_ends(checks: Checks, it: Machine):
 def check_kept_sockets(checks: Checks, it: Machine):
     """With sockets that systemd keeps, a message that is sent while the service is gone is told without a deferral."""
     it.file("/etc/systemd/system/noticed-postfix.socket").write_text(deploy_block("[Socket]"))
-    it.shell("sed -i 's/ postfix --postfix/ postfix --inherited --postfix/' /etc/systemd/system/noticed-postfix.service; systemctl daemon-reload")
-    it.shell("systemctl stop noticed-postfix; systemctl enable --now noticed-postfix.socket; systemctl start noticed-postfix").check_returncode()
+    it.shell(
+        "sed -i 's/ postfix --postfix/ postfix --inherited --postfix/' "
+        "/etc/systemd/system/noticed-postfix.service; systemctl daemon-reload"
+    )
+    it.shell(
+        "systemctl stop noticed-postfix; systemctl enable --now noticed-postfix.socket; systemctl start noticed-postfix"
+    ).check_returncode()
     checks.equal("with sockets of systemd", it.bounces("kept")[0], it.main_process())
     it.run("systemctl", "kill", "--signal=KILL", "noticed-postfix")
     checks.equal("after a kill", it.bounces("keptkilled")[0], it.main_process())
-    deferred = it.said("sh", "-c", "journalctl --identifier=postfix/local --output=cat | grep 'to=<keptkilled@' | grep -c status=deferred || true")
+    deferred = it.said(
+        "sh",
+        "-c",
+        "journalctl --identifier=postfix/local --output=cat | grep 'to=<keptkilled@' | grep -c status=deferred || true",
+    )
     checks.equal("it wasn't deferred", deferred, "0")
-    modes = it.said("stat", "--format=%A %U", f"{QUEUE}/private", *(f"{QUEUE}/private/noticed-{name}" for name in ("bounce", "defer", "trace")))
+    modes = it.said(
+        "stat",
+        "--format=%A %U",
+        f"{QUEUE}/private",
+        *(f"{QUEUE}/private/noticed-{name}" for name in ("bounce", "defer", "trace")),
+    )
     checks.equal("modes", modes.splitlines(), ["drwx------ postfix", *3 * ["srw-rw-rw- postfix"]])
     checks.true("nothing is left", until(it.is_empty, 10))
 
@@ -154,7 +213,9 @@ def check_back(checks: Checks, it: Machine):
 
 
 def main():
-    checks = Checks("boot_postfix: docs/DEPLOY.md from Debian's Postfix to noticed and back, under a systemd of its own")
+    checks = Checks(
+        "boot_postfix: docs/DEPLOY.md from Debian's Postfix to noticed and back, under a systemd of its own"
+    )
     if len(sys.argv) != 2:
         print("  skipped: python3 -m tests.boot_postfix FOLDER boots a Debian that it makes in FOLDER")
         checks.done()
@@ -164,9 +225,22 @@ def main():
     signal.signal(signal.SIGTERM, lambda *_: sys.exit(1))
     with Machine(base_system(Path(sys.argv[1]).resolve())) as it:
         it.file("/root/answers").write_text(ANSWERS)
-        failed = installed(it, "debconf") or it.inside("debconf-set-selections", "/root/answers").stdout or installed(it, "postfix") or installed(it, "iproute2")
+        failed = (
+            installed(it, "debconf")
+            or it.inside("debconf-set-selections", "/root/answers").stdout
+            or installed(it, "postfix")
+            or installed(it, "iproute2")
+        )
         checks.equal("Postfix is installed", failed, "")
-        words = ["make", "--silent", f"--old-file={program()}", "install", f"NOTICED={program()}", f"DESTDIR={it.root}", "PREFIX=/usr/local"]
+        words = [
+            "make",
+            "--silent",
+            f"--old-file={program()}",
+            "install",
+            f"NOTICED={program()}",
+            f"DESTDIR={it.root}",
+            "PREFIX=/usr/local",
+        ]
         subprocess.run(words, cwd=ROOT, stdout=subprocess.DEVNULL, check=True)
         checks.true("the container boots", it.boot())
         for check in (check_steps, check_passed_on, check_ends, check_kept_sockets, check_against, check_back):

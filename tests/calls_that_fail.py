@@ -23,7 +23,10 @@ def messages() -> bytes:
     """Three messages that are flushed, the second with a letter of more than 64 KiB, and one that stays open."""
     header = 32 * (1023 * b"a" + b"\n")
     made = [FRAMES.append(0, 1, b"K1", b"x@y", 1, b"5.0.0"), FRAMES.flush(1, 1, b"K1")]
-    made += [FRAMES.append(it, 1, b"K2", b"x@y", 1, b"5.0.0", diagnostic=800 * b"d", reason=800 * b"r") for it in range(2, 26)]
+    made += [
+        FRAMES.append(it, 1, b"K2", b"x@y", 1, b"5.0.0", diagnostic=800 * b"d", reason=800 * b"r")
+        for it in range(2, 26)
+    ]
     made += [FRAMES.flush(26, 1, b"K2", header=header), FRAMES.append(27, 1, b"K3", b"x@y", 1, b"5.0.0")]
     return b"".join([*made, FRAMES.flush(28, 1, b"K3"), FRAMES.append(29, 1, b"K4", b"x@y", 1, b"5.0.0")])
 
@@ -34,7 +37,7 @@ def failing(library: Path, call: str, at: int, error: int, short: int = 0) -> di
 
 
 def check_reads(checks: Checks, library: Path):
-    """Each read of the input fails in turn, where each gives a byte: the frames before it are answered, and 14 is told."""
+    """Each read of the input, of one byte each, fails in turn: earlier frames are answered, and 14 is reported."""
     given = (EXAMPLES / "one-bounce.frames").read_bytes()
     for about, error in list(FAILS.items())[:2]:
         for at in range(1, len(given) + 3):
@@ -81,8 +84,7 @@ def check_outbox(checks: Checks, library: Path):
 
 
 def check_notes(checks: Checks, library: Path):
-    """Each write of the notes fails in turn: the lines before it stand, no frame is read after it, and the outbox is
-    finished."""
+    """Each write of the notes fails in turn: earlier lines are there, no frame is read after it, the outbox ends."""
     given = messages()
     for about, error in FAILS.items():
         at, found, whole = 0, None, sessions.batch(HOST.encode(), given)
@@ -94,8 +96,7 @@ def check_notes(checks: Checks, library: Path):
 
 
 def served(given: bytes, broken: bool = False, room: Optional[int] = None):
-    """What one connection to one agent gives: the answers, of which there is room for so many if that is said, and the
-    daemon's end."""
+    """The answers on one connection to one agent, at most as many as there is room for, and the daemon's end."""
     logs, letters, heard, requests, faults = Logs(Limits()), [], [], 0, 0
     try:
         for answered in sessions.answers(given, logs, letters, broken):
@@ -128,7 +129,9 @@ def check_connection(checks: Checks, library: Path):
         for at in range(1, len(given) + 3):
             reads = given if error == errno.EINTR else given[: at - 1]
             wanted = expected(reads, error, broken=at <= len(given) + 1)
-            checks.equal(f"{about} at read {at} of a connection", serve(library, given, "read:socket", at, error, 1), wanted)
+            checks.equal(
+                f"{about} at read {at} of a connection", serve(library, given, "read:socket", at, error, 1), wanted
+            )
     given = messages()
     for about, error in FAILS.items():
         for at in range(1, 32):

@@ -12,7 +12,12 @@ from tests.support.running import EXAMPLES, HOST, Checks, Ran, batch
 
 def changes(given: bytes) -> list:
     """All texts that differ from one in a byte."""
-    return [given[:at] + bytes([byte]) + given[at + 1 :] for at in range(len(given)) for byte in range(256) if byte != given[at]]
+    return [
+        given[:at] + bytes([byte]) + given[at + 1 :]
+        for at in range(len(given))
+        for byte in range(256)
+        if byte != given[at]
+    ]
 
 
 def check_batch(checks: Checks, changed: list):

@@ -20,7 +20,9 @@ def without(streams, words) -> list:
 
 def sockets_of(process: int) -> list:
     """The standard descriptors of a process that are sockets."""
-    links = {it: os.readlink(f"/proc/{process}/fd/{it}") for it in STREAMS if os.path.exists(f"/proc/{process}/fd/{it}")}
+    links = {
+        it: os.readlink(f"/proc/{process}/fd/{it}") for it in STREAMS if os.path.exists(f"/proc/{process}/fd/{it}")
+    }
     return [it for it, link in links.items() if link.startswith("socket:")]
 
 
@@ -32,7 +34,9 @@ def daemons(checks: Checks):
             path = room + "/socket"
             # standard streams that aren't closed are files, so that only sockets of the daemon's own are seen
             with open(os.devnull, "r+b") as null:
-                running = subprocess.Popen(without(streams, ["serve", path, HOST, "1", "1"]), stdin=null, stdout=null, stderr=null)
+                running = subprocess.Popen(
+                    without(streams, ["serve", path, HOST, "1", "1"]), stdin=null, stdout=null, stderr=null
+                )
             with socket.socket(socket.AF_UNIX) as client:
                 client.settimeout(PATIENCE)
                 if not until(lambda: client.connect_ex(path) == 0):
@@ -49,17 +53,20 @@ def daemons(checks: Checks):
 
 
 def sends(checks: Checks):
-    """`send` without its input asks nothing and says so; without its output its lines are lost, and the socket gets
-    frames alone."""
+    """`send` without standard input sends no request and says so; without output its lines are lost."""
     with Daemon(1, 3) as daemon:
         daemon.listens()
         words = ["send", daemon.path]
         asked_nothing = subprocess.run(without([0], words), capture_output=True, timeout=PATIENCE, check=False)
         checks.equal("without its input", (asked_nothing.returncode, asked_nothing.stderr), (1, b"fault 14\n"))
-        told_nothing = subprocess.run(without([1], words), input=FRAMES, stderr=subprocess.PIPE, timeout=PATIENCE, check=False)
+        told_nothing = subprocess.run(
+            without([1], words), input=FRAMES, stderr=subprocess.PIPE, timeout=PATIENCE, check=False
+        )
         checks.equal("without its output", (told_nothing.returncode, told_nothing.stderr), (1, b"fault 33\n"))
         whole = subprocess.run(without([2], words), input=FRAMES, stdout=subprocess.PIPE, timeout=PATIENCE, check=False)
-        checks.equal("without standard error", (whole.returncode, len(whole.stdout.splitlines())), (0, len(NOTES.splitlines())))
+        checks.equal(
+            "without standard error", (whole.returncode, len(whole.stdout.splitlines())), (0, len(NOTES.splitlines()))
+        )
         daemon.end()
 
 

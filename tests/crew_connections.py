@@ -67,7 +67,7 @@ class Expected:
         self.requests, self.faults = 0, 0
 
     def serve(self, given: bytes, broken: bool = False, lost: Optional[int] = None):
-        """A connection that gives these bytes, and of which then a read fails, or this answer, from 0, can't be written."""
+        """A connection with these bytes, after which a read fails; or the answer of this number can't be written."""
         self.heard.append(b"")
         try:
             for at, answered in enumerate(sessions.answers(given, self.logs, self.letters, broken)):
@@ -113,7 +113,7 @@ def check_all(checks: Checks, about: str, sent: list):
 
 
 def check_cuts(checks: Checks):
-    """The first n bytes of the first exchange, each followed by a connection that goes on; and all of them in one run."""
+    """The first n bytes of the first exchange, each followed by a whole connection; and all of them in one run."""
     rest = FRAMES.flush(0, 1, b"A1B2C3")
     for count in range(len(FIRST) + 1):
         for most in (1, 2, 3, MANY):
@@ -124,13 +124,22 @@ def check_cuts(checks: Checks):
 
 def changes() -> list:
     """The first exchange with each byte as each other."""
-    return [FIRST[:at] + bytes([byte]) + FIRST[at + 1 :] for at in range(len(FIRST)) for byte in range(256) if byte != FIRST[at]]
+    return [
+        FIRST[:at] + bytes([byte]) + FIRST[at + 1 :]
+        for at in range(len(FIRST))
+        for byte in range(256)
+        if byte != FIRST[at]
+    ]
 
 
 def odd_lengths() -> list:
     """Frames whose lengths no frame has, bodies of the longest length, frames out of turn, requests after a goodbye."""
     bodies = [b"\0\0\0\0", b"\0\1\0\1", b"\xff\xff\xff\xff", b"\0\1\0\0" + bytes(65_536), b"\0\1\0\0" + bytes(65_535)]
-    turns = [FRAMES.flush(5, 1, b"K1"), FRAMES.discard(0, 1, b"K1"), FRAMES.discard(0, 1, b"K1") + FRAMES.discard(0, 1, b"K1")]
+    turns = [
+        FRAMES.flush(5, 1, b"K1"),
+        FRAMES.discard(0, 1, b"K1"),
+        FRAMES.discard(0, 1, b"K1") + FRAMES.discard(0, 1, b"K1"),
+    ]
     return [*bodies, *[it + FIRST for it in bodies[:3]], *turns, b""]
 
 
@@ -138,7 +147,9 @@ def check_endless(checks: Checks):
     """A peer that asks on and on is answered a million times; after it the agent's requests are used up."""
     limit = Limits().requests
     head, tail = FRAMES.discard(0, 1, b"K1")[:6], FRAMES.discard(0, 1, b"K1")[10:]
-    found = crew([b"".join(head + struct.pack(">I", it) + tail for it in range(limit + 1)), FRAMES.discard(0, 1, b"K1")])
+    found = crew(
+        [b"".join(head + struct.pack(">I", it) + tail for it in range(limit + 1)), FRAMES.discard(0, 1, b"K1")]
+    )
     answered = [sessions.answer(0, DISCARDED, 0), *(sessions.answer(it, CLOSED, 0) for it in range(1, limit))]
     checks.true("a peer without end: its answers", found.heard[0] == b"".join(answered))
     checks.equal("the next peer's answer", found.heard[1], sessions.answer(0, REFUSED, 44))
@@ -148,7 +159,11 @@ def check_endless(checks: Checks):
 
 def messages() -> list:
     """Two connections, which flush three logs between them."""
-    first = [FRAMES.append(0, 1, b"K1", b"x@y", 1, b"5.0.0"), FRAMES.flush(1, 1, b"K1"), FRAMES.append(2, 1, b"K2", b"x@y", 1, b"5.0.0")]
+    first = [
+        FRAMES.append(0, 1, b"K1", b"x@y", 1, b"5.0.0"),
+        FRAMES.flush(1, 1, b"K1"),
+        FRAMES.append(2, 1, b"K2", b"x@y", 1, b"5.0.0"),
+    ]
     second = [FRAMES.flush(0, 1, b"K2"), FRAMES.append(1, 1, b"K3", b"x@y", 1, b"5.0.0"), FRAMES.flush(2, 1, b"K3")]
     return [b"".join(first), b"".join(second)]
 
@@ -164,8 +179,8 @@ def reads_of(given: bytes, most: int) -> list:
 
 
 def check_reads(checks: Checks, sent: list):
-    """Each read of the first connection fails in turn, or gives nothing, as at the end: the frames before it are answered,
-    and the next connection is served."""
+    """Each read of the first connection fails in turn, or gives nothing, as at the end: the frames before it are
+    answered, and the next connection is served."""
     for most in (1, 2, 3, MANY):
         reads = reads_of(sent[0], most)
         for number, before in enumerate(reads, 1):
@@ -185,7 +200,9 @@ def check_writes(checks: Checks, sent: list):
             wanted = Expected()
             wanted.serve(sent[0], lost=number - 1)
             wanted.serve(sent[1], lost=number - 4 if number > 3 else None)
-            checks.equal(f"answer {number}: {failure}", crew(sent, MANY, Failing("write", number, failure)), wanted.ended())
+            checks.equal(
+                f"answer {number}: {failure}", crew(sent, MANY, Failing("write", number, failure)), wanted.ended()
+            )
     print("  6 answers, each failed three times, and none")
 
 
@@ -196,7 +213,7 @@ def parts_of(letters: list) -> list:
 
 
 def check_posts(checks: Checks, sent: list, failure: str):
-    """Each write to the outbox fails in turn: what came before it stands, and the letters from the failed one on are unsent."""
+    """Each write to the outbox fails in turn: earlier letters are there, those from the failed one on are unsent."""
     wanted, number = expected(sent), 1
     whole, parts = wanted.ended(), parts_of(wanted.letters)
     while number < 2000:
@@ -204,7 +221,10 @@ def check_posts(checks: Checks, sent: list, failure: str):
         if found == whole:
             break
         posted = sum(found.outbox.startswith(b"".join(parts[: at + 1])) for at in range(len(wanted.letters)))
-        checks.true(f"post {number}, {failure}: a prefix", whole.outbox.startswith(found.outbox) and found.outbox != whole.outbox)
+        checks.true(
+            f"post {number}, {failure}: a prefix",
+            whole.outbox.startswith(found.outbox) and found.outbox != whole.outbox,
+        )
         checks.equal(f"post {number}, {failure}: answers", found.heard, whole.heard)
         checks.equal(f"post {number}, {failure}: account", found.account, wanted.account(posted, False))
         number += 1
@@ -213,7 +233,7 @@ def check_posts(checks: Checks, sent: list, failure: str):
 
 
 def check_flushes(checks: Checks, sent: list):
-    """Each flush of the outbox fails in turn: the letter's text is there, and the letter is unsent; at the end, whole is false."""
+    """Each flush of the outbox fails in turn: the letter is written but unsent; at the end, whole is false."""
     wanted = expected(sent)
     parts = parts_of(wanted.letters)
     for number in range(1, len(parts) + 2):
@@ -227,7 +247,9 @@ def check_flushes(checks: Checks, sent: list):
 
 
 def main():
-    checks = Checks("crew_connections: cut and changed frames over a crew, and its reads, writes and flushes failing in turn")
+    checks = Checks(
+        "crew_connections: cut and changed frames over a crew, and its reads, writes and flushes failing in turn"
+    )
     if not os.access(PROBE, os.X_OK):
         print(f"there is no program {PROBE}: run the gate, or name one in PROBE")
         sys.exit(1)

@@ -4,7 +4,20 @@ import re
 import threading
 from pathlib import Path
 
-from tests.support.daemon_and_clients import FRAMES, NOTES, OUTBOX, Daemon, answer, append, asked, flush, frames, heard, is_ended, line
+from tests.support.daemon_and_clients import (
+    FRAMES,
+    NOTES,
+    OUTBOX,
+    Daemon,
+    answer,
+    append,
+    asked,
+    flush,
+    frames,
+    heard,
+    is_ended,
+    line,
+)
 from tests.support.running import Checks, Ran, empty_outbox
 
 
@@ -40,10 +53,16 @@ def one_after_another(checks: Checks):
             second.settimeout(5)
             first.close()
             checks.equal("then it is served", heard(second, 14), answer(1, value=1))
-        checks.equal("the log goes on over connections", daemon.send(append(0) + flush(1)).outbox, b"0 logged 2\n1 sealed 3\n")
+        checks.equal(
+            "the log goes on over connections", daemon.send(append(0) + flush(1)).outbox, b"0 logged 2\n1 sealed 3\n"
+        )
         ended = daemon.end()
         checks.equal("their daemon", (ended.notes, ended.status), (line(0, 4, 3), 0))
-        checks.equal("one notice of three outcomes", (ended.outbox.count(b"DATA\r\n"), ended.outbox.count(b"Final-Recipient:")), (1, 3))
+        checks.equal(
+            "one notice of three outcomes",
+            (ended.outbox.count(b"DATA\r\n"), ended.outbox.count(b"Final-Recipient:")),
+            (1, 3),
+        )
 
 
 def sixteen(checks: Checks):
@@ -94,7 +113,7 @@ def many_sends(checks: Checks):
 
 
 def odd_clients(checks: Checks):
-    """One agent, five connections: bytes one by one, a cut frame, a bad length, a number out of turn, and then a flush."""
+    """One agent, five connections: single bytes, a cut frame, a bad length, a number out of turn, and a flush."""
     with Daemon(1, 5) as daemon:
         with daemon.connect() as client:
             for at in range(len(FRAMES) - 56):
@@ -129,7 +148,7 @@ def cut_and_flushed(checks: Checks):
 
 
 def never_reads(checks: Checks):
-    """A client that asks and never reads is waited for, by its agent alone; once it has left, its connection is a fault."""
+    """A client that asks and never reads holds up its own agent alone; once it has left, that counts as a fault."""
     with Daemon(2, 1) as daemon:
         silent = daemon.connect()
         silent.settimeout(0.2)
@@ -144,7 +163,12 @@ def never_reads(checks: Checks):
         checks.equal("the daemon waits", daemon.running.poll(), None)
         silent.close()
         ended = daemon.end()
-        found = re.fullmatch(rb"agent 0 requests (\d+) connections 1 faults (\d)\nagent 1 requests (\d+) connections 1 faults (\d)\nopen B S1 (\d+)\n", ended.notes)
+        found = re.fullmatch(
+            rb"agent 0 requests (\d+) connections 1 faults (\d)\n"
+            rb"agent 1 requests (\d+) connections 1 faults (\d)\n"
+            rb"open B S1 (\d+)\n",
+            ended.notes,
+        )
         checks.true("its notes", found and ended.status == 0)
         if found:
             counts = sorted([(int(found[2]), int(found[1])), (int(found[4]), int(found[3]))])
@@ -166,7 +190,17 @@ def stopped(checks: Checks):
 
 def main():
     checks = Checks("daemon: serve and send over real sockets, clients in turn, at once, slow, cut off and silent")
-    for check in (socket_end_to_end, two_agents_on_a_socket, one_after_another, sixteen, many_sends, odd_clients, cut_and_flushed, never_reads, stopped):
+    for check in (
+        socket_end_to_end,
+        two_agents_on_a_socket,
+        one_after_another,
+        sixteen,
+        many_sends,
+        odd_clients,
+        cut_and_flushed,
+        never_reads,
+        stopped,
+    ):
         check(checks)
     checks.done()
 

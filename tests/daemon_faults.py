@@ -5,7 +5,21 @@ import resource
 import tempfile
 from pathlib import Path
 
-from tests.support.daemon_and_clients import FIRST_FRAME, FRAMES, NOTES, OUTBOX, PATIENCE, Daemon, answer, append, asked, closed_pipe, flush, line, socket_fault
+from tests.support.daemon_and_clients import (
+    FIRST_FRAME,
+    FRAMES,
+    NOTES,
+    OUTBOX,
+    PATIENCE,
+    Daemon,
+    answer,
+    append,
+    asked,
+    closed_pipe,
+    flush,
+    line,
+    socket_fault,
+)
 from tests.support.preloading import built, compare_ends, each_refused, preloading
 from tests.support.running import HOST, Checks, Ran, empty_outbox, run
 
@@ -44,25 +58,37 @@ def sockets(checks: Checks):
         checks.equal("the file is as it was", taken.read_bytes(), b"kept")
         with Daemon(1, 1, longest) as daemon:
             checks.equal("a path of 107 bytes", daemon.send(), Ran(NOTES, b"", 0))
-            checks.equal("a second daemon on it", run(["serve", longest, HOST, "1", "1"], timeout=PATIENCE), unbound(longest, IN_USE))
+            checks.equal(
+                "a second daemon on it",
+                run(["serve", longest, HOST, "1", "1"], timeout=PATIENCE),
+                unbound(longest, IN_USE),
+            )
             checks.equal("its daemon", daemon.end(), Ran(OUTBOX, line(0, 2), 0))
-        checks.equal("a daemon where one has ended", run(["serve", longest, HOST, "1", "1"], timeout=PATIENCE), unbound(longest, IN_USE))
+        checks.equal(
+            "a daemon where one has ended",
+            run(["serve", longest, HOST, "1", "1"], timeout=PATIENCE),
+            unbound(longest, IN_USE),
+        )
         os.unlink(longest)
         with Daemon(1, 1, longest) as daemon:
             checks.equal("once its file is removed", daemon.send(), Ran(NOTES, b"", 0))
 
 
 def bad_outboxes(checks: Checks):
-    """An outbox that can't be written at all: the client is answered all the same, and the letter is named as unsent."""
+    """An outbox that can't be written at all: the client is answered, and the letter is named as unsent."""
     for what, opened in (("closed", closed_pipe), ("full", lambda: os.open("/dev/full", os.O_WRONLY))):
         outbox = opened()
         try:
             with Daemon(1, 1, stdout=outbox) as daemon:
                 checks.equal(f"{what} standard output, the client", daemon.send(), Ran(NOTES, b"", 0))
-                checks.equal(f"{what} standard output", daemon.end(), Ran(b"", line(0, 2) + b"fault 31\nunsent B A1B2C3\n", 1))
+                checks.equal(
+                    f"{what} standard output", daemon.end(), Ran(b"", line(0, 2) + b"fault 31\nunsent B A1B2C3\n", 1)
+                )
             with Daemon(1, 1, stdout=outbox) as daemon:
                 daemon.send(FRAMES[:FIRST_FRAME])
-                checks.equal(f"{what}, no letter", daemon.end(), Ran(b"", line(0, 1) + b"fault 31\nopen B A1B2C3 1\n", 1))
+                checks.equal(
+                    f"{what}, no letter", daemon.end(), Ran(b"", line(0, 1) + b"fault 31\nopen B A1B2C3 1\n", 1)
+                )
         finally:
             os.close(outbox)
 
@@ -118,19 +144,21 @@ def few_descriptors(checks: Checks):
         notes = line(0, 0, 0) + line(1, 0, 0) + socket_fault(daemon.path, TOO_MANY)
         checks.equal("none for a connection", daemon.end(), Ran(empty_outbox(), notes, 1))
     with Daemon(2, 1, options=["--log"], preexec_fn=descriptors(6)) as daemon:
-        begun = f"listening on {daemon.path} for {HOST}: 2 agents, 1 connections each\nthe host's name {HOST} is one for examples\n"
+        begun = f"listening on {daemon.path} for {HOST}: 2 agents, 1 connections each\n"
+        begun += f"the host's name {HOST} is one for examples\n"
         said = f"{begun}accept failed: {TOO_MANY}\n".encode()
         # (an agent that begins once the client was served would find the descriptor free again)
         checks.equal("one for two agents, the other", daemon.said(len(said)), said)
         checks.equal("one for two agents, the client", daemon.send(), Ran(NOTES, b"", 0))
         ended, fault = daemon.end(), socket_fault(daemon.path, TOO_MANY)
-        checks.true("its notes", ended.notes.endswith((line(0, 2) + line(1, 0, 0) + fault, line(0, 0, 0) + line(1, 2) + fault)))
+        checks.true(
+            "its notes", ended.notes.endswith((line(0, 2) + line(1, 0, 0) + fault, line(0, 0, 0) + line(1, 2) + fault))
+        )
         checks.equal("its outbox", (ended.outbox, ended.status), (OUTBOX, 1))
 
 
 def sweep(library: Path, given: bytes) -> list:
-    """How a daemon with one agent ends where its first growth is refused, its second, and so on up to the first run that
-    is whole."""
+    """How a daemon with one agent ends if its first growth is refused, its second, and so on until a run is whole."""
 
     def ended(environment=None) -> Ran:
         with Daemon(1, 1, env=environment) as daemon:
@@ -150,23 +178,33 @@ def growths(checks: Checks, library: Path):
         "for the first frame": Ran(empty_outbox(), line(0, 0, 1, 1), 0),
     }
     # an append that is refused isn't a request; the flush after it is, of a log with nothing in it
-    compare_ends(checks, "growths of a daemon", sweep(library, FRAMES), {
-        **before_a_frame,
-        "for the append": Ran(empty_outbox(), line(0, 1), 0),
-        "for the second frame": Ran(empty_outbox(), line(0, 1, 1, 1) + is_open, 0),
-        "for the flush": Ran(empty_outbox(), line(0, 1) + is_open, 0),
-        "none": Ran(OUTBOX, line(0, 2), 0),
-    })
-    compare_ends(checks, "growths of one with an open log", sweep(library, FRAMES[:FIRST_FRAME]), {
-        **before_a_frame,
-        "for the append": Ran(empty_outbox(), line(0, 0), 0),
-        "for the list of open logs": Ran(empty_outbox(), line(0, 1) + b"fault 9\n", 1),
-        "none": Ran(empty_outbox(), line(0, 1) + is_open, 0),
-    })
+    compare_ends(
+        checks,
+        "growths of a daemon",
+        sweep(library, FRAMES),
+        {
+            **before_a_frame,
+            "for the append": Ran(empty_outbox(), line(0, 1), 0),
+            "for the second frame": Ran(empty_outbox(), line(0, 1, 1, 1) + is_open, 0),
+            "for the flush": Ran(empty_outbox(), line(0, 1) + is_open, 0),
+            "none": Ran(OUTBOX, line(0, 2), 0),
+        },
+    )
+    compare_ends(
+        checks,
+        "growths of one with an open log",
+        sweep(library, FRAMES[:FIRST_FRAME]),
+        {
+            **before_a_frame,
+            "for the append": Ran(empty_outbox(), line(0, 0), 0),
+            "for the list of open logs": Ran(empty_outbox(), line(0, 1) + b"fault 9\n", 1),
+            "none": Ran(empty_outbox(), line(0, 1) + is_open, 0),
+        },
+    )
 
 
 def threads(checks: Checks, library: Path):
-    """Each start of a thread refused in turn: without the poster nothing is begun; without an agent the others serve."""
+    """Each start of a thread is refused in turn: without the poster nothing begins; without an agent others serve."""
     for agents in (1, 2, 4):
         for number in range(1, agents + 3):
             with Daemon(agents, 1, env=preloading(library, REFUSE_THREAD=number)) as daemon:

@@ -5,9 +5,31 @@ import contextlib
 import socket
 import struct
 
-from tests.support.daemon_and_clients import PATIENCE, Daemon, answer, answers_to, append, asked, flush, frames, heard, is_ended, line
+from tests.support.daemon_and_clients import (
+    PATIENCE,
+    Daemon,
+    answer,
+    answers_to,
+    append,
+    asked,
+    flush,
+    frames,
+    heard,
+    is_ended,
+    line,
+)
 from tests.support.formats.bodies import FAILED, Draft, Outcome
-from tests.support.formats.logs import CLOSED, DISCARDED, FORGOTTEN, LOG_FULL, LOGGED, REFUSED, SEALED, TABLE_FULL, Letter
+from tests.support.formats.logs import (
+    CLOSED,
+    DISCARDED,
+    FORGOTTEN,
+    LOG_FULL,
+    LOGGED,
+    REFUSED,
+    SEALED,
+    TABLE_FULL,
+    Letter,
+)
 from tests.support.formats.notices import mail
 from tests.support.running import HOST, Checks, Ran, empty_outbox
 
@@ -29,10 +51,27 @@ def keys(checks: Checks):
         with daemon.connect() as client:
             got = answers_to(client, [append(it, queue_id(it)) for it in range(LOGS)])
             checks.true(f"{LOGS:,} keys", got == b"".join(answer(LOGGED, it) for it in range(LOGS)))
-            rest = [append(LOGS, b"K"), flush(LOGS + 1, b"K"), frames.discard(LOGS + 2, BOUNCE, queue_id(0)), append(LOGS + 3, b"K")]
+            rest = [
+                append(LOGS, b"K"),
+                flush(LOGS + 1, b"K"),
+                frames.discard(LOGS + 2, BOUNCE, queue_id(0)),
+                append(LOGS + 3, b"K"),
+            ]
             rest += [frames.forget(LOGS + 4, BOUNCE, queue_id(0)), append(LOGS + 5, b"K"), append(LOGS + 6, b"L")]
-            wanted = [(TABLE_FULL, 0), (TABLE_FULL, 0), (DISCARDED, 1), (TABLE_FULL, 0), (FORGOTTEN, 0), (LOGGED, 0), (TABLE_FULL, 0)]
-            checks.equal("then others", answers_to(client, rest), b"".join(answer(reply, LOGS + at, value) for at, (reply, value) in enumerate(wanted)))
+            wanted = [
+                (TABLE_FULL, 0),
+                (TABLE_FULL, 0),
+                (DISCARDED, 1),
+                (TABLE_FULL, 0),
+                (FORGOTTEN, 0),
+                (LOGGED, 0),
+                (TABLE_FULL, 0),
+            ]
+            checks.equal(
+                "then others",
+                answers_to(client, rest),
+                b"".join(answer(reply, LOGS + at, value) for at, (reply, value) in enumerate(wanted)),
+            )
         lines = b"".join(b"open B %s 1\n" % it for it in [b"K", *(queue_id(it) for it in range(1, LOGS))])
         checks.equal("its daemon", daemon.end(), Ran(empty_outbox(), line(0, LOGS + 7) + lines, 0))
 
@@ -43,7 +82,10 @@ def outcomes(checks: Checks):
     with Daemon(1, 1) as daemon:
         with daemon.connect() as client:
             given = [append(at, b"FULL", it) for at, it in enumerate(recipients)] + [flush(ENTRIES + 1, b"FULL")]
-            wanted = [answer(LOGGED, it, it) for it in range(ENTRIES)] + [answer(LOG_FULL, ENTRIES), answer(SEALED, ENTRIES + 1, ENTRIES)]
+            wanted = [answer(LOGGED, it, it) for it in range(ENTRIES)] + [
+                answer(LOG_FULL, ENTRIES),
+                answer(SEALED, ENTRIES + 1, ENTRIES),
+            ]
             checks.true(f"{ENTRIES + 1:,} outcomes of one log", answers_to(client, given) == b"".join(wanted))
         ended = daemon.end()
     lines = ended.outbox.split(b"\r\n")
@@ -54,8 +96,8 @@ def outcomes(checks: Checks):
 
 def requests(checks: Checks):
     """A connection has 1,000,000 frames: one more ends it without an answer (47). The agent has had as many requests by
-    then, so each of a later connection is refused with 44, and a body with a fault of its own with that; another agent goes
-    on."""
+    then, so each of a later connection is refused with 44, and a body with a fault of its own with that; another agent
+    goes on."""
     with Daemon(2, 2) as daemon:
         with daemon.connect() as client:
             got = answers_to(client, [frames.discard(it, BOUNCE, b"K") for it in range(REQUESTS)])
@@ -66,7 +108,9 @@ def requests(checks: Checks):
         told = []
         for _ in range(3):
             with daemon.connect() as client:
-                told.append(asked(client, frames.discard(0, BOUNCE, b"K") + BAD_FRAME + frames.discard(2, BOUNCE, b"K"), 3))
+                told.append(
+                    asked(client, frames.discard(0, BOUNCE, b"K") + BAD_FRAME + frames.discard(2, BOUNCE, b"K"), 3)
+                )
         used = answer(REFUSED, 0, USED_UP) + answer(REFUSED, 1, VERSION) + answer(REFUSED, 2, USED_UP)
         served = answer(CLOSED) + answer(REFUSED, 1, VERSION) + answer(CLOSED, 2)
         checks.equal("three connections after it", sorted(told), sorted([used, served, served]))
@@ -107,24 +151,35 @@ def connections(checks: Checks):
         checks.equal("its daemon", daemon.end(), Ran(empty_outbox(), line(0, 3, 3) + b"open B Q1 3\n", 0))
     with Daemon(1, CONNECTIONS) as daemon:
         daemon.listens()
-        checks.equal(f"{CONNECTIONS:,} connections", sum(served(daemon) for _ in range(CONNECTIONS // AT_ONCE)), CONNECTIONS)
+        checks.equal(
+            f"{CONNECTIONS:,} connections", sum(served(daemon) for _ in range(CONNECTIONS // AT_ONCE)), CONNECTIONS
+        )
         checks.equal("their daemon", daemon.end(), Ran(empty_outbox(), line(0, 0, CONNECTIONS), 0))
 
 
 def letter(number: int) -> bytes:
     """What the outbox has of the letter of this number."""
     outcome = Outcome(b"", b"x@y", FAILED, b"5.0.0", b"", b"", b"", None, None)
-    return mail(HOST.encode(), Letter((BOUNCE, queue_id(number)), Draft(1700000000, 1699996400, b"ann@example.com", b"", b""), (outcome,), number))
+    return mail(
+        HOST.encode(),
+        Letter(
+            (BOUNCE, queue_id(number)), Draft(1700000000, 1699996400, b"ann@example.com", b"", b""), (outcome,), number
+        ),
+    )
 
 
 def letters(checks: Checks):
-    """70,000 letters, each of whose keys is let go, and then logs that stay open: every letter is in the outbox, in order, and
-    every open log in the notes."""
+    """70,000 letters, each of whose keys is let go, and then logs that stay open: every letter is in the outbox, in
+    order, and every open log in the notes."""
     with Daemon(1, 1) as daemon:
         with daemon.connect() as client:
             given, wanted = [], []
             for at in range(LETTERS):
-                given += [append(3 * at, queue_id(at)), flush(3 * at + 1, queue_id(at)), frames.forget(3 * at + 2, BOUNCE, queue_id(at))]
+                given += [
+                    append(3 * at, queue_id(at)),
+                    flush(3 * at + 1, queue_id(at)),
+                    frames.forget(3 * at + 2, BOUNCE, queue_id(at)),
+                ]
                 wanted += [answer(LOGGED, 3 * at), answer(SEALED, 3 * at + 1, 1), answer(FORGOTTEN, 3 * at + 2)]
             for at in range(OPEN):
                 given.append(append(3 * LETTERS + at, queue_id(at)))

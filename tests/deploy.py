@@ -18,7 +18,9 @@ SUBMIT = '#!/bin/sh\nfor last; do :; done\ncat > "$last.part" && mv "$last.part"
 def sent(room: Path, requests: str) -> list:
     """Sends a description's frames to the daemon: the lines that come back."""
     with subprocess.Popen(FRAMES, stdin=subprocess.PIPE, stdout=subprocess.PIPE) as writing:
-        with subprocess.Popen([program(), "send", str(room / "socket")], stdin=writing.stdout, stdout=subprocess.PIPE) as sending:
+        with subprocess.Popen(
+            [program(), "send", str(room / "socket")], stdin=writing.stdout, stdout=subprocess.PIPE
+        ) as sending:
             writing.stdin.write(requests.encode())
             writing.stdin.close()
             return sending.communicate(timeout=PATIENCE)[0].decode().splitlines()
@@ -26,23 +28,35 @@ def sent(room: Path, requests: str) -> list:
 
 def next_run(checks: Checks, room: Path, runs: int):
     """Waits until so many runs have begun, each of which says what it listens on."""
-    checks.true(f"run {runs} begins", until(lambda: (room / "notes").read_bytes().count(b"listening on socket ") == runs))
+    checks.true(
+        f"run {runs} begins", until(lambda: (room / "notes").read_bytes().count(b"listening on socket ") == runs)
+    )
 
 
 def one_run(checks: Checks, room: Path, message: str):
     """The clients of a daemon of one agent and two connections: one bounces a message, one is late."""
-    requests = f'append . bounce {message} bob@example.org failed 5.1.1 "reason=no such user"\nflush . bounce {message} return={message}@example.com moment=now arrival=now\n'
+    requests = f'append . bounce {message} bob@example.org failed 5.1.1 "reason=no such user"\n'
+    requests += f"flush . bounce {message} return={message}@example.com moment=now arrival=now\n"
     checks.equal(f"{message}: answers", sent(room, requests), ["0 logged 0", "1 sealed 1"])
     checks.true(f"{message}: its notice comes", until((room / f"{message}@example.com").exists))
-    checks.equal(f"{message}: a late outcome", sent(room, f"append . bounce {message} joe@example.org failed 5.1.1\n"), ["0 closed"])
+    checks.equal(
+        f"{message}: a late outcome",
+        sent(room, f"append . bounce {message} joe@example.org failed 5.1.1\n"),
+        ["0 closed"],
+    )
     notice = (room / f"{message}@example.com").read_bytes()
-    checks.true(f"{message}: the notice", notice.startswith(b"From: Mail Delivery System <MAILER-DAEMON@") and b"\n    no such user\n" in notice)
+    checks.true(
+        f"{message}: the notice",
+        notice.startswith(b"From: Mail Delivery System <MAILER-DAEMON@") and b"\n    no such user\n" in notice,
+    )
 
 
 def two_runs(checks: Checks, room: Path, options: list):
     """Two daemons one after another, and a third that is stopped before its first client."""
     words = ["sh", str(EXAMPLES / "noticed-run.sh"), program(), "socket", HOST, "1", "2", "--log", *options]
-    with (room / "notes").open("wb") as notes, subprocess.Popen(words, cwd=room, stdin=subprocess.DEVNULL, stderr=notes) as running:
+    with (room / "notes").open("wb") as notes, subprocess.Popen(
+        words, cwd=room, stdin=subprocess.DEVNULL, stderr=notes
+    ) as running:
         try:
             for runs, message in ((1, "M1"), (2, "M2")):
                 next_run(checks, room, runs)

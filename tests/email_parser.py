@@ -137,7 +137,12 @@ CASES = [
         to="list-owner@lists.example.com",
         returned=b"From: <a@b>\r\n",
     ),
-    Case("a delayed recipient with its two dates", "defer", "D43", [RETRIED, plain("amy@example.net", "delayed", "4.2.2")]),
+    Case(
+        "a delayed recipient with its two dates",
+        "defer",
+        "D43",
+        [RETRIED, plain("amy@example.net", "delayed", "4.2.2")],
+    ),
     Case(
         "a trace of each action",
         "trace",
@@ -168,7 +173,12 @@ CASES = [
         boundary="0002",
     ),
     Case("texts that try to end a part", "bounce", "H1", [HOSTILE]),
-    Case("three hundred recipients", "bounce", "MANY", [plain(f"r{at:03}@example.org", "failed", f"5.{at}.0") for at in range(300)]),
+    Case(
+        "three hundred recipients",
+        "bounce",
+        "MANY",
+        [plain(f"r{at:03}@example.org", "failed", f"5.{at}.0") for at in range(300)],
+    ),
 ]
 
 
@@ -237,10 +247,24 @@ def differences(message, case):
     yield from differs("the parts' types", [it.get_content_type() for it in parts], types)
     if len(parts) != len(types):
         return
-    lines = [f"This is the mail system at host {HOST}.", "", opening, "", *(line for it in case.recipients for line in it.lines)]
-    yield from differs("what a person reads", parts[0].get_payload(decode=True), "".join(f"{it}\r\n" for it in lines).encode())
-    groups = [*case.message_fields, ("Reporting-MTA", f"dns; {HOST}"), ("Arrival-Date", ARRIVAL)], *(it.fields for it in case.recipients)
-    yield from differs("the delivery status", [[(it, str(value)) for it, value in group.items()] for group in parts[1].get_payload()], [list(it) for it in groups])
+    lines = [
+        f"This is the mail system at host {HOST}.",
+        "",
+        opening,
+        "",
+        *(line for it in case.recipients for line in it.lines),
+    ]
+    yield from differs(
+        "what a person reads", parts[0].get_payload(decode=True), "".join(f"{it}\r\n" for it in lines).encode()
+    )
+    groups = [*case.message_fields, ("Reporting-MTA", f"dns; {HOST}"), ("Arrival-Date", ARRIVAL)], *(
+        it.fields for it in case.recipients
+    )
+    yield from differs(
+        "the delivery status",
+        [[(it, str(value)) for it, value in group.items()] for group in parts[1].get_payload()],
+        [list(it) for it in groups],
+    )
     if case.returned is not None:
         yield from differs("the returned header", parts[2].get_payload(decode=True), case.returned)
 
@@ -261,14 +285,23 @@ def without(notice, text):
 
 # how a notice is spoiled, and a word of the fault that has to be found
 SPOILED = {
-    "the last delimiter cut off": (lambda it: without(it, b"--B.A1B2C3.1700000000.0000--\r\n"), "CloseBoundaryNotFoundDefect"),
+    "the last delimiter cut off": (
+        lambda it: without(it, b"--B.A1B2C3.1700000000.0000--\r\n"),
+        "CloseBoundaryNotFoundDefect",
+    ),
     "another boundary in the header": (lambda it: it.replace(b'.0000"', b'.0001"'), "StartBoundaryNotFoundDefect"),
     "a group without its action": (lambda it: without(it, b"Action: failed\r\n"), "the delivery status"),
     "an empty line within a group": (lambda it: it.replace(b"Action: ", b"\r\nAction: "), "the delivery status"),
     "a line feed alone": (lambda it: it.replace(b"X: y\r\n", b"X: y\n"), "neither a tab nor printable"),
-    "a byte of eight bits": (lambda it: it.replace(b"no such user\r\n", b"no such us\xe9r\r\n", 1), "neither a tab nor printable"),
+    "a byte of eight bits": (
+        lambda it: it.replace(b"no such user\r\n", b"no such us\xe9r\r\n", 1),
+        "neither a tab nor printable",
+    ),
     "a header's line that isn't one": (lambda it: it.replace(b"MIME-Version: 1.0\r\n", b"MIME-Version\r\n"), "defect"),
-    "a delimiter in a returned header": (lambda it: it.replace(b"X: y\r\n", b"--B.A1B2C3.1700000000.0000\r\n"), "the parts' types"),
+    "a delimiter in a returned header": (
+        lambda it: it.replace(b"X: y\r\n", b"--B.A1B2C3.1700000000.0000\r\n"),
+        "the parts' types",
+    ),
 }
 
 

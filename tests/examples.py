@@ -1,5 +1,5 @@
-"""Runs each stored example and compares outbox, notes and exit status with the stored ones, byte by byte. The outboxes that
-tests of the crates compare with, which can read no file, must be those of the examples.
+"""Runs each stored example and compares outbox, notes and exit status with the stored ones, byte by byte. The outboxes
+that tests of the crates compare with, which can read no file, must be those of the examples.
 
 With arguments it runs the examples of those folders instead.
 """

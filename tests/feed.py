@@ -1,6 +1,6 @@
-"""Checks examples/feed.py: it hands each notice of an outbox to a mail server, one at a time, tries again what is refused
-for now, and leaves out what is refused for good; or to a submission program. The server is a small one of this script's
-own, and aiosmtpd where that is installed; the outbox is the built program's."""
+"""Checks examples/feed.py: it hands each notice of an outbox to a mail server, one at a time, tries again what is
+refused for now, and leaves out what is refused for good; or to a submission program. The server is a small one of this
+script's own, and aiosmtpd where that is installed; the outbox is the built program's."""
 import re
 import socket
 import subprocess
@@ -12,21 +12,41 @@ try:
 except ImportError:
     Controller = None
 
-from tests.support.feeding import PATIENCE, Fed, Following, MailServer, StrictServer, comes_to, feed, messages_of, outbox_for, outbox_of, submission
+from tests.support.feeding import (
+    PATIENCE,
+    Fed,
+    Following,
+    MailServer,
+    StrictServer,
+    comes_to,
+    feed,
+    messages_of,
+    outbox_for,
+    outbox_of,
+    submission,
+)
 from tests.support.running import HOST, Checks
 
 MESSAGES = 6
-SOON = ["--retry", "1", "--give-up", "5"]  # so that each is tried five times at most, and twice also where a try takes seconds
+# So that each is tried five times at most, and twice even if a try takes seconds.
+SOON = ["--retry", "1", "--give-up", "5"]
 
 
 def servers(checks: Checks, outbox: bytes):
     """All notices are taken; every second is refused; the server hangs up after each."""
     wanted = [(b"sender%d@example.com" % at, it) for at, it in enumerate(messages_of(outbox))]
-    for about, server in (("a server", MailServer()), ("one that hangs up", MailServer(hangs_up_after=1)), ("one that closes", MailServer(closes_after=1))):
+    for about, server in (
+        ("a server", MailServer()),
+        ("one that hangs up", MailServer(hangs_up_after=1)),
+        ("one that closes", MailServer(closes_after=1)),
+    ):
         checks.equal(f"{about}: end", feed([server.address], outbox), (0, [f"{MESSAGES} handed in, 0 left out"]))
         checks.true(f"{about}: what it was given", server.taken == wanted)
         senders = [it.upper() for it in server.commands if it.upper().startswith(b"MAIL")]
-        checks.true(f"{about}: the null sender", len(senders) >= MESSAGES and all(it.startswith(b"MAIL FROM:<>") for it in senders))
+        checks.true(
+            f"{about}: the null sender",
+            len(senders) >= MESSAGES and all(it.startswith(b"MAIL FROM:<>") for it in senders),
+        )
     refused = {to for to, _ in wanted[1::2]}
     server = MailServer(refused)
     status, said = feed([server.address], outbox)
@@ -42,19 +62,27 @@ def tries(checks: Checks, outbox: bytes):
     put_off = [f"put off B K{at}: 450 4.2.0 try again" for at in range(MESSAGES)]
     server = MailServer(greylists=2)
     status, said = feed(["--retry", "0.1", server.address], outbox)
-    checks.equal("each refused twice for now: end", (status, said), (0, [*put_off, f"{MESSAGES} handed in, 0 left out"]))
+    checks.equal(
+        "each refused twice for now: end", (status, said), (0, [*put_off, f"{MESSAGES} handed in, 0 left out"])
+    )
     checks.true("what it was given", sorted(server.taken) == wanted)
     checks.true("how often", all(it == 3 for it in server.tries.values()))
     server = MailServer(greylists=1000)
     status, said = feed([*SOON, server.address], outbox)
     left_out = [f"left out B K{at}: 450 4.2.0 try again" for at in range(MESSAGES)]
-    checks.equal("each refused for ever: end", (status, sorted(said)), (1, sorted([*put_off, *left_out, f"0 handed in, {MESSAGES} left out"])))
+    checks.equal(
+        "each refused for ever: end",
+        (status, sorted(said)),
+        (1, sorted([*put_off, *left_out, f"0 handed in, {MESSAGES} left out"])),
+    )
     checks.true("how often", all(2 <= it <= 5 for it in server.tries.values()))
     status, said = feed([*SOON, "127.0.0.1:1"], outbox)
     checks.equal("no server", (status, said[-1:]), (1, [f"0 handed in, {MESSAGES} left out"]))
     checks.equal("its lines", [it[:11] for it in said[:-1]], ["put off B K"] * MESSAGES + ["left out B "] * MESSAGES)
     status, said = feed(["--give-up", "0", "127.0.0.1:1"], outbox)
-    checks.equal("nothing tried again", (status, [it[:12] for it in said]), (1, ["left out B K"] * MESSAGES + ["0 handed in,"]))
+    checks.equal(
+        "nothing tried again", (status, [it[:12] for it in said]), (1, ["left out B K"] * MESSAGES + ["0 handed in,"])
+    )
     with socket.create_server(("127.0.0.1", 0)) as it:
         port = it.getsockname()[1]
     with Fed("--retry", "0.1", f"127.0.0.1:{port}", stdin=subprocess.PIPE) as it:
@@ -71,7 +99,11 @@ def lost_replies(checks: Checks, outbox: bytes):
     """A notice whose reply was lost isn't sent again at once, but put off, since the server may have taken it."""
     server = MailServer(lost_replies=2)
     status, said = feed(["--retry", "5", server.address], outbox)  # so long that all others are handed in before
-    checks.equal("two replies lost: end", (status, [it[:14] for it in said[:-1]], said[-1]), (0, ["put off B K0: ", "put off B K1: "], f"{MESSAGES} handed in, 0 left out"))
+    checks.equal(
+        "two replies lost: end",
+        (status, [it[:14] for it in said[:-1]], said[-1]),
+        (0, ["put off B K0: ", "put off B K1: "], f"{MESSAGES} handed in, 0 left out"),
+    )
     order = [int(to[6:7]) for to, _ in server.taken]
     checks.equal("what it was given, in order", order, [*range(MESSAGES), 0, 1])
 
@@ -129,7 +161,9 @@ def real_server(checks: Checks, outbox: bytes):
         status, said = feed([f"127.0.0.1:{port}"], outbox)
         server.stop()
         left_out = MESSAGES - len(taken)
-        checks.equal("aiosmtpd: end", (status, said[-1:]), (int(left_out > 0), [f"{len(taken)} handed in, {left_out} left out"]))
+        checks.equal(
+            "aiosmtpd: end", (status, said[-1:]), (int(left_out > 0), [f"{len(taken)} handed in, {left_out} left out"])
+        )
         checks.true("aiosmtpd: what is taken", handler.taken == taken)
         checks.true("aiosmtpd: the null sender", handler.senders <= {"", "<>"})
 
@@ -147,49 +181,70 @@ def followed(checks: Checks, outbox: bytes):
             for at, text in enumerate((outbox[: first_end + 10], outbox)):
                 path.rename(path.with_suffix(f".{at}"))
                 path.write_bytes(text)
-            checks.true("the next two at once, the first of them cut", comes_to(lambda: len(server.taken), 2 * MESSAGES + 1))
-            checks.equal("its end", it.end(), (1, ["the outbox was cut short", f"{2 * MESSAGES + 1} handed in, 0 left out"]))
+            checks.true(
+                "the next two at once, the first of them cut", comes_to(lambda: len(server.taken), 2 * MESSAGES + 1)
+            )
+            checks.equal(
+                "its end", it.end(), (1, ["the outbox was cut short", f"{2 * MESSAGES + 1} handed in, 0 left out"])
+            )
 
 
 def removed(checks: Checks, outbox: bytes):
-    """An outbox that was moved away is handed in also where the one before it was removed, and so is one that was moved away
-    before the feeder began."""
+    """An outbox that was moved away is handed in also where the one before it was removed, and so is one that was moved
+    away before the feeder began."""
     server = MailServer()
     with tempfile.TemporaryDirectory() as room:
         path = Path(room) / "outbox"
         path.with_suffix(".0").write_bytes(outbox)
         path.write_bytes(b"")
         with Following(path, server.address) as it:
-            checks.true("the one of before, and then the empty one", comes_to(lambda: len(server.taken), MESSAGES) and it.rests())
+            checks.true(
+                "the one of before, and then the empty one",
+                comes_to(lambda: len(server.taken), MESSAGES) and it.rests(),
+            )
             path.unlink()
             other = Path(room) / "made"
             other.write_bytes(outbox)
             other.rename(path.with_suffix(".1"))
             path.write_bytes(outbox)
-            checks.true("the one that was moved away, and the one that grows", comes_to(lambda: len(server.taken), 3 * MESSAGES))
-            checks.equal("its end", it.end(), (1, ["the outbox was cut short", f"{3 * MESSAGES} handed in, 0 left out"]))
+            checks.true(
+                "the one that was moved away, and the one that grows", comes_to(lambda: len(server.taken), 3 * MESSAGES)
+            )
+            checks.equal(
+                "its end", it.end(), (1, ["the outbox was cut short", f"{3 * MESSAGES} handed in, 0 left out"])
+            )
 
 
 def programs(checks: Checks, outbox: bytes):
-    """A submission program is run once for each notice; one that fails is said, and tried again if it says so (75), if a
-    signal ended it, or if it can't be run."""
+    """A submission program is run once for each notice; one that fails is said, and tried again if it says so (75), if
+    a signal ended it, or if it can't be run."""
     with tempfile.TemporaryDirectory() as room:
         text = (
-            f'echo "$@" >> {room}/arguments\ncat > {room}/$last\nonce() {{ [ -e {room}/$1 ] || {{ touch {room}/$1; $2; }}; }}\n'
+            f'echo "$@" >> {room}/arguments\ncat > {room}/$last\n'
+            f"once() {{ [ -e {room}/$1 ] || {{ touch {room}/$1; $2; }}; }}\n"
             'case $last in *2*) once ended "kill $$" ;; *3*) exit 67 ;; *4*) once again "exit 75" ;; esac\n'
         )
         status, said = feed(["--retry", "0.1", submission(room, text), "-i"], outbox)
         checks.equal("a program: end", (status, said[-1:]), (1, ["5 handed in, 1 left out"]))
         checks.equal("its lines", [it[:14] for it in said[:-1]], ["put off B K2: ", "left out B K3:", "put off B K4: "])
-        checks.equal("its arguments", (Path(room) / "arguments").read_text().splitlines()[0], "-i -f <> -- sender0@example.com")
+        checks.equal(
+            "its arguments", (Path(room) / "arguments").read_text().splitlines()[0], "-i -f <> -- sender0@example.com"
+        )
         for at, message in enumerate(messages_of(outbox)):
-            checks.true("a message", (Path(room) / f"sender{at}@example.com").read_bytes() == message.replace(b"\r\n", b"\n"))
+            checks.true(
+                "a message", (Path(room) / f"sender{at}@example.com").read_bytes() == message.replace(b"\r\n", b"\n")
+            )
         status, said = feed([*SOON, str(Path(room) / "nothing")], outbox)
         checks.equal("no program: end", (status, said[-1:]), (1, [f"0 handed in, {MESSAGES} left out"]))
         checks.equal("its lines", sorted({it[:7] for it in said[:-1]}), ["left ou", "put off"])
 
 
-STATUSES = {64: False, 65: False, 67: False, **dict.fromkeys((1, 2, 66, 68, 69, 70, 71, 72, 73, 74, 75, 76, 77, 78, 126, 127, 255), True)}
+STATUSES = {
+    64: False,
+    65: False,
+    67: False,
+    **dict.fromkeys((1, 2, 66, 68, 69, 70, 71, 72, 73, 74, 75, 76, 77, 78, 126, 127, 255), True),
+}
 
 
 def statuses(checks: Checks):
@@ -199,9 +254,16 @@ def statuses(checks: Checks):
         text = f'status=${{last%@*}}\n[ -e {room}/$last ] && exit\ntouch {room}/$last\nexit "${{status#status}}"\n'
         program = submission(room, text)
         status, said = feed(["--retry", "0.1", program], outbox)
-        wanted = [f"{'put off' if put_off else 'left out'} B K{at}: {program} ended with status {it}" for at, (it, put_off) in enumerate(STATUSES.items())]
+        wanted = [
+            f"{'put off' if put_off else 'left out'} B K{at}: {program} ended with status {it}"
+            for at, (it, put_off) in enumerate(STATUSES.items())
+        ]
         later = sum(STATUSES.values())
-        checks.equal("statuses of a program", (status, said), (1, [*wanted, f"{later} handed in, {len(STATUSES) - later} left out"]))
+        checks.equal(
+            "statuses of a program",
+            (status, said),
+            (1, [*wanted, f"{later} handed in, {len(STATUSES) - later} left out"]),
+        )
 
 
 PATHS = {  # of the outbox: what a program is given, or None where it can't be
@@ -234,12 +296,20 @@ def paths(checks: Checks):
     """The path of RCPT is what the outbox has, byte for byte; a program is given it such that it is one address."""
     outbox, server = outbox_for(list(PATHS)), MailServer()
     checks.equal("paths: end", feed([server.address], outbox), (0, [f"{len(PATHS)} handed in, 0 left out"]))
-    checks.equal("paths", [it for it in server.commands if it.upper().startswith(b"RCPT")], [b"RCPT TO:<" + it + b">" for it in PATHS])
+    checks.equal(
+        "paths",
+        [it for it in server.commands if it.upper().startswith(b"RCPT")],
+        [b"RCPT TO:<" + it + b">" for it in PATHS],
+    )
     taken = [it for it in PATHS.values() if it is not None]
     with tempfile.TemporaryDirectory() as room:
         status, said = feed([submission(room, f'printf "%s\\n" "$last" >> {room}/last\n')], outbox)
         checks.equal("paths for a program", (Path(room) / "last").read_text().splitlines(), taken)
-        left_out = [f"left out B K{at}: a program can't be told this address" for at, it in enumerate(PATHS.values()) if it is None]
+        left_out = [
+            f"left out B K{at}: a program can't be told this address"
+            for at, it in enumerate(PATHS.values())
+            if it is None
+        ]
         checks.equal("its end", (status, said[-1:]), (1, [f"{len(taken)} handed in, {len(left_out)} left out"]))
         checks.equal("what it can't be told", [it[: it.rindex(":")] for it in said[:-1]], left_out)
 
@@ -248,17 +318,29 @@ def greetings(checks: Checks, outbox: bytes):
     """Each connection says the outbox's host, also for a notice of a pipe that is tried again."""
     server = StrictServer(hangs_up={"RCPT": MESSAGES + 1})
     status, said = feed(["--retry", "0.3", server.address], outbox)
-    checks.equal("connections that are lost: end", (status, len(said), said[-1]), (0, MESSAGES + 1, f"{MESSAGES} handed in, 0 left out"))
-    checks.equal("what they begin with", {it.split()[1] for it in server.commands if it.upper().startswith(b"EHLO")}, {HOST.encode()})
+    checks.equal(
+        "connections that are lost: end",
+        (status, len(said), said[-1]),
+        (0, MESSAGES + 1, f"{MESSAGES} handed in, 0 left out"),
+    )
+    checks.equal(
+        "what they begin with",
+        {it.split()[1] for it in server.commands if it.upper().startswith(b"EHLO")},
+        {HOST.encode()},
+    )
 
 
 def lost_for_one(checks: Checks, outbox: bytes):
-    """A notice at which the server always hangs up keeps no other from its turn. Where no connection can be made, none is tried
-    again until a notice is due."""
+    """A notice at which the server always hangs up keeps no other from its turn. Where no connection can be made, none
+    is tried again until a notice is due."""
     server = StrictServer()
     server.hangs_up_at = b"sender2@example.com"
     status, said = feed([*SOON, server.address], outbox)
-    checks.equal("a server that hangs up at one: end", (status, [it[:15] for it in said]), (1, ["put off B K2: n", "left out B K2: ", "5 handed in, 1 "]))
+    checks.equal(
+        "a server that hangs up at one: end",
+        (status, [it[:15] for it in said]),
+        (1, ["put off B K2: n", "left out B K2: ", "5 handed in, 1 "]),
+    )
     checks.equal("what it is given", [int(to[6:7]) for to, _ in server.taken], [0, 1, 3, 4, 5])
     checks.true("it is tried again, on a connection of its own", server.connections > 2)
     server = MailServer(hangs_up_after=1)
@@ -283,7 +365,11 @@ def strict_servers(checks: Checks, outbox: bytes):
     wanted = [(b"sender%d@example.com" % at, it) for at, it in enumerate(messages_of(outbox))]
     server = StrictServer()
     checks.equal("a strict server: end", feed([server.address], outbox), (0, [f"{MESSAGES} handed in, 0 left out"]))
-    checks.equal("what it is told", [it.split()[0].upper() for it in server.commands], [b"EHLO", *[b"MAIL", b"RCPT", b"DATA"] * MESSAGES, b"QUIT"])
+    checks.equal(
+        "what it is told",
+        [it.split()[0].upper() for it in server.commands],
+        [b"EHLO", *[b"MAIL", b"RCPT", b"DATA"] * MESSAGES, b"QUIT"],
+    )
     checks.equal("connections", server.connections, 1)
     for how in ("closes", "hangs_up"):
         for word in ("MAIL", "RCPT", "DATA"):
@@ -310,7 +396,11 @@ def hundreds(checks: Checks):
     with tempfile.TemporaryDirectory() as room:
         path = Path(room) / "outbox"
         path.write_bytes(outbox)
-        for words, stdin in ((["--follow", str(path)], subprocess.DEVNULL), ([], path.open("rb")), ([], subprocess.PIPE)):
+        for words, stdin in (
+            (["--follow", str(path)], subprocess.DEVNULL),
+            ([], path.open("rb")),
+            ([], subprocess.PIPE),
+        ):
             server = MailServer()
             server.reply_to = lambda path: b"450 4.2.0 try again" if path in slow else b"250 ok"
             with Fed("--retry", "3600", *words, server.address, stdin=stdin) as it:
@@ -319,7 +409,10 @@ def hundreds(checks: Checks):
                     checks.true("a hundred of a pipe", it.rests())
                     checks.equal("no more of it", len([it for it in server.commands if it.startswith(b"RCPT")]), 100)
                 else:
-                    checks.true(f"those after a hundred and twenty {words[:1]}", comes_to(lambda its=server: len(its.taken), count - len(slow)))
+                    checks.true(
+                        f"those after a hundred and twenty {words[:1]}",
+                        comes_to(lambda its=server: len(its.taken), count - len(slow)),
+                    )
                 it.end()
 
 
@@ -327,11 +420,18 @@ def stopped(checks: Checks, outbox: bytes):
     """A signal is heeded once the notice in hand is done, though others were read or are due."""
     with tempfile.TemporaryDirectory() as room:
         status, said = feed([submission(room, "kill $PPID\n")], outbox)
-        checks.equal("a signal with the first notice", (status, said), (1, ["stopped before the end", "1 handed in, 0 left out"]))
+        checks.equal(
+            "a signal with the first notice", (status, said), (1, ["stopped before the end", "1 handed in, 0 left out"])
+        )
         text = f'echo "$last" >> {room}/tries\n[ "$(wc -l < {room}/tries)" -le {MESSAGES} ] || kill $PPID\nexit 75\n'
         status, said = feed(["--retry", "0.5", submission(room, text)], outbox)
-        tries = (Path(room) / "tries").read_text().splitlines()  # more than there are notices, so that the last is a second one
-        checks.equal("a signal with one that is due", (status, said[-1:], len(tries)), (1, [f"0 handed in, {len(set(tries))} left out"], MESSAGES + 1))
+        # more than there are notices, so that the last is a second try
+        tries = (Path(room) / "tries").read_text().splitlines()
+        checks.equal(
+            "a signal with one that is due",
+            (status, said[-1:], len(tries)),
+            (1, [f"0 handed in, {len(set(tries))} left out"], MESSAGES + 1),
+        )
 
 
 def cut(checks: Checks, outbox: bytes):
@@ -341,12 +441,19 @@ def cut(checks: Checks, outbox: bytes):
     for size, count in ((0, 0), (10, 0), (ends[0], 1), (ends[1] - 1, 1), (ends[1], 2), (len(outbox) - 1, MESSAGES)):
         server = MailServer()
         status, said = feed([server.address], outbox[:size])
-        checks.equal(f"{size} bytes of an outbox", (status, said), (1, ["the outbox was cut short", f"{count} handed in, 0 left out"]))
+        checks.equal(
+            f"{size} bytes of an outbox",
+            (status, said),
+            (1, ["the outbox was cut short", f"{count} handed in, 0 left out"]),
+        )
         checks.true("what is taken", [it for _, it in server.taken] == whole[:count])
 
 
 def main():
-    checks = Checks("feed: each notice of an outbox goes to a mail server; what is refused for now is tried again, the rest left out")
+    checks = Checks(
+        "feed: each notice of an outbox goes to a mail server; what is refused for now is tried again, "
+        "the rest left out"
+    )
     outbox = outbox_of(MESSAGES)
     servers(checks, outbox)
     tries(checks, outbox)

@@ -1,7 +1,6 @@
-"""Kills examples/feed.py (SIGKILL) while it hands in the notices of outboxes that grow, are cut short and are moved away:
-each notice is handed in, and at most one twice for each kill, the one in hand. A server that refuses some of them for now,
-and a submission program. And
-kills the daemon: each notice that is whole in its outbox arrives.
+"""Kills examples/feed.py (SIGKILL) while it hands in the notices of outboxes that grow, are cut short and are moved
+away: each notice is handed in, and at most one twice for each kill, the one in hand. A server that refuses some of them
+for now, and a submission program. And kills the daemon: each notice that is whole in its outbox arrives.
 
     python3 -m tests.feed_kills [KILLS]     kills for each of the three, 5 unless said"""
 import contextlib
@@ -24,8 +23,8 @@ PATIENCE = 300  # seconds until all is handed in: a program takes some for each,
 
 
 class Writer:
-    """What a daemon that is started anew again and again does: it writes outboxes notice by notice, so many at most, each
-    under the same name once the one before was moved away. Every fourth is cut in its last notice."""
+    """What a daemon that is started anew again and again does: it writes outboxes notice by notice, so many at most,
+    each under the same name once the one before was moved away. Every fourth is cut in its last notice."""
 
     def __init__(self, path: Path, chance: random.Random, most: int):
         self.path, self.chance, self.most, self.written, self.is_last = path, chance, most, [], False
@@ -53,7 +52,12 @@ class Writer:
                     end = min((it for it in ends if it > end), default=len(text))
                 self.written += [it[1] for it in MESSAGE_ID.finditer(text, begun, end)] if end in ends else []
                 if end not in ends:
-                    self.written += [it[1] for it in MESSAGE_ID.finditer(text, begun, max((it for it in ends if it > begun), default=begun))]
+                    self.written += [
+                        it[1]
+                        for it in MESSAGE_ID.finditer(
+                            text, begun, max((it for it in ends if it > begun), default=begun)
+                        )
+                    ]
                 growing.write(text[begun:end])
                 begun = end
                 time.sleep(0.02)
@@ -86,8 +90,8 @@ def lying(room: Path) -> list:
 
 
 def killed(checks: Checks, about: str, kills: int, room: Path, mailer: str, handed_in, in_hand):
-    """Kills so many feeders and then lets one end: what was handed in is compared with what was written. `in_hand` says how
-    many notices of a feeder that was killed are still being taken."""
+    """Kills so many feeders and then lets one end: what was handed in is compared with what was written. `in_hand` says
+    how many notices of a feeder that was killed are still being taken."""
     chance, path = random.Random(kills), room / "outbox"
     words = [path, "--retry", "0.2", "--done", "remove", mailer]
     writer, twice, most = Writer(path, chance, 4 * kills), 0, 0
@@ -131,7 +135,11 @@ def daemons_killed(checks: Checks, kills: int, room: Path):
         for run in range(kills):
             if path.exists():
                 path.rename(f"{path}.{time.time():.9f}")
-            made = b"".join(frames.append(2 * at, 1, b"R%dx%d" % (run, at), b"x@y", 1, b"5.0.0") + frames.flush(2 * at + 1, 1, b"R%dx%d" % (run, at)) for at in range(2000))
+            made = b"".join(
+                frames.append(2 * at, 1, b"R%dx%d" % (run, at), b"x@y", 1, b"5.0.0")
+                + frames.flush(2 * at + 1, 1, b"R%dx%d" % (run, at))
+                for at in range(2000)
+            )
             with path.open("ab") as outbox, Daemon(1, 1, stdout=outbox) as daemon:
                 asking = threading.Thread(target=daemon.send, args=(made,))
                 asking.start()
@@ -151,8 +159,14 @@ def daemons_killed(checks: Checks, kills: int, room: Path):
         it.rests()
         said = it.end()
     print(f"  {kills} daemons killed, {cut} of their outboxes cut short, {len(wanted)} notices")
-    checks.equal("of killed daemons: what arrived", Counter(MESSAGE_ID.search(it)[1] for _, it in server.taken), Counter(wanted))
-    checks.equal("of killed daemons: the feeder's end", said, (int(cut > 0), [*["the outbox was cut short"] * cut, f"{len(wanted)} handed in, 0 left out"]))
+    checks.equal(
+        "of killed daemons: what arrived", Counter(MESSAGE_ID.search(it)[1] for _, it in server.taken), Counter(wanted)
+    )
+    checks.equal(
+        "of killed daemons: the feeder's end",
+        said,
+        (int(cut > 0), [*["the outbox was cut short"] * cut, f"{len(wanted)} handed in, 0 left out"]),
+    )
 
 
 def main():
@@ -169,10 +183,26 @@ def main():
 
     server.reply_to = greylisted
     with tempfile.TemporaryDirectory() as room:
-        killed(checks, "a server", kills, Path(room), server.address, lambda: [MESSAGE_ID.search(it)[1] for _, it in list(server.taken)], lambda _: server.serving)
+        killed(
+            checks,
+            "a server",
+            kills,
+            Path(room),
+            server.address,
+            lambda: [MESSAGE_ID.search(it)[1] for _, it in list(server.taken)],
+            lambda _: server.serving,
+        )
     with tempfile.TemporaryDirectory() as room, tempfile.TemporaryDirectory() as taken:
         program = submission(taken, f"cat > {taken}/part.$$ && mv {taken}/part.$$ {taken}/done.$$.$(date +%N)\n")
-        killed(checks, "a program", kills, Path(room), program, lambda: [MESSAGE_ID.search(it.read_bytes())[1] for it in Path(taken).glob("done.*")], at_work)
+        killed(
+            checks,
+            "a program",
+            kills,
+            Path(room),
+            program,
+            lambda: [MESSAGE_ID.search(it.read_bytes())[1] for it in Path(taken).glob("done.*")],
+            at_work,
+        )
     with tempfile.TemporaryDirectory() as room:
         daemons_killed(checks, kills, Path(room))
     checks.done()

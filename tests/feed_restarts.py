@@ -1,7 +1,7 @@
-"""Checks what examples/feed.py keeps from one start to the next: what was handed in isn't sent again, what was put off waits
-on from its first refusal, outboxes that earlier runs left are finished first and then removed or renamed, two feeders
-aren't at one outbox, and a state file that is damaged or can't be written. The server is a small one of the tests' own; the
-outbox is the built program's."""
+"""Checks what examples/feed.py keeps from one start to the next: what was handed in isn't sent again, what was put off
+waits on from its first refusal, outboxes that earlier runs left are finished first and then removed or renamed, two
+feeders aren't at one outbox, and a state file that is damaged or can't be written. The server is a small one of the
+tests' own; the outbox is the built program's."""
 import os
 import re
 import resource
@@ -58,8 +58,8 @@ def goes_on(checks: Checks, outbox: bytes):
 
 
 def left_behind(checks: Checks, outbox: bytes):
-    """Outboxes of earlier runs are finished first, in the order of their names; those that are done are kept, removed or
-    renamed, but one that was cut, or of which a notice was left out, is never removed."""
+    """Outboxes of earlier runs are finished first, in the order of their names; those that are done are kept, removed
+    or renamed, but one that was cut, or of which a notice was left out, is never removed."""
     for done, there in (
         ("keep", ["feed.outbox.state", "outbox", "outbox.1", "outbox.2", "outbox.3", "outbox.4.gz"]),
         ("remove", ["done.outbox.2", "done.outbox.3", "feed.outbox.state", "outbox", "outbox.4.gz"]),
@@ -76,12 +76,24 @@ def left_behind(checks: Checks, outbox: bytes):
                 status, said = it.end()
             checks.equal(f"{done}: in order", recipients(server), [0, 1, 0, 1, 2, 3, 4, 0, 1, 0, 1])
             checks.equal(f"{done}: its status and end", (status, said[-1:]), (1, ["11 handed in, 1 left out"]))
-            checks.equal(f"{done}: its lines", said[:-1], ["left out B K5: 550 5.1.1 no such user", "the outbox was cut short", f"{path}.4.gz is no outbox, and is left alone"])
+            checks.equal(
+                f"{done}: its lines",
+                said[:-1],
+                [
+                    "left out B K5: 550 5.1.1 no such user",
+                    "the outbox was cut short",
+                    f"{path}.4.gz is no outbox, and is left alone",
+                ],
+            )
             checks.equal(f"{done}: what is there then", sorted(os.listdir(room)), there)
             with Following(path, "--done", done, server.address) as it:
                 checks.true(f"{done}: it looks at all", it.rests())
                 status, said = it.end()
-            checks.equal(f"{done}: nothing comes twice, and nothing is said twice", (status, said), (0, [f"{path}.4.gz is no outbox, and is left alone", "0 handed in, 0 left out"]))
+            checks.equal(
+                f"{done}: nothing comes twice, and nothing is said twice",
+                (status, said),
+                (0, [f"{path}.4.gz is no outbox, and is left alone", "0 handed in, 0 left out"]),
+            )
             checks.equal(f"{done}: what the server has", len(server.taken), 11)
 
 
@@ -124,8 +136,8 @@ builtins.open, feed_state.sync_folder = open, sync_folder
 
 
 def errors_that_pass(checks: Checks, outbox: bytes):
-    """An outbox that can't be read, and links that can't be followed, are said once and tried again; meanwhile the others are
-    handed in, one that grows too."""
+    """An outbox that can't be read, and links that can't be followed, are said once and tried again; meanwhile the
+    others are handed in, one that grows too."""
     for grows in (outbox, outbox[:-6]):
         with tempfile.TemporaryDirectory() as room:
             path, server, broken = Path(room) / "outbox", MailServer(), Path(room) / "broken"
@@ -139,12 +151,17 @@ def errors_that_pass(checks: Checks, outbox: bytes):
             with Following(path, "--retry", "0.3", server.address, first=FAILS) as it:
                 checks.true("the one that grows", comes_to(lambda its=server: len(its.taken), MESSAGES) and it.rests())
                 time.sleep(1)  # nothing more is said
-                said = [f"{first} is left alone: Input/output error", f"{loop} is left alone: Too many levels of symbolic links", f"{long} is left alone: File name too long"]
+                said = [
+                    f"{first} is left alone: Input/output error",
+                    f"{loop} is left alone: Too many levels of symbolic links",
+                    f"{long} is left alone: File name too long",
+                ]
                 checks.equal("what is said", it.said(), said)
                 broken.unlink()
                 checks.true("one that can be read again", comes_to(lambda its=server: len(its.taken), MESSAGES + 2))
                 (Path(room) / "made").write_bytes(outbox_of(3))
-                os.replace(Path(room) / "made", loop)  # at once: a name that was free for a moment is that of a new outbox
+                # at once: a name that was free for a moment is that of a new outbox
+                os.replace(Path(room) / "made", loop)
                 checks.true("another in the place of a link", comes_to(lambda its=server: len(its.taken), MESSAGES + 5))
                 path.rename(path.with_suffix(".5"))
                 path.write_bytes(outbox_of(4))
@@ -175,27 +192,34 @@ def known_where_names_are_not(checks: Checks, outbox: bytes):
 
 
 def not_synced(checks: Checks, outbox: bytes):
-    """Where an outbox that is done was removed, or renamed, and the folder can't be synced, this is said as it is; the outbox is
-    known until the next start, and isn't handed in again where it comes back."""
+    """Where an outbox that is done was removed, or renamed, and the folder can't be synced, this is said as it is; the
+    outbox is known until the next start, and isn't handed in again where it comes back."""
     for done in ("remove", "rename"):
         with tempfile.TemporaryDirectory() as room:
             path, server = Path(room) / "outbox", MailServer()
-            first, said = path.with_suffix(".1"), []
+            first, again, said = path.with_suffix(".1"), Path(room) / "again", []
             first.write_bytes(outbox)
-            os.link(first, Path(room) / "again")
+            os.link(first, again)
             path.write_bytes(b"")
             for _ in range(2):
                 with Following(path, "--done", done, server.address, first=FAILS) as it:
-                    checks.true(f"{done}: it is gone", comes_to(lambda its=first: int(not its.exists()), 1) and it.rests())
+                    checks.true(
+                        f"{done}: it is gone", comes_to(lambda its=first: int(not its.exists()), 1) and it.rests()
+                    )
                     said.append(it.end())
-                os.rename(Path(room) / "again", first) if not first.exists() and (Path(room) / "again").exists() else None
+                if again.exists() and not first.exists():
+                    again.rename(first)
             line = f"the folder of {first} can't be synced: Input/output error"
-            checks.equal(f"{done}: what is said", said, [(0, [line, f"{count} handed in, 0 left out"]) for count in (MESSAGES, 0)])
+            checks.equal(
+                f"{done}: what is said",
+                said,
+                [(0, [line, f"{count} handed in, 0 left out"]) for count in (MESSAGES, 0)],
+            )
             checks.equal(f"{done}: nothing comes twice", len(server.taken), MESSAGES)
 
 
 def moved_while_none_grows(checks: Checks, outbox: bytes):
-    """An outbox that was cut short and moved away may grow yet, until another one has its name; an empty file will do."""
+    """An outbox that was cut short and moved away may still grow until another has its name, even an empty one."""
     with tempfile.TemporaryDirectory() as room:
         path, server = Path(room) / "outbox", MailServer()
         path.with_suffix(".1").write_bytes(outbox[:-20])
@@ -208,7 +232,9 @@ def moved_while_none_grows(checks: Checks, outbox: bytes):
             checks.true("the last comes", comes_to(lambda: len(server.taken), MESSAGES))
             path.touch()
             checks.true("the next", comes_to(lambda: len(server.taken), MESSAGES + 2))
-            checks.equal("its end", it.end(), (1, ["the outbox was cut short", f"{MESSAGES + 2} handed in, 0 left out"]))
+            checks.equal(
+                "its end", it.end(), (1, ["the outbox was cut short", f"{MESSAGES + 2} handed in, 0 left out"])
+            )
 
 
 def waits_on(checks: Checks, outbox: bytes):
@@ -217,16 +243,25 @@ def waits_on(checks: Checks, outbox: bytes):
         path, slow = Path(room) / "outbox", MailServer(greylists=1000)
         path.write_bytes(outbox)
         with Following(path, "--retry", "0.3", "--give-up", "3600", slow.address) as it:
-            checks.true("each is refused, twice", comes_to(lambda: len(slow.tries) == MESSAGES and min(slow.tries.values()) > 1, True))
+            checks.true(
+                "each is refused, twice",
+                comes_to(lambda: len(slow.tries) == MESSAGES and min(slow.tries.values()) > 1, True),
+            )
             status, said = it.end()
-        checks.equal("its end", (status, len(said), said[-1]), (0, MESSAGES + 1, f"0 handed in, 0 left out, {MESSAGES} wait"))
+        checks.equal(
+            "its end", (status, len(said), said[-1]), (0, MESSAGES + 1, f"0 handed in, 0 left out, {MESSAGES} wait")
+        )
         path.rename(path.with_suffix(".1"))
         path.write_bytes(b"")
         server = MailServer({b"sender1@example.com"})
         with Following(path, "--retry", "0.3", "--give-up", "3600", "--done", "remove", server.address) as it:
             checks.true("all but one are taken", comes_to(lambda: len(server.taken), MESSAGES - 1))
             checks.true("and the outbox goes", comes_to(lambda: int((Path(room) / "done.outbox.1").exists()), 1))
-            checks.equal("its end", it.end(), (1, ["left out B K1: 550 5.1.1 no such user", f"{MESSAGES - 1} handed in, 1 left out"]))
+            checks.equal(
+                "its end",
+                it.end(),
+                (1, ["left out B K1: 550 5.1.1 no such user", f"{MESSAGES - 1} handed in, 1 left out"]),
+            )
     with tempfile.TemporaryDirectory() as room:
         path, slow = Path(room) / "outbox", MailServer(greylists=1000)
         path.write_bytes(outbox)
@@ -237,7 +272,19 @@ def waits_on(checks: Checks, outbox: bytes):
         with Following(path, "--retry", "0.2", "--give-up", "2", slow.address) as it:
             checks.true("tried once more, each", comes_to(lambda: min(slow.tries.values()) > 1, True))
             status, said = it.end()
-        checks.equal("and left out, as the time since the first refusal is over", (status, sorted(said)), (1, sorted([*(f"left out B K{at}: 450 4.2.0 try again" for at in range(MESSAGES)), f"0 handed in, {MESSAGES} left out"])))
+        checks.equal(
+            "and left out, as the time since the first refusal is over",
+            (status, sorted(said)),
+            (
+                1,
+                sorted(
+                    [
+                        *(f"left out B K{at}: 450 4.2.0 try again" for at in range(MESSAGES)),
+                        f"0 handed in, {MESSAGES} left out",
+                    ]
+                ),
+            ),
+        )
 
 
 def cut_once(checks: Checks, outbox: bytes):
@@ -250,7 +297,10 @@ def cut_once(checks: Checks, outbox: bytes):
             checks.equal("it may grow yet", it.end(), (0, [f"{MESSAGES - 1} handed in, 0 left out"]))
         path.rename(path.with_suffix(".1"))
         path.write_bytes(outbox)
-        for status, lines in ((1, ["the outbox was cut short", f"{MESSAGES} handed in, 0 left out"]), (0, ["0 handed in, 0 left out"])):
+        for status, lines in (
+            (1, ["the outbox was cut short", f"{MESSAGES} handed in, 0 left out"]),
+            (0, ["0 handed in, 0 left out"]),
+        ):
             with Following(path, server.address) as it:
                 checks.true("the next outbox", comes_to(lambda: len(server.taken), 2 * MESSAGES - 1) and it.rests())
                 checks.equal("its end", it.end(), (status, lines))
@@ -266,13 +316,17 @@ def two_feeders(checks: Checks, outbox: bytes):
             for words, what in (([], f"{room}/feed.outbox.state"), (["--state", f"{room}/another"], str(path))):
                 status, said = feed(["--follow", str(path), *words, other.address], b"")
                 checks.equal(f"the second {words[:1]}", (status, said), (3, [f"feed.py: another feeder has {what}"]))
-            checks.equal("and one of its bytes", feed_file([other.address], path), (3, ["feed.py: another feeder has standard input"]))
+            checks.equal(
+                "and one of its bytes",
+                feed_file([other.address], path),
+                (3, ["feed.py: another feeder has standard input"]),
+            )
         checks.equal("what the second handed in", other.taken, [])
 
 
 def number_used_again(checks: Checks, outbox: bytes):
-    """An outbox with the inode number of one that was done is another one, unless it has the same size and time or bytes;
-    two of the same bytes are two."""
+    """An outbox with the inode number of one that was done is another one, unless it has the same size and time or
+    bytes; two of the same bytes are two."""
     with tempfile.TemporaryDirectory() as room:
         path, state = Path(room) / "outbox", Path(room) / "feed.outbox.state"
         path.write_bytes(outbox)
@@ -300,7 +354,7 @@ def number_used_again(checks: Checks, outbox: bytes):
 
 
 def damaged(checks: Checks, outbox: bytes):
-    """Of a state file the last line may be damaged: what it said is done again. With another damaged line nothing is done."""
+    """If the last line of a state file is damaged, that notice is done again. Another damaged line stops the feeder."""
     with tempfile.TemporaryDirectory() as room:
         path, state, server = Path(room) / "outbox", Path(room) / "feed.outbox.state", MailServer()
         path.write_bytes(outbox[:-6])
@@ -308,7 +362,9 @@ def damaged(checks: Checks, outbox: bytes):
             checks.true("all", comes_to(lambda: len(server.taken), MESSAGES))
             it.end()
         whole = state.read_bytes() if state.exists() else b"\n\n"
-        for at, (text, again) in enumerate(((whole[:-1], 0), (whole[:-20], 1), (whole + b"\0" * 100, 0), (whole + b"0123", 0), (whole, 0))):
+        for at, (text, again) in enumerate(
+            ((whole[:-1], 0), (whole[:-20], 1), (whole + b"\0" * 100, 0), (whole + b"0123", 0), (whole, 0))
+        ):
             state.write_bytes(text)
             server.taken.clear()
             with Following(path, server.address) as it:
@@ -317,7 +373,11 @@ def damaged(checks: Checks, outbox: bytes):
             checks.equal("what comes again", recipients(server), [MESSAGES - 1] * again)
         state.write_bytes(whole.replace(b"outbox", b"outbax", 1))
         status, said = feed(["--follow", str(path), server.address], b"")
-        checks.equal("damage of another line", (status, said), (3, [f"feed.py: {state} is damaged at line 1; without it all that lies there is handed in again"]))
+        checks.equal(
+            "damage of another line",
+            (status, said),
+            (3, [f"feed.py: {state} is damaged at line 1; without it all that lies there is handed in again"]),
+        )
 
 
 def short_write(checks: Checks):
@@ -332,7 +392,11 @@ def short_write(checks: Checks):
         text = Path(path).read_bytes()
         checks.equal("a short write: the lines", (text.count(b"\n"), text.count(b"\0"), text.count(b"part")), (3, 0, 0))
         state.file.close()
-        checks.equal("a short write: the next start", [it.position for it in feed_state.State(path, lambda: False).records.values()], [20])
+        checks.equal(
+            "a short write: the next start",
+            [it.position for it in feed_state.State(path, lambda: False).records.values()],
+            [20],
+        )
 
 
 def full_disk(checks: Checks, outbox: bytes):
@@ -340,15 +404,29 @@ def full_disk(checks: Checks, outbox: bytes):
     with tempfile.TemporaryDirectory() as room:
         path, server = Path(room) / "outbox", MailServer()
         path.write_bytes(outbox[:-6])
-        with Following(path, server.address, preexec_fn=lambda: resource.setrlimit(resource.RLIMIT_FSIZE, (300, 300))) as it:
+        with Following(
+            path, server.address, preexec_fn=lambda: resource.setrlimit(resource.RLIMIT_FSIZE, (300, 300))
+        ) as it:
             checks.true("it waits for room", it.rests())
             count = len(server.taken)
             status, said = it.end()
         checks.true("some were handed in", 0 < count < MESSAGES)
         state = f"{room}/feed.outbox.state"
-        checks.equal("its end", (status, said), (1, [f"the state can't be written, so nothing is handed in: {state}: File too large", f"{count} handed in, 0 left out"]))
+        checks.equal(
+            "its end",
+            (status, said),
+            (
+                1,
+                [
+                    f"the state can't be written, so nothing is handed in: {state}: File too large",
+                    f"{count} handed in, 0 left out",
+                ],
+            ),
+        )
         with Following(path, server.address) as it:
-            checks.true("the rest, and the one that wasn't written down", comes_to(lambda: len(server.taken), MESSAGES + 1))
+            checks.true(
+                "the rest, and the one that wasn't written down", comes_to(lambda: len(server.taken), MESSAGES + 1)
+            )
             it.end()
         checks.equal("what it was given", recipients(server), [*range(count), *range(count - 1, MESSAGES)])
 
@@ -377,7 +455,11 @@ def standard_input(checks: Checks, outbox: bytes):
         path, server = Path(room) / "outbox.1", MailServer()
         path.write_bytes(outbox)
         for count in (MESSAGES, 0):
-            checks.equal("a file", feed_file(["--state", f"{room}/state", server.address], path), (0, [f"{count} handed in, 0 left out"]))
+            checks.equal(
+                "a file",
+                feed_file(["--state", f"{room}/state", server.address], path),
+                (0, [f"{count} handed in, 0 left out"]),
+            )
         checks.equal("a pipe", feed(["--state", f"{room}/state", server.address], outbox)[0], 2)
     with socket.create_server(("127.0.0.1", 0)) as it:
         nobody = "127.0.0.1:%d" % it.getsockname()[1]
@@ -387,8 +469,8 @@ def standard_input(checks: Checks, outbox: bytes):
 
 
 def once(checks: Checks):
-    """With --once what was handed in before isn't handed in again: in a later outbox, and by a feeder that is started anew. What
-    was left out is, and so is a notice that differs."""
+    """With --once what was handed in before isn't handed in again: in a later outbox, and by a feeder that is started
+    anew. What was left out is, and so is a notice that differs."""
     with tempfile.TemporaryDirectory() as room:
         path, server = Path(room) / "outbox", MailServer(refused={b"sender1@example.com"})
         path.with_suffix(".1").write_bytes(outbox_of(3))
@@ -415,7 +497,22 @@ def once(checks: Checks):
 def main():
     checks = Checks("feed_restarts: what the feeder keeps from one start to the next")
     outbox = outbox_of(MESSAGES)
-    for it in (goes_on, left_behind, no_outboxes, errors_that_pass, known_where_names_are_not, not_synced, moved_while_none_grows, waits_on, cut_once, two_feeders, number_used_again, damaged, full_disk, standard_input):
+    for it in (
+        goes_on,
+        left_behind,
+        no_outboxes,
+        errors_that_pass,
+        known_where_names_are_not,
+        not_synced,
+        moved_while_none_grows,
+        waits_on,
+        cut_once,
+        two_feeders,
+        number_used_again,
+        damaged,
+        full_disk,
+        standard_input,
+    ):
         it(checks, outbox)
     short_write(checks)
     small(checks)

@@ -23,7 +23,7 @@ def queue_id(turn: int) -> bytes:
 
 
 def requests(first: int, count: int):
-    """So many requests from this turn on, with their answers: each key is discarded, and forgotten when 4,096 follow it."""
+    """The given number of requests and their answers: each key is discarded, and forgotten 4,096 keys later."""
     turn, given, answers = first, [], []
     while len(given) + 1 < count:
         if turn >= LOGS:

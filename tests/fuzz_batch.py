@@ -27,7 +27,11 @@ def difference(given: bytes):
     wanted, found = sessions.batch(HOST.encode(), given), batch(given)
     if found == wanted:
         return None
-    return "\n".join(f"  {it}\n    wanted {shown(getattr(wanted, it))}\n    found  {shown(getattr(found, it))}" for it in ("status", "notes", "outbox") if getattr(found, it) != getattr(wanted, it))
+    return "\n".join(
+        f"  {it}\n    wanted {shown(getattr(wanted, it))}\n    found  {shown(getattr(found, it))}"
+        for it in ("status", "notes", "outbox")
+        if getattr(found, it) != getattr(wanted, it)
+    )
 
 
 def options():
@@ -47,7 +51,10 @@ def main() -> int:
     while index - given.first < given.sessions if given.sessions else time.monotonic() - began < given.seconds:
         told = difference(session(given.seed, index))
         if told:
-            print(f"  FAILED: --seed {given.seed} --from {index} --sessions 1, after {time.monotonic() - began:.1f} s\n{told}")
+            print(
+                f"  FAILED: --seed {given.seed} --from {index} --sessions 1, "
+                f"after {time.monotonic() - began:.1f} s\n{told}"
+            )
             return 1
         index += 1
     print(f"  {index - given.first} sessions, no difference")

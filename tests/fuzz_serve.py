@@ -1,6 +1,6 @@
 """Runs `noticed serve` with many clients at once, random and hostile: they ask what other clients ask too, dribble,
-leave within a frame or before an answer, and send what isn't legal. Afterwards the answers, the open logs and the outbox
-must be those of one history of requests (tests/support/histories.py).
+leave within a frame or before an answer, and send what isn't legal. Afterwards the answers, the open logs and the
+outbox must be those of one history of requests (tests/support/histories.py).
 
     python3 -m tests.fuzz_serve [--seconds S] [--runs N] [--seed SEED] [--from INDEX]
 
@@ -32,7 +32,7 @@ SERVICES = {letter: service for service, letter in SERVICE_LETTERS.items()}
 
 
 class Client:
-    """One connection: what it asked, whether its session ended with a fault (None: nobody can tell), and what was wrong."""
+    """One connection: what it asked, whether its session ended with a fault (None: not known), and what was wrong."""
 
     def __init__(self, dice: random.Random, keys: list):
         self.dice, self.hostile = dice, Hostile(dice)
@@ -126,8 +126,14 @@ def wrong_counts(lines: list, clients: list, agents: int, uses: int) -> list:
     counted = [tuple(int(it) for it in line.groups()) for line in lines]
     sure, unsure = sum(it.fault is True for it in clients), sum(it.fault is None for it in clients)
     faults = sum(it[3] for it in counted)
-    wrong = [] if [(it[0], it[2]) for it in counted] == [(at, uses) for at in range(agents)] else [f"the agents' lines {counted}"]
-    return wrong + ([] if sure <= faults <= sure + unsure else [f"{faults} faults, where {sure} to {sure + unsure} are due"])
+    wrong = (
+        []
+        if [(it[0], it[2]) for it in counted] == [(at, uses) for at in range(agents)]
+        else [f"the agents' lines {counted}"]
+    )
+    return wrong + (
+        [] if sure <= faults <= sure + unsure else [f"{faults} faults, where {sure} to {sure + unsure} are due"]
+    )
 
 
 def judged(ran, clients: list, agents: int, uses: int) -> list:

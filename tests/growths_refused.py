@@ -28,8 +28,8 @@ def sweep(library: Path, given: bytes) -> list:
 
 
 def longer_and_longer(checks: Checks, library: Path):
-    """Frames that are each a byte longer than the last: what they are read into grows for the first, and then only where
-    a frame is longer than twice what it was."""
+    """Frames that are each a byte longer than the last: what they are read into grows for the first, and then only
+    where a frame is longer than twice what it was."""
     given = b"".join(size.to_bytes(4, "big") + b"\xff" * size for size in range(1, 1001))
     ends = sweep(library, given)
     checks.true("frames that are each longer: the last run is whole", ends[-1] == batch(given))
@@ -41,16 +41,37 @@ def longer_and_longer(checks: Checks, library: Path):
 
 # How often each public call grows its memory, at least; each growth is refused with 9, or 42 of a crew.
 CALLS = {
-    "address": 1, "mta-name": 1, "envelope-id": 1, "clean": 1, "raw-header": 1, "outcome": 2, "draft": 2, "book": 2, "open-lines": 1,
-    "read-frame": 1, "read-next": 1, "decode-append": 2, "decode-flush": 2, "encode-append": 1, "encode-flush": 1, "site": 1, "notice": 1, "mail-data": 1,
-    "open-lane": 2, "open-post": 2, "open-crew": 3,
-}  # fmt: skip
+    "address": 1,
+    "mta-name": 1,
+    "envelope-id": 1,
+    "clean": 1,
+    "raw-header": 1,
+    "outcome": 2,
+    "draft": 2,
+    "book": 2,
+    "open-lines": 1,
+    "read-frame": 1,
+    "read-next": 1,
+    "decode-append": 2,
+    "decode-flush": 2,
+    "encode-append": 1,
+    "encode-flush": 1,
+    "site": 1,
+    "notice": 1,
+    "mail-data": 1,
+    "open-lane": 2,
+    "open-post": 2,
+    "open-crew": 3,
+}
 # What the program is given beside the call's name, and the texts that are kept.
 TEXTS = {"clean": ["550 5.1.1 no such\tuser"]}
 KEPT = {
-    "address": b"bob@example.org ", "mta-name": b"mail.example.org ", "envelope-id": b"QQ314159 ", "clean": b"550 5.1.1 no such?user ",
+    "address": b"bob@example.org ",
+    "mta-name": b"mail.example.org ",
+    "envelope-id": b"QQ314159 ",
+    "clean": b"550 5.1.1 no such?user ",
     "raw-header": b"Subject: hi ",
-}  # fmt: skip
+}
 # What takes no memory, and what it comes to: lengths that no frame has, and a collector and an outbox at work.
 WITHOUT_MEMORY = {"read-empty": b"refused 12", "read-too-long": b"refused 11", "collect": b"made"}
 
@@ -61,7 +82,11 @@ def called(library: Path, call: str, growth) -> bytes:
     words = [PROBE, "call", call, *TEXTS.get(call, ())]
     ended = subprocess.run(words, capture_output=True, env=environment, check=False)
     begun, _, came = ended.stdout.partition(b"begin\n")
-    return came.strip() if (begun, ended.stderr, ended.returncode) == (b"", b"", 0) else b"another end: " + str(ended).encode()
+    return (
+        came.strip()
+        if (begun, ended.stderr, ended.returncode) == (b"", b"", 0)
+        else b"another end: " + str(ended).encode()
+    )
 
 
 def check_calls(checks: Checks, library: Path):
@@ -93,21 +118,31 @@ def main():
     with tempfile.TemporaryDirectory() as room:
         library = built(room, "refuse")
         check_calls(checks, library)
-        compare_ends(checks, "an append and a flush", sweep(library, given), {
-            "before the run": UNBEGUN,
-            "for the book, or for the first frame": ended(b"fault 9\n", 1),
-            "for the append": ended(b"0 refused 9\n1 nothing\n", 0),
-            "for the second frame": ended(b"0 logged 0\nfault 9\nopen B A1B2C3 1\n", 1),
-            "for the flush": ended(b"0 logged 0\n1 refused 9\nopen B A1B2C3 1\n", 0),
-            "none": Ran(outbox, notes, 0),
-        })
-        compare_ends(checks, "the append alone", sweep(library, given[:FIRST_FRAME]), {
-            "before the run": UNBEGUN,
-            "for the book, or for the frame": ended(b"fault 9\n", 1),
-            "for the append": ended(b"0 refused 9\n", 0),
-            "for the list of open logs": ended(b"0 logged 0\nfault 9\n", 1),
-            "none": ended(b"0 logged 0\nopen B A1B2C3 1\n", 0),
-        })
+        compare_ends(
+            checks,
+            "an append and a flush",
+            sweep(library, given),
+            {
+                "before the run": UNBEGUN,
+                "for the book, or for the first frame": ended(b"fault 9\n", 1),
+                "for the append": ended(b"0 refused 9\n1 nothing\n", 0),
+                "for the second frame": ended(b"0 logged 0\nfault 9\nopen B A1B2C3 1\n", 1),
+                "for the flush": ended(b"0 logged 0\n1 refused 9\nopen B A1B2C3 1\n", 0),
+                "none": Ran(outbox, notes, 0),
+            },
+        )
+        compare_ends(
+            checks,
+            "the append alone",
+            sweep(library, given[:FIRST_FRAME]),
+            {
+                "before the run": UNBEGUN,
+                "for the book, or for the frame": ended(b"fault 9\n", 1),
+                "for the append": ended(b"0 refused 9\n", 0),
+                "for the list of open logs": ended(b"0 logged 0\nfault 9\n", 1),
+                "none": ended(b"0 logged 0\nopen B A1B2C3 1\n", 0),
+            },
+        )
         longer_and_longer(checks, library)
     checks.done()
 

@@ -57,7 +57,10 @@ def never_reads(checks: Checks):
                 cut_off = True
             checks.true("a client that never reads is cut off", cut_off)
             ended = daemon.end()
-        checks.true("a client that never reads: the notes", ended.notes.startswith(b"agent 0 requests") and b"connections 1 faults 1\n" in ended.notes)
+        checks.true(
+            "a client that never reads: the notes",
+            ended.notes.startswith(b"agent 0 requests") and b"connections 1 faults 1\n" in ended.notes,
+        )
 
 
 def no_limit(checks: Checks):

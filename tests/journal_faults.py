@@ -1,8 +1,9 @@
-"""Runs `noticed serve --journal` where something is wrong with its folder, a file of it or its outbox: another daemon has it, it isn't
-there, it can't be written, it is another program's, damaged, older or of another journal, or a write or a sync fails, once or for
-good (by a small library that is preloaded, tests/support/power.c, compiled here with gcc). Each has its number and status, what
-can't be opened stays as it was, and what was answered before is there once the next daemon starts. Of runs that nothing is wrong
-with, that a clean end forgets which keys are closed, and a kill doesn't."""
+"""Runs `noticed serve --journal` where something is wrong with its folder, a file of it or its outbox: another daemon
+has it, it isn't there, it can't be written, it is another program's, damaged, older or of another journal, or a write
+or a sync fails, once or for good (by a small library that is preloaded, tests/support/power.c, compiled here with gcc).
+Each has its number and status, what can't be opened stays as it was, and what was answered before is there once the
+next daemon starts. Of runs that nothing is wrong with, that a clean end forgets which keys are closed, and a kill
+doesn't."""
 import contextlib
 import os
 import re
@@ -39,7 +40,9 @@ class Place:
             with contextlib.suppress(FileNotFoundError):
                 self.earlier += self.outbox.read_bytes()
                 self.outbox.unlink()
-        return Daemon(agents, uses, options=("--journal", self.folder, "--outbox", outbox or self.outbox, *options), **how)
+        return Daemon(
+            agents, uses, options=("--journal", self.folder, "--outbox", outbox or self.outbox, *options), **how
+        )
 
     def run(self, **how) -> Ran:
         """A daemon that ends by itself, since something is wrong."""
@@ -119,16 +122,32 @@ def not_allowed(checks: Checks, room: Path):
         (Path(name) / "out").mkdir()
         (Path(name) / "out").chmod(0o777)
         account = ["setpriv", f"--reuid={NOBODY}", f"--regid={NOBODY}", "--clear-groups"] if os.geteuid() == 0 else []
-        words = [*account, str(copy), "serve", "--journal", str(folder), "--outbox", f"{name}/out/outbox", f"{name}/socket", HOST, "1", "1"]
+        words = [
+            *account,
+            str(copy),
+            "serve",
+            "--journal",
+            str(folder),
+            "--outbox",
+            f"{name}/out/outbox",
+            f"{name}/socket",
+            HOST,
+            "1",
+            "1",
+        ]
         ended = subprocess.run(words, capture_output=True, timeout=60, check=False)
         wanted = not_opened(folder, "Permission denied (os error 13)")
-        checks.equal("a folder that can't be written", (ended.stdout, ended.stderr, ended.returncode), (wanted.outbox, wanted.notes, 1))
+        checks.equal(
+            "a folder that can't be written",
+            (ended.stdout, ended.stderr, ended.returncode),
+            (wanted.outbox, wanted.notes, 1),
+        )
         folder.chmod(0o755)
 
 
 def files(checks: Checks, room: Path):
-    """A file that is another program's (73), another version's (74) or damaged (75); marks ahead of the journal (76) or behind it
-    (77). Each stays as it was, nobody is served, and with the right files again the daemon goes on."""
+    """A file that is another program's (73), another version's (74) or damaged (75); marks ahead of the journal (76) or
+    behind it (77). Each stays as it was, nobody is served, and with the right files again the daemon goes on."""
     place = filled(room, "files")
     kept, marks = place.file("journal"), place.file("marks")
     # the run before was ended in order, and a start puts the journal away: its base is then the mark
@@ -166,7 +185,7 @@ def files(checks: Checks, room: Path):
 
 
 def outboxes(checks: Checks, room: Path):
-    """An outbox that can't be opened, or takes nothing: 31. Letters that it didn't take are posted by the next daemon."""
+    """An outbox that can't be opened or written (31): the next daemon posts the letters that it didn't take."""
     place = Place(room, "outboxes")
     for what, path, words in (
         ("an outbox in no folder", room / "none/outbox", "No such file or directory (os error 2)"),
@@ -174,11 +193,21 @@ def outboxes(checks: Checks, room: Path):
     ):
         checks.equal(what, place.run(outbox=path), not_opened(path, words, 31))
     with place.daemon(outbox="/dev/full") as it:
-        checks.equal("a full device: the client", exchange(it, append(0, b"K1") + flush(1, b"K1") + append(2, b"K2"), 3), answer(1) + answer(7, 1, 1) + answer(1, 2))
-        checks.equal("a full device: the notes", it.end(), Ran(b"", line(0, 3) + b"fault 31\nunsent B K1\nopen B K2 1\n", 1))
+        checks.equal(
+            "a full device: the client",
+            exchange(it, append(0, b"K1") + flush(1, b"K1") + append(2, b"K2"), 3),
+            answer(1) + answer(7, 1, 1) + answer(1, 2),
+        )
+        checks.equal(
+            "a full device: the notes", it.end(), Ran(b"", line(0, 3) + b"fault 31\nunsent B K1\nopen B K2 1\n", 1)
+        )
     checks.equal("a full device, first letters", place.run(outbox="/dev/full"), Ran(b"", b"fault 31\n", 1))
     (room / "some.outbox").write_bytes(b"EHLO mx.example.net\r\nMAIL FR")
-    checks.equal("an outbox that has something", place.run(outbox=room / "some.outbox"), not_opened(room / "some.outbox", "entity already exists", 31))
+    checks.equal(
+        "an outbox that has something",
+        place.run(outbox=room / "some.outbox"),
+        not_opened(room / "some.outbox", "entity already exists", 31),
+    )
     checks.equal("it stays as it was", (room / "some.outbox").read_bytes(), b"EHLO mx.example.net\r\nMAIL FR")
     check_still_there(checks, "after outboxes that failed", place)
     checks.equal("an outbox is its owner's alone", place.outbox.stat().st_mode & 0o777, 0o600)
@@ -199,8 +228,8 @@ def ends(checks: Checks, room: Path):
 
 
 def calls(checks: Checks, room: Path, library: Path):
-    """Each write and sync of a file fails in turn, of a start and of a run. A run whose request can't be kept ends with 45, and no
-    answer is given that isn't true of the next daemon."""
+    """Each write and sync of a file fails in turn, of a start and of a run. A run whose request can't be kept ends with
+    45, and no answer is given that isn't true of the next daemon."""
     shadow = room / "shadow"
     shadow.mkdir()
     for name, most, how in (
@@ -215,7 +244,11 @@ def calls(checks: Checks, room: Path, library: Path):
         while found and number < 100:
             number += 1
             place = Place(room, f"{name}-{number}-{len(how)}")
-            with place.daemon(env=preloading(library, FOLDER=place.folder, OUTBOX=place.outbox, SHADOW=shadow, ON=name, FAIL_AT=number, **how)) as it:
+            with place.daemon(
+                env=preloading(
+                    library, FOLDER=place.folder, OUTBOX=place.outbox, SHADOW=shadow, ON=name, FAIL_AT=number, **how
+                )
+            ) as it:
                 got, ended = exchange_singly(it, [append(0, b"K1"), flush(1, b"K1"), append(2, b"K2")]), it.end()
             found = FAULT.findall(ended.notes)
             met.update(found)
@@ -243,8 +276,8 @@ def exchange_singly(daemon: Daemon, given: list) -> bytes:
 
 
 def check_kept(checks: Checks, about: str, place: Place, answered: int, in_order: bool):
-    """What the next daemon says of K1 and K2, where so many of the three requests were answered: that one more may be kept. A run
-    that ended in order may have forgotten that K1 is closed."""
+    """What the next daemon says of K1 and K2, where so many of the three requests were answered: that one more may be
+    kept. A run that ended in order may have forgotten that K1 is closed."""
     with place.daemon() as it:
         got = exchange(it, flush(0, b"K1") + flush(1, b"K2"), 2)
         checks.equal(f"{about}: the next daemon", it.end().status, 0)

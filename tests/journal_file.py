@@ -1,8 +1,9 @@
-"""A ledger over a real file (the program probe), beside a plain reading of docs/FORMATS.md, section 18: what is answered and
-what the file has; a file without room, whose journal is put away for a shorter one; and by a small library that is preloaded (tests/support/crash.c, compiled here with
-gcc) each call on the file failing in turn, and the machine stopping within each in turn, where all, some or none of what
-wasn't synced is kept. Whatever is found then is the asked requests in their order, up to one that stands after each answered
-one and within the group that was being kept, and the ledger that is opened goes on from there."""
+"""A ledger over a real file (the program probe), beside a plain reading of docs/FORMATS.md, section 18: what is
+answered and what the file has; a file without room, whose journal is put away for a shorter one; and by a small library
+that is preloaded (tests/support/crash.c, compiled here with gcc) each call on the file failing in turn, and the machine
+stopping within each in turn, where all, some or none of what wasn't synced is kept. Whatever is found then is the asked
+requests in their order, up to one that stands after each answered one and within the group that was being kept, and the
+ledger that is opened goes on from there."""
 import os
 import random
 import subprocess
@@ -56,13 +57,22 @@ class Ran:
     status: int = 0
 
 
-def keep(path: Path, asked: list, size: int = SIZE, group: int = GROUP, limits: Limits = LIMITS, environment=None, mark=None) -> Ran:
-    """Runs a ledger over a file; under the mark that counts what was posted when it was made, unless another is given."""
+def keep(
+    path: Path, asked: list, size: int = SIZE, group: int = GROUP, limits: Limits = LIMITS, environment=None, mark=None
+) -> Ran:
+    """Runs a ledger over a file, under the given mark or that which counts what was posted when it was made."""
     given = b"".join(frame(number, it) for number, it in enumerate(asked))
     if mark is None:
         mark = journal.base_of(path.read_bytes()) & 0xFFFFFFFF if path.exists() else 0
     words = [path, size, limits.logs, limits.entries, limits.requests, group, mark]
-    ended = subprocess.run([PROBE, "journal", *map(str, words)], input=given, capture_output=True, timeout=PATIENCE, check=False, env=environment)
+    ended = subprocess.run(
+        [PROBE, "journal", *map(str, words)],
+        input=given,
+        capture_output=True,
+        timeout=PATIENCE,
+        check=False,
+        env=environment,
+    )
     ran, rest = Ran(status=ended.returncode), ended.stdout
     if ended.stderr:
         raise RuntimeError(ended.stderr)
@@ -116,8 +126,8 @@ def check_answers(checks: Checks, room: Path):
 
 
 def check_full(checks: Checks, room: Path):
-    """A file in which two groups have room, and then no group of two, also once it is put away for a shorter one, since nothing
-    in it is of no use any more: one request alone has. And one without room for a header."""
+    """A file in which two groups have room, and then no group of two, also once it is put away for a shorter one, since
+    nothing in it is of no use any more: one request alone has. And one without room for a header."""
     first, second = ("append", KEYS[0]), ("append", KEYS[1])
     asked, path = [first] * 3 + [second] * 3, room / "full"
     keep(path, [first], size=SIZE, group=1)
@@ -132,7 +142,10 @@ def check_full(checks: Checks, room: Path):
     ran = keep(path, [second], size=size, group=1)
     checks.equal("full: one has room", (ran.answers, ran.lines[1:]), (wanted(asked[:4], [second]), []))
     checks.equal("full: to the last byte", path.read_bytes(), header + each * 3 + each.replace(b"K1", b"K2") * 2)
-    for size, line in ((len(header) - 1, b"not opened: the journal is full"), (len(header), b"opened %d" % len(header))):
+    for size, line in (
+        (len(header) - 1, b"not opened: the journal is full"),
+        (len(header), b"opened %d" % len(header)),
+    ):
         path = room / f"small-{size}"
         checks.equal(f"a file of {size} bytes", keep(path, [], size=size).lines, [line])
         checks.equal(f"a file of {size} bytes, then", path.read_bytes(), header if size == len(header) else bytes(size))
@@ -140,7 +153,10 @@ def check_full(checks: Checks, room: Path):
 
 def check_opening(checks: Checks, room: Path):
     """What isn't opened."""
-    damaged, other = b"a record of the journal is damaged", b"the journal is of another version, or was kept under other limits"
+    damaged, other = (
+        b"a record of the journal is damaged",
+        b"the journal is of another version, or was kept under other limits",
+    )
     foreign, header = b"the file isn't a journal's", journal.header(LIMITS)
     for about, kept, why in (
         ("a record that keeps no body", [header, b"A"], damaged),
@@ -167,7 +183,10 @@ def check_opening(checks: Checks, room: Path):
         ("a file of text", b"A file of text, and no journal.\n".ljust(SIZE, b"\0")),
         ("a file of text without an end", b"A" * SIZE),
         ("one byte among zeros", bytes(SIZE - 1) + b"A"),
-        ("a journal whose first byte was lost", b"\0" + journal.at_rest([header, frame(0, ("discard", KEYS[0]))[4:]], SIZE)[1:]),
+        (
+            "a journal whose first byte was lost",
+            b"\0" + journal.at_rest([header, frame(0, ("discard", KEYS[0]))[4:]], SIZE)[1:],
+        ),
         ("a header of other limits in part", of_others[: end - 1].ljust(SIZE, b"\0")),
         ("a header and a byte after its part", begun[: end - 1] + bytes(9) + b"\2" + bytes(SIZE - end - 9)),
     ):
@@ -175,27 +194,39 @@ def check_opening(checks: Checks, room: Path):
         ran = keep(path, [])
         checks.equal(about, (ran.lines, ran.status), ([b"not opened: " + foreign], 1))
         checks.equal(f"{about}: the file stays", path.read_bytes(), file)
-    for about, file in (("a header in part", begun[: end - 1].ljust(SIZE, b"\0")), ("a header with a hole", b"\0" + begun[1:5] + b"\0" + begun[6:])):
+    for about, file in (
+        ("a header in part", begun[: end - 1].ljust(SIZE, b"\0")),
+        ("a header with a hole", b"\0" + begun[1:5] + b"\0" + begun[6:]),
+    ):
         path.write_bytes(file)
         checks.equal(about, (keep(path, []).status, path.read_bytes()), (0, begun))
     two = journal.header(LIMITS, 2)
-    for mark, why in ((1, b"the mark counts fewer letters than the journal's base"), (3, b"the mark counts more letters than the journal sealed")):
+    for mark, why in (
+        (1, b"the mark counts fewer letters than the journal's base"),
+        (3, b"the mark counts more letters than the journal sealed"),
+    ):
         path.write_bytes(journal.at_rest([two], SIZE))
         ran = keep(path, [], mark=mark)
-        checks.equal(f"a mark of {mark} over a base of 2", (ran.lines, ran.status, path.read_bytes()), ([b"not opened: " + why], 1, journal.at_rest([two], SIZE)))
+        checks.equal(
+            f"a mark of {mark} over a base of 2",
+            (ran.lines, ran.status, path.read_bytes()),
+            ([b"not opened: " + why], 1, journal.at_rest([two], SIZE)),
+        )
     ran = keep(room / "none", [], size=0)
     checks.true("a file that isn't there", (len(ran.lines), ran.lines[0][:8], ran.status) == (1, b"no file:", 1))
 
 
 def check_shorter(checks: Checks, room: Path):
-    """A file that is too small for all that is asked, and large enough for what is held: it is put away for a shorter one as
-    often as it is full. The answers are as if it never had been, and each run finds all."""
+    """A file that is too small for all that is asked, and large enough for what is held: it is put away for a shorter
+    one as often as it is full. The answers are as if it never had been, and each run finds all."""
     path, kept, shortened = room / "shorter", [], 0
     for seed in range(30):
         asked = any_requests(300 + seed, 7)
         before = path.read_bytes() if path.exists() else b""
         ran = keep(path, asked, size=SMALL)
-        checks.equal(f"shorter, run {seed}: answers", (ran.answers, ran.lines[1:], ran.status), (wanted(kept, asked), [], 0))
+        checks.equal(
+            f"shorter, run {seed}: answers", (ran.answers, ran.lines[1:], ran.status), (wanted(kept, asked), [], 0)
+        )
         kept += asked
         checks.equal(f"shorter, run {seed}: what is found", state_found(path), state([request(it) for it in kept]))
         file = path.read_bytes()
@@ -206,8 +237,8 @@ def check_shorter(checks: Checks, room: Path):
 
 
 def check_left_over(checks: Checks, room: Path):
-    """A crash may leave the journal a second name beside it, of when it was made, or any file where the next one is made: neither
-    is in the way, and the journal stays whole."""
+    """A crash may leave the journal a second name beside it, of when it was made, or any file where the next one is
+    made: neither is in the way, and the journal stays whole."""
     path, asked = room / "left-over", any_requests(500, 24)
     for name in ("new", "next"):
         path.unlink(missing_ok=True)
@@ -230,7 +261,7 @@ def count_found(path: Path, asked: list, least: int) -> int:
 
 
 def check_shorter_stops(checks: Checks, room: Path, library: Path):
-    """The machine stops within each call in turn of a run whose journal is put away for shorter ones, or the call fails."""
+    """In a run whose journal is compacted, the machine stops within each call in turn, or the call fails."""
     path, stops = room / "shorter-stopping", 0
     for seed in range(2):
         asked = any_requests(400 + seed, 24)
@@ -238,22 +269,33 @@ def check_shorter_stops(checks: Checks, room: Path, library: Path):
             number, ran = 0, Ran(status=STOPPED)
             while ran.status and number < 100:
                 number += 1
-                ran = disturbed(library, path, asked, size=SMALL, **{"FAIL_AT" if "FAIL_WITH" in how else "CRASH_AT": number}, **how)
+                ran = disturbed(
+                    library, path, asked, size=SMALL, **{"FAIL_AT" if "FAIL_WITH" in how else "CRASH_AT": number}, **how
+                )
                 about = f"shorter, requests {seed}, call {number} with {how}"
                 count = count_found(path, asked, len(ran.answers))
                 checks.true(f"{about}: {len(ran.answers)} answered, found {state_found(path)}", count >= 0)
                 more = asked[max(count, 0) :]
-                checks.equal(f"{about}: goes on", keep(path, more, size=SMALL).answers, wanted(asked[: max(count, 0)], more))
-            checks.equal(f"shorter, requests {seed}, {how}: the last run is whole", (ran.status, len(ran.answers)), (0, len(asked)))
+                checks.equal(
+                    f"{about}: goes on", keep(path, more, size=SMALL).answers, wanted(asked[: max(count, 0)], more)
+                )
+            checks.equal(
+                f"shorter, requests {seed}, {how}: the last run is whole",
+                (ran.status, len(ran.answers)),
+                (0, len(asked)),
+            )
             stops += number - 1
     print(f"  {stops} stops and failures of runs whose journal is put away for shorter ones")
 
 
 def check_found(checks: Checks, about: str, path: Path, asked: list, ran: Ran) -> int:
-    """What a run that ended badly left: some first requests, with each answered one, and no more than the group after these."""
+    """What a run that ended badly left: a prefix of the requests, all answered ones in it, at most one group more."""
     left = found(path)
     checks.equal(f"{about}: what is found", left, [request(it) for it in asked[: len(left)]])
-    checks.true(f"{about}: answered {len(ran.answers)}, found {len(left)}", len(ran.answers) <= len(left) <= len(ran.answers) + GROUP)
+    checks.true(
+        f"{about}: answered {len(ran.answers)}, found {len(left)}",
+        len(ran.answers) <= len(left) <= len(ran.answers) + GROUP,
+    )
     checks.equal(f"{about}: answers", ran.answers, wanted([], asked)[: len(ran.answers)])
     return len(left)
 

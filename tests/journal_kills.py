@@ -1,10 +1,13 @@
-"""Kills daemons that have a journal (SIGKILL), at any moment, under 16 clients of which some are hostile, and starts the next one
-on the same folder, with a new outbox. After each start all that was answered is there, in the journal and by what is answered
-from then on; of what was sent and not answered it may be there or not. Each sealed log has its notice, byte for byte as a plain
-reading of docs/FORMATS.md has it; the last one of a run may come again. A small
-journal gets full again and again, and is put away for a shorter one: no run ends by it. Then a clean end, and a last start.
+"""Kills daemons that have a journal (SIGKILL), at any moment, under 16 clients of which some are hostile, and starts
+the next one on the same folder, with a new outbox. After each start all that was answered is there, in the journal and
+by what is answered from then on; of what was sent and not answered it may be there or not. Each sealed log has its
+notice, byte for byte as a plain reading of docs/FORMATS.md has it; the last one of a run may come again. A small
+journal gets full again and again, and is put away for a shorter one: no run ends by it. Then a clean end, and a last
+start.
 
-    python3 -m tests.journal_kills [KILLS [SEED]]     40 kills unless said, and a seed of the moment, which is printed"""
+    python3 -m tests.journal_kills [KILLS [SEED]]
+
+KILLS is the number of kills (default 40). Without a SEED a new one is taken; it is printed."""
 import random
 import signal
 import sys
@@ -40,7 +43,10 @@ def main():
     kills = int(words[0]) if words else 40
     seed = int(words[1]) if len(words) > 1 else time.time_ns() % 1_000_000
     checks = Checks(f"journal_kills: {kills} kills of daemons that have a journal, seed {seed}")
-    loads = (("a journal as the daemon makes it", 0, HOSTILE, kills // 2), ("a small journal", SMALL, 0, kills - kills // 2))
+    loads = (
+        ("a journal as the daemon makes it", 0, HOSTILE, kills // 2),
+        ("a small journal", SMALL, 0, kills - kills // 2),
+    )
     for what, size, hostile, count in loads:
         with tempfile.TemporaryDirectory(prefix="noticed-kills-") as room:
             load = Load(checks, Path(room), random.Random(f"{seed} {what}"), size, hostile)

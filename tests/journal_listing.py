@@ -1,6 +1,7 @@
-"""Runs `noticed journal` on folders that daemons left, after a kill and after an end in order, and on random ones: it prints what a
-plain reading of docs/FORMATS.md has of them, and no byte, name, mode or time of a folder is changed. Where a daemon has the folder,
-a file isn't there or is none of a journal, a line can't be written, or memory is refused, it has its number and status."""
+"""Runs `noticed journal` on folders that daemons left, after a kill and after an end in order, and on random ones: it
+prints what a plain reading of docs/FORMATS.md has of them, and no byte, name, mode or time of a folder is changed.
+Where a daemon has the folder, a file isn't there or is none of a journal, a line can't be written, or memory is
+refused, it has its number and status."""
 import os
 import random
 import subprocess
@@ -27,7 +28,15 @@ def state(folder: Path) -> dict:
     kept = {}
     for it in [folder, *folder.rglob("*")] if folder.exists() else []:
         of = it.lstat()
-        kept[it.name] = (it.read_bytes() if it.is_file() else b"", of.st_mode, of.st_ino, of.st_nlink, of.st_size, of.st_mtime_ns, of.st_ctime_ns)
+        kept[it.name] = (
+            it.read_bytes() if it.is_file() else b"",
+            of.st_mode,
+            of.st_ino,
+            of.st_nlink,
+            of.st_size,
+            of.st_mtime_ns,
+            of.st_ctime_ns,
+        )
     return kept
 
 
@@ -76,13 +85,19 @@ def has_mark(folder: Path, mark: int) -> bool:
 
 
 def killed(checks: Checks, room: Path):
-    """A daemon is killed once it has sealed and posted K1, discarded K3, and logged two outcomes of K2. While it is there the folder is
-    its own. The next daemon goes on from what was listed."""
+    """A daemon is killed once it has sealed and posted K1, discarded K3, and logged two outcomes of K2. While it is
+    there the folder is its own. The next daemon goes on from what was listed."""
     folder = made(room, "killed")
     with daemon(folder, room / "killed.outbox", 2) as it:
         with it.connect() as client:
-            given = append(0, b"K1") + flush(1, b"K1") + append(2, b"K2") + append(3, b"K2") + frames.discard(4, 1, b"K3")
-            checks.equal("a daemon that will be killed answers", asked(client, given, 5), answer(1) + answer(7, 1, 1) + answer(1, 2) + answer(1, 3, 1) + answer(8, 4))
+            given = (
+                append(0, b"K1") + flush(1, b"K1") + append(2, b"K2") + append(3, b"K2") + frames.discard(4, 1, b"K3")
+            )
+            checks.equal(
+                "a daemon that will be killed answers",
+                asked(client, given, 5),
+                answer(1) + answer(7, 1, 1) + answer(1, 2) + answer(1, 3, 1) + answer(8, 4),
+            )
         checks.true("its notice is marked", until(lambda: has_mark(folder, 1)))
         check_fault(checks, "a folder that a daemon has", folder, 72, "operation would block")
         it.running.kill()
@@ -92,9 +107,16 @@ def killed(checks: Checks, room: Path):
     check_told(checks, "and once more", folder, lines)
     with daemon(folder, room / "killed.outbox.2") as it:
         with it.connect() as client:
-            checks.equal("the next daemon", asked(client, append(0, b"K1") + append(1, b"K2"), 2), answer(2) + answer(1, 1, 2))
+            checks.equal(
+                "the next daemon", asked(client, append(0, b"K1") + append(1, b"K2"), 2), answer(2) + answer(1, 1, 2)
+            )
         checks.equal("it ends in order", it.end().status, 0)
-    check_told(checks, "after an end in order", folder, b"open B K2 3\nmarked 1\nsealed 1\nbytes %d %d\n" % (used(folder), SIZE))
+    check_told(
+        checks,
+        "after an end in order",
+        folder,
+        b"open B K2 3\nmarked 1\nsealed 1\nbytes %d %d\n" % (used(folder), SIZE),
+    )
 
 
 def unposted(checks: Checks, room: Path):
@@ -168,11 +190,41 @@ def files(checks: Checks, room: Path):
         ("a journal of text", text, marks, 73, "the file isn't a journal's"),
         ("marks of text", right, text, 73, "the file isn't one of marks"),
         ("both of text", text, text, 73, "the file isn't one of marks"),
-        ("a journal under other limits", journal.at_rest([journal.header(Limits(logs=3))], SIZE), marks, 74, "the journal is of another version, or was kept under other limits"),
-        ("a record that keeps no body", journal.at_rest([journal.header(limits, 1), b"no body"], SIZE), marks, 75, "a record of the journal is damaged"),
-        ("a record of marks that is none", right, journal.at_rest([b"no mark"], MARKS), 75, "the last record of the marks is damaged"),
-        ("a mark ahead of its journal", right, journal.at_rest([(2).to_bytes(8, "big")], MARKS), 76, "the mark counts more letters than the journal sealed"),
-        ("a mark behind its journal's base", right, bytes(MARKS), 77, "the mark counts fewer letters than the journal's base"),
+        (
+            "a journal under other limits",
+            journal.at_rest([journal.header(Limits(logs=3))], SIZE),
+            marks,
+            74,
+            "the journal is of another version, or was kept under other limits",
+        ),
+        (
+            "a record that keeps no body",
+            journal.at_rest([journal.header(limits, 1), b"no body"], SIZE),
+            marks,
+            75,
+            "a record of the journal is damaged",
+        ),
+        (
+            "a record of marks that is none",
+            right,
+            journal.at_rest([b"no mark"], MARKS),
+            75,
+            "the last record of the marks is damaged",
+        ),
+        (
+            "a mark ahead of its journal",
+            right,
+            journal.at_rest([(2).to_bytes(8, "big")], MARKS),
+            76,
+            "the mark counts more letters than the journal sealed",
+        ),
+        (
+            "a mark behind its journal's base",
+            right,
+            bytes(MARKS),
+            77,
+            "the mark counts fewer letters than the journal's base",
+        ),
         ("a new journal without room for its header", bytes(20), bytes(MARKS), 71, "the journal is full"),
         ("an empty journal", b"", bytes(MARKS), 71, "the journal is full"),
     ):
@@ -181,7 +233,12 @@ def files(checks: Checks, room: Path):
         check_fault(checks, about, folder, number, words)
     (folder / "journal").write_bytes(bytes(SIZE))
     (folder / "marks").write_bytes(bytes(MARKS))
-    check_told(checks, "new files", folder, b"marked 0\nsealed 0\nbytes %d %d\n" % (len(journal.spelled(journal.header(limits))), SIZE))
+    check_told(
+        checks,
+        "new files",
+        folder,
+        b"marked 0\nsealed 0\nbytes %d %d\n" % (len(journal.spelled(journal.header(limits))), SIZE),
+    )
     (folder / "marks").write_bytes(b"")
     (folder / "journal").write_bytes(right)
     check_fault(checks, "empty marks, and a base", folder, 77, "the mark counts fewer letters than the journal's base")
@@ -198,16 +255,23 @@ def lost_lines(checks: Checks, room: Path):
     for word in ("stderr", "stdout"):
         reading, writing = os.pipe()
         os.close(reading)
-        status = told(checks, f"a pipe for {word} that nobody reads", folder if word == "stdout" else room / "none", **{word: writing}).status
+        status = told(
+            checks,
+            f"a pipe for {word} that nobody reads",
+            folder if word == "stdout" else room / "none",
+            **{word: writing},
+        ).status
         os.close(writing)
         checks.equal(f"a pipe for {word} that nobody reads: status", status, 1)
 
 
 def without_memory(checks: Checks, room: Path, library: Path):
-    """Each growth of memory is refused in turn: 9, or 72 where a file could not be read for it; or all lines are there."""
+    """Each growth of memory is refused in turn: 9, or 72 if a file could not be read for it; or all lines are there."""
     folder = room / "killed"
     whole = told(checks, "a listing with ample memory", folder)
-    ends = each_refused(library, MOST, lambda environment: told(checks, "a listing without memory", folder, env=environment), whole)
+    ends = each_refused(
+        library, MOST, lambda environment: told(checks, "a listing without memory", folder, env=environment), whole
+    )
     checks.equal("the last one is whole", ends[-1], whole)
     met = {it.notes.split(b"\n", 1)[0] for it in ends[:-1]}
     checks.true(f"no fault but 9 and 72: {met}", met == {b"fault 9", b"fault 72"})

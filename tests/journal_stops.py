@@ -1,9 +1,12 @@
-"""The machine of daemons that have a journal stops, again and again, under the load of tests/journal_kills.py: of what no sync has
-put on the disk, of the journal, of the marks, of the outbox and of the names in their folder, all, some or none is left, as a small
-library has it that is preloaded (tests/support/power.c, compiled here with gcc). After each start all that was answered is there, and
-each sealed log has its notice. It stops within a start, within a request, within a mark or within a notice, as it comes.
+"""The machine of daemons that have a journal stops, again and again, under the load of tests/journal_kills.py: of what
+no sync has put on the disk, of the journal, of the marks, of the outbox and of the names in their folder, all, some or
+none is left, as a small library has it that is preloaded (tests/support/power.c, compiled here with gcc). After each
+start all that was answered is there, and each sealed log has its notice. It stops within a start, within a request,
+within a mark or within a notice, as it comes.
 
-    python3 -m tests.journal_stops [STOPS [SEED]]     60 stops unless said, and a seed of the moment, which is printed"""
+    python3 -m tests.journal_stops [STOPS [SEED]]
+
+STOPS is the number of stops (default 60). Without a SEED a new one is taken; it is printed."""
 import random
 import sys
 import tempfile
@@ -48,12 +51,18 @@ def stop(load: Load, library: Path):
 def first_starts(checks: Checks, library: Path, dice: random.Random):
     """The machine stops within a first start: while it makes the marks, or the journal too. The next one begins."""
     for made in (*6 * [SMALL], *3 * [0]):
-        at, kept = dice.randrange(1, OF_A_START) + (0 if made else WRITES), dice.choice(["none", dice.randrange(1, 1 << 31)])
+        at, kept = dice.randrange(1, OF_A_START) + (0 if made else WRITES), dice.choice(
+            ["none", dice.randrange(1, 1 << 31)]
+        )
         with tempfile.TemporaryDirectory(prefix="noticed-stops-") as room:
             load = Load(checks, Path(room), dice, made)
             with load.daemon(env=stopping(load, library, at, kept)) as daemon:
                 ran = daemon.end()
-            checks.equal(f"a first start, the journal of {made} bytes, stopped within call {at}, kept {kept}: {ran}", ran.status, STOPPED)
+            checks.equal(
+                f"a first start, the journal of {made} bytes, stopped within call {at}, kept {kept}: {ran}",
+                ran.status,
+                STOPPED,
+            )
             load.outbox.end_run()
             load.ends_well(0)
 
@@ -72,10 +81,15 @@ def main():
     stops = int(words[0]) if words else 60
     seed = int(words[1]) if len(words) > 1 else time.time_ns() % 1_000_000
     checks = Checks(f"journal_stops: {stops} stops of the machine of a daemon that has a journal, seed {seed}")
-    loads = (("a journal and hostile clients", SMALL, HOSTILE, stops // 2), ("a smaller one, and no hostile clients", SMALLEST, 0, stops - stops // 2))
+    loads = (
+        ("a journal and hostile clients", SMALL, HOSTILE, stops // 2),
+        ("a smaller one, and no hostile clients", SMALLEST, 0, stops - stops // 2),
+    )
     for what, size, hostile, count in loads:
         with tempfile.TemporaryDirectory(prefix="noticed-stops-") as room:
-            load, library = Load(checks, Path(room), random.Random(f"{seed} {what}"), size, hostile), built(room, "power")
+            load, library = Load(checks, Path(room), random.Random(f"{seed} {what}"), size, hostile), built(
+                room, "power"
+            )
             for _ in range(count):
                 stop(load, library)
             load.ends_well(0.3, size == SMALLEST)

@@ -1,6 +1,7 @@
-"""Runs `batch` with texts of each length that they may have, beside the plain reading: hosts, queue ids, addresses, envelope
-ids, names of remote MTAs, diagnostics and reasons of each length, headers of some five hundred lengths, frames and logs of many.
-So memory that is refused at some lengths alone, or a text that is cut there, shows. It takes some seconds."""
+"""Runs `batch` with texts of each length that they may have, beside the plain reading: hosts, queue ids, addresses,
+envelope ids, names of remote MTAs, diagnostics and reasons of each length, headers of some five hundred lengths, frames
+and logs of many. So memory that is refused at some lengths alone, or a text that is cut there, shows. It takes some
+seconds."""
 import random
 
 from tests.support.formats import sessions
@@ -29,7 +30,9 @@ def compare(checks: Checks, what: str, given: bytes, host: str = HOST):
     if ran != wanted:
         checks.equal(f"{what}: notes and status", (ran.notes, ran.status), (wanted.notes, wanted.status))
         at = next((at for at, pair in enumerate(zip(ran.outbox, wanted.outbox)) if pair[0] != pair[1]), -1)
-        checks.equal(f"{what}: the outbox at its byte {at}", ran.outbox[at - 40 : at + 40], wanted.outbox[at - 40 : at + 40])
+        checks.equal(
+            f"{what}: the outbox at its byte {at}", ran.outbox[at - 40 : at + 40], wanted.outbox[at - 40 : at + 40]
+        )
     checks.true(what, ran == wanted)
 
 
@@ -51,14 +54,23 @@ def header(length: int) -> bytes:
 
 def headers(checks: Checks):
     """Headers of some five hundred lengths from none to the longest, each in a notice of its own."""
-    lengths = sorted({*range(0, STEP), *range(0, LONGEST_HEADER + 1, STEP), *(2**power + more for power in range(6, 16) for more in (-1, 0, 1))})
+    lengths = sorted(
+        {
+            *range(0, STEP),
+            *range(0, LONGEST_HEADER + 1, STEP),
+            *(2**power + more for power in range(6, 16) for more in (-1, 0, 1)),
+        }
+    )
     lengths = [it for it in lengths if it <= LONGEST_HEADER]
     given = []
     for at, length in enumerate(lengths):
         given.append(frames.append(2 * at, BOUNCE, b"H%d" % length, b"x@y", FAILED, b"5.0.0"))
         given.append(frames.flush(2 * at + 1, BOUNCE, b"H%d" % length, header=header(length)))
     compare(checks, f"headers of {len(lengths)} lengths", b"".join(given))
-    unbroken = [frames.append(0, BOUNCE, b"H", b"x@y", FAILED, b"5.0.0"), frames.flush(1, BOUNCE, b"H", header=some(LONGEST_HEADER))]
+    unbroken = [
+        frames.append(0, BOUNCE, b"H", b"x@y", FAILED, b"5.0.0"),
+        frames.flush(1, BOUNCE, b"H", header=some(LONGEST_HEADER)),
+    ]
     compare(checks, "a header of one line", b"".join(unbroken))
 
 
@@ -89,7 +101,14 @@ def texts(checks: Checks):
     for at in range(1000):
         long = {"original": ADDRESS, "mta": MTA, "diagnostic": LONGEST_TEXT, "reason": LONGEST_TEXT}
         flush = {"return_path": some(dice.randint(1, ADDRESS)), "envelope": some(dice.randint(0, ENVELOPE))}
-        together.append((b"T%d" % at, some(dice.randint(1, ADDRESS)), flush, {it: some(dice.randint(0, most)) for it, most in long.items()}))
+        together.append(
+            (
+                b"T%d" % at,
+                some(dice.randint(1, ADDRESS)),
+                flush,
+                {it: some(dice.randint(0, most)) for it, most in long.items()},
+            )
+        )
     compare(checks, "all of them at any length", messages(together))
 
 
@@ -97,7 +116,11 @@ def bodies(checks: Checks):
     """Frames of many lengths, each the only one of its run: their bodies are refused, and not for want of memory."""
     for length in [*range(1, LONGEST_BODY, ALONE), LONGEST_BODY]:
         given = length.to_bytes(4, "big") + bytes(length)
-        checks.equal(f"a frame of {length} bytes", run(["batch", HOST], given), Ran(sessions.batch(HOST.encode(), b"").outbox, b"0 refused 21\n", 0))
+        checks.equal(
+            f"a frame of {length} bytes",
+            run(["batch", HOST], given),
+            Ran(sessions.batch(HOST.encode(), b"").outbox, b"0 refused 21\n", 0),
+        )
 
 
 def logs(checks: Checks):

@@ -25,7 +25,12 @@ def keys(checks: Checks):
     given += frames.flush(LOGS + 1, BOUNCE, b"K") + frames.discard(LOGS + 2, BOUNCE, queue_id(0))
     given += frames.discard(LOGS + 3, BOUNCE, b"K")
     answers = [b"%d logged 0" % it for it in range(LOGS)]
-    answers += [b"%d table full" % LOGS, b"%d table full" % (LOGS + 1), b"%d discarded 1" % (LOGS + 2), b"%d table full" % (LOGS + 3)]
+    answers += [
+        b"%d table full" % LOGS,
+        b"%d table full" % (LOGS + 1),
+        b"%d discarded 1" % (LOGS + 2),
+        b"%d table full" % (LOGS + 3),
+    ]
     open_logs = [b"open B %s 1" % queue_id(it) for it in range(1, LOGS)]
     ran = batch(given)
     checks.equal(f"{LOGS:,} keys, then others: notes", ran.notes.splitlines(), answers + open_logs)
@@ -39,7 +44,11 @@ def outcomes(checks: Checks):
     given = b"".join(frames.append(at, BOUNCE, b"FULL", it, FAILED, STATUS) for at, it in enumerate(recipients))
     ran = batch(given + frames.flush(ENTRIES + 1, BOUNCE, b"FULL"))
     answers = [b"%d logged %d" % (it, it) for it in range(ENTRIES)]
-    checks.equal(f"{ENTRIES + 1:,} outcomes of one log: notes", ran.notes.splitlines(), answers + [b"%d log full" % ENTRIES, b"%d sealed %d" % (ENTRIES + 1, ENTRIES)])
+    checks.equal(
+        f"{ENTRIES + 1:,} outcomes of one log: notes",
+        ran.notes.splitlines(),
+        answers + [b"%d log full" % ENTRIES, b"%d sealed %d" % (ENTRIES + 1, ENTRIES)],
+    )
     lines = ran.outbox.split(b"\r\n")
     named = [it.removeprefix(b"Final-Recipient: rfc822; ") for it in lines if it.startswith(b"Final-Recipient: ")]
     checks.equal("the notice's recipients", named, recipients[:ENTRIES])
@@ -78,9 +87,15 @@ def letters(checks: Checks):
     text = b"".join(it + b"\n" for it in header)
     long = [b"h" * 998] * 32
     dots = [b"." * 998] * 32
-    for what, lines, wanted in (("34 KB", header, header), ("long lines", long, long), ("lines of dots", dots, [b"." + it for it in dots])):
+    for what, lines, wanted in (
+        ("34 KB", header, header),
+        ("long lines", long, long),
+        ("lines of dots", dots, [b"." + it for it in dots]),
+    ):
         text = b"".join(it + b"\n" for it in lines)
-        given = frames.append(0, BOUNCE, b"LONG", b"x@y", FAILED, STATUS) + frames.flush(1, BOUNCE, b"LONG", header=text)
+        given = frames.append(0, BOUNCE, b"LONG", b"x@y", FAILED, STATUS) + frames.flush(
+            1, BOUNCE, b"LONG", header=text
+        )
         ran = batch(given)
         checks.equal(f"a letter of {what}: notes", (ran.status, ran.notes), (0, b"0 logged 0\n1 sealed 1\n"))
         checks.equal("its returned lines", third_part(ran.outbox), wanted)
@@ -100,13 +115,20 @@ def letters_and_open_logs(checks: Checks):
     """After 1,000 letters all logs that are open are listed."""
     given, answers = [], []
     for at in range(LETTERS):
-        given += [frames.append(2 * at, BOUNCE, b"S%d" % at, b"x@y", FAILED, STATUS), frames.flush(2 * at + 1, BOUNCE, b"S%d" % at)]
+        given += [
+            frames.append(2 * at, BOUNCE, b"S%d" % at, b"x@y", FAILED, STATUS),
+            frames.flush(2 * at + 1, BOUNCE, b"S%d" % at),
+        ]
         answers += [b"%d logged 0" % (2 * at), b"%d sealed 1" % (2 * at + 1)]
     for at in range(OPEN):
         given.append(frames.append(2 * LETTERS + at, BOUNCE, queue_id(at), b"x@y", FAILED, STATUS))
         answers.append(b"%d logged 0" % (2 * LETTERS + at))
     ran = batch(b"".join(given))
-    checks.equal(f"{LETTERS:,} letters, then open logs: notes", ran.notes.splitlines(), answers + [b"open B %s 1" % queue_id(it) for it in range(OPEN)])
+    checks.equal(
+        f"{LETTERS:,} letters, then open logs: notes",
+        ran.notes.splitlines(),
+        answers + [b"open B %s 1" % queue_id(it) for it in range(OPEN)],
+    )
     checks.equal("status", ran.status, 0)
     checks.equal("letters", ran.outbox.count(b"\r\nMessage-ID: "), LETTERS)
 

@@ -13,7 +13,8 @@ frames = example_module("frames")
 
 def start(daemon: Daemon, agents: int, uses: int) -> bytes:
     """The lines of a start, with the host that examples have."""
-    return f"listening on {daemon.path} for {HOST}: {agents} agents, {uses} connections each\nthe host's name {HOST} is one for examples\n".encode()
+    listening = f"listening on {daemon.path} for {HOST}: {agents} agents, {uses} connections each\n"
+    return f"{listening}the host's name {HOST} is one for examples\n".encode()
 
 
 def notices(checks: Checks):
@@ -43,7 +44,9 @@ def each_notice(checks: Checks):
                 name = b"M%d" % at
                 asked(client, append(2 * at, name) + flush(2 * at + 1, name), 2)
         lines = [it for it in daemon.end().notes.splitlines() if it.startswith(b"notice")]
-        checks.equal("two hundred notices", lines, [b"notice B.M%d.%d to <ann@example.com>" % (at, at) for at in range(200)])
+        checks.equal(
+            "two hundred notices", lines, [b"notice B.M%d.%d to <ann@example.com>" % (at, at) for at in range(200)]
+        )
 
 
 def other_hosts(checks: Checks):
@@ -52,13 +55,20 @@ def other_hosts(checks: Checks):
         daemon.listens()
         run(["stop", daemon.path])
         told = daemon.end().notes.splitlines()
-        checks.equal("a host of its own", told[0], f"listening on {daemon.path} for mx.sincewagon.net: 1 agents, 1 connections each".encode())
+        checks.equal(
+            "a host of its own",
+            told[0],
+            f"listening on {daemon.path} for mx.sincewagon.net: 1 agents, 1 connections each".encode(),
+        )
         checks.true("and nothing of examples", not any(b"examples" in it for it in told))
     for host in ("mx.test", "mx.localhost"):
         with Daemon(1, 1, options=LOG, host=host) as daemon:
             daemon.listens()
             run(["stop", daemon.path])
-            checks.true(f"{host} is for examples", f"\nthe host's name {host} is one for examples\n".encode() in daemon.end().notes)
+            checks.true(
+                f"{host} is for examples",
+                f"\nthe host's name {host} is one for examples\n".encode() in daemon.end().notes,
+            )
 
 
 def stops(checks: Checks):
@@ -79,13 +89,19 @@ def full_outbox(checks: Checks):
             asked(client, append(0) + flush(1), 2)
             begun = start(daemon, 1, 1)
             checks.equal("the fault at once", daemon.said(len(begun + FULL)), begun + FULL)
-            checks.equal("the run goes on", asked(client, append(2, b"K2") + flush(3, b"K2"), 2), answer(1, 2) + answer(7, 3, 1))
+            checks.equal(
+                "the run goes on", asked(client, append(2, b"K2") + flush(3, b"K2"), 2), answer(1, 2) + answer(7, 3, 1)
+            )
         ended = daemon.end()
-        checks.equal("the notes tell it too", (ended.notes, ended.status), (begun + FULL + line(0, 4) + b"fault 31\nunsent B Q1\nunsent B K2\n", 1))
+        checks.equal(
+            "the notes tell it too",
+            (ended.notes, ended.status),
+            (begun + FULL + line(0, 4) + b"fault 31\nunsent B Q1\nunsent B K2\n", 1),
+        )
 
 
 def ends_on_a_fault(checks: Checks):
-    """With `--end-on-fault` the daemon ends, though its agents wait for connections, or for clients that say nothing."""
+    """With `--end-on-fault` the daemon ends, even if its agents wait for connections or for silent clients."""
     with open("/dev/full", "wb") as full, Daemon(4, 1000, options=("--end-on-fault", *LOG), stdout=full) as daemon:
         with daemon.connect() as silent, daemon.connect() as client:
             asked(client, append(0) + flush(1), 2)
@@ -98,7 +114,9 @@ def ends_on_a_fault(checks: Checks):
     with Daemon(1, 1, options=("--end-on-fault",)) as daemon:
         daemon.send()
         ended = daemon.end()
-        checks.equal("without a fault nothing changes", (ended.outbox, ended.notes, ended.status), (OUTBOX, line(0, 2), 0))
+        checks.equal(
+            "without a fault nothing changes", (ended.outbox, ended.notes, ended.status), (OUTBOX, line(0, 2), 0)
+        )
 
 
 def main():

@@ -1,6 +1,7 @@
-"""Hands notices of the daemon's outboxes to the mail programs that this machine has, by examples/feed.py, and counts that each
-arrives once, for its one recipient: aiosmtpd, msmtpd, and the submission programs of msmtp, nullmailer, exim and Postfix, each
-with a configuration of this script's own, which relays to a small server of this script. What is missing is skipped.
+"""Hands notices of the daemon's outboxes to the mail programs that this machine has, by examples/feed.py, and counts
+that each arrives once, for its one recipient: aiosmtpd, msmtpd, and the submission programs of msmtp, nullmailer, exim
+and Postfix, each with a configuration of this script's own, which relays to a small server of this script. What is
+missing is skipped.
 
     python3 -m tests.mailers [--full] [NAME]...     two runs of the daemon for each, 20 with --full"""
 import contextlib
@@ -32,12 +33,18 @@ TOOLS = {"debootstrap": "debootstrap", "unshare": "util-linux"}
 PATIENCE = 120  # seconds until all of them have arrived
 MESSAGE_ID = re.compile(rb"^Message-ID: <(\S+)>", re.MULTILINE | re.IGNORECASE)
 PLAIN = [b"sender%%d.%d@example.com" % at for at in range(RUN)]
-ODD = [b"bea,ann%d@example.com", b"a:b%d@example.com", b"ann(x)%d@example.com", b"x:bea@example.com,ann@example.com;root%d@example.com", b"-n%d@example.com"]
+ODD = [
+    b"bea,ann%d@example.com",
+    b"a:b%d@example.com",
+    b"ann(x)%d@example.com",
+    b"x:bea@example.com,ann@example.com;root%d@example.com",
+    b"-n%d@example.com",
+]
 QUOTED = [b'"bea,ann%d"@example.com', b'"a:b%d"@example.com', b'"ann(x)%d"@example.com']
 
 
 class Sink:
-    """The server that all mail is relayed to: it takes what it is given, and keeps each message's Message-ID and paths."""
+    """The server that all mail is relayed to: it accepts everything, and keeps each message's Message-ID and paths."""
 
     def __init__(self):
         self.arrived, self.refused = [], []
@@ -99,7 +106,11 @@ class Handler:
         self.sink = sink
 
     async def handle_DATA(self, server, session, envelope):
-        self.sink.take(b"MAIL FROM:<" + (envelope.mail_from or "").strip("<>").encode() + b">", [it.encode() for it in envelope.rcpt_tos], envelope.content)
+        self.sink.take(
+            b"MAIL FROM:<" + (envelope.mail_from or "").strip("<>").encode() + b">",
+            [it.encode() for it in envelope.rcpt_tos],
+            envelope.content,
+        )
         return "250 taken"
 
 
@@ -178,7 +189,8 @@ def nullmailer(sink: Sink, room: Path):
 def exim(sink: Sink, room: Path):
     """exim, which queues each message and delivers it at once."""
     (room / "spool").mkdir()
-    (room / "exim.conf").write_text(f"""primary_hostname = mx.example.net
+    (room / "exim.conf").write_text(
+        f"""primary_hostname = mx.example.net
 spool_directory = {room}/spool
 log_file_path = {room}/spool/%slog
 keep_environment =
@@ -194,7 +206,8 @@ sink:
   driver = smtp
   port = {sink.port}
   allow_localhost
-""")
+"""
+    )
     room.chmod(0o755)
     shutil.chown(room / "spool", "Debian-exim")
     yield ["exim4", "-C", str(room / "exim.conf"), "-i"]
@@ -210,8 +223,11 @@ def postfix(sink: Sink, room: Path):
     services = Path("/usr/share/postfix/master.cf.dist")
     services = services if services.exists() else Path("/etc/postfix/master.cf.proto")
     text = re.sub(r"^smtp +inet", "#smtp inet", services.read_text(), flags=re.M)
-    (room / "etc/master.cf").write_text(re.sub(r"^([a-z]+ +(?:unix|fifo) +[-yn]+ +[-yn]+ +)y", r"\1n", text, flags=re.M))
-    (room / "etc/main.cf").write_text(f"""compatibility_level = 3.6
+    (room / "etc/master.cf").write_text(
+        re.sub(r"^([a-z]+ +(?:unix|fifo) +[-yn]+ +[-yn]+ +)y", r"\1n", text, flags=re.M)
+    )
+    (room / "etc/main.cf").write_text(
+        f"""compatibility_level = 3.6
 queue_directory = {room}/queue
 data_directory = {room}/data
 myhostname = mx.example.net
@@ -224,7 +240,8 @@ alias_maps =
 alias_database =
 maillog_file = {room}/log
 maillog_file_prefixes = {room}
-""")
+"""
+    )
     words = ["postfix", "-c", str(room / "etc")]
     subprocess.run([*words, "start"], check=True, capture_output=True, timeout=PATIENCE)
     try:
@@ -233,7 +250,8 @@ maillog_file_prefixes = {room}
         subprocess.run([*words, "stop"], check=False, capture_output=True, timeout=PATIENCE)
 
 
-MAILERS = {  # each with what it needs, its package, whether it must be root's, and the addresses that it takes beside plain ones
+# Each with what it needs, its package, whether it must be root's, and the addresses that it takes beside plain ones.
+MAILERS = {
     aiosmtpd: (lambda: Controller is not None, "python3-aiosmtpd", False, QUOTED),
     msmtp: (lambda: shutil.which("msmtp"), "msmtp", False, []),
     msmtpd: (lambda: shutil.which("msmtpd") and shutil.which("msmtp"), "msmtp-mta", False, []),
@@ -244,7 +262,7 @@ MAILERS = {  # each with what it needs, its package, whether it must be root's, 
 
 
 def senders(run: int, odd: list) -> list:
-    """Whom the notices of a run are for, some of them by addresses that a program could take for several, or for an option."""
+    """The recipients of a run's notices; a program could take some addresses for several, or for an option."""
     return [it % run for it in [*odd, *PLAIN][:RUN]]
 
 
@@ -271,24 +289,33 @@ def wanted(runs: int, odd: list) -> list:
 def handed_in(checks: Checks, mailer, runs: int, odd: list):
     """The notices of so many runs, handed in while they come, and what arrives of them."""
     sink, name = Sink(), mailer.__name__
-    with tempfile.TemporaryDirectory(prefix="mailer-", ignore_cleanup_errors=True) as folder, tempfile.TemporaryDirectory() as place:
+    with tempfile.TemporaryDirectory(
+        prefix="mailer-", ignore_cleanup_errors=True
+    ) as folder, tempfile.TemporaryDirectory() as place:
         path = Path(place) / "outbox"
         with mailer(sink, Path(folder)) as words, Following(path, "--retry", "2", "--done", "remove", *words) as feeder:
             for run in range(runs):
                 one_run(path, run, odd)
             began = time.monotonic()
-            while len(sink.arrived) < runs * RUN and time.monotonic() - began < PATIENCE and feeder.running.poll() is None:
+            while (
+                len(sink.arrived) < runs * RUN and time.monotonic() - began < PATIENCE and feeder.running.poll() is None
+            ):
                 time.sleep(0.1)
             time.sleep(1)  # nothing more comes
             feeder.rests()
             status, said = feeder.end()
         took = time.monotonic() - began
         twice = [it for it, times in Counter(it for it, _ in sink.arrived).items() if times > 1]
-        print(f"  {name}: {runs * RUN} notices of {runs} runs, {len(sink.arrived)} arrived, {len(twice)} of them twice; the last {took:.0f} seconds after its run")
+        print(
+            f"  {name}: {runs * RUN} notices of {runs} runs, {len(sink.arrived)} arrived, "
+            f"{len(twice)} of them twice; the last {took:.0f} seconds after its run"
+        )
         checks.equal(f"{name}: the feeder's end", (status, said), (0, [f"{runs * RUN} handed in, 0 left out"]))
         checks.equal(f"{name}: what arrived", sorted(sink.arrived), wanted(runs, odd))
         checks.equal(f"{name}: what else came", sink.refused, [])
-        checks.equal(f"{name}: what lies there", sorted(it.name for it in Path(place).iterdir()), ["feed.outbox.state", "outbox"])
+        checks.equal(
+            f"{name}: what lies there", sorted(it.name for it in Path(place).iterdir()), ["feed.outbox.state", "outbox"]
+        )
 
 
 def apart(checks: Checks, name: str, package: str, words: list):

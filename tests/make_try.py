@@ -1,5 +1,5 @@
-"""Checks `make try`, with a stand-in for `rt try` that runs the built program on the same two cases: it shows the answers and
-the notices of both, says before and after them that nothing was proved, and fails where a run fails."""
+"""Checks `make try`, with a stand-in for `rt try` that runs the built program on the same two cases: it shows the
+answers and the notices of both, says before and after them that nothing was proved, and fails where a run fails."""
 import os
 import subprocess
 import tempfile
@@ -23,7 +23,8 @@ print("cases=2 ended=2 proved=no", file=sys.stderr)
 """
 ANSWERS = [
     "flush . bounce A1B2C3 return=ann@example.com\n    -> sealed 2\n",
-    "flush . defer D4E5F6 return=sue@example.com\n    -> sealed 1\nappend . defer D4E5F6 kim@example.net delayed 4.4.1\n    -> closed\n",
+    "flush . defer D4E5F6 return=sue@example.com\n    -> sealed 1\n"
+    "append . defer D4E5F6 kim@example.net delayed 4.4.1\n    -> closed\n",
 ]
 
 
@@ -35,7 +36,9 @@ def tried(status: int) -> subprocess.CompletedProcess:
         stand_in.chmod(0o755)
         environment = {**os.environ, "STATUS": str(status), "TRIED": program()}
         words = ["make", "--silent", "try", f"RT={stand_in}"]
-        return subprocess.run(words, cwd=ROOT, env=environment, capture_output=True, text=True, check=False, timeout=PATIENCE)
+        return subprocess.run(
+            words, cwd=ROOT, env=environment, capture_output=True, text=True, check=False, timeout=PATIENCE
+        )
 
 
 def main():
@@ -52,7 +55,11 @@ def main():
     for it in ("ann@example.com", "sue@example.com"):
         checks.true(f"the daemon's notice to {it}", f"RCPT TO:<{it}>" in ran.stdout.partition("== Daemon")[2])
     ran = tried(1)
-    checks.equal("a run that fails", (ran.returncode, ran.stdout.splitlines()[-1]), (2, "the program could not be compiled or run, or a run failed"))
+    checks.equal(
+        "a run that fails",
+        (ran.returncode, ran.stdout.splitlines()[-1]),
+        (2, "the program could not be compiled or run, or a run failed"),
+    )
     checks.done()
 
 

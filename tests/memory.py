@@ -1,6 +1,6 @@
-"""A daemon gives back what it takes for requests, letters and connections: its memory stays where it was while they come, of
-each kind so much that one piece that was kept of each would show; so do its descriptors and threads. It takes some
-seconds.
+"""A daemon gives back what it takes for requests, letters and connections: its memory stays where it was while they
+come, of each kind so much that one piece that was kept of each would show; so do its descriptors and threads. It takes
+some seconds.
 
     python3 -m tests.memory [TIMES]      so many times as many rounds, 1 unless said
 """
@@ -11,7 +11,18 @@ from pathlib import Path
 from typing import Callable
 
 from tests.support.daemon_and_clients import Daemon, answers_to, asked, frames, heard
-from tests.support.formats.logs import CLOSED, DISCARDED, FORGOTTEN, LOG_FULL, LOGGED, NO_RETURN, NOTHING, REFUSED, SEALED, TABLE_FULL
+from tests.support.formats.logs import (
+    CLOSED,
+    DISCARDED,
+    FORGOTTEN,
+    LOG_FULL,
+    LOGGED,
+    NO_RETURN,
+    NOTHING,
+    REFUSED,
+    SEALED,
+    TABLE_FULL,
+)
 from tests.support.running import Checks
 
 BOUND = 3072  # KiB that the daemon's memory may grow by while the rounds of a kind go on
@@ -34,7 +45,7 @@ class Client:
         self.stream, self.number = daemon.connect(), 0
 
     def ask(self, steps: list) -> bool:
-        """Whether each of these requests is answered with its reply. A step is a frame but for its number, and the reply."""
+        """Whether each of these requests gets its reply. A step is a frame without its number, and the reply."""
         given = [make(self.number + at) for at, (make, _) in enumerate(steps)]
         self.number += len(steps)
         got = answers_to(self.stream, given)
@@ -87,7 +98,19 @@ def kinds_of_logs() -> list:
         Kind("full logs", log_of(ENTRIES, discard(b"L"), DISCARDED), 6, ENTRIES * OUTCOME),
         Kind("flushes of nothing", [(flush(b"L"), NOTHING), (forget(b"L"), FORGOTTEN)], 300, len(LONG)),
         Kind("drafts that are refused", [(flush(b"L", envelope=b"e" * 101), REFUSED)], 300, len(LONG)),
-        Kind("outcomes that are refused", [(lambda number: frames.append(number, BOUNCE, b"L", b"x@y", FAILED, b"5.0.0", **TEXTS, retry_until=1), REFUSED)], 5000, OUTCOME),
+        Kind(
+            "outcomes that are refused",
+            [
+                (
+                    lambda number: frames.append(
+                        number, BOUNCE, b"L", b"x@y", FAILED, b"5.0.0", **TEXTS, retry_until=1
+                    ),
+                    REFUSED,
+                )
+            ],
+            5000,
+            OUTCOME,
+        ),
     ]
 
 
@@ -115,7 +138,8 @@ def held(daemon: Daemon) -> tuple:
 
 
 def rounds(checks: Checks, daemon: Daemon, kinds: list, times: int):
-    """The rounds of these kinds on a connection: first some of each, then of each so many that what they take would show."""
+    """The rounds of these kinds on a connection: first some of each, then of each so many that what they take would
+    show."""
     client = Client(daemon)
     with client.stream:
         for it in kinds:
@@ -126,7 +150,10 @@ def rounds(checks: Checks, daemon: Daemon, kinds: list, times: int):
             grown, taken = kept(daemon) - before, int(KEPT * it.rounds * times * it.taken) // 1024
             checks.true(f"{it.name}: {taken} KiB kept would show", taken >= SHOWS * BOUND)
             checks.true(f"{it.name}: memory grew by {grown} KiB", grown <= BOUND)
-            print(f"  {it.name}: {it.rounds * times} rounds, memory {before} KiB and {grown:+} KiB; kept, they would be {taken} KiB")
+            print(
+                f"  {it.name}: {it.rounds * times} rounds, memory {before} KiB and {grown:+} KiB; kept, "
+                f"they would be {taken} KiB"
+            )
 
 
 def fill(checks: Checks, daemon: Daemon):
@@ -139,8 +166,8 @@ def fill(checks: Checks, daemon: Daemon):
 
 
 def leave(daemon: Daemon, at: int) -> bool:
-    """A connection with a frame of the greatest length, which is refused; then it ends, each second time in the middle of such a
-    frame. Whether it was answered."""
+    """A connection with a frame of the greatest length, which is refused; then it ends, each second time in the middle
+    of such a frame. Whether it was answered."""
     body = bytes(LONGEST_FRAME)
     with daemon.connect() as client:
         answered = asked(client, frames.frame(body))[5:6] == bytes([REFUSED])
@@ -159,7 +186,10 @@ def connections(checks: Checks, daemon: Daemon, times: int):
     grown = kept(daemon) - before
     checks.true(f"connections: memory grew by {grown} KiB", grown <= BOUND)
     checks.equal("connections: descriptors and threads", held(daemon), had)
-    print(f"  connections: {CONNECTIONS * times}, memory {before} KiB and {grown:+} KiB; kept, their buffers would be {CONNECTIONS * times * LONGEST_FRAME // 1024} KiB")
+    print(
+        f"  connections: {CONNECTIONS * times}, memory {before} KiB and {grown:+} KiB; kept, "
+        f"their buffers would be {CONNECTIONS * times * LONGEST_FRAME // 1024} KiB"
+    )
 
 
 def main():

@@ -1,5 +1,5 @@
-"""Checks that an outbox that failed once gets nothing more, though it works again: not by a later letter, and not at the end;
-in `batch` and in a daemon.
+"""Checks that an outbox that failed once gets nothing more, though it works again: not by a later letter, and not at
+the end; in `batch` and in a daemon.
 
 The outbox is a pipe that doesn't block and is full at the first letter, so that its write fails; then it is emptied.
 """
@@ -37,7 +37,9 @@ def empty(reading: int, filled: int):
 
 def message(number: int, queue_id: bytes, header: bytes) -> bytes:
     """The frames of one message, the first of them with this number."""
-    return FRAMES.append(number, 1, queue_id, b"x@y", 1, b"5.0.0") + FRAMES.flush(number + 1, 1, queue_id, header=header)
+    return FRAMES.append(number, 1, queue_id, b"x@y", 1, b"5.0.0") + FRAMES.flush(
+        number + 1, 1, queue_id, header=header
+    )
 
 
 def check_batch(checks: Checks, what: str, header: bytes):
@@ -60,8 +62,8 @@ def check_batch(checks: Checks, what: str, header: bytes):
 
 
 def check_daemon(checks: Checks, what: str, header: bytes):
-    """The same of a daemon, whose letters are written beside their answers: the first one was tried once so many more are
-    answered that they can't all be on their way. Then the outbox is emptied, and two messages follow."""
+    """The same of a daemon, whose letters are written beside their answers: the first one was tried once so many more
+    are answered that they can't all be on their way. Then the outbox is emptied, and two messages follow."""
     reading, writing, filled = full_pipe()
     before, after = ON_THE_WAY + 2, 2
     with Daemon(1, 1, stdout=writing) as daemon:
@@ -71,7 +73,9 @@ def check_daemon(checks: Checks, what: str, header: bytes):
                 if at == before:
                     empty(reading, filled)
                 wanted = answer(LOGGED, 2 * at) + answer(SEALED, 2 * at + 1, 1)
-                checks.equal(f"{what}: letter {at} is sealed", asked(client, message(2 * at, b"K%d" % at, header), 2), wanted)
+                checks.equal(
+                    f"{what}: letter {at} is sealed", asked(client, message(2 * at, b"K%d" % at, header), 2), wanted
+                )
         ended = daemon.end()
     with os.fdopen(reading, "rb") as outbox:
         checks.equal(f"{what}: the outbox after its failure", outbox.read(), b"")

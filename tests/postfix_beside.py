@@ -1,9 +1,10 @@
-"""Sends the same messages, of over 80 kinds, to two Postfixes of this script's own on loopback, one with its own bounce(8), the other with
-`noticed postfix` in front: each recipient is told once on both sides, and the notices differ only in what is named here. Needs root and
-Debian's package postfix, and is left out without them.
+"""Sends the same messages, of over 80 kinds, to two Postfixes of this script's own on loopback, one with its own
+bounce(8), the other with `noticed postfix` in front: each recipient is told once on both sides, and the notices differ
+only in what is named here. Needs root and Debian's package postfix, and is left out without them.
 
-    python3 -m tests.postfix_beside [--itself] [NAME]...      with --itself bounce(8) on both sides, where nothing may differ; some
-                                                              kinds of message, or all"""
+    python3 -m tests.postfix_beside [--itself] [NAME]...
+
+With --itself both sides have bounce(8), and nothing may differ. NAME is a kind of message (default: all)."""
 import contextlib
 import re
 import sys
@@ -21,25 +22,51 @@ from tests.support.told import Told, differences, retry_seconds, taken_apart
 # What error(8) says of these has a byte past the end of a text, which may be any.
 UNEVEN = {"without-words", "words-of-none"}
 LIFETIME = 9  # seconds for which what is put off is tried, where it is to expire
-HOPS = b"".join(b"Received: from a%d.example.com by b%d.example.com; Thu, 26 Nov 2026 05:36:03 +0000\n" % (it, it) for it in range(60))
+HOPS = b"".join(
+    b"Received: from a%d.example.com by b%d.example.com; Thu, 26 Nov 2026 05:36:03 +0000\n" % (it, it)
+    for it in range(60)
+)
 AT_ONCE = [
     Case("from-nobody-refused", "bounce", ["no.bob@example.org"], sender=b""),
     Case("double-bounce-refused", "bounce", ["no.bob@example.org"], sender=b"double-bounce@mx.example.net"),
     Case("over-the-limit", "bounce", ["no.bob@example.org"], body=b"A line of a long message.\n" * 2300),
     Case("rather-long", "bounce", ["no.bob@example.org"], body=b"A line of a long message.\n" * 1500),
-    Case("over-the-limit-full", "bounce", ["no.bob@example.org"], options="RET=FULL", body=b"A line of a long message.\n" * 2300),
+    Case(
+        "over-the-limit-full",
+        "bounce",
+        ["no.bob@example.org"],
+        options="RET=FULL",
+        body=b"A line of a long message.\n" * 2300,
+    ),
     Case("many-more", "bounce", [f"no.number{it}@example.org" for it in range(300)]),
     Case("too-many-hops", "bounce", ["no.bob@example.org"], command=["-f", "ann@example.com"], header=HOPS),
-    Case("several-replies", "bounce", [f"{it}.a@example.org" for it in ("utf", "long", "lines", "no", "ok")], options="RET=HDRS ENVID=several"),
+    Case(
+        "several-replies",
+        "bounce",
+        [f"{it}.a@example.org" for it in ("utf", "long", "lines", "no", "ok")],
+        options="RET=HDRS ENVID=several",
+    ),
     Case("quoted-sender", "bounce", ["no.bob@example.org"], sender=b'"ann smith"@example.com'),
     Case("quoted-original", "bounce", [("no.bob@example.org", 'ORCPT=rfc822;"bob+20b"@example.org')]),
-    Case("success-and-failure", "bounce", [("ok.ann@example.org", "NOTIFY=SUCCESS,FAILURE"), ("no.bob@example.org", "NOTIFY=SUCCESS,FAILURE")], options="ENVID=both"),
+    Case(
+        "success-and-failure",
+        "bounce",
+        [("ok.ann@example.org", "NOTIFY=SUCCESS,FAILURE"), ("no.bob@example.org", "NOTIFY=SUCCESS,FAILURE")],
+        options="ENVID=both",
+    ),
 ]
 TOLD = ("ok.ann@example.org", "NOTIFY=SUCCESS")
 EXPIRING = [
     Case("late-and-refused", "defer", ["no.bob@example.org", "later.eve@example.org", "ok.ann@example.org"]),
-    Case("late-and-told", "defer", [("later.eve@example.org", "NOTIFY=SUCCESS,FAILURE,DELAY ORCPT=rfc822;eve@example.net"), TOLD], options="ENVID=x RET=FULL"),
-    Case("late-by-sendmail", "defer", ["later.bob@example.org"], command=["-f", "ann@example.com", "-N", "failure,delay"]),
+    Case(
+        "late-and-told",
+        "defer",
+        [("later.eve@example.org", "NOTIFY=SUCCESS,FAILURE,DELAY ORCPT=rfc822;eve@example.net"), TOLD],
+        options="ENVID=x RET=FULL",
+    ),
+    Case(
+        "late-by-sendmail", "defer", ["later.bob@example.org"], command=["-f", "ann@example.com", "-N", "failure,delay"]
+    ),
 ]
 
 
@@ -53,11 +80,20 @@ class Run:
     expires: bool = False
 
 
-# Tried again after two seconds: where it is one, the queue manager may come back while the last delivery still has the file locked, and
-# then leaves the message alone for a minute.
-HURRIED = {"queue_run_delay": "1s", "minimal_backoff_time": "2s", "maximal_backoff_time": "2s", "delay_warning_time": "2s"}
+# Tried again after two seconds: where it is one, the queue manager may come back while the last delivery still has the
+# file locked, and then leaves the message alone for a minute.
+HURRIED = {
+    "queue_run_delay": "1s",
+    "minimal_backoff_time": "2s",
+    "maximal_backoff_time": "2s",
+    "delay_warning_time": "2s",
+}
 HURRIED |= {"maximal_queue_lifetime": f"{LIFETIME}s", "bounce_queue_lifetime": f"{LIFETIME}s"}
-LONG_IDS = {"enable_long_queue_ids": "yes", "hash_queue_names": "deferred, defer, bounce, trace", "hash_queue_depth": "2"}
+LONG_IDS = {
+    "enable_long_queue_ids": "yes",
+    "hash_queue_names": "deferred, defer, bounce, trace",
+    "hash_queue_depth": "2",
+}
 RUNS = [
     Run("at once", {}, cases.BOUNCED + AT_ONCE + cases.TRACED),
     Run("put off", HURRIED, cases.DEFERRED + EXPIRING, expires=True),
@@ -67,8 +103,8 @@ RUNS = [
 
 @dataclass
 class Difference:
-    """A difference that is allowed: the part of a notice, why it differs, and what becomes of the other side's part, by that part, the
-    one that is met, and the other side's notice."""
+    """A difference that is allowed: the part of a notice, why it differs, and what becomes of the other side's part, by
+    that part, the one that is met, and the other side's notice."""
 
     name: str
     part: str
@@ -82,19 +118,26 @@ def printable(text: bytes, kept=b"") -> bytes:
 
 def of_field(name: bytes, change):
     """A change of one field of each recipient."""
-    return lambda groups, *_: sorted([(found, change(value) if found == name else value) for found, value in group] for group in groups)
+    return lambda groups, *_: sorted(
+        [(found, change(value) if found == name else value) for found, value in group] for group in groups
+    )
 
 
 def cut_remarks(groups: list, met: list, _) -> list:
     """Diagnostics that are cut after 800 bytes of the log, which may have had more spaces than are compared."""
     cut = [value for group in met for name, value in group if name == b"Diagnostic-Code" and len(value) > 780]
-    return of_field(b"Diagnostic-Code", lambda value: next((it for it in cut if len(value) > len(it) and value.startswith(it)), value))(groups)
+    return of_field(
+        b"Diagnostic-Code",
+        lambda value: next((it for it in cut if len(value) > len(it) and value.startswith(it)), value),
+    )(groups)
 
 
 def is_whole(there: Told) -> bool:
     """Whether noticed gives the message back as a whole: it is short, and each line can stand in a 7bit mail."""
     text = there.parts.get("given back", b"")
-    return len(text) <= 32_768 and all(len(it) <= 998 and re.fullmatch(rb"[\x01-\x0c\x0e-\x7f]*", it) for it in text.split(b"\n"))
+    return len(text) <= 32_768 and all(
+        len(it) <= 998 and re.fullmatch(rb"[\x01-\x0c\x0e-\x7f]*", it) for it in text.split(b"\n")
+    )
 
 
 def header(text: bytes) -> bytes:
@@ -118,27 +161,71 @@ def after_a_long_field(text: bytes, met: bytes, _) -> bytes:
 
 def header_in_place(change):
     """A change of what is said of the part that is given back, where it is the header in place of the message."""
-    return lambda text, _, there: change(text) if there.parts.get("type of what is given back") == b"message/rfc822" and not is_whole(there) else text
+    return (
+        lambda text, _, there: change(text)
+        if there.parts.get("type of what is given back") == b"message/rfc822" and not is_whole(there)
+        else text
+    )
 
 
 DESCRIPTION, TYPE = "description of what is given back", "type of what is given back"
 STATUS, DIAGNOSTIC = b"Status", b"Diagnostic-Code"
 ALLOWED = [
-    Difference("angle brackets", "To", "an address may stand in angle brackets", lambda there, *_: [b"<" + it.strip(b"<>") + b">" for it in there]),
+    Difference(
+        "angle brackets",
+        "To",
+        "an address may stand in angle brackets",
+        lambda there, *_: [b"<" + it.strip(b"<>") + b">" for it in there],
+    ),
     Difference("words for people", "words", "noticed has its own, and no templates", lambda _, met, __: met),
-    Difference("subject of a success", "Subject", "noticed goes by what became of the recipients, bounce(8) by what was asked (sendmail -v)",
-               lambda it, _, there: [b"Successful Mail Delivery Report"] if set(there.actions()) <= {b"delivered", b"relayed", b"expanded"} else it),
-    Difference("question marks", "recipients", "? for a byte of a diagnostic that isn't printable ASCII", of_field(DIAGNOSTIC, printable)),
+    Difference(
+        "subject of a success",
+        "Subject",
+        "noticed goes by what became of the recipients, bounce(8) by what was asked (sendmail -v)",
+        lambda it, _, there: [b"Successful Mail Delivery Report"]
+        if set(there.actions()) <= {b"delivered", b"relayed", b"expanded"}
+        else it,
+    ),
+    Difference(
+        "question marks",
+        "recipients",
+        "? for a byte of a diagnostic that isn't printable ASCII",
+        of_field(DIAGNOSTIC, printable),
+    ),
     Difference("cut remark", "recipients", "800 bytes of a diagnostic are kept", cut_remarks),
-    Difference("zeros of a status", "recipients", "RFC 3463 has no zeros in front", of_field(STATUS, lambda it: re.sub(rb"\b0+(?=\d)", b"", it))),
-    Difference("no Return-Path", "given back", "bounce(8) writes a line that the queue file doesn't have", lambda there, *_: re.sub(rb"\AReturn-Path: [^\n]*\n", b"", there)),
-    Difference("header in place of the message", "given back", "noticed gives a message back that is short and can stand in a 7bit mail", given_back),
+    Difference(
+        "zeros of a status",
+        "recipients",
+        "RFC 3463 has no zeros in front",
+        of_field(STATUS, lambda it: re.sub(rb"\b0+(?=\d)", b"", it)),
+    ),
+    Difference(
+        "no Return-Path",
+        "given back",
+        "bounce(8) writes a line that the queue file doesn't have",
+        lambda there, *_: re.sub(rb"\AReturn-Path: [^\n]*\n", b"", there),
+    ),
+    Difference(
+        "header in place of the message",
+        "given back",
+        "noticed gives a message back that is short and can stand in a 7bit mail",
+        given_back,
+    ),
     Difference("header in place of the message", TYPE, "as above", header_in_place(lambda _: b"text/rfc822-headers")),
     Difference("header in place of the message", DESCRIPTION, "as above", header_in_place(lambda it: it + b" Headers")),
-    Difference("header after a long field", "given back", "bounce(8) ends the header where a field has over 2,048 bytes", after_a_long_field),
-    Difference("header of a delay", DESCRIPTION, "bounce(8) calls a message that is put off undelivered, where it gives back the header alone",
-               lambda it, _, there: it.replace(b"Undelivered", b"Delayed") if there.actions() == [b"delayed"] else it),
-]  # fmt: skip
+    Difference(
+        "header after a long field",
+        "given back",
+        "bounce(8) ends the header where a field has over 2,048 bytes",
+        after_a_long_field,
+    ),
+    Difference(
+        "header of a delay",
+        DESCRIPTION,
+        "bounce(8) calls a message that is put off undelivered, where it gives back the header alone",
+        lambda it, _, there: it.replace(b"Undelivered", b"Delayed") if there.actions() == [b"delayed"] else it,
+    ),
+]
 
 
 class Side:
@@ -152,7 +239,11 @@ class Side:
 
     def send(self, case: Case):
         postfix = self.postfix
-        taken = by_sendmail(postfix, case) if case.command else by_smtp(postfix.filtered if case.filtered else postfix.smtp, case)
+        taken = (
+            by_sendmail(postfix, case)
+            if case.command
+            else by_smtp(postfix.filtered if case.filtered else postfix.smtp, case)
+        )
         self.known[taken.encode()] = case.name
 
     def told(self) -> dict:
@@ -208,7 +299,11 @@ def compare_sides(checks: Checks, run: Run, sides: list, used: Counter | None):
     for side, found in zip(sides, (there, here)):
         checks.equal(f"{run.name}: notices of no message", [it for it in found if it not in known], [])
         checks.equal(f"{run.name}: notices that can't be read", side.wrong, [])
-        checks.equal(f"{run.name}: reports that have a sender", [it for it in side.mailbox.others if b"report-type=delivery-status" in it[2]], [])
+        checks.equal(
+            f"{run.name}: reports that have a sender",
+            [it for it in side.mailbox.others if b"report-type=delivery-status" in it[2]],
+            [],
+        )
     return sum(map(len, there.values())), sum(len(it.recipients) for all_of_one in there.values() for it in all_of_one)
 
 
@@ -226,11 +321,15 @@ def one_run(checks: Checks, run: Run, serves, used: Counter | None):
             checks.equal(f"{run.name}: what {name} leaves", it.postfix.left(90, empty=run.expires), [])
             checks.equal(f"{run.name}: complaints in the log of {name}", it.postfix.complaints(), [])
         notices, recipients = compare_sides(checks, run, sides, used)
-    print(f"  {run.name}: {len(run.messages)} messages, {notices} notices of {recipients} recipients, {time.monotonic() - began:.0f} seconds", flush=True)
+    print(
+        f"  {run.name}: {len(run.messages)} messages, {notices} notices of {recipients} recipients, "
+        f"{time.monotonic() - began:.0f} seconds",
+        flush=True,
+    )
 
 
 def late_flush(checks: Checks, serves, used: Counter | None):
-    """A message that expires while the notice of an earlier failure could not be handed in: both recipients are told."""
+    """A message expires after the notice of an earlier failure could not be handed in: both recipients are told."""
     case = Case("expired-with-failure", "defer", ["no.bob@example.org", "later.eve@example.org"])
     with contextlib.ExitStack() as stack:
         sides = [Side(stack, it, {"maximal_queue_lifetime": "432000s"}) for it in (None, serves)]
@@ -250,7 +349,11 @@ def late_flush(checks: Checks, serves, used: Counter | None):
             checks.equal("late flush: what is left", it.postfix.left(empty=True), [])
         compare_sides(checks, Run("late flush", {}, [case]), sides, used)
         found = sorted(name for notice in sides[1].told().get(case.name, []) for name in notice.names())
-        checks.equal("late flush: who is told", found, [(b"rfc822; later.eve@example.org", b"failed"), (b"rfc822; no.bob@example.org", b"failed")])
+        checks.equal(
+            "late flush: who is told",
+            found,
+            [(b"rfc822; later.eve@example.org", b"failed"), (b"rfc822; no.bob@example.org", b"failed")],
+        )
 
 
 def very_many(checks: Checks, serves):

@@ -1,7 +1,7 @@
-"""`noticed postfix` without a Postfix: a queue folder made up of what Postfix wrote (tests/postfix/files/), clients that ask as its
-programs do, a mail server that refuses at each step, and services of its own that take what is passed on. What was asked is answered
-0 only once the server took the notice; else the log stays. And kills, two processes, a log that is locked, a disk that is full, and
-clients that say nothing or no request."""
+"""`noticed postfix` without a Postfix: a queue folder made up of what Postfix wrote (tests/postfix/files/), clients
+that ask as its programs do, a mail server that refuses at each step, and services of its own that take what is passed
+on. What was asked is answered 0 only once the server took the notice; else the log stays. And kills, two processes, a
+log that is locked, a disk that is full, and clients that say nothing or no request."""
 import fcntl
 import os
 import random
@@ -15,13 +15,39 @@ import time
 from pathlib import Path
 
 from tests.support.daemon_and_clients import until
-from tests.support.postfix_folder import ANNOUNCEMENT, FAILED, FILES, SERVICES, Client, OwnService, Postfix, append, asked_in, heard, heard_to_end, listed, mode_of, notice
+from tests.support.postfix_folder import (
+    ANNOUNCEMENT,
+    FAILED,
+    FILES,
+    SERVICES,
+    Client,
+    OwnService,
+    Postfix,
+    append,
+    asked_in,
+    heard,
+    heard_to_end,
+    listed,
+    mode_of,
+    notice,
+)
 from tests.support.running import HOST, Checks, Ran, run
 
 ONE = "090B8A85C9C"  # the queue id of the message `one`
 LOG_OF = {"failure": "bounce", "delay": "defer", "expired": "defer", "success": "trace"}
-# Messages of which no notice can be made here (tests/postfix_notices.py says why), so that Postfix's own service is asked.
-PASSED_ON = {"utf8", "utf8-sender", "later-utf8", "asked-before", "long-address", "newer-form-quoted", "quoted", "verp-quoted", "orcpt-utf8"}
+# Messages of which no notice can be made here (tests/postfix_notices.py says why), so that Postfix's own service is
+# asked.
+PASSED_ON = {
+    "utf8",
+    "utf8-sender",
+    "later-utf8",
+    "asked-before",
+    "long-address",
+    "newer-form-quoted",
+    "quoted",
+    "verp-quoted",
+    "orcpt-utf8",
+}
 STEPS = ("connect", "EHLO", "MAIL", "RCPT", "DATA", "message")
 THREADS = 32  # clients of one service that are served at once
 AT_ONCE = 2  # notices that are handed in at once
@@ -55,16 +81,39 @@ def check_append_and_flush(checks: Checks):
         it.put("one")
         checks.equal("an append", it.ask("bounce", append(ONE, offset=6)), 0)
         record = it.at(f"bounce/{ONE}").read_text()
-        checks.true("the record", record.startswith("\n<no.bob@example.org>: it said: ") and "\noffset=6\nstatus=5.1.1\naction=failed\n" in record)
+        checks.true(
+            "the record",
+            record.startswith("\n<no.bob@example.org>: it said: ")
+            and "\noffset=6\nstatus=5.1.1\naction=failed\n" in record,
+        )
         checks.equal("a flush", it.ask("bounce", asked_in("one", "failure")), 0)
         checks.true("the log is removed", not it.at(f"bounce/{ONE}").exists())
-        said = [b"EHLO mx.example.net\r\n", b"MAIL FROM:<>\r\n", b"RCPT TO:<ann@example.com>\r\n", b"DATA\r\n", b"QUIT\r\n"]
+        said = [
+            b"EHLO mx.example.net\r\n",
+            b"MAIL FROM:<>\r\n",
+            b"RCPT TO:<ann@example.com>\r\n",
+            b"DATA\r\n",
+            b"QUIT\r\n",
+        ]
         checks.true("the transaction", until(lambda: it.server.said == [said]))
         text = it.server.taken[0][2]
-        for line in (b"To: <ann@example.com>", b"Final-Recipient: rfc822; no.bob@example.org", b"Status: 5.1.1", b"Diagnostic-Code: smtp; 550 5.1.1 no such user", b"Remote-MTA: dns; mx.example.org", b"X-Postfix-Queue-ID: 090B8A85C9C", b"Content-Type: message/rfc822", b"Subject: hello"):
+        for line in (
+            b"To: <ann@example.com>",
+            b"Final-Recipient: rfc822; no.bob@example.org",
+            b"Status: 5.1.1",
+            b"Diagnostic-Code: smtp; 550 5.1.1 no such user",
+            b"Remote-MTA: dns; mx.example.org",
+            b"X-Postfix-Queue-ID: 090B8A85C9C",
+            b"Content-Type: message/rfc822",
+            b"Subject: hello",
+        ):
             checks.true(f"the notice has {line}", b"\r\n" + line + b"\r\n" in text)
         checks.equal("bounce(8)'s line", it.lines()[1:], [f"{ONE}: sender non-delivery notification: NEW1"])
-        checks.equal("what is left", sorted(str(path.relative_to(it.folder)) for path in it.folder.rglob("*") if not path.is_dir()), ["deferred/0/" + ONE, *(f"private/noticed{name}" for name in ("-bounce", "-defer", "-trace", ".lock"))])
+        checks.equal(
+            "what is left",
+            sorted(str(path.relative_to(it.folder)) for path in it.folder.rglob("*") if not path.is_dir()),
+            ["deferred/0/" + ONE, *(f"private/noticed{name}" for name in ("-bounce", "-defer", "-trace", ".lock"))],
+        )
 
 
 def check_modes(checks: Checks):
@@ -75,9 +124,17 @@ def check_modes(checks: Checks):
             it.put("one")
             for service in SERVICES:
                 checks.equal(f"umask {umask:o}: an append to {service}", it.ask(service, append(ONE)), 0)
-            checks.equal(f"umask {umask:o}: sockets", [mode_of(it.at(f"private/noticed-{name}")) for name in SERVICES], ["140666"] * 3)
+            checks.equal(
+                f"umask {umask:o}: sockets",
+                [mode_of(it.at(f"private/noticed-{name}")) for name in SERVICES],
+                ["140666"] * 3,
+            )
             checks.equal(f"umask {umask:o}: the lock", mode_of(it.at("private/noticed.lock")), "100600")
-            checks.equal(f"umask {umask:o}: logs", [mode_of(it.at(name)) for name in (f"bounce/{ONE}", f"defer/0/{ONE}", f"trace/{ONE}")], ["100600"] * 3)
+            checks.equal(
+                f"umask {umask:o}: logs",
+                [mode_of(it.at(name)) for name in (f"bounce/{ONE}", f"defer/0/{ONE}", f"trace/{ONE}")],
+                ["100600"] * 3,
+            )
             checks.equal(f"umask {umask:o}: a hashed folder", mode_of(it.at("defer/0")), "40700")
 
 
@@ -93,7 +150,10 @@ def check_hashing(checks: Checks):
         with Postfix(*options) as it:
             checks.equal(f"{options}: appends", [it.ask("defer", append(name)) for name in (ONE, long_id)], [0, 0])
             found = sorted(str(path.relative_to(it.folder)) for path in it.at("defer").rglob("*") if path.is_file())
-            checks.true(f"{options}: {found}", place in found and any(name.startswith(long_place) and name.endswith(long_id) for name in found))
+            checks.true(
+                f"{options}: {found}",
+                place in found and any(name.startswith(long_place) and name.endswith(long_id) for name in found),
+            )
 
 
 def check_kinds(checks: Checks):
@@ -104,42 +164,71 @@ def check_kinds(checks: Checks):
         checks.equal("a warning", (it.ask("defer", asked_in("later", "delay")), log.exists()), (0, True))
         text = it.server.taken[-1][2]
         arrival = re.search(rb"Arrival-Date: \w+, \d+ \w+ \d+ (\d+):(.*)\r", text)
-        checks.true("retried for the lifetime", b" %02d:%s" % ((int(arrival[1]) + 1) % 24, arrival[2]) in re.search(rb"Will-Retry-Until: (.*)\r", text)[1])
+        checks.true(
+            "retried for the lifetime",
+            b" %02d:%s" % ((int(arrival[1]) + 1) % 24, arrival[2]) in re.search(rb"Will-Retry-Until: (.*)\r", text)[1],
+        )
         checks.equal("its line", it.lines()[-1], f"{message}: sender delay notification: NEW1")
         checks.equal("it expired", (it.ask("defer", asked_in("later", "expired")), log.exists()), (0, False))
         checks.equal("its line", it.lines()[-1], f"{message}: sender non-delivery notification: NEW2")
         message = it.put("relayed", "trace")
-        checks.equal("a trace", (it.ask("trace", asked_in("relayed", "success")), it.at(f"trace/{message}").exists()), (0, False))
+        checks.equal(
+            "a trace", (it.ask("trace", asked_in("relayed", "success")), it.at(f"trace/{message}").exists()), (0, False)
+        )
         checks.equal("its line", it.lines()[-1], f"{message}: sender delivery status notification: NEW3")
         checks.equal("a trace without a log", it.ask("trace", asked_in("relayed", "success")), 0)
         for sender in ("", f"double-bounce@{HOST}"):
             it.put("one", "bounce")
-            checks.equal(f"from <{sender}>", (it.ask("bounce", notice(1, ONE, sender=sender)), it.at(f"bounce/{ONE}").exists()), (0, False))
+            checks.equal(
+                f"from <{sender}>",
+                (it.ask("bounce", notice(1, ONE, sender=sender)), it.at(f"bounce/{ONE}").exists()),
+                (0, False),
+            )
         checks.equal("notices in all", len(it.server.taken), 3)
     with Postfix("--double-bounce", "nobody@example.com") as it:
         for sender, notices in (("nobody@example.com", 0), (f"double-bounce@{HOST}", 1)):
             it.put("one", "bounce")
-            checks.equal(f"from <{sender}>, with an option", (it.ask("bounce", notice(1, ONE, sender=sender)), len(it.server.taken)), (0, notices))
+            checks.equal(
+                f"from <{sender}>, with an option",
+                (it.ask("bounce", notice(1, ONE, sender=sender)), len(it.server.taken)),
+                (0, notices),
+            )
 
 
 def check_expired_with_bounces(checks: Checks):
-    """A message that expires while its bounce log is still there: that log is told first, and the message goes only with both told."""
+    """A message that expires while its bounce log is still there: that log is told first, and the message goes only
+    with both told."""
     with Postfix() as it:
         message = it.put("mixed", "bounce", "defer")
         logs = [it.at(f"bounce/{message}"), it.at(f"defer/1/{message}")]
         it.server.replies["RCPT"] = b"450 4.2.0 later"
-        checks.equal("refused for now", (it.ask("defer", asked_in("mixed", "expired")), [log.exists() for log in logs]), (FAILED, [True, True]))
+        checks.equal(
+            "refused for now",
+            (it.ask("defer", asked_in("mixed", "expired")), [log.exists() for log in logs]),
+            (FAILED, [True, True]),
+        )
         del it.server.replies["RCPT"]
-        checks.equal("taken", (it.ask("defer", asked_in("mixed", "expired")), [log.exists() for log in logs]), (0, [False, False]))
+        checks.equal(
+            "taken",
+            (it.ask("defer", asked_in("mixed", "expired")), [log.exists() for log in logs]),
+            (0, [False, False]),
+        )
         told = [re.findall(rb"Final-Recipient: rfc822; (\w+)", text) for _, _, text in it.server.taken]
-        checks.true(f"both are told, the bounces first: {told}", len(told) == 2 and b"later" in told[1] and b"later" not in told[0])
+        checks.true(
+            f"both are told, the bounces first: {told}",
+            len(told) == 2 and b"later" in told[1] and b"later" not in told[0],
+        )
         own = OwnService(it.folder, "bounce", status=b"status\x00%d\0\0" % FAILED)
         for status, wanted in ((FAILED, (FAILED, 2, True)), (0, (0, 3, False))):
             own.status, own.asked = b"status\x00%d\0\0" % status, []
             it.put("mixed", "bounce", "defer")
             logs[0].write_bytes(b"damaged\n\n")
             found = (it.ask("defer", asked_in("mixed", "expired")), len(it.server.taken), logs[1].exists())
-            checks.equal(f"bounces that can't be said, and bounce(8) answers {status}", (found, own.asked), (wanted, [asked_in("mixed", "expired")]))
+            checks.equal(
+                f"bounces that can't be said, and bounce(8) answers {status}",
+                (found, own.asked),
+                (wanted, [asked_in("mixed", "expired")]),
+            )
         it.put("mixed", "defer")
         logs[0].write_bytes(b"")
         own.asked = []
@@ -151,18 +240,22 @@ def check_marks(checks: Checks):
     """Recipients are marked as done in the queue file where that is asked, once the notice was taken."""
     with Postfix() as it:
         message = it.put("later", "defer")
-        queue, place = it.at(f"deferred/E/{message}"), int(re.search(rb"offset=(\d+)", (FILES / "later/defer").read_bytes())[1])
+        queue, place = it.at(f"deferred/E/{message}"), int(
+            re.search(rb"offset=(\d+)", (FILES / "later/defer").read_bytes())[1]
+        )
         before = queue.read_bytes()
         it.server.replies["message"] = b"451 4.3.0 later"
-        checks.equal("not taken", (it.ask("defer", notice(1, message, flags=2)), queue.read_bytes() == before), (FAILED, True))
+        checks.equal(
+            "not taken", (it.ask("defer", notice(1, message, flags=2)), queue.read_bytes() == before), (FAILED, True)
+        )
         del it.server.replies["message"]
         checks.equal("taken", it.ask("defer", notice(1, message, flags=2)), 0)
         checks.equal("one byte is written", queue.read_bytes(), before[:place] + b"D" + before[place + 1 :])
 
 
 def check_all_messages(checks: Checks):
-    """Each message that Postfix wrote, with each request that its queue manager makes: a notice for each that bounce(8) made, or, where
-    it can't be said, one request that is passed on."""
+    """Each message that Postfix wrote, with each request that its queue manager makes: a notice for each that bounce(8)
+    made, or, where it can't be said, one request that is passed on."""
     for depth, names in ((1, "defer deferred"), (2, "deferred, defer, bounce, trace")):
         with Postfix("--hash-queue-names", names, "--hash-queue-depth", str(depth)) as it:
             own = {name: OwnService(it.folder, name) for name in SERVICES}
@@ -170,8 +263,12 @@ def check_all_messages(checks: Checks):
             for case in sorted(FILES.iterdir()):
                 stood = (case / "places").read_text().split()[0]
                 if stood.count("/") - 1 == depth:
-                    count += sum(check_message(checks, it, own, case, request) for request in sorted(case.glob("*.request")))
-            checks.true(f"many requests of messages in folders {depth} deep: {count}", count >= (10 if depth == 2 else 80))
+                    count += sum(
+                        check_message(checks, it, own, case, request) for request in sorted(case.glob("*.request"))
+                    )
+            checks.true(
+                f"many requests of messages in folders {depth} deep: {count}", count >= (10 if depth == 2 else 80)
+            )
 
 
 def check_message(checks: Checks, it: Postfix, own: dict, case: Path, request: Path) -> int:
@@ -182,7 +279,9 @@ def check_message(checks: Checks, it: Postfix, own: dict, case: Path, request: P
     checks.equal(f"{what}: status", it.ask(service, request.read_bytes()), 0)
     made = [name for name in os.listdir(case) if re.fullmatch(rf"{request.stem}(-\d+)?", name)]
     wanted = [0, [request.read_bytes()]] if case.name in PASSED_ON else [len(made), []]
-    checks.equal(f"{what}: notices, and what is passed on", [len(it.server.taken) - taken, own[service].asked[asked:]], wanted)
+    checks.equal(
+        f"{what}: notices, and what is passed on", [len(it.server.taken) - taken, own[service].asked[asked:]], wanted
+    )
     return 1
 
 
@@ -190,11 +289,19 @@ def check_message(checks: Checks, it: Postfix, own: dict, case: Path, request: P
 
 
 def check_refusals(checks: Checks):
-    """A server that refuses at a step, for now or for good, or leaves, where Postfix's own service isn't there: -1, and the log stays;
-    asked again, it is told."""
+    """A server that refuses at a step, for now or for good, or leaves, where Postfix's own service isn't there: -1, and
+    the log stays; asked again, it is told."""
     with Postfix() as it:
         for step in STEPS:
-            for reply in (b"450 4.2.0 later", b"550 5.7.1 no", b"421 4.3.2 closing", b"", b"what?", b"250-more\r\n550 other", b"250 ok\r\n250 too soon"):
+            for reply in (
+                b"450 4.2.0 later",
+                b"550 5.7.1 no",
+                b"421 4.3.2 closing",
+                b"",
+                b"what?",
+                b"250-more\r\n550 other",
+                b"250 ok\r\n250 too soon",
+            ):
                 if reply.startswith(b"250 ok") and step in ("connect", "DATA"):
                     continue  # a wrong reply there, as others
                 it.put("one", "bounce")
@@ -202,17 +309,39 @@ def check_refusals(checks: Checks):
                 taken = len(it.server.taken)
                 found = (it.ask("bounce", asked_in("one", "failure")), it.at(f"bounce/{ONE}").read_bytes())
                 checks.equal(f"{reply} at {step}", found, (FAILED, (FILES / "one/bounce").read_bytes()))
-                checks.true(f"{reply} at {step}: nothing more is said than one transaction", len(it.server.taken) - taken <= 1)
+                checks.true(
+                    f"{reply} at {step}: nothing more is said than one transaction", len(it.server.taken) - taken <= 1
+                )
         it.server.replies = {}
-        checks.true("lines on standard error", f"{ONE}: noticed-bounce: request not carried out: status 4294967295" in it.lines() and any(f"{ONE}: notice not accepted: refused: " in line for line in it.lines()))
+        checks.true(
+            "lines on standard error",
+            f"{ONE}: noticed-bounce: request not carried out: status 4294967295" in it.lines()
+            and any(f"{ONE}: notice not accepted: refused: " in line for line in it.lines()),
+        )
         taken = len(it.server.taken)
-        checks.equal("asked again", (it.ask("bounce", asked_in("one", "failure")), len(it.server.taken) - taken, it.at(f"bounce/{ONE}").exists()), (0, 1, False))
+        checks.equal(
+            "asked again",
+            (
+                it.ask("bounce", asked_in("one", "failure")),
+                len(it.server.taken) - taken,
+                it.at(f"bounce/{ONE}").exists(),
+            ),
+            (0, 1, False),
+        )
         it.put("one", "bounce")
         it.server.replies = {"RCPT": b"550 no"}
-        checks.equal("CLEAN removes the log all the same", (it.ask("bounce", notice(1, ONE, flags=1)), it.at(f"bounce/{ONE}").exists()), (FAILED, False))
+        checks.equal(
+            "CLEAN removes the log all the same",
+            (it.ask("bounce", notice(1, ONE, flags=1)), it.at(f"bounce/{ONE}").exists()),
+            (FAILED, False),
+        )
 
 
-HELLO, TRANSACTION, GOODBYE = [b"EHLO mx.example.net\r\n"], [b"MAIL FROM:<>\r\n", b"RCPT TO:<ann@example.com>\r\n", b"DATA\r\n"], [b"QUIT\r\n"]
+HELLO, TRANSACTION, GOODBYE = (
+    [b"EHLO mx.example.net\r\n"],
+    [b"MAIL FROM:<>\r\n", b"RCPT TO:<ann@example.com>\r\n", b"DATA\r\n"],
+    [b"QUIT\r\n"],
+)
 KEPT = 2  # seconds for which a session is kept at least
 
 
@@ -241,7 +370,9 @@ class Sessions:
     def closing(self):
         """The server answers the second MAIL by 421."""
         asked = []
-        self.server.waits["MAIL"] = lambda: asked.append(self.server.replies.update({"MAIL": b"421 4.3.2 closing" if len(asked) == 1 else b"250 ok"}))
+        self.server.waits["MAIL"] = lambda: asked.append(
+            self.server.replies.update({"MAIL": b"421 4.3.2 closing" if len(asked) == 1 else b"250 ok"})
+        )
         self.tell(2)
 
     def refused(self):
@@ -252,14 +383,23 @@ class Sessions:
 
 
 def check_sessions(checks: Checks):
-    """Notices are handed in in one session, one after another. One that the server has ended, by 421 or without a word, is followed by another
-    for the same notice, and so is one that was used 100 times; one that nobody uses is ended by QUIT, whose reply changes nothing. Where this
-    machine is so busy that a session may have been ended meanwhile, it is tried again."""
+    """Notices are handed in in one session, one after another. One that the server has ended, by 421 or without a word,
+    is followed by another for the same notice, and so is one that was used 100 times; one that nobody uses is ended by
+    QUIT, whose reply changes nothing. Where this machine is so busy that a session may have been ended meanwhile, it is
+    tried again."""
     for name, play, wanted in (
         ("two notices", lambda it: it.tell(2), [HELLO + 2 * TRANSACTION]),
         ("the server hung up", Sessions.hung_up, [HELLO + TRANSACTION, HELLO + TRANSACTION]),
-        ("421 in place of the next sender", Sessions.closing, [HELLO + TRANSACTION + TRANSACTION[:1] + GOODBYE, HELLO + TRANSACTION]),
-        ("as often as it may be used", lambda it: it.tell(101), [HELLO + 100 * TRANSACTION + GOODBYE, HELLO + TRANSACTION]),
+        (
+            "421 in place of the next sender",
+            Sessions.closing,
+            [HELLO + TRANSACTION + TRANSACTION[:1] + GOODBYE, HELLO + TRANSACTION],
+        ),
+        (
+            "as often as it may be used",
+            lambda it: it.tell(101),
+            [HELLO + 100 * TRANSACTION + GOODBYE, HELLO + TRANSACTION],
+        ),
         ("a notice that is refused", Sessions.refused, [HELLO + TRANSACTION + TRANSACTION[:2] + GOODBYE]),
     ):
         for _ in range(10):
@@ -274,14 +414,18 @@ def check_sessions(checks: Checks):
         it = Sessions(postfix)
         postfix.server.replies = {"QUIT": b"550 no"}
         it.tell()
-        checks.true("a session that nobody uses is ended", until(lambda: postfix.server.said == [HELLO + TRANSACTION + GOODBYE]))
+        checks.true(
+            "a session that nobody uses is ended", until(lambda: postfix.server.said == [HELLO + TRANSACTION + GOODBYE])
+        )
         it.tell()
-        checks.equal("the reply to QUIT changes nothing", (it.all_told, postfix.server.said[1][:4]), (True, HELLO + TRANSACTION))
+        checks.equal(
+            "the reply to QUIT changes nothing", (it.all_told, postfix.server.said[1][:4]), (True, HELLO + TRANSACTION)
+        )
 
 
 def check_refused_for_good(checks: Checks):
-    """What is refused for good before a notice of the request was taken goes to Postfix's own service as it is, with the log, and its
-    status comes back; what is refused for now, or after one was taken, is answered -1."""
+    """What is refused for good before a notice of the request was taken goes to Postfix's own service as it is, with
+    the log, and its status comes back; what is refused for now, or after one was taken, is answered -1."""
     with Postfix() as it:
         own = OwnService(it.folder, "bounce")
         request, log = asked_in("one", "failure"), (FILES / "one/bounce").read_bytes()
@@ -289,19 +433,34 @@ def check_refused_for_good(checks: Checks):
             for reply, wanted in ((b"550 5.7.1 no", (0, [request], log)), (b"450 4.2.0 later", (FAILED, [], log))):
                 it.put("one", "bounce")
                 it.server.replies, own.asked = {step: reply}, []
-                checks.equal(f"{reply} at {step}, beside bounce(8)", (it.ask("bounce", request), own.asked, it.at(f"bounce/{ONE}").read_bytes()), wanted)
+                checks.equal(
+                    f"{reply} at {step}, beside bounce(8)",
+                    (it.ask("bounce", request), own.asked, it.at(f"bounce/{ONE}").read_bytes()),
+                    wanted,
+                )
         own.status, own.asked = b"status\x00%d\0\0" % FAILED, []
         it.server.replies = {"RCPT": b"550 no"}
-        checks.equal("bounce(8) fails", (it.ask("bounce", request), own.asked, it.at(f"bounce/{ONE}").read_bytes()), (FAILED, [request], log))
+        checks.equal(
+            "bounce(8) fails",
+            (it.ask("bounce", request), own.asked, it.at(f"bounce/{ONE}").read_bytes()),
+            (FAILED, [request], log),
+        )
         it.server.replies, own.asked = {}, []
         message, taken = it.put("verp", "bounce"), len(it.server.taken)
-        it.server.waits["RCPT"] = lambda: it.server.replies.update({"RCPT": b"550 no"} if len(it.server.taken) > taken else {})
-        found = (it.ask("bounce", asked_in("verp", "failure")), len(it.server.taken) - taken, own.asked, it.at(f"bounce/{message}").exists())
+        it.server.waits["RCPT"] = lambda: it.server.replies.update(
+            {"RCPT": b"550 no"} if len(it.server.taken) > taken else {}
+        )
+        found = (
+            it.ask("bounce", asked_in("verp", "failure")),
+            len(it.server.taken) - taken,
+            own.asked,
+            it.at(f"bounce/{message}").exists(),
+        )
         checks.equal("refused for good after one was taken", found, (FAILED, 1, [], True))
 
 
 def check_twice(checks: Checks):
-    """A flush that is asked twice at the same time: one notice is handed in, and once its log is gone the other request is passed on."""
+    """A flush that is asked twice at once: one notice is handed in, and the second request is passed on."""
     with Postfix() as it:
         own = OwnService(it.folder, "bounce")
         it.put("one", "bounce")
@@ -317,29 +476,56 @@ def check_no_server(checks: Checks):
     with Postfix(hand_in=address) as it:
         it.put("one")
         checks.equal("an append", it.ask("bounce", append(ONE)), 0)
-        checks.equal("a flush", (it.ask("bounce", asked_in("one", "failure")), it.at(f"bounce/{ONE}").exists()), (FAILED, True))
+        checks.equal(
+            "a flush", (it.ask("bounce", asked_in("one", "failure")), it.at(f"bounce/{ONE}").exists()), (FAILED, True)
+        )
 
 
 def check_passed_on(checks: Checks):
-    """What is no request of this version, or can't be said, goes to Postfix's own service as it is, and its status comes back; without
-    such a service it is -1."""
-    wrong = [listed(nrequest=1, flags=0), listed(what="ever"), b"\0", b"what is this\0\0\0", notice(1, ONE, fifth="sendopts"), notice(9, ONE)]
-    wrong += [notice(1, it) for it in WRONG_IDS] + [append(it) for it in WRONG_IDS] + [notice(1, ONE, queue="../active"), append(ONE, '"bob smith"@example.org'), append(ONE, "a b@example.org")]
+    """What is no request of this version, or can't be said, goes to Postfix's own service as it is, and its status
+    comes back; without such a service it is -1."""
+    wrong = [
+        listed(nrequest=1, flags=0),
+        listed(what="ever"),
+        b"\0",
+        b"what is this\0\0\0",
+        notice(1, ONE, fifth="sendopts"),
+        notice(9, ONE),
+    ]
+    wrong += (
+        [notice(1, it) for it in WRONG_IDS]
+        + [append(it) for it in WRONG_IDS]
+        + [notice(1, ONE, queue="../active"), append(ONE, '"bob smith"@example.org'), append(ONE, "a b@example.org")]
+    )
     for options in ((), ("own",)):
         with Postfix() as it:
             own = {name: OwnService(it.folder, name) for name in SERVICES} if options else {}
             for request in wrong:
                 for service in SERVICES:
-                    checks.equal(f"{request[:60]} to {service}, with {options}", it.ask(service, request), 0 if own else FAILED)
-                    checks.equal(f"{request[:60]}: what is passed on", own[service].asked[-1] if own else request, request)
-            checks.equal("nothing is written", [str(path) for path in it.folder.rglob("*") if path.is_file() and not path.name.endswith(".lock")], [])
+                    checks.equal(
+                        f"{request[:60]} to {service}, with {options}", it.ask(service, request), 0 if own else FAILED
+                    )
+                    checks.equal(
+                        f"{request[:60]}: what is passed on", own[service].asked[-1] if own else request, request
+                    )
+            checks.equal(
+                "nothing is written",
+                [str(path) for path in it.folder.rglob("*") if path.is_file() and not path.name.endswith(".lock")],
+                [],
+            )
             if own:
                 check_own_service(checks, it, own["bounce"])
 
 
 def check_own_service(checks: Checks, it: Postfix, own: OwnService):
-    """The status of Postfix's own service is the answer; one that is none is -1. The log isn't locked while it is asked."""
-    for status, wanted in ((b"status\x00%d\0\0" % FAILED, FAILED), (b"status\x007\0\0", 7), (b"", FAILED), (b"state\x000\0\0", FAILED), (b"status\x000\0", FAILED)):
+    """The status of Postfix's own service is the answer; a malformed one is -1. The log isn't locked meanwhile."""
+    for status, wanted in (
+        (b"status\x00%d\0\0" % FAILED, FAILED),
+        (b"status\x007\0\0", 7),
+        (b"", FAILED),
+        (b"state\x000\0\0", FAILED),
+        (b"status\x000\0", FAILED),
+    ):
         own.status = status
         checks.equal(f"its status {status}", it.ask("bounce", listed(what="ever")), wanted)
     own.status, own.announcement = b"status\x000\0\0", b"protocol\0another_protocol\0\0"
@@ -355,7 +541,11 @@ def check_own_service(checks: Checks, it: Postfix, own: OwnService):
     own.during = lock
     checks.equal("a quoted recipient", (it.ask("bounce", asked_in("quoted", "failure")), unlocked), (0, [True]))
     it.at(f"deferred/1/{message}").unlink()
-    checks.equal("a missing queue file", (it.ask("bounce", asked_in("quoted", "failure")), len(unlocked), it.at(f"bounce/{message}").exists()), (0, 2, True))
+    checks.equal(
+        "a missing queue file",
+        (it.ask("bounce", asked_in("quoted", "failure")), len(unlocked), it.at(f"bounce/{message}").exists()),
+        (0, 2, True),
+    )
 
 
 def check_versions(checks: Checks):
@@ -379,7 +569,15 @@ def check_broken_clients(checks: Checks):
                 checks.equal(f"cut after {cut} bytes: what it is said", heard_to_end(client.peer), ANNOUNCEMENT)
         checks.equal("too long a request", it.ask("bounce", append(ONE, text="5" * 70_000)), None)
         checks.equal("nothing is logged", os.listdir(it.at("bounce")), [])
-        checks.true("lines on standard error", until(lambda: sum(line.startswith("noticed-bounce: client not served: no list was read: ") for line in it.lines()) == 6))
+        checks.true(
+            "lines on standard error",
+            until(
+                lambda: sum(
+                    line.startswith("noticed-bounce: client not served: no list was read: ") for line in it.lines()
+                )
+                == 6
+            ),
+        )
         with Client(it.folder, "bounce") as client:
             heard(client.peer)
             client.peer.sendall(request)
@@ -407,13 +605,18 @@ def check_locked_log(checks: Checks):
         size = os.fstat(log.fileno()).st_size
         began = time.monotonic()
         found = at_once(lambda: it.ask("bounce", append(ONE)), lambda: it.ask("bounce", asked_in("one", "failure")))
-        checks.equal("for good: an append and a flush", (found, os.fstat(log.fileno()).st_size), ([FAILED, FAILED], size))
-        checks.true(f"they waited: {time.monotonic() - began}", SECONDS_FOR_LOCK - 1 < time.monotonic() - began < 3 * SECONDS_FOR_LOCK)
+        checks.equal(
+            "for good: an append and a flush", (found, os.fstat(log.fileno()).st_size), ([FAILED, FAILED], size)
+        )
+        checks.true(
+            f"they waited: {time.monotonic() - began}",
+            SECONDS_FOR_LOCK - 1 < time.monotonic() - began < 3 * SECONDS_FOR_LOCK,
+        )
         log.close()
 
 
 def check_full_disk(checks: Checks):
-    """A write that the system cuts short: -1, and the log is what it was before. No file may have more than a thousand bytes."""
+    """A write that the system cuts short: -1, and the log is unchanged. No file may exceed a thousand bytes."""
 
     def limit():
         signal.signal(signal.SIGXFSZ, signal.SIG_IGN)
@@ -425,11 +628,15 @@ def check_full_disk(checks: Checks):
         found = [(it.ask("bounce", append(ONE)), it.at(f"bounce/{ONE}").stat().st_size) for _ in range(6)]
         size = found[0][1]
         fit = 1000 // size
-        checks.equal("appends up to the bound, and after it", found, [(0, size * (1 + it)) if it < fit else (FAILED, size * fit) for it in range(6)])
+        checks.equal(
+            "appends up to the bound, and after it",
+            found,
+            [(0, size * (1 + it)) if it < fit else (FAILED, size * fit) for it in range(6)],
+        )
 
 
 def check_kills(checks: Checks):
-    """Killed by SIGKILL or SIGTERM while a notice is handed in: its log stays, and the next process serves, and tells it."""
+    """Killed by SIGKILL or SIGTERM while a notice is handed in: its log stays, and the next process hands it in."""
     for how in (signal.SIGKILL, signal.SIGTERM):
         with Postfix() as it:
             it.put("one")
@@ -448,12 +655,20 @@ def check_kills(checks: Checks):
             checks.equal(f"{how.name}: its sockets stay", len(list(it.at("private").iterdir())), 4)
             it.start()
             taken = len(it.server.taken)
-            checks.equal(f"{how.name}: asked again", (it.ask("bounce", asked_in("one", "failure")), len(it.server.taken) - taken, it.at(f"bounce/{ONE}").exists()), (0, 1, False))
+            checks.equal(
+                f"{how.name}: asked again",
+                (
+                    it.ask("bounce", asked_in("one", "failure")),
+                    len(it.server.taken) - taken,
+                    it.at(f"bounce/{ONE}").exists(),
+                ),
+                (0, 1, False),
+            )
 
 
 def asked_until_done(it: Postfix, message: str):
-    """Logs a recipient of a message and asks for its notice, as Postfix's programs do: each until it is answered 0, and the notice as
-    long as the log is there."""
+    """Logs a recipient of a message and asks for its notice, as Postfix's programs do: each until it is answered 0, and
+    the notice as long as the log is there."""
     log, is_logged = it.at(f"bounce/{message}"), False
     while not is_logged or log.exists():
         try:
@@ -465,7 +680,7 @@ def asked_until_done(it: Postfix, message: str):
 
 
 def check_kills_at_work(checks: Checks):
-    """Killed again and again while it works: each message's sender is told, at least once, and of its recipients alone."""
+    """Killed again and again while it works: each sender gets at least one notice, of its own recipients alone."""
     messages = [f"A{number}" for number in range(MESSAGES)]
     with Postfix() as it:
         it.at("deferred/A").mkdir()
@@ -501,7 +716,8 @@ def check_kills_at_work(checks: Checks):
 
 
 def check_inherited(checks: Checks):
-    """Sockets that the program inherits: who asks while none runs is served by the next; sockets in another order, or none, aren't taken."""
+    """Sockets that the program inherits: who asks while none runs is served by the next; sockets in another order, or
+    none, aren't taken."""
     with Postfix("--inherited", start=False) as it:
         it.put("one")
         listening = [socket.socket(socket.AF_UNIX) for _ in SERVICES]
@@ -524,7 +740,9 @@ def check_inherited(checks: Checks):
         it.limits, it.close_fds = give, False
         for number in range(3):
             asked = []
-            asking = threading.Thread(target=lambda found=asked: found.extend(it.ask(name, append(ONE)) for name in SERVICES))
+            asking = threading.Thread(
+                target=lambda found=asked: found.extend(it.ask(name, append(ONE)) for name in SERVICES)
+            )
             asking.start()
             time.sleep(0.2)
             checks.equal("who asks while none runs waits", asked, [])
@@ -540,10 +758,13 @@ def check_inherited(checks: Checks):
 
 
 def check_start(checks: Checks):
-    """What a start finds in the folder: a second process doesn't begin, what stands at a socket's name gives way but for a folder."""
+    """What a start finds in the folder: a second process doesn't begin, what stands at a socket's name gives way but
+    for a folder."""
     with Postfix() as it:
         second = run(["postfix", str(it.folder), HOST, it.server.address])
-        checks.equal("a second process", second, Ran(b"", f"fault 61\n{it.folder}/private: operation would block\n".encode(), 1))
+        checks.equal(
+            "a second process", second, Ran(b"", f"fault 61\n{it.folder}/private: operation would block\n".encode(), 1)
+        )
         checks.equal("the first one serves", it.ask("bounce", append(ONE)), 0)
         it.kill()
         for name in SERVICES:
@@ -554,28 +775,49 @@ def check_start(checks: Checks):
         it.kill()
         it.at("private/noticed-trace").unlink()
         it.at("private/noticed-trace").mkdir()
-        checks.equal("a folder in the way", run(["postfix", str(it.folder), HOST, it.server.address]), Ran(b"", f"fault 61\n{it.folder}/private: Is a directory (os error 21)\n".encode(), 1))
+        checks.equal(
+            "a folder in the way",
+            run(["postfix", str(it.folder), HOST, it.server.address]),
+            Ran(b"", f"fault 61\n{it.folder}/private: Is a directory (os error 21)\n".encode(), 1),
+        )
     for closed in ("0<&-", "1>&-", "2>&-", "0<&- 1>&- 2>&-"):
         with Postfix(start=False) as it:
             it.start(closed=closed)
             it.put("one", "bounce")
-            checks.equal(f"with {closed}", (it.ask("bounce", append(ONE)), it.ask("bounce", asked_in("one", "failure")), len(it.server.taken)), (0, 0, 1))
+            checks.equal(
+                f"with {closed}",
+                (it.ask("bounce", append(ONE)), it.ask("bounce", asked_in("one", "failure")), len(it.server.taken)),
+                (0, 0, 1),
+            )
             links = [os.readlink(f"/proc/{it.running.pid}/fd/{number}") for number in range(3)]
-            checks.true(f"with {closed}: no socket is a standard stream: {links}", not any(link.startswith("socket:") for link in links))
+            checks.true(
+                f"with {closed}: no socket is a standard stream: {links}",
+                not any(link.startswith("socket:") for link in links),
+            )
     with tempfile.TemporaryDirectory(prefix="noticed-") as room:
-        checks.equal("no private/", run(["postfix", room, HOST, "127.0.0.1:25"]), Ran(b"", f"fault 61\n{room}/private: No such file or directory (os error 2)\n".encode(), 1))
+        checks.equal(
+            "no private/",
+            run(["postfix", room, HOST, "127.0.0.1:25"]),
+            Ran(b"", f"fault 61\n{room}/private: No such file or directory (os error 2)\n".encode(), 1),
+        )
 
 
 # ---- at once
 
 
 def check_at_once(checks: Checks):
-    """Many clients at once: appends to one log all stand in it; notices are handed in side by side, two and no more, while others wait;
-    a server that is slow holds up no appends, as long as a thread of the service is left."""
+    """Many clients at once: appends to one log all stand in it; notices are handed in side by side, two and no more,
+    while others wait; a server that is slow holds up no appends, as long as a thread of the service is left."""
     with Postfix() as it:
-        found = at_once(*(lambda text=f"550 number {number}": it.ask("bounce", append(ONE, text=text)) for number in range(40)))
+        found = at_once(
+            *(lambda text=f"550 number {number}": it.ask("bounce", append(ONE, text=text)) for number in range(40))
+        )
         log = it.at(f"bounce/{ONE}").read_text()
-        checks.equal("appends to one log", (found, sorted(map(int, re.findall(r"diag_text=550 number (\d+)", log)))), ([0] * 40, list(range(40))))
+        checks.equal(
+            "appends to one log",
+            (found, sorted(map(int, re.findall(r"diag_text=550 number (\d+)", log)))),
+            ([0] * 40, list(range(40))),
+        )
         one = re.sub(r"number \d+", "number", log[: log.index("\n\n", 1) + 2])
         checks.true("its records are whole", re.sub(r"number \d+", "number", log) == 40 * one)
         go, waiting, most = threading.Event(), [], []
@@ -586,7 +828,11 @@ def check_at_once(checks: Checks):
         for message in ids:
             it.at(f"deferred/A/{message}").write_bytes(queue)
             it.at(f"bounce/{message}").write_bytes((FILES / "one/bounce").read_bytes())
-        asking = threading.Thread(target=lambda: most.append(at_once(*(lambda message=message: it.ask("bounce", notice(1, message)) for message in ids))))
+        asking = threading.Thread(
+            target=lambda: most.append(
+                at_once(*(lambda message=message: it.ask("bounce", notice(1, message)) for message in ids))
+            )
+        )
         asking.start()
         checks.true("notices that are handed in side by side", until(lambda: len(waiting) >= AT_ONCE))
         time.sleep(0.5)
@@ -598,7 +844,7 @@ def check_at_once(checks: Checks):
 
 
 class Silent:
-    """Clients that say nothing, or a part of a request: they are there from the first step of this script to its last."""
+    """Clients that send nothing, or a part of a request, from the first step of this script to its last."""
 
     def __init__(self):
         self.postfix = Postfix()
@@ -615,18 +861,44 @@ class Silent:
     def check(self, checks: Checks):
         checks.true("silent clients are cut off", until(lambda: len(self.ended) == 2))
         for text, seconds in self.ended:
-            checks.true(f"after {seconds} seconds", text == ANNOUNCEMENT and SECONDS_FOR_CLIENT - 2 < seconds < SECONDS_FOR_CLIENT + 20)
+            checks.true(
+                f"after {seconds} seconds",
+                text == ANNOUNCEMENT and SECONDS_FOR_CLIENT - 2 < seconds < SECONDS_FOR_CLIENT + 20,
+            )
         checks.equal("nothing is logged", os.listdir(self.postfix.at("bounce")), [])
 
 
 def main():
-    checks = Checks("postfix_command: requests of Postfix's programs, their logs and their notices, in a queue folder without a Postfix")
+    checks = Checks(
+        "postfix_command: requests of Postfix's programs, their logs and their notices, "
+        "in a queue folder without a Postfix"
+    )
     silent = Silent()
     checking = (
-        check_append_and_flush, check_modes, check_hashing, check_kinds, check_expired_with_bounces, check_marks, check_all_messages,
-        check_refusals, check_refused_for_good, check_sessions, check_twice, check_no_server, check_passed_on, check_versions, check_broken_clients, check_locked_log, check_full_disk, check_kills, check_kills_at_work, check_inherited,
-        check_start, check_at_once, silent.check,
-    )  # fmt: skip
+        check_append_and_flush,
+        check_modes,
+        check_hashing,
+        check_kinds,
+        check_expired_with_bounces,
+        check_marks,
+        check_all_messages,
+        check_refusals,
+        check_refused_for_good,
+        check_sessions,
+        check_twice,
+        check_no_server,
+        check_passed_on,
+        check_versions,
+        check_broken_clients,
+        check_locked_log,
+        check_full_disk,
+        check_kills,
+        check_kills_at_work,
+        check_inherited,
+        check_start,
+        check_at_once,
+        silent.check,
+    )
     with silent.postfix:
         for check in checking:
             check(checks)

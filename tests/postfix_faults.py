@@ -1,10 +1,11 @@
-"""Runs a Postfix of this script's own on loopback with `noticed postfix` in front of its bounce(8), and harms it: the service is killed at
-load, mail can't be handed in, Postfix is loaded anew or stopped while logs wait, logs and queue files are damaged, locked, or meet a full
-disk, and clients send what no program of Postfix sends. No recipient is lost, and few are told twice. Needs root and Debian's package
-postfix, and is left out without them.
+"""Runs a Postfix of this script's own on loopback with `noticed postfix` in front of its bounce(8), and harms it: the
+service is killed at load, mail can't be handed in, Postfix is loaded anew or stopped while logs wait, logs and queue
+files are damaged, locked, or meet a full disk, and clients send what no program of Postfix sends. No recipient is lost,
+and few are told twice. Needs root and Debian's package postfix, and is left out without them.
 
-    python3 -m tests.postfix_faults [--itself] [--full] [NAME]...     with --itself bounce(8) alone; 50 kills in place of 12; some
-                                                                      checks, or all"""
+    python3 -m tests.postfix_faults [--itself] [--full] [NAME]...
+
+With --itself bounce(8) serves alone, with --full there are 50 kills instead of 12. NAME is a check (default: all)."""
 import contextlib
 import fcntl
 import os
@@ -27,10 +28,17 @@ from tests.support.private_postfix import FRONT, Mailbox, Postfix, asked, attrib
 from tests.support.running import Checks, program, run
 
 SLOW = {"queue_run_delay": "3000s", "minimal_backoff_time": "4000s", "maximal_backoff_time": "4000s"}
-# Postfix leaves a message alone for a minute if it comes back to it while a delivery has the file locked, so not after one second.
-QUICK = {"queue_run_delay": "1s", "minimal_backoff_time": "2s", "maximal_backoff_time": "2s", "service_throttle_time": "1s"}
+# Postfix leaves a message alone for a minute if it comes back to it while a delivery has the file locked, so not after
+# one second.
+QUICK = {
+    "queue_run_delay": "1s",
+    "minimal_backoff_time": "2s",
+    "maximal_backoff_time": "2s",
+    "service_throttle_time": "1s",
+}
 SENDERS, WAITING = 4, 20  # clients that send at load; messages whose logs wait
-MANY, EXPIRING, HELD = 150, 60, 300  # messages whose logs are asked for at once, and that expire; connections of clients that say nothing
+# Messages whose logs are asked for at once, and that expire; connections of clients that say nothing.
+MANY, EXPIRING, HELD = 150, 60, 300
 BETWEEN = (0.05, 0.4)  # seconds from one kill to the next
 GROWTH = 8192  # KiB that hostile clients may leave behind in the service
 SANITIZED = 1 << 30  # KiB of addresses that only a program with a sanitizer asks for
@@ -38,7 +46,7 @@ TOLD = re.compile(rb"^Final-Recipient: *rfc822; *(.*)\n(?:.+\n)*?Action: (\w+)",
 
 
 class Tried:
-    """A Postfix that is to be harmed, with a gate before the server to which notices are handed in, and what is expected of it."""
+    """A Postfix that is to be harmed, a gate before the server that takes the notices, and what is expected."""
 
     def __init__(self, serves, **settings):
         self.stack = contextlib.ExitStack()
@@ -58,15 +66,19 @@ class Tried:
 
     def send(self, name: str, relayed=True):
         """Sends a message of two recipients who are refused, and one who is told that it was relayed."""
-        recipients = [f"no.{name}a@example.org", f"no.{name}b@example.org"] + [(f"ok.{name}c@example.org", "NOTIFY=SUCCESS")] * relayed
+        recipients = [f"no.{name}a@example.org", f"no.{name}b@example.org"] + [
+            (f"ok.{name}c@example.org", "NOTIFY=SUCCESS")
+        ] * relayed
         taken = by_smtp(self.postfix.smtp, Case(name, "bounce", recipients))
         with self.lock:
-            self.wanted += [(f"no.{name}{it}@example.org", "failed") for it in "ab"] + [(f"ok.{name}c@example.org", "relayed")] * relayed
+            self.wanted += [(f"no.{name}{it}@example.org", "failed") for it in "ab"] + [
+                (f"ok.{name}c@example.org", "relayed")
+            ] * relayed
             self.sent.append(taken)
 
     def say_nothing(self, way):
-        """From now on notices can't be handed in, or again they can: by the gate where a program is in front, and by bounce(8)'s settings
-        where it has none."""
+        """From now on notices can't be handed in, or again they can: by the gate where a program is in front, and by
+        bounce(8)'s settings where it has none."""
         if self.postfix.front:
             self.gate.way = way
         else:
@@ -75,7 +87,9 @@ class Tried:
 
     def told(self) -> Counter:
         """Each recipient that notices told of, with what became of it, and how many times."""
-        return Counter((who.decode(), what.decode()) for _, text in list(self.mailbox.notices) for who, what in TOLD.findall(text))
+        return Counter(
+            (who.decode(), what.decode()) for _, text in list(self.mailbox.notices) for who, what in TOLD.findall(text)
+        )
 
     def judged(self, checks: Checks, what: str, seconds=100, most=0) -> int:
         """Waits until all is done: nobody is lost, and so many at most are told twice. How many are."""
@@ -91,7 +105,14 @@ class Tried:
 
     def wait_for_logs(self, checks: Checks, what: str, count: int):
         """Waits until so many messages are put off with a log of those who were refused."""
-        checks.true(f"{what}: logs wait", comes_true(lambda: len(self.postfix.logs("bounce")) >= count and not self.postfix.queued("incoming", "active", "maildrop"), 30))
+        checks.true(
+            f"{what}: logs wait",
+            comes_true(
+                lambda: len(self.postfix.logs("bounce")) >= count
+                and not self.postfix.queued("incoming", "active", "maildrop"),
+                30,
+            ),
+        )
 
 
 def at_load(tried: Tried, stop: threading.Event) -> list:
@@ -110,7 +131,8 @@ def at_load(tried: Tried, stop: threading.Event) -> list:
 
 
 def killed(serves, kills: int, checks: Checks, name: str, most) -> tuple:
-    """The service, or the processes of bounce(8), killed at load so many times: how many recipients were told twice, and of how many."""
+    """The service, or the processes of bounce(8), killed at load so many times: how many recipients were told twice,
+    and of how many."""
     dice, stop = random.Random(kills), threading.Event()
     with Tried(serves) as it:
         threads = at_load(it, stop)
@@ -129,13 +151,17 @@ def killed(serves, kills: int, checks: Checks, name: str, most) -> tuple:
         twice = it.judged(checks, f"{kills} kills of {name}", 120, len(it.wanted) if most is None else most)
         relayed = Counter(to for _, all_of_them, _ in it.mailbox.others for to in all_of_them)
         again = sum(times > 1 for times in relayed.values())
-        print(f"  {kills} kills of {name}: {len(it.sent)} messages, {len(it.wanted)} recipients to be told, {twice} of them told twice, {again} delivered twice", flush=True)
+        print(
+            f"  {kills} kills of {name}: {len(it.sent)} messages, {len(it.wanted)} recipients to be told, "
+            f"{twice} of them told twice, {again} delivered twice",
+            flush=True,
+        )
         return twice, len(it.wanted)
 
 
 def kills(checks: Checks, serves, full: bool):
-    """Killed at load: none is lost, and few are told twice: those of the notices that were taken at a kill, of two in hand at most, and
-    whose log was still there. A notice of these messages tells of up to three."""
+    """Killed at load: none is lost, and few are told twice: those of the notices that were taken at a kill, of two in
+    hand at most, and whose log was still there. A notice of these messages tells of up to three."""
     count = 50 if full else 12
     twice, _ = killed(None, count, checks, "bounce(8)", None)
     if serves:
@@ -160,7 +186,7 @@ def hand_in_fails(checks: Checks, serves, full: bool):
 
 
 def loaded_anew(checks: Checks, serves, full: bool):
-    """Postfix is loaded anew, and stopped and started, while logs wait; then the notices of all of them are asked for at once."""
+    """Postfix is reloaded, and restarted, while logs wait; then the notices of all of them are requested at once."""
     with Tried(serves, **SLOW) as it:
         it.say_nothing(AWAY)
         for at in range(MANY):
@@ -238,26 +264,52 @@ def damaged_logs(checks: Checks, serves, full: bool):
             found[kind] = it.told()
             checks.true("damaged logs: somebody is told of each", len(it.mailbox.notices) >= len(DAMAGES) - 1)
     if serves:
-        checks.equal("damaged logs: whom bounce(8) alone tells", [name for name in found[None] if name not in found[serves]], [])
-        checks.equal("damaged logs: who is told twice", [name for name, times in found[serves].items() if times > found[None].get(name, 1)], [])
+        checks.equal(
+            "damaged logs: whom bounce(8) alone tells", [name for name in found[None] if name not in found[serves]], []
+        )
+        checks.equal(
+            "damaged logs: who is told twice",
+            [name for name, times in found[serves].items() if times > found[None].get(name, 1)],
+            [],
+        )
 
 
 def flush_request(queue_id: str, queue_name="deferred", number=1, flags=0) -> bytes:
     """A request for the notice of a message, as the queue manager of 3.7 sends it."""
-    of_message = [("queue_name", queue_name), ("queue_id", queue_id), ("encoding", ""), ("smtputf8", 0), ("sender", "ann@example.com")]
+    of_message = [
+        ("queue_name", queue_name),
+        ("queue_id", queue_id),
+        ("encoding", ""),
+        ("smtputf8", 0),
+        ("sender", "ann@example.com"),
+    ]
     return attributes([("nrequest", number), ("flags", flags), *of_message, ("envelope_id", ""), ("ret_flags", 0)])
 
 
 def append_request(queue_id: str, recipient: str, reason="host said: 550 5.1.1 no such user here") -> bytes:
     """A request to log a recipient who was refused, as smtp(8) of 3.7 sends it."""
-    told = [("original_recipient", recipient), ("recipient", recipient), ("offset", 727), ("dsn_orig_rcpt", ""), ("notify_flags", 0)]
-    became = [("status", "5.1.1"), ("diag_type", ""), ("diag_text", ""), ("mta_type", ""), ("mta_mname", ""), ("action", "failed"), ("reason", reason)]
+    told = [
+        ("original_recipient", recipient),
+        ("recipient", recipient),
+        ("offset", 727),
+        ("dsn_orig_rcpt", ""),
+        ("notify_flags", 0),
+    ]
+    became = [
+        ("status", "5.1.1"),
+        ("diag_type", ""),
+        ("diag_text", ""),
+        ("mta_type", ""),
+        ("mta_mname", ""),
+        ("action", "failed"),
+        ("reason", reason),
+    ]
     return attributes([("nrequest", 0), ("flags", 0), ("queue_id", queue_id), *told, *became])
 
 
 def asked_again(it, name: str, request: bytes) -> bytes:
-    """The status that bounce(8) alone answers a request, asked again as the queue manager would: one that has begun before may still have
-    no cleanup service to hand a notice to."""
+    """The status that bounce(8) alone answers a request, asked again as the queue manager would: one that has begun
+    before may still have no cleanup service to hand a notice to."""
     for _ in range(10):
         status = asked_status(it, name, request)
         if status == b"0":
@@ -267,8 +319,13 @@ def asked_again(it, name: str, request: bytes) -> bytes:
 
 
 def damaged_queue_files(checks: Checks, serves, full: bool):
-    """Damaged queue files: the service is asked for the notice of each as the queue manager would ask, answers as bounce(8) does, and goes on."""
-    damages = {"cut": lambda it: it[: len(it) // 2], "cut to nothing": lambda _: b"", "zeros": lambda it: bytes(len(it))}
+    """Damaged queue files: the service is asked for the notice of each as the queue manager would ask, answers as
+    bounce(8) does, and goes on."""
+    damages = {
+        "cut": lambda it: it[: len(it) // 2],
+        "cut to nothing": lambda _: b"",
+        "zeros": lambda it: bytes(len(it)),
+    }
     damages["torn"] = lambda it: it[:100] + b"\xff" * 40 + it[140:]
     found = {}
     for kind in (None, serves)[: 2 if serves else 1]:
@@ -304,7 +361,8 @@ def asked_status(it: Tried, service: str, request: bytes) -> bytes:
 
 
 def both_logs(checks: Checks, serves, full: bool):
-    """The flush of an expired message whose earlier failure was never told: the service tells both logs before it says that it is done."""
+    """The flush of an expired message whose earlier failure was never told: the service tells both logs before it says
+    that it is done."""
     if not serves:
         return
     with Tried(serves, **SLOW) as it:
@@ -314,12 +372,16 @@ def both_logs(checks: Checks, serves, full: bool):
         it.gate.way = OPEN
         checks.equal("both logs: the answer", asked_status(it, "defer", flush_request(queue_id, flags=2)), b"0")
         comes_true(lambda: len(it.told()) >= 2, 10)
-        checks.equal("both logs: who is told", it.told(), Counter({("no.both@example.org", "failed"): 1, ("later.both@example.org", "failed"): 1}))
+        checks.equal(
+            "both logs: who is told",
+            it.told(),
+            Counter({("no.both@example.org", "failed"): 1, ("later.both@example.org", "failed"): 1}),
+        )
 
 
 def expiring(checks: Checks, serves, full: bool):
-    """Messages expire while the hand-in comes and goes, so that a notice of a failure may fail where that of the expiry goes well: nobody is
-    lost, and no log is left of a message that is gone."""
+    """Messages expire while the hand-in comes and goes, so that a notice of a failure may fail where that of the expiry
+    goes well: nobody is lost, and no log is left of a message that is gone."""
     if not serves:
         return
     dice, lifetime = random.Random(11), {"maximal_queue_lifetime": "6s", "bounce_queue_lifetime": "6s"}
@@ -337,8 +399,8 @@ def expiring(checks: Checks, serves, full: bool):
 
 
 def locked(checks: Checks, serves, full: bool):
-    """A log that another process has locked for some seconds, while its notice is asked, for which bounce(8) takes no lock, and while a
-    recipient is appended to it."""
+    """A log that another process has locked for some seconds, while its notice is asked, for which bounce(8) takes no
+    lock, and while a recipient is appended to it."""
     with Tried(serves) as it:
         it.say_nothing(AWAY)
         it.send("locked")
@@ -355,20 +417,32 @@ def locked(checks: Checks, serves, full: bool):
         before = log.read_bytes()
         with log.open("r+b") as held:
             fcntl.flock(held, fcntl.LOCK_EX)
-            answer, asking = [], threading.Thread(target=lambda: answer.append(asked_status(it, "bounce", append_request("ABC123", "two@example.org"))))
+            answer, asking = [], threading.Thread(
+                target=lambda: answer.append(asked_status(it, "bounce", append_request("ABC123", "two@example.org")))
+            )
             asking.start()
             time.sleep(2)
             checks.equal("an append to a locked log waits", (answer, log.read_bytes()), ([], before))
         asking.join()
         checks.equal("then it is done", answer, [b"0"])
-        checks.true("and the log has both", log.read_bytes().startswith(before) and b"two@example.org" in log.read_bytes())
+        checks.true(
+            "and the log has both", log.read_bytes().startswith(before) and b"two@example.org" in log.read_bytes()
+        )
 
 
 @contextlib.contextmanager
 def small_disk(folder: Path):
     """A file system of 64 KiB in memory over a folder of Postfix's; whether it could be mounted."""
     owner = pwd.getpwnam("postfix")
-    words = ["mount", "-t", "tmpfs", "-o", f"size=64k,mode=700,uid={owner.pw_uid},gid={owner.pw_gid}", "tmpfs", str(folder)]
+    words = [
+        "mount",
+        "-t",
+        "tmpfs",
+        "-o",
+        f"size=64k,mode=700,uid={owner.pw_uid},gid={owner.pw_gid}",
+        "tmpfs",
+        str(folder),
+    ]
     mounted = subprocess.run(words, check=False, capture_output=True).returncode == 0
     try:
         yield mounted
@@ -385,7 +459,8 @@ def fill(path: Path):
 
 
 def full_disk(checks: Checks, serves, full: bool):
-    """A full disk at an append: it is refused, the log is as it was before, and once there is room the recipient is logged, and told."""
+    """A full disk at an append: it is refused, the log is as it was before, and once there is room the recipient is
+    logged, and told."""
     with contextlib.ExitStack() as stack:
         it = stack.enter_context(Tried(serves))
         if not stack.enter_context(small_disk(it.postfix.queue / "bounce")):
@@ -393,7 +468,11 @@ def full_disk(checks: Checks, serves, full: bool):
             return
         queue_id, room = "ABC123", it.postfix.queue / "bounce"
         for at in range(9):
-            checks.equal("an append while there is room", asked_status(it, "bounce", append_request(queue_id, f"one{at}@example.org", "x" * 150)), b"0")
+            checks.equal(
+                "an append while there is room",
+                asked_status(it, "bounce", append_request(queue_id, f"one{at}@example.org", "x" * 150)),
+                b"0",
+            )
         fill(room / "filling")
         before, statuses = (room / queue_id).read_bytes(), []
         for at in range(40):
@@ -405,10 +484,15 @@ def full_disk(checks: Checks, serves, full: bool):
         checks.equal("and leaves the log as it was", (room / queue_id).read_bytes(), before)
         it.send("full")
         time.sleep(2)
-        checks.equal("a message meets a full disk: it stays", len(it.postfix.queued("deferred", "active", "incoming")), 1)
+        checks.equal(
+            "a message meets a full disk: it stays", len(it.postfix.queued("deferred", "active", "incoming")), 1
+        )
         checks.equal("and nobody is told of its failures", [name for name, what in it.told() if what == "failed"], [])
         (room / "filling").unlink()
-        checks.true("there is room again", comes_true(lambda: asked_status(it, "bounce", append_request(queue_id, "three@example.org")) == b"0"))
+        checks.true(
+            "there is room again",
+            comes_true(lambda: asked_status(it, "bounce", append_request(queue_id, "three@example.org")) == b"0"),
+        )
         checks.true("and the log goes on", (room / queue_id).read_bytes().startswith(before))
         (room / queue_id).unlink()
         it.judged(checks, "a full disk")
@@ -425,10 +509,19 @@ def hostile_requests() -> list:
     dice = random.Random(7)
     return [
         *[dice.randbytes(size) for size in (1, 10, 1000, 100_000)],
-        bytes(10), bytes(100_001), b"nrequest", b"nrequest\0", b"nrequest\0" + b"9" * 1000 + b"\0\0", b"a\0b\0" * 50_000, attributes([("nrequest", 77)]),
-        *[append_request(it, "a@example.org") for it in ids], *[flush_request(it) for it in ids], *[flush_request("ABC123", it) for it in ids],
-        flush_request("ABC123", flags=4294967295), append_request("ABC124", "a@example.org", "x" * 1_000_000),
-    ]  # fmt: skip
+        bytes(10),
+        bytes(100_001),
+        b"nrequest",
+        b"nrequest\0",
+        b"nrequest\0" + b"9" * 1000 + b"\0\0",
+        b"a\0b\0" * 50_000,
+        attributes([("nrequest", 77)]),
+        *[append_request(it, "a@example.org") for it in ids],
+        *[flush_request(it) for it in ids],
+        *[flush_request("ABC123", it) for it in ids],
+        flush_request("ABC123", flags=4294967295),
+        append_request("ABC124", "a@example.org", "x" * 1_000_000),
+    ]
 
 
 def send_badly(path: Path, request: bytes, dice: random.Random):
@@ -459,9 +552,14 @@ def hostile(checks: Checks, serves, full: bool):
             for _ in range(rounds):
                 for request in hostile_requests():
                     send_badly(it.postfix.service(dice.choice(["bounce", "defer", "trace"])), request, dice)
-            comes_true(lambda: threads_of(service) <= before[2] and len(os.listdir(f"/proc/{service}/fd")) <= before[1], 10)
+            comes_true(
+                lambda: threads_of(service) <= before[2] and len(os.listdir(f"/proc/{service}/fd")) <= before[1], 10
+            )
         after = (memory(service), len(os.listdir(f"/proc/{service}/fd")), threads_of(service))
-        print(f"  hostile clients: memory {before[0]} KiB before and {after[0]} after, {before[1]} and {after[1]} files, {before[2]} and {after[2]} threads")
+        print(
+            f"  hostile clients: memory {before[0]} KiB before and {after[0]} after, "
+            f"{before[1]} and {after[1]} files, {before[2]} and {after[2]} threads"
+        )
         if memory(service, "VmSize") > SANITIZED:
             print("  its memory says nothing: it was built with a sanitizer, which keeps what is freed")
         else:
@@ -469,7 +567,15 @@ def hostile(checks: Checks, serves, full: bool):
         checks.equal("hostile clients: files and threads stay", after[1:], before[1:])
         checks.equal("hostile clients: the service runs", it.postfix.front.running.poll(), None)
         comes_true(lambda: not it.postfix.queued(), 15)
-        checks.equal("hostile clients: what was written", [name for name in it.postfix.at_work(empty=True) if not re.fullmatch(r"(bounce|trace)/\w+|defer/\w/\w+", name)], [])
+        checks.equal(
+            "hostile clients: what was written",
+            [
+                name
+                for name in it.postfix.at_work(empty=True)
+                if not re.fullmatch(r"(bounce|trace)/\w+|defer/\w/\w+", name)
+            ],
+            [],
+        )
         elsewhere = ["-type", "f", "-user", "postfix", "-not", "-path", "*/queue/*", "-not", "-path", "*/data/*"]
         found = subprocess.run(["find", str(it.postfix.room), *elsewhere], capture_output=True, check=True).stdout
         checks.equal("hostile clients: files elsewhere", found, b"")
@@ -480,7 +586,7 @@ def hostile(checks: Checks, serves, full: bool):
 
 
 def silent(checks: Checks, serves, full: bool):
-    """Many clients that connect and say nothing for some seconds: a message that comes meanwhile is told of in the end."""
+    """Many clients connect and send nothing for some seconds: a message that comes meanwhile gets its notice."""
     if not serves:
         return
     with Tried(serves) as it, contextlib.ExitStack() as held:
@@ -499,7 +605,20 @@ def threads_of(process: int) -> int:
     return len(os.listdir(f"/proc/{process}/task"))
 
 
-CHECKS = (kills, hand_in_fails, loaded_anew, back_and_forth, damaged_logs, damaged_queue_files, both_logs, expiring, locked, full_disk, hostile, silent)
+CHECKS = (
+    kills,
+    hand_in_fails,
+    loaded_anew,
+    back_and_forth,
+    damaged_logs,
+    damaged_queue_files,
+    both_logs,
+    expiring,
+    locked,
+    full_disk,
+    hostile,
+    silent,
+)
 
 
 def main():

@@ -1,6 +1,6 @@
-"""Refuses `noticed postfix` one growth of its memory after another, from the moment at which it listens, within an append and within a
-flush: it goes on, what isn't carried out is answered -1 or not at all and leaves the log as it was, and asked again it is carried out.
-So no recipient is lost."""
+"""Refuses `noticed postfix` one growth of its memory after another, from the moment at which it listens, within an
+append and within a flush: it goes on, what isn't carried out is answered -1 or not at all and leaves the log as it was,
+and asked again it is carried out. So no recipient is lost."""
 import os
 import tempfile
 from pathlib import Path
@@ -17,7 +17,7 @@ ANSWERS = (0, FAILED, None)
 
 
 def asked_twice(it: Postfix) -> tuple:
-    """The answers to a request for a notice, which is asked until it is carried out, and what is left of the log each time."""
+    """The answers to a request for a notice, repeated until it is carried out, and what each leaves of the log."""
     request, log = asked_in("one", "failure"), it.at(f"bounce/{it.put('one', 'bounce')}")
     whole, found = log.read_bytes(), []
     while log.exists() and len(found) < 3:
@@ -37,16 +37,24 @@ def logged_twice(it: Postfix) -> tuple:
 def check_append(checks: Checks, it: Postfix, number: int) -> bool:
     """An append that is answered 0 stands, and one that isn't may stand whole: whether it was carried out at once."""
     log, found = logged_twice(it)
-    checks.true(f"growth {number}: answers to an append", all(status in ANSWERS for status, _ in found) and found[-1][0] == 0)
-    checks.true(f"growth {number}: records", all(1 <= count <= at for at, (status, count) in enumerate(found, 1) if status == 0))
-    checks.true(f"growth {number}: no part of a record", log.endswith(b"\n\n") and log.count(b"\nreason=") == found[-1][1])
+    checks.true(
+        f"growth {number}: answers to an append", all(status in ANSWERS for status, _ in found) and found[-1][0] == 0
+    )
+    checks.true(
+        f"growth {number}: records", all(1 <= count <= at for at, (status, count) in enumerate(found, 1) if status == 0)
+    )
+    checks.true(
+        f"growth {number}: no part of a record", log.endswith(b"\n\n") and log.count(b"\nreason=") == found[-1][1]
+    )
     return len(found) == 1
 
 
 def check_refused(checks: Checks, library: Path, number: int) -> bool:
     """Refuses the growth of this number: whether none was refused."""
     with Postfix(start=False) as it:
-        os.environ.update(LD_PRELOAD=str(library), REFUSE=str(number), REFUSE_AFTER=f"listening in {it.folder} for {HOST}\n")
+        os.environ.update(
+            LD_PRELOAD=str(library), REFUSE=str(number), REFUSE_AFTER=f"listening in {it.folder} for {HOST}\n"
+        )
         try:
             it.start()
         finally:
@@ -55,8 +63,14 @@ def check_refused(checks: Checks, library: Path, number: int) -> bool:
         logged = check_append(checks, it, number)
         whole, found = asked_twice(it)
         checks.true(f"growth {number}: answers", all(status in ANSWERS for status, _ in found))
-        checks.true(f"growth {number}: the log stays whole, or is gone", all(left in (whole, None) for _, left in found))
-        checks.equal(f"growth {number}: how often it is asked, and told", (len(found) in (1, 2), len(it.server.taken) in (1, 2), it.running.poll()), (True, True, None))
+        checks.true(
+            f"growth {number}: the log stays whole, or is gone", all(left in (whole, None) for _, left in found)
+        )
+        checks.equal(
+            f"growth {number}: how often it is asked, and told",
+            (len(found) in (1, 2), len(it.server.taken) in (1, 2), it.running.poll()),
+            (True, True, None),
+        )
         return logged and len(found) == 1 and found[0][0] == 0
 
 

@@ -1,7 +1,7 @@
-"""What Postfix keeps of 85 messages, and the notices that its bounce(8) made of that (tests/postfix/files/): the program probe plans
-the notices of the same requests from the same logs and queue files, and writes them. They go to the same addresses, tell of the same
-recipients with the same fields, and give back the same text or header; where Postfix made none, none is planned. What differs is
-named here."""
+"""What Postfix keeps of 85 messages, and the notices that its bounce(8) made of that (tests/postfix/files/): the
+program probe plans the notices of the same requests from the same logs and queue files, and writes them. They go to the
+same addresses, tell of the same recipients with the same fields, and give back the same text or header; where Postfix
+made none, none is planned. What differs is named here."""
 import email
 import email.policy
 import email.utils
@@ -23,17 +23,23 @@ UNSAID = {"utf8", "utf8-sender", "later-utf8", "asked-before"}
 # Why a notice that is planned is not written, so that Postfix's own service makes it.
 NO_ADDRESS = "the recipient is no address"
 NO_TEXT = {
-    "long-address": NO_ADDRESS, "newer-form-quoted": NO_ADDRESS, "quoted": NO_ADDRESS, "verp-quoted": "the address of the notice needs quotes",
+    "long-address": NO_ADDRESS,
+    "newer-form-quoted": NO_ADDRESS,
+    "quoted": NO_ADDRESS,
+    "verp-quoted": "the address of the notice needs quotes",
     "orcpt-utf8": "the original recipient is neither empty nor an address",
-}  # fmt: skip
+}
 # A field of more than one record of the queue file: bounce(8) ends the header after the first of these records.
 CUT_BY_POSTFIX = {"long-words", "long-field"}
 
 
 def planned(service: str, request: bytes, log: bytes, queue: bytes) -> tuple[dict, list[dict]]:
-    """What is said of the message, and each notice, by the names of their parts; where none can be said, `unsaid` stands with the first."""
+    """What is said of the message, and each notice, by the names of their parts; where none can be said, `unsaid`
+    stands with the first."""
     given = b"".join(struct.pack(">I", len(it)) + it for it in (request, log, queue))
-    found = subprocess.run([PROBE, "postfix", "plan", service], input=given, stdout=subprocess.PIPE, check=True, timeout=20).stdout
+    found = subprocess.run(
+        [PROBE, "postfix", "plan", service], input=given, stdout=subprocess.PIPE, check=True, timeout=20
+    ).stdout
     message, notices = {}, []
     while found:
         line, _, rest = found.partition(b"\n")
@@ -114,8 +120,8 @@ def typed(line: bytes) -> bytes:
 
 
 def as_written(record: bytes) -> dict:
-    """The fields of a record as a notice of ours has them: of a remark 800 bytes at most, each of which is printable, and a status
-    without zeros in front of its numbers."""
+    """The fields of a record as a notice of ours has them: of a remark 800 bytes at most, each of which is printable,
+    and a status without zeros in front of its numbers."""
     it = fields_of(record)
     for name in ("diag_text", "reason"):
         it[name] = bytes(byte if 32 <= byte < 127 else 63 for byte in it.get(name, b"")[:800])
@@ -137,11 +143,21 @@ def compare_text(checks: Checks, what: str, message: dict, notice: dict, made: M
         return
     fields, recipients, back = written(notice["text"])
     own = [it for it in made.message if it.startswith((b"X-Postfix", b"Arrival-Date", b"Original-Envelope-Id"))]
-    checks.equal(f"{what}: the fields of the message", sorted(it for it in fields if not it.startswith(b"Reporting-MTA")), sorted(map(typed, own)))
+    checks.equal(
+        f"{what}: the fields of the message",
+        sorted(it for it in fields if not it.startswith(b"Reporting-MTA")),
+        sorted(map(typed, own)),
+    )
     records = [b"\n" + it for it in re.findall(rb"(?:[^\n]+\n)+\n", notice["records"])]
-    told_there = [[typed(it) for it in told(as_written(record), notice["kind"], int(message["arrival"]))] for record in records]
+    told_there = [
+        [typed(it) for it in told(as_written(record), notice["kind"], int(message["arrival"]))] for record in records
+    ]
     told_here = [[typed(it) for it in group] for group in recipients]
-    checks.equal(f"{what}: the fields of the recipients", [sorted(map(words, it)) for it in told_here], [sorted(map(words, it)) for it in told_there])
+    checks.equal(
+        f"{what}: the fields of the recipients",
+        [sorted(map(words, it)) for it in told_here],
+        [sorted(map(words, it)) for it in told_there],
+    )
     checks.true(f"{what}: something is given back", bool(back) == bool(made.back))
 
 
@@ -150,12 +166,17 @@ def compare(checks: Checks, what: str, case: str, message: dict, notice: dict, m
     arrival = int(message["arrival"])
     checks.equal(f"{what}: its address", notice["to"], made.to)
     records = [b"\n" + it for it in re.findall(rb"(?:[^\n]+\n)+\n", notice["records"])]
-    checks.equal(f"{what}: its recipients", [told(fields_of(it), notice["kind"], arrival) for it in records], made.recipients)
+    checks.equal(
+        f"{what}: its recipients", [told(fields_of(it), notice["kind"], arrival) for it in records], made.recipients
+    )
     checks.equal(f"{what}: when the message came", date(arrival), made.said(b"Arrival-Date"))
     checks.equal(f"{what}: the envelope id", message["id"], made.said(b"Original-Envelope-Id"))
     back = notice.get("whole", notice.get("header"))
     if case in CUT_BY_POSTFIX and "header" in notice:
-        checks.true(f"{what}: the header begins as there, and has more", back.startswith(made.back.rstrip(b"\n")) and len(back) > len(made.back))
+        checks.true(
+            f"{what}: the header begins as there, and has more",
+            back.startswith(made.back.rstrip(b"\n")) and len(back) > len(made.back),
+        )
     else:
         checks.equal(f"{what}: what it gives back", back, made.back)
 
@@ -167,7 +188,11 @@ def of_one_alias(checks: Checks):
     request, queue = ((FILES / "one" / it).read_bytes() for it in ("failure.request", "queue"))
     _, notices = planned("bounce", request, log, queue)
     told_of = sum(it["records"].count(b"\nrecipient=") for it in notices)
-    checks.equal(f"{MANY} recipients of one alias: the notices, and of how many they tell", (len(notices), told_of), (MANY // 1000, MANY))
+    checks.equal(
+        f"{MANY} recipients of one alias: the notices, and of how many they tell",
+        (len(notices), told_of),
+        (MANY // 1000, MANY),
+    )
 
 
 def main():
@@ -179,7 +204,9 @@ def main():
         for request in sorted(case.glob("*.request")):
             asked, what = request.stem, f"{case.name}, {request.stem}"
             log = LOG_OF[asked]
-            message, notices = planned(log, request.read_bytes(), (case / log).read_bytes(), (case / "queue").read_bytes())
+            message, notices = planned(
+                log, request.read_bytes(), (case / log).read_bytes(), (case / "queue").read_bytes()
+            )
             if case.name in UNSAID:
                 checks.true(f"{what}: can't be said", "unsaid" in message and not notices)
                 continue

@@ -1,7 +1,7 @@
-"""Keeps docs/REFUSALS.md true: each number of docs/FORMATS.md has a row there, with the same words, and no other has; each
-test that a row names is there, in a file that has the number. A number has one home in the code, the module fault_code, and
-one in the contracts, FaultCode: both have exactly these numbers under the same names, each is named by a shipped crate, and
-no other file says a number where a refusal or a fault is meant."""
+"""Keeps docs/REFUSALS.md true: each number of docs/FORMATS.md has a row there, with the same words, and no other has;
+each test that a row names is there, in a file that has the number. A number has one home in the code, the module
+fault_code, and one in the contracts, FaultCode: both have exactly these numbers under the same names, each is named by
+a shipped crate, and no other file says a number where a refusal or a fault is meant."""
 import re
 from pathlib import Path
 
@@ -13,9 +13,18 @@ TEST = re.compile(r"`([\w./]+): (\w+)`")
 HOMES = {"src": ROOT / "crates/dsn_text/src/fault_code.rt", "specs": ROOT / "crates/dsn_text/specs/FaultCode.antt"}
 CONSTANT = re.compile(r"^pub const (\w+): u32 = (\d+);$", re.M)
 DEFINITION = re.compile(r"^(\w+)_code = (\d+)$", re.M)
-# Where a number would be that of a refusal or of a fault: given by a `code`, answered, told, or compared with a session's end.
-IN_CODE = re.compile(r"Refused\((\d+)|\bfault (\d+)|(?:Fault|Refusal|Cause|End)::\w+(?:\(_\))? => (?:Some\()?(\d+)|fn code\(&?self\)[^}]*^        (\d+)$", re.M)
-IN_CONTRACTS = re.compile(r"Refused (\d+)|\w*(?:_code|_end)\b[^=\n]*= (?:Some )?(\d+)|\bend ≢ Some (\d+)|IsOutside medium \(Some (\d+)|ended_with (\d+)|fault_line (\d+)|code == (\d+)")
+# Where a number would be that of a refusal or of a fault: given by a `code`, answered, told, or compared with a
+# session's end.
+IN_CODE = re.compile(
+    r"Refused\((\d+)|\bfault (\d+)"
+    r"|(?:Fault|Refusal|Cause|End)::\w+(?:\(_\))? => (?:Some\()?(\d+)"
+    r"|fn code\(&?self\)[^}]*^        (\d+)$",
+    re.M,
+)
+IN_CONTRACTS = re.compile(
+    r"Refused (\d+)|\w*(?:_code|_end)\b[^=\n]*= (?:Some )?(\d+)|\bend ≢ Some (\d+)"
+    r"|IsOutside medium \(Some (\d+)|ended_with (\d+)|fault_line (\d+)|code == (\d+)"
+)
 COMMENT = re.compile(r"^\s*(?://|--).*$", re.M)
 
 
@@ -25,9 +34,13 @@ def section(text: str, title: str) -> str:
 
 
 def shipped(part: str) -> list:
-    """The files of a part (src, specs) of the shipped crates, without its home of numbers: each with its text without comments."""
+    """The files of a part (src, specs) of the shipped crates, except its home of numbers; their texts lack comments."""
     paths = sorted(it for ending in ("rt", "antt") for it in ROOT.glob(f"crates/*/{part}/**/*.{ending}"))
-    return [(it, COMMENT.sub("", it.read_text())) for it in paths if it != HOMES[part] and not it.relative_to(ROOT).parts[1].endswith(("_tests", "probe"))]
+    return [
+        (it, COMMENT.sub("", it.read_text()))
+        for it in paths
+        if it != HOMES[part] and not it.relative_to(ROOT).parts[1].endswith(("_tests", "probe"))
+    ]
 
 
 def check_homes(checks: Checks, told: dict):
@@ -54,7 +67,10 @@ def meets(path: Path, name: str, number: str) -> bool:
 
 def main():
     checks = Checks("refusals: docs/REFUSALS.md has each refusal with the tests that meet it")
-    told = {int(number): words.strip() for number, words, _ in ROW.findall(section(FORMATS.read_text(), "## 16. All numbers"))}
+    told = {
+        int(number): words.strip()
+        for number, words, _ in ROW.findall(section(FORMATS.read_text(), "## 16. All numbers"))
+    }
     rows = {int(number): (words.strip(), tests) for number, words, tests in ROW.findall(REFUSALS.read_text())}
     checks.equal("the numbers of FORMATS.md and of REFUSALS.md", sorted(rows), sorted(told))
     check_homes(checks, told)
@@ -64,7 +80,9 @@ def main():
         checks.true(f"a test of {number}", named)
         for file, name in named:
             path = ROOT / (file if file.startswith("tests/") else f"crates/{file}")
-            checks.true(f"{number}: {file} has {name} and the number", path.is_file() and meets(path, name, str(number)))
+            checks.true(
+                f"{number}: {file} has {name} and the number", path.is_file() and meets(path, name, str(number))
+            )
     checks.done()
 
 

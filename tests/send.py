@@ -7,7 +7,16 @@ import tempfile
 import threading
 from pathlib import Path
 
-from tests.support.daemon_and_clients import FIRST_FRAME, FRAMES, NOTES, PATIENCE, answer, closed_pipe, heard, socket_fault
+from tests.support.daemon_and_clients import (
+    FIRST_FRAME,
+    FRAMES,
+    NOTES,
+    PATIENCE,
+    answer,
+    closed_pipe,
+    heard,
+    socket_fault,
+)
 from tests.support.preloading import built, each_refused
 from tests.support.running import Checks, Ran, run
 
@@ -87,11 +96,25 @@ def answers(checks: Checks):
     ):
         with Answering(texts, reads_on=True) as daemon:
             checks.equal(what, run(["send", daemon.path], FRAMES), wanted)
-    for reply, value, words in ((1, 7, b"logged 7"), (2, 0, b"closed"), (3, 0, b"table full"), (4, 0, b"log full"), (5, 0, b"nothing"),
-                                (6, 2, b"no return 2"), (7, 3, b"sealed 3"), (8, 0, b"discarded 0"), (9, 0, b"gone"), (10, 46, b"refused 46"),
-                                (11, 0, b"forgotten"), (12, 0, b"not closed"), (13, 2, b"differs 2")):
+    for reply, value, words in (
+        (1, 7, b"logged 7"),
+        (2, 0, b"closed"),
+        (3, 0, b"table full"),
+        (4, 0, b"log full"),
+        (5, 0, b"nothing"),
+        (6, 2, b"no return 2"),
+        (7, 3, b"sealed 3"),
+        (8, 0, b"discarded 0"),
+        (9, 0, b"gone"),
+        (10, 46, b"refused 46"),
+        (11, 0, b"forgotten"),
+        (12, 0, b"not closed"),
+        (13, 2, b"differs 2"),
+    ):
         with Answering([answer(reply, 0, value)], reads_on=True) as daemon:
-            checks.equal(f"reply {reply}", run(["send", daemon.path], FRAMES[:FIRST_FRAME]), Ran(b"0 " + words + b"\n", b"", 0))
+            checks.equal(
+                f"reply {reply}", run(["send", daemon.path], FRAMES[:FIRST_FRAME]), Ran(b"0 " + words + b"\n", b"", 0)
+            )
 
 
 def connections(checks: Checks):
@@ -110,7 +133,11 @@ def connections(checks: Checks):
         for what, (path, why) in unconnected.items():
             checks.equal(what, run(["send", room + path], FRAMES), Ran(b"", socket_fault(room + path, why), 1))
         unheard.close()
-    for what, path in (("an empty path", ""), ("a path of 108 bytes", "/" + "s" * 107), ("a path of 300 bytes", "s" * 300)):
+    for what, path in (
+        ("an empty path", ""),
+        ("a path of 108 bytes", "/" + "s" * 107),
+        ("a path of 300 bytes", "s" * 300),
+    ):
         checks.equal(what, run(["send", path], FRAMES), TOO_LONG)
     with Answering([]) as daemon:
         ended = run(["send", daemon.path], FRAMES)
@@ -133,11 +160,18 @@ def inputs(checks: Checks):
         ("a cut second frame", FRAMES[:60], [answer(1)], fault(13, first)),
         ("an empty frame", bytes(4), [], fault(12)),
         ("a frame that is too long", bytes.fromhex("00010001"), [], fault(11)),
-        ("the longest frame", bytes.fromhex("00010000") + bytes(65536), [answer(10, 0, 21)], Ran(b"0 refused 21\n", b"", 0)),
+        (
+            "the longest frame",
+            bytes.fromhex("00010000") + bytes(65536),
+            [answer(10, 0, 21)],
+            Ran(b"0 refused 21\n", b"", 0),
+        ),
     ):
         with Answering(texts, reads_on=True) as daemon:
             checks.equal(what, run(["send", daemon.path], given), wanted)
-        checks.equal(f"{what}: what was sent", daemon.read, given if wanted.status == 0 else FRAMES[: FIRST_FRAME * len(texts)])
+        checks.equal(
+            f"{what}: what was sent", daemon.read, given if wanted.status == 0 else FRAMES[: FIRST_FRAME * len(texts)]
+        )
     folder = os.open("/", os.O_RDONLY)
     with Answering([], reads_on=True) as daemon:
         checks.equal("input that can't be read", run(["send", daemon.path], stdin=folder), fault(14))
@@ -157,8 +191,8 @@ def outputs(checks: Checks):
 
 
 def growths(checks: Checks):
-    """Each growth of memory refused in turn: what was told, what was sent, and the fault. The second frame is longer than
-    the first and so wants memory; the second answer is as long as the first and wants none."""
+    """Each growth of memory refused in turn: what was told, what was sent, and the fault. The second frame is longer
+    than the first and so wants memory; the second answer is as long as the first and wants none."""
     first, whole = FRAMES[:FIRST_FRAME], (Ran(NOTES, b"", 0), FRAMES)
 
     def ended(environment: dict):
@@ -175,7 +209,9 @@ def growths(checks: Checks):
 
 
 def main():
-    checks = Checks("send: the client against daemons that answer wrongly, cut off or not at all; broken inputs and outputs")
+    checks = Checks(
+        "send: the client against daemons that answer wrongly, cut off or not at all; broken inputs and outputs"
+    )
     for check in (answers, connections, inputs, outputs, growths):
         check(checks)
     checks.done()

@@ -1,6 +1,7 @@
 """Stops daemons by `noticed stop`: agents finish what they have in hand and take no further connection, the outbox is
-finished, the notes name what is open, the socket's file is gone, and nothing that was answered is lost. A daemon that has
-the path by then goes on. A daemon whose file is removed ends too; one that is halted for a while (SIGSTOP) loses nobody."""
+finished, the notes name what is open, the socket's file is gone, and nothing that was answered is lost. A daemon that
+has the path by then goes on. A daemon whose file is removed ends too; one that is halted for a while (SIGSTOP) loses
+nobody."""
 import contextlib
 import fcntl
 import os
@@ -16,7 +17,20 @@ import threading
 import time
 from pathlib import Path
 
-from tests.support.daemon_and_clients import OUTBOX, PATIENCE, Daemon, answer, append, asked, flush, heard, is_ended, line, socket_fault, until
+from tests.support.daemon_and_clients import (
+    OUTBOX,
+    PATIENCE,
+    Daemon,
+    answer,
+    append,
+    asked,
+    flush,
+    heard,
+    is_ended,
+    line,
+    socket_fault,
+    until,
+)
 from tests.support.running import Checks, Ran, empty_outbox, program, run
 
 NOBODY = 65534
@@ -70,8 +84,8 @@ def open_logs(checks: Checks):
 
 
 def held_connections(checks: Checks):
-    """A client that is between two frames is let go; one in the middle of a frame is answered first. Pieces of the frame
-    that came before the stop aren't counted."""
+    """A client that is between two frames is let go; one in the middle of a frame is answered first. Pieces of the
+    frame that came before the stop aren't counted."""
     with Daemon(3, 1000) as daemon:
         waiting, writing, last = daemon.connect(), daemon.connect(), daemon.connect()
         checks.equal("a client that waits", asked(waiting, append(0)), answer(1))
@@ -90,7 +104,9 @@ def held_connections(checks: Checks):
             checks.equal("the stop", ran(stop_), STOPPED)
         ended = daemon.end()
         checks.equal("open logs", re.findall(rb"^open B (\w+) 1$", ended.notes, re.M), [b"Q1", b"Q3", b"Q" * 32])
-        checks.equal("no fault", (b"faults 0" in ended.notes, b"faults 1" in ended.notes, ended.status), (True, False, 0))
+        checks.equal(
+            "no fault", (b"faults 0" in ended.notes, b"faults 1" in ended.notes, ended.status), (True, False, 0)
+        )
 
 
 def silent_in_a_frame(checks: Checks):
@@ -105,8 +121,8 @@ def silent_in_a_frame(checks: Checks):
 
 
 def silent_between_frames(checks: Checks):
-    """A client that has said nothing for longer than a stop's ten seconds, between two frames, is let go as any other: no
-    fault, with a longer idle limit and without one."""
+    """A client that has said nothing for longer than a stop's ten seconds, between two frames, is let go as any other:
+    no fault, with a longer idle limit and without one."""
     for options in ((), ("--idle", "300")):
         with Daemon(1, 1000, options=options) as daemon:
             with daemon.connect() as client:
@@ -115,7 +131,11 @@ def silent_between_frames(checks: Checks):
                 checks.equal(f"silent between frames {options}: the stop", stop(daemon), STOPPED)
                 checks.true(f"silent between frames {options}: it is let go", is_ended(client))
             ended = daemon.end()
-            checks.equal(f"silent between frames {options}: no fault", (re.findall(rb" faults (\d+)$", ended.notes, re.M), ended.status), ([b"0"], 0))
+            checks.equal(
+                f"silent between frames {options}: no fault",
+                (re.findall(rb" faults (\d+)$", ended.notes, re.M), ended.status),
+                ([b"0"], 0),
+            )
 
 
 def slow_in_a_frame(checks: Checks):
@@ -226,7 +246,9 @@ def not_allowed(checks: Checks):
         for path in (daemon.room.name, daemon.path, copied):
             os.chmod(path, 0o777 if path == daemon.path else 0o755)
         words = [copied, "stop", daemon.path]
-        refused = subprocess.run(words, capture_output=True, timeout=PATIENCE, check=False, user=NOBODY, group=NOBODY, extra_groups=[])
+        refused = subprocess.run(
+            words, capture_output=True, timeout=PATIENCE, check=False, user=NOBODY, group=NOBODY, extra_groups=[]
+        )
         wanted = (1, socket_fault(daemon.path, "Permission denied (os error 13)"))
         checks.equal("another account", (refused.returncode, refused.stderr), wanted)
         checks.equal("the daemon goes on", asked(daemon.connect(), append(0)), answer(1))
@@ -245,15 +267,22 @@ def no_daemon(checks: Checks):
 
 def two_stops(checks: Checks):
     """Two stops at once: one of them at least goes well, and the other goes well too or finds no daemon any more. The
-    daemon ends in order. (Before a file that is gone was fine, the later one could end with 61 though it had connected.)"""
+    daemon ends in order. (Before a file that is gone was fine, the later one could end with 61 though it had
+    connected.)
+    """
     for agents in (1, 2, 16, 1, 2, 16):
         with Daemon(agents, 1000) as daemon:
             daemon.listens()
             with stopping(daemon.path) as one, stopping(daemon.path) as other:
                 both = [ran(one), ran(other)]
             ended = daemon.end()
-            late = [Ran(b"", socket_fault(daemon.path, why), 1) for why in ("No such file or directory (os error 2)", "Connection refused (os error 111)")]
-            checks.true(f"two stops of {agents} agents: {both}", STOPPED in both and all(it in (STOPPED, *late) for it in both))
+            late = [
+                Ran(b"", socket_fault(daemon.path, why), 1)
+                for why in ("No such file or directory (os error 2)", "Connection refused (os error 111)")
+            ]
+            checks.true(
+                f"two stops of {agents} agents: {both}", STOPPED in both and all(it in (STOPPED, *late) for it in both)
+            )
             checks.equal(f"two stops of {agents} agents: the outbox", (ended.outbox, ended.status), (empty_outbox(), 0))
             checks.true(f"two stops of {agents} agents: no fault", b"fault 61" not in ended.notes)
 
@@ -263,15 +292,18 @@ def sleeps(process: subprocess.Popen, sockets: int) -> bool:
     try:
         room = Path(f"/proc/{process.pid}")
         links = [os.readlink(it) for it in (room / "fd").iterdir()]
-        return sum(it.startswith("socket:") for it in links) == sockets and (room / "stat").read_text().rpartition(")")[2].split()[0] == "S"
+        return (
+            sum(it.startswith("socket:") for it in links) == sockets
+            and (room / "stat").read_text().rpartition(")")[2].split()[0] == "S"
+        )
     except FileNotFoundError:
         return False
 
 
 @contextlib.contextmanager
 def held_stop(checks: Checks, path: str):
-    """A `noticed stop` that waits in its third connect: a listener of this script's own accepted the first, and has room for
-    one more. Once the listener is closed the stop goes on, and the system looks the path up anew."""
+    """A `noticed stop` that waits in its third connect: a listener of this script's own accepted the first, and has
+    room for one more. Once the listener is closed the stop goes on, and the system looks the path up anew."""
     with socket.socket(socket.AF_UNIX) as listener:
         listener.settimeout(PATIENCE)
         listener.bind(path)
@@ -285,8 +317,8 @@ def held_stop(checks: Checks, path: str):
 
 
 def another_daemon(checks: Checks):
-    """Where another daemon has the path by the time that a stop gets to its removal, the stop ends well, and that daemon
-    goes on. (Before a stop looked whose file it was, it removed that daemon's.)"""
+    """Where another daemon has the path by the time that a stop gets to its removal, the stop ends well, and that
+    daemon goes on. (Before a stop looked whose file it was, it removed that daemon's.)"""
     with tempfile.TemporaryDirectory() as room:
         path = f"{room}/socket"
         with held_stop(checks, path) as (stop_, listener):
@@ -364,8 +396,8 @@ def halt(daemon: Daemon):
 
 
 def interrupted(checks: Checks):
-    """Nobody is cut off and no agent is lost where a daemon is halted: two clients wait, between frames and in the middle
-    of one, and two agents are idle. (Before, an interrupted read was a fault of its connection.)"""
+    """Nobody is cut off and no agent is lost where a daemon is halted: two clients wait, between frames and in the
+    middle of one, and two agents are idle. (Before, an interrupted read was a fault of its connection.)"""
     with Daemon(4, 1000) as daemon:
         waiting, writing = daemon.connect(), daemon.connect()
         checks.equal("interrupted: a client", asked(waiting, append(0)), answer(1))
@@ -379,10 +411,16 @@ def interrupted(checks: Checks):
             it.close()
         with contextlib.ExitStack() as clients:
             later = [clients.enter_context(daemon.connect()) for _ in range(4)]
-            checks.equal("each agent serves a later client", [asked(it, append(0)) for it in later], [answer(1, 0, it) for it in (3, 4, 5, 6)])
+            checks.equal(
+                "each agent serves a later client",
+                [asked(it, append(0)) for it in later],
+                [answer(1, 0, it) for it in (3, 4, 5, 6)],
+            )
         checks.equal("interrupted: the stop", stop(daemon), STOPPED)
         ended = daemon.end()
-        checks.equal("interrupted: faults", (re.findall(rb" faults (\d+)$", ended.notes, re.M), ended.status), ([b"0"] * 4, 0))
+        checks.equal(
+            "interrupted: faults", (re.findall(rb" faults (\d+)$", ended.notes, re.M), ended.status), ([b"0"] * 4, 0)
+        )
         checks.equal("interrupted: the outbox", ended.outbox, empty_outbox())
 
 
@@ -414,7 +452,19 @@ def interrupted_answers(checks: Checks):
 def main():
     checks = Checks("stop: daemons that are idle, at work or held by clients end in order, and lose nothing")
     for check in (
-        *(no_clients, open_logs, held_connections, silent_in_a_frame, silent_between_frames, slow_in_a_frame, busy_client, steady_client, at_load, not_allowed, no_daemon),
+        *(
+            no_clients,
+            open_logs,
+            held_connections,
+            silent_in_a_frame,
+            silent_between_frames,
+            slow_in_a_frame,
+            busy_client,
+            steady_client,
+            at_load,
+            not_allowed,
+            no_daemon,
+        ),
         *(two_stops, another_daemon, ends_by_itself, removed_file, removed_from_idle, interrupted, interrupted_answers),
     ):
         check(checks)

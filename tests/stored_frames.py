@@ -1,4 +1,4 @@
-"""Checks that the stored request frames are what their descriptions say, and that the program's stored run is the first example."""
+"""Checks that the stored request frames match their descriptions, and that the stored run is the first example."""
 
 from tests.support.running import EXAMPLES, ROOT, Checks, example_module
 
@@ -18,7 +18,9 @@ def main():
     crate = ROOT / "crates/noticed"
     checks.equal("one-bounce.frames is 108 bytes", len((EXAMPLES / "one-bounce.frames").read_bytes()), 108)
     checks.equal("crates/noticed/stdin", (crate / "stdin").read_bytes(), (EXAMPLES / "one-bounce.frames").read_bytes())
-    checks.equal("crates/noticed/stdout", (crate / "stdout").read_bytes(), (EXAMPLES / "one-bounce.outbox").read_bytes())
+    checks.equal(
+        "crates/noticed/stdout", (crate / "stdout").read_bytes(), (EXAMPLES / "one-bounce.outbox").read_bytes()
+    )
     checks.equal("crates/noticed/args", (crate / "args").read_bytes(), b"batch\nmx.example.net\n")
     checks.done()
 

@@ -108,7 +108,9 @@ def check_broken_notes(checks: Checks, given: bytes):
 
 
 def main():
-    checks = Checks("streams: input in pieces, cut at each byte, out of bounds, broken; outputs that are closed or full")
+    checks = Checks(
+        "streams: input in pieces, cut at each byte, out of bounds, broken; outputs that are closed or full"
+    )
     given, whole = ((EXAMPLES / f"one-bounce.{it}").read_bytes() for it in ("frames", "outbox"))
     check_pieces(checks)
     check_cuts(checks, given, whole)

@@ -1,7 +1,7 @@
 """Refuses the first, the second, .. start of a thread, and the first, the second, .. growth of memory, of a crew over
 connections in memory (the program probe), by small libraries that are preloaded (tests/support/refuse_thread.c and
-refuse.c, compiled here with gcc). Each run ends, and as it should: without its poster nothing is begun, without an agent
-the others are served to their ends."""
+refuse.c, compiled here with gcc). Each run ends, and as it should: without its poster nothing is begun, without an
+agent the others are served to their ends."""
 import os
 import subprocess
 import sys
@@ -23,7 +23,9 @@ UNBEGUN = Ran(b"", b"", 1)  # the program's own memory was refused
 
 def crew(agents: int, environment: Optional[dict] = None) -> Ran:
     """A crew of so many agents: each appends once to a log of its own, and agent 0 then flushes it."""
-    ended = subprocess.run([PROBE, "crew", str(agents), "1"], capture_output=True, env=environment, timeout=PATIENCE, check=False)
+    ended = subprocess.run(
+        [PROBE, "crew", str(agents), "1"], capture_output=True, env=environment, timeout=PATIENCE, check=False
+    )
     return Ran(ended.stdout, ended.stderr, ended.returncode)
 
 
@@ -48,7 +50,9 @@ def threads(checks: Checks, library: Path, agents: int):
     wanted = [refused(0, b""), refused(agents - 1, empty_outbox())]
     wanted += [refused(agents, OUTBOX)] * (agents - 1) + [whole(agents)]
     for number, end in enumerate(wanted, 1):
-        checks.equal(f"{agents} agents, thread {number} refused", crew(agents, preloading(library, REFUSE_THREAD=number)), end)
+        checks.equal(
+            f"{agents} agents, thread {number} refused", crew(agents, preloading(library, REFUSE_THREAD=number)), end
+        )
 
 
 def growths_of_one(checks: Checks, ends: list):
@@ -72,7 +76,9 @@ def growths_of_many(checks: Checks, agents: int, ends: list):
     checks.true(f"{agents} agents: growths before the first thread", ends[:begun].count(refused(0, b"")) > 4)
     for number, end in enumerate(ends[begun:], begun + 1):
         is_known = end.outbox.startswith((b"ok\n", b"fault 42\n")) and end.outbox.endswith((OUTBOX, empty_outbox()))
-        checks.true(f"{agents} agents, growth {number} refused: {end}", is_known and (end.notes, end.status) == (b"", 0))
+        checks.true(
+            f"{agents} agents, growth {number} refused: {end}", is_known and (end.notes, end.status) == (b"", 0)
+        )
 
 
 def main():
@@ -85,7 +91,9 @@ def main():
         for agents in (1, 2, 4):
             checks.equal(f"{agents} agents", crew(agents), whole(agents))
             threads(checks, start, agents)
-            ends = each_refused(growth, MOST, lambda environment, agents=agents: crew(agents, environment), whole(agents))
+            ends = each_refused(
+                growth, MOST, lambda environment, agents=agents: crew(agents, environment), whole(agents)
+            )
             checks.equal(f"{agents} agents: the last growth is passed", ends[-1], whole(agents))
             growths_of_one(checks, ends) if agents == 1 else growths_of_many(checks, agents, ends)
             print(f"  {agents} agents: {agents + 1} threads and {len(ends) - 1} growths, each refused once")

@@ -1,11 +1,12 @@
 """Checks examples/noticed.service without systemd: its keys, by a parser; its steps in systemd's own order (the outputs
 are opened, then the folders are made, then the commands run), in a folder of this script's own with nothing there; the
-modes and owners that come of it; the runs that follow one another, and their ends, by signals too; and the whole of it by
-`systemd-analyze verify` where that is installed. As root the daemon runs as an account of its own, and others try to get
-at its socket and its outbox. And examples/noticed-feed.service: that it follows the outbox of the first, as an account
-that may read it, is waited for as long as a reply may take, and keeps nothing from the mail program that it runs.
-tests/boot.py tries both under systemd. And examples/noticed-postfix.service: its keys, and that its command begins to
-listen in a queue folder, where it is put in place of Postfix's. tests/boot_postfix.py tries it under systemd."""
+modes and owners that come of it; the runs that follow one another, and their ends, by signals too; and the whole of it
+by `systemd-analyze verify` where that is installed. As root the daemon runs as an account of its own, and others try to
+get at its socket and its outbox. And examples/noticed-feed.service: that it follows the outbox of the first, as an
+account that may read it, is waited for as long as a reply may take, and keeps nothing from the mail program that it
+runs. tests/boot.py tries both under systemd. And examples/noticed-postfix.service: its keys, and that its command
+begins to listen in a queue folder, where it is put in place of Postfix's. tests/boot_postfix.py tries it under
+systemd."""
 import os
 import random
 import re
@@ -27,7 +28,17 @@ FEEDER = EXAMPLES / "noticed-feed.service"
 POSTFIX = EXAMPLES / "noticed-postfix.service"
 DAEMON, AGENT, STRANGER = 64801, 64802, 64803  # accounts that no machine has; the daemon's group has its number
 # Keys of a unit that hide files from what it runs, or take rights away; and those that the feeder's has as comments.
-KEEPS = ("Protect", "Private", "Restrict", "SystemCall", "Capability", "NoNewPrivileges", "ReadOnly", "ReadWrite", "Inaccessible")
+KEEPS = (
+    "Protect",
+    "Private",
+    "Restrict",
+    "SystemCall",
+    "Capability",
+    "NoNewPrivileges",
+    "ReadOnly",
+    "ReadWrite",
+    "Inaccessible",
+)
 OPTION = re.compile(r"^#(?=[A-Z][A-Za-z]+=)", re.MULTILINE)
 WANTED = {
     "User": ["noticed"],
@@ -89,8 +100,8 @@ def seconds_of(time_span: str) -> int:
 
 @dataclass
 class Machine:
-    """A folder that stands for a machine where the unit was never started: `make install` was done, and there is nothing
-    in /run and /var/lib. With `account` the daemon's commands run as an account of its own."""
+    """A folder that stands for a machine where the unit was never started: `make install` was done, and there is
+    nothing in /run and /var/lib. With `account` the daemon's commands run as an account of its own."""
 
     room: Path
     service: dict
@@ -100,7 +111,15 @@ class Machine:
         self.room.chmod(0o777)
         for folder in ("run", "var/lib"):
             (self.room / folder).mkdir(parents=True)
-        words = ["make", "--silent", f"--old-file={program()}", "install", f"NOTICED={program()}", f"DESTDIR={self.room}", "PREFIX=/usr/local"]
+        words = [
+            "make",
+            "--silent",
+            f"--old-file={program()}",
+            "install",
+            f"NOTICED={program()}",
+            f"DESTDIR={self.room}",
+            "PREFIX=/usr/local",
+        ]
         subprocess.run(words, cwd=ROOT, stdout=subprocess.DEVNULL, check=True, timeout=PATIENCE)
 
     def path(self, name: str) -> Path:
@@ -135,7 +154,14 @@ class Machine:
             self.folders()
             how = {"user": DAEMON, "group": DAEMON, "extra_groups": []} if self.account else {}
             how |= {"umask": int(self.one("UMask", "0022"), 8), "start_new_session": True}
-            return subprocess.Popen(self.here(command), stdin=subprocess.DEVNULL, stdout=out, stderr=notes, cwd=self.path(self.one("WorkingDirectory")), **how)
+            return subprocess.Popen(
+                self.here(command),
+                stdin=subprocess.DEVNULL,
+                stdout=out,
+                stderr=notes,
+                cwd=self.path(self.one("WorkingDirectory")),
+                **how,
+            )
 
     def start(self, command: str) -> subprocess.Popen:
         """Runs what comes before the daemon, and begins this command."""
@@ -169,7 +195,16 @@ class Machine:
     def shell(self, command: str, account: int) -> int:
         """The status of a shell's command as an account of the daemon's group."""
         words = ["sh", "-c", command]
-        return subprocess.run(words, cwd=self.room, capture_output=True, check=False, timeout=PATIENCE, user=account, group=account, extra_groups=[DAEMON]).returncode
+        return subprocess.run(
+            words,
+            cwd=self.room,
+            capture_output=True,
+            check=False,
+            timeout=PATIENCE,
+            user=account,
+            group=account,
+            extra_groups=[DAEMON],
+        ).returncode
 
 
 def listens(machine: Machine) -> bool:
@@ -209,8 +244,14 @@ def check_keys(checks: Checks, sections: dict):
     for key, value in WANTED.items():
         checks.equal(key, service.get(key), value)
     checks.equal("the count of starts has no limit", sections["Unit"].get("StartLimitIntervalSec"), ["0"])
-    checks.true("a daemon that fails is started anew after seconds", seconds_of(service["RestartSec"][0].replace("200ms", "0")) >= 2)
-    checks.true("a folder is made before it is written to", not any("/noticed/" in it for it in service.get("StandardOutput", [])))
+    checks.true(
+        "a daemon that fails is started anew after seconds",
+        seconds_of(service["RestartSec"][0].replace("200ms", "0")) >= 2,
+    )
+    checks.true(
+        "a folder is made before it is written to",
+        not any("/noticed/" in it for it in service.get("StandardOutput", [])),
+    )
     command = " ".join(service["ExecStart"])
     for option in ("--idle 300", "--end-on-fault", "--log"):
         checks.true(f"the daemon has {option}", f" {option}" in command)
@@ -228,7 +269,9 @@ def begun(checks: Checks, machine: Machine, command: str):
     except FileNotFoundError as why:
         checks.true(f"a first start on a machine with nothing there ({why})", False)
         return None
-    checks.true("a first start on a machine with nothing there", until(lambda: listens(machine)) and daemon.poll() is None)
+    checks.true(
+        "a first start on a machine with nothing there", until(lambda: listens(machine)) and daemon.poll() is None
+    )
     return daemon
 
 
@@ -331,9 +374,13 @@ def check_failures(checks: Checks, machine: Machine, command: str):
 
 
 def stand_in_daemon(machine: Machine, before: str = "", after: str = ""):
-    """Puts a shell's script in the place of the program that ends once its socket is removed, with what else it does."""
-    finds_it = 'for it; do case $it in */socket) socket=$it ;; esac; done'
-    stand_in(machine, f'test "$1" = serve || exit 9\n{finds_it}\n{before}\n: > "$socket"\nwhile test -e "$socket"; do sleep 0.05; done\n{after}')
+    """Puts a shell script in the place of the program; it ends once its socket is removed, and does more."""
+    finds_it = "for it; do case $it in */socket) socket=$it ;; esac; done"
+    stand_in(
+        machine,
+        f'test "$1" = serve || exit 9\n{finds_it}\n{before}\n: > "$socket"\n'
+        f'while test -e "$socket"; do sleep 0.05; done\n{after}',
+    )
 
 
 def handles(process: subprocess.Popen) -> bool:
@@ -349,7 +396,7 @@ def is_free(machine: Machine) -> bool:
 
 
 def check_second(checks: Checks, machine: Machine, command: str):
-    """No daemon begins beside another in one folder, and one that takes its time to end is waited for, and not killed."""
+    """No daemon begins beside another in one folder, and one that is slow to end is waited for, not killed."""
     stand_in_daemon(machine, after="sleep 6\necho ended")
     try:
         daemon = machine.start(command)
@@ -367,8 +414,8 @@ def check_second(checks: Checks, machine: Machine, command: str):
 
 
 def check_statuses(checks: Checks, machine: Machine, command: str):
-    """The status of a script that was stopped is that of its run, which may have failed before the signal or after it; and
-    a daemon that has its socket late is ended all the same."""
+    """The status of a script that was stopped is that of its run, which may have failed before the signal or after it;
+    and a daemon that has its socket late is ended all the same."""
     for status in (0, 1, 3, 128 + signal.SIGKILL):
         stand_in_daemon(machine, after=f"exit {status}" if status < 128 else "kill -KILL $$")
         daemon = machine.start(command)
@@ -407,16 +454,20 @@ def check_moments(checks: Checks, machine: Machine, command: str):
 
 
 def check_all_signalled(checks: Checks, machine: Machine, command: str):
-    """A signal to the daemon alone does nothing, and one to all processes ends the run in order, as that to the script."""
+    """A signal to the daemon alone does nothing; one to all processes ends the run in order."""
     for it in (signal.SIGTERM, signal.SIGINT, signal.SIGHUP):
         script = begun(checks, machine, command)
         if not script:
             return
         try:
-            checks.equal(f"{it.name}: an outcome that nobody flushes", machine.send(FRAMES[:FIRST_FRAME]).outbox, b"0 logged 0\n")
+            checks.equal(
+                f"{it.name}: an outcome that nobody flushes", machine.send(FRAMES[:FIRST_FRAME]).outbox, b"0 logged 0\n"
+            )
             for child in Path(f"/proc/{script.pid}/task/{script.pid}/children").read_text(encoding="ascii").split():
                 os.kill(int(child), it)
-            checks.equal(f"{it.name} to the daemon does nothing", machine.send(FRAMES[:FIRST_FRAME]).outbox, b"0 logged 1\n")
+            checks.equal(
+                f"{it.name} to the daemon does nothing", machine.send(FRAMES[:FIRST_FRAME]).outbox, b"0 logged 1\n"
+            )
             os.killpg(script.pid, it)
             checks.equal(f"{it.name} to all processes: the status", script.wait(timeout=PATIENCE), 0)
             checks.equal(f"{it.name} to all processes: the outbox", machine.outbox.read_bytes(), empty_outbox())
@@ -429,7 +480,11 @@ def check_all_signalled(checks: Checks, machine: Machine, command: str):
 def check_installed(checks: Checks, machine: Machine, *commands: str):
     """Each file that the units name is one that `make install` puts there."""
     named = [it for command in commands for it in words_of(command) if it.startswith("/usr/local/")]
-    checks.equal("files that the units name and that aren't installed", [it for it in named if not machine.path(it).is_file()], [])
+    checks.equal(
+        "files that the units name and that aren't installed",
+        [it for it in named if not machine.path(it).is_file()],
+        [],
+    )
 
 
 def check_feeder(checks: Checks, sections: dict):
@@ -440,20 +495,32 @@ def check_feeder(checks: Checks, sections: dict):
         checks.equal(f"the feeder: {key}", given["Service"].get(key), service[key])
     words = words_of(given["Service"]["ExecStart"][0])
     checks.true("the feeder: the script", (EXAMPLES / Path(words[1]).name).is_file())
-    checks.equal("the feeder: what it follows", words[words.index("--follow") + 1], f"{service['WorkingDirectory'][0]}/outbox")
+    checks.equal(
+        "the feeder: what it follows", words[words.index("--follow") + 1], f"{service['WorkingDirectory'][0]}/outbox"
+    )
     patience = int(re.search(r"^PATIENCE = (\d+)", (EXAMPLES / "feed.py").read_text(), re.M)[1])
-    checks.true("the feeder: its supervisor waits longer than a reply may take", seconds_of(given["Service"]["TimeoutStopSec"][0]) > patience)
+    checks.true(
+        "the feeder: its supervisor waits longer than a reply may take",
+        seconds_of(given["Service"]["TimeoutStopSec"][0]) > patience,
+    )
     checks.equal("the feeder: what is signalled", given["Service"]["KillMode"], ["process"])
-    checks.equal("the feeder: what keeps something from its mail program", [it for it in given["Service"] if it.startswith(KEEPS)], [])
+    checks.equal(
+        "the feeder: what keeps something from its mail program",
+        [it for it in given["Service"] if it.startswith(KEEPS)],
+        [],
+    )
 
 
 def check_postfix(checks: Checks):
-    """The unit for Postfix has its account, its folder and loopback, and its command listens; without the folder it is tried again."""
+    """The unit for Postfix has its account, its folder and loopback, and its command listens; without the folder it is
+    tried again."""
     given = sections_of(POSTFIX.read_text())
     checks.equal("for Postfix: sections", list(given), ["Unit", "Service", "Install"])
     for key, value in WANTED_OF_POSTFIX.items():
         checks.equal(f"for Postfix: {key}", given["Service"].get(key), value)
-    checks.equal("for Postfix: it is there before Postfix", given["Unit"].get("Before"), ["postfix.service postfix@-.service"])
+    checks.equal(
+        "for Postfix: it is there before Postfix", given["Unit"].get("Before"), ["postfix.service postfix@-.service"]
+    )
     checks.equal("for Postfix: the count of starts has no limit", given["Unit"].get("StartLimitIntervalSec"), ["0"])
     (command,) = given["Service"]["ExecStart"]
     words = words_of(command)
@@ -462,10 +529,14 @@ def check_postfix(checks: Checks):
     with tempfile.TemporaryDirectory(prefix="noticed-") as name:
         words = [program(), *(name if it == folder else it for it in words[1:])]
         ended = subprocess.run(words, stdin=subprocess.DEVNULL, capture_output=True, check=False, timeout=PATIENCE)
-        checks.equal("for Postfix: without private/", (ended.returncode, ended.stderr.splitlines()[0]), (1, b"fault 61"))
+        checks.equal(
+            "for Postfix: without private/", (ended.returncode, ended.stderr.splitlines()[0]), (1, b"fault 61")
+        )
         (Path(name) / "private").mkdir()
         with subprocess.Popen(words, stdin=subprocess.DEVNULL, stderr=subprocess.PIPE) as serving:
-            checks.equal("for Postfix: its first line", serving.stderr.readline(), f"listening in {name} for {HOST}\n".encode())
+            checks.equal(
+                "for Postfix: its first line", serving.stderr.readline(), f"listening in {name} for {HOST}\n".encode()
+            )
             serving.terminate()
         checks.equal("for Postfix: SIGTERM ends it", serving.returncode, -signal.SIGTERM)
 
@@ -479,8 +550,12 @@ def check_verify(checks: Checks, name: str, text: str):
         unit = Path(room) / name
         unit.write_text("\n".join(it for it in text.splitlines() if not it.startswith("Documentation=")) + "\n")
         words = ["systemd-analyze", "verify", "--man=no", str(unit)]
-        verified = subprocess.run(words, capture_output=True, text=True, check=False, timeout=60, env={**os.environ, "LC_ALL": "C"})
-        checks.equal(f"systemd-analyze verify {name}", (verified.returncode, verified.stdout + verified.stderr), (0, ""))
+        verified = subprocess.run(
+            words, capture_output=True, text=True, check=False, timeout=60, env={**os.environ, "LC_ALL": "C"}
+        )
+        checks.equal(
+            f"systemd-analyze verify {name}", (verified.returncode, verified.stdout + verified.stderr), (0, "")
+        )
 
 
 def main():
@@ -492,17 +567,35 @@ def main():
     account = has_accounts()
     check_keys(checks, sections)
     (command,) = sections["Service"]["ExecStart"]
-    for check in (check_access, check_runs, check_failures, check_second, check_statuses, check_moments, check_all_signalled):
+    for check in (
+        check_access,
+        check_runs,
+        check_failures,
+        check_second,
+        check_statuses,
+        check_moments,
+        check_all_signalled,
+    ):
         with tempfile.TemporaryDirectory(prefix="noticed-") as name:
             check(checks, Machine(Path(name), sections["Service"], account), command)
     with tempfile.TemporaryDirectory(prefix="noticed-") as name:
-        check_installed(checks, Machine(Path(name), sections["Service"], account), command, *(it for unit in (FEEDER, POSTFIX) for it in sections_of(unit.read_text())["Service"]["ExecStart"]))
+        check_installed(
+            checks,
+            Machine(Path(name), sections["Service"], account),
+            command,
+            *(it for unit in (FEEDER, POSTFIX) for it in sections_of(unit.read_text())["Service"]["ExecStart"]),
+        )
     check_feeder(checks, sections)
     check_postfix(checks)
     feeder = FEEDER.read_text()
     # (that of Postfix names the program where `make install` puts it, which systemd asks for)
     postfix = POSTFIX.read_text().replace("/usr/local/bin/noticed ", f"{program()} ")
-    for name, it in ((UNIT.name, text), (FEEDER.name, feeder), (f"set.{FEEDER.name}", OPTION.sub("", feeder)), (POSTFIX.name, postfix)):
+    for name, it in (
+        (UNIT.name, text),
+        (FEEDER.name, feeder),
+        (f"set.{FEEDER.name}", OPTION.sub("", feeder)),
+        (POSTFIX.name, postfix),
+    ):
         check_verify(checks, name, it)
     checks.done()
 

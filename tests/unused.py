@@ -1,7 +1,8 @@
-"""No definition's name stands in two modules of specs/, of one crate or of two, so that a contract can be read by its words
-alone. And nothing in specs/ and proofs/ of a crate is there for nobody: each definition and each lemma is used outside its own
-text, by a contract, by another definition or by a proof. The worked examples, which nothing cites, stand in modules named
-after them; the answers to the prover's goals (Answers.antt, Invariants.antt) are used by the prover."""
+"""No definition's name stands in two modules of specs/, of one crate or of two, so that a contract can be read by its
+words alone. And nothing in specs/ and proofs/ of a crate is there for nobody: each definition and each lemma is used
+outside its own text, by a contract, by another definition or by a proof. The worked examples, which nothing cites,
+stand in modules named after them; the answers to the prover's goals (Answers.antt, Invariants.antt) are used by the
+prover."""
 import re
 from pathlib import Path
 
@@ -80,7 +81,12 @@ def main():
     elsewhere = set().union(*(used_from_elsewhere(file, text) for file, text in texts.items()))
     for file, text in sorted(texts.items()):
         way = file.relative_to(ROOT / "crates").parts
-        if file.suffix != ".antt" or way[1] not in ("specs", "proofs") or file.stem in NOT_CITED or file.stem.endswith("Examples"):
+        if (
+            file.suffix != ".antt"
+            or way[1] not in ("specs", "proofs")
+            or file.stem in NOT_CITED
+            or file.stem.endswith("Examples")
+        ):
             continue
         for name, lines in definitions(text).items():
             used = name in names_used(text, lines) or (module_of(file), name) in elsewhere

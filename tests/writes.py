@@ -35,7 +35,10 @@ def recorded(given: bytes):
             ran = batch(stdin=it, env=environment)
         lines = record.read_text().splitlines()
     fields = [(it.split(" ") + [""])[:5] for it in lines]
-    return ran, [(call, int(stream), int(asked), int(answered), bytes.fromhex(text)) for call, stream, asked, answered, text in fields]
+    return ran, [
+        (call, int(stream), int(asked), int(answered), bytes.fromhex(text))
+        for call, stream, asked, answered, text in fields
+    ]
 
 
 def check_calls(checks: Checks, given: bytes, calls):
@@ -43,7 +46,10 @@ def check_calls(checks: Checks, given: bytes, calls):
     reads = [it for it in calls if it[:2] == ("read", 0)]
     letters = [it for it in calls if it[:2] == ("write", 1)]
     lines = [it for it in calls if it[:2] == ("write", 2)]
-    print(f"  {len(given)} bytes of {2 * MESSAGES} frames: {len(reads)} reads, {len(letters)} writes of the outbox, {len(lines)} writes of the notes")
+    print(
+        f"  {len(given)} bytes of {2 * MESSAGES} frames: {len(reads)} reads, {len(letters)} writes of the outbox, "
+        f"{len(lines)} writes of the notes"
+    )
     checks.equal("bytes that each read asks for", {it[2] for it in reads}, {READ})
     checks.true("reads are few", len(reads) <= len(given) // READ + 2)
     checks.true("no write was short", all(it[2] == it[3] for it in letters + lines))

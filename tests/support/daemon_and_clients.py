@@ -66,7 +66,8 @@ def socket_fault(path: str, why: str) -> bytes:
 
 class Daemon:
     """`noticed serve` with so many agents and connections, on a socket in a folder that is removed at the end. Its
-    outputs go to files, unless `stdout` or `stderr` say otherwise; a daemon that is still there at the end is killed."""
+    outputs go to files, unless `stdout` or `stderr` say otherwise; a daemon that is still there at the end is killed.
+    """
 
     def __init__(self, agents: int, uses: int, path=None, options=(), host=HOST, **how):
         self.room = tempfile.TemporaryDirectory(prefix="noticed-")
@@ -162,8 +163,8 @@ def asked(client: socket.socket, given: bytes, answers: int = 1) -> bytes:
 
 
 def answers_to(client: socket.socket, given: list) -> bytes:
-    """The bytes of the answers to many frames, which are written in pieces: so many at once as a socket's buffers hold, and
-    the answers are read before the next piece, so that neither side waits for ever for the other to read."""
+    """The bytes of the answers to many frames, which are written in pieces: so many at once as a socket's buffers hold,
+    and the answers are read before the next piece, so that neither side waits for ever for the other to read."""
     heard_so_far, piece = [], max(1, PIECE // max(map(len, given), default=1))
     for at in range(0, len(given), piece):
         part = given[at : at + piece]
@@ -174,8 +175,8 @@ def answers_to(client: socket.socket, given: list) -> bytes:
 
 
 def conversation(client: socket.socket, given: bytes) -> bytes:
-    """What a client hears that sends all of a session, then closes its side. The daemon may end the session before all of it
-    is sent, or read: what it answered is heard all the same."""
+    """What a client hears that sends all of a session, then closes its side. The daemon may end the session before all
+    of it is sent, or read: what it answered is heard all the same."""
     with client:
         with contextlib.suppress(ConnectionError):
             client.sendall(given)

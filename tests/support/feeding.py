@@ -1,4 +1,4 @@
-"""What the scripts that run examples/feed.py share: outboxes, a small mail server, submission programs, and the feeder."""
+"""What the scripts that run examples/feed.py share: outboxes, a mail server, submission programs, the feeder."""
 import contextlib
 import os
 import re
@@ -117,9 +117,9 @@ class MailServer:
 
 
 class StrictServer(MailServer):
-    """A mail server that knows EHLO, MAIL, RCPT, DATA and QUIT alone: at any other command it hangs up. Each of its replies
-    has two lines. So many times it closes (421), or hangs up (no reply), in place of its reply to a word; `end` is that of
-    a message's end. At one recipient it always hangs up."""
+    """A mail server that knows EHLO, MAIL, RCPT, DATA and QUIT alone: at any other command it hangs up. Each of its
+    replies has two lines. So many times it closes (421), or hangs up (no reply), in place of its reply to a word; `end`
+    is that of a message's end. At one recipient it always hangs up."""
 
     hangs_up_at = b""
 
@@ -231,8 +231,8 @@ class Fed:
         return self.slept
 
     def rests(self) -> bool:
-        """Waits until it has looked for something to do once more, from now on, and found nothing: it sleeps after that.
-        The first sleep may be that of a look that had begun before."""
+        """Waits until it has looked for something to do once more, from now on, and found nothing: it sleeps after
+        that. The first sleep may be that of a look that had begun before."""
         before = self.sleeps()
         return comes_to(lambda: min(self.sleeps() - before, 2), 2)
 

@@ -1,5 +1,5 @@
-"""A server between a program and the mail server to which it hands in: it passes all on, or is away, answers 450, or leaves without
-the reply to a message that the server behind it has taken."""
+"""A server between a program and the mail server to which it hands in: it passes all on, or is away, answers 450, or
+leaves without the reply to a message that the server behind it has taken."""
 import contextlib
 import socket
 import threading
@@ -8,8 +8,8 @@ OPEN, AWAY, LATER, SILENT = "open", "away", "later", "silent"
 
 
 class Gate:
-    """The server, at a free port of loopback. `way` says how it behaves from now on: a session that began in another way ends at its next
-    transaction."""
+    """The server, at a free port of loopback. `way` says how it behaves from now on: a session that began in another
+    way ends at its next transaction."""
 
     def __init__(self, behind: int):
         self.behind, self.way, self.met = behind, OPEN, 0
@@ -40,7 +40,13 @@ class Gate:
             stream.flush()
             for line in stream:
                 verb = line[:4].upper()
-                stream.write(b"250 gate.example.net\r\n" if verb in (b"EHLO", b"HELO", b"RSET", b"NOOP") else b"221 bye\r\n" if verb == b"QUIT" else b"450 4.3.2 not now\r\n")
+                stream.write(
+                    b"250 gate.example.net\r\n"
+                    if verb in (b"EHLO", b"HELO", b"RSET", b"NOOP")
+                    else b"221 bye\r\n"
+                    if verb == b"QUIT"
+                    else b"450 4.3.2 not now\r\n"
+                )
                 stream.flush()
 
     def pass_on(self, client: socket.socket, server: socket.socket, way: str):

@@ -11,9 +11,9 @@ from tests.support.formats.notices import mail
 
 @dataclass
 class Asked:
-    """A request that a client sent whole, when it began to, and its answer (reply and value, and the serial of a notice if
-    one was told) with the time when it was there; no answer where the client left before: then nobody knows whether the
-    request was taken. Whether its frame was of version 3, whose answer tells of a notice by its serial."""
+    """A request that a client sent whole, when it began to, and its answer (reply and value, and the serial of a notice
+    if one was told) with the time when it was there; no answer where the client left before: then nobody knows whether
+    the request was taken. Whether its frame was of version 3, whose answer tells of a notice by its serial."""
 
     request: Request
     begun: int
@@ -48,17 +48,30 @@ class Daemon:
     def begin(self) -> History:
         """The empty history."""
         greeting = b"EHLO " + self.host + b"\r\n"
-        return History((0,) * len(self.connections), 0, Logs(Limits()), len(greeting) if self.outbox.startswith(greeting) else -1)
+        return History(
+            (0,) * len(self.connections), 0, Logs(Limits()), len(greeting) if self.outbox.startswith(greeting) else -1
+        )
 
     def is_whole(self, it: History) -> bool:
         """Whether a history is all of what the daemon did."""
-        answered = all(place == len(asked) or asked[place].answer is None for place, asked in zip(it.places, self.connections))
-        return answered and it.taken == self.taken and self.outbox[it.written :] == b"QUIT\r\n" and it.logs.open_logs() == self.open_lines
+        answered = all(
+            place == len(asked) or asked[place].answer is None for place, asked in zip(it.places, self.connections)
+        )
+        return (
+            answered
+            and it.taken == self.taken
+            and self.outbox[it.written :] == b"QUIT\r\n"
+            and it.logs.open_logs() == self.open_lines
+        )
 
     def next_of(self, it: History) -> list:
         """The connections whose next request may be the next one of the history: no other that isn't in it was answered
         before this one began. Those with an answer first, by its time."""
-        waiting = [(asked[place], at) for at, (place, asked) in enumerate(zip(it.places, self.connections)) if place < len(asked)]
+        waiting = [
+            (asked[place], at)
+            for at, (place, asked) in enumerate(zip(it.places, self.connections))
+            if place < len(asked)
+        ]
         ends = sorted(asked.ended for asked, _ in waiting if asked.answer)
         # (a request begins before it ends, so it doesn't stand in its own way)
         free = [(asked, at) for asked, at in waiting if not ends or asked.begun <= ends[0]]

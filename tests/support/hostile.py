@@ -2,7 +2,19 @@
 several faults in one body, bytes changed, frames cut. Everything follows from a `random.Random` that is handed in."""
 import random
 
-from tests.support.formats.bodies import ACTIONS, ANY_COUNT, APPEND, CLASSES, DISCARD, FLUSH, FORGET, LAST_MOMENT, LONGEST_HEADER, LONGEST_TEXT, NO_MOMENT
+from tests.support.formats.bodies import (
+    ACTIONS,
+    ANY_COUNT,
+    APPEND,
+    CLASSES,
+    DISCARD,
+    FLUSH,
+    FORGET,
+    LAST_MOMENT,
+    LONGEST_HEADER,
+    LONGEST_TEXT,
+    NO_MOMENT,
+)
 
 VISIBLE = bytes(range(33, 127))
 ADDRESS_BYTES = VISIBLE.replace(b"<", b"").replace(b">", b"")
@@ -10,12 +22,24 @@ ATOM_BYTES = b"!#$%&'*+-/0123456789=?ABCXYZ^_`abcxyz{|}~"
 LETTERS_AND_DIGITS = b"0123456789ABCDEFGHIJKLMNOPQRSTUVWXYZabcdefghijklmnopqrstuvwxyz"
 KEYS = [b"K", b"K1", b"K10", b"K2", b"k1", b"A1B2C3", b"Z" * 31, b"Z" * 32]
 STRANGE = [b"", b"<", b">", b"a b", b"\t", b"\x7f", b"\xe9", b"\0", b"\r\n", b"x@y\n"]
-MOMENTS = [0, 1, 86_399, 86_400, 951_782_400, 951_868_800, 1_700_000_000, 1_700_000_001, 4_107_542_399, 4_107_542_400, LAST_MOMENT]
+MOMENTS = [
+    0,
+    1,
+    86_399,
+    86_400,
+    951_782_400,
+    951_868_800,
+    1_700_000_000,
+    1_700_000_001,
+    4_107_542_399,
+    4_107_542_400,
+    LAST_MOMENT,
+]
 BAD_MOMENTS = [LAST_MOMENT + 1, 2**32 + LAST_MOMENT + 1, 2**63, NO_MOMENT - 1, NO_MOMENT]
 STATUSES = [b"5.1.1", b"4.4.7", b"2.0.0", b"5.0.0", b"4.0.0", b"5.999.999", b"4.10.100", b"2.1.5"]
 BAD_STATUSES = [
-    b"", b"5", b"5.1", b"5.1.", b"5.01.1", b"5.1.01", b"5.1000.1", b"5.1.1000", b"3.0.0", b"1.1.1", b"6.1.1", b"5.1.1 ", b" 5.1.1",
-    b"5.1.1.1", b"5..1", b"5,1,1", b"5.-1.1", b"55.1.1", b"5.1.1\n", b"5.00.0", b"5.a.1",
+    b"", b"5", b"5.1", b"5.1.", b"5.01.1", b"5.1.01", b"5.1000.1", b"5.1.1000", b"3.0.0", b"1.1.1", b"6.1.1",
+    b"5.1.1 ", b" 5.1.1", b"5.1.1.1", b"5..1", b"5,1,1", b"5.-1.1", b"55.1.1", b"5.1.1\n", b"5.00.0", b"5.a.1",
 ]  # fmt: skip
 FAULTY = 0.04  # how often a field is made illegal
 STEM = b"--%s.%s.%d."
@@ -35,7 +59,11 @@ class Hostile:
 
     def size(self, longest: int) -> int:
         """A text's length, often at a bound."""
-        return self.dice.choice([1, 2, longest, longest - 1, longest + 1, self.dice.randint(1, 30)]) if self.chance(0.1) else self.dice.randint(1, 12)
+        return (
+            self.dice.choice([1, 2, longest, longest - 1, longest + 1, self.dice.randint(1, 30)])
+            if self.chance(0.1)
+            else self.dice.randint(1, 12)
+        )
 
     def bytes_of(self, alphabet: bytes, size: int) -> bytes:
         """So many bytes of an alphabet."""
@@ -49,16 +77,33 @@ class Hostile:
 
     def moment(self) -> int:
         """A moment, seldom one that has no date."""
-        return self.dice.choice(BAD_MOMENTS) if self.chance(self.faulty) else self.dice.choice([*MOMENTS, self.dice.randint(0, LAST_MOMENT)])
+        return (
+            self.dice.choice(BAD_MOMENTS)
+            if self.chance(self.faulty)
+            else self.dice.choice([*MOMENTS, self.dice.randint(0, LAST_MOMENT)])
+        )
 
     def body(self, number: int) -> bytes:
         """A request's body."""
         version = self.dice.choices([1, 2, 3], [5, 3, 3])[0]
-        kind = self.dice.choices([APPEND, FLUSH, DISCARD, FORGET], [12, 6 if version == 3 else 3, 1, 0 if version == 1 else 3])[0]
+        kind = self.dice.choices(
+            [APPEND, FLUSH, DISCARD, FORGET], [12, 6 if version == 3 else 3, 1, 0 if version == 1 else 3]
+        )[0]
         service, queue_id = self.dice.choice(self.keys)
         layout = {APPEND: self.append, FLUSH: self.flush}.get(kind, lambda *_: b"")(version, service, queue_id)
         if self.chance(self.faulty):
-            version, kind = self.dice.choice([(0, kind), (3, kind), (4, kind), (version, 0), (version, 5), (1, FORGET), (255, 255), (version, self.dice.randint(1, 4))])
+            version, kind = self.dice.choice(
+                [
+                    (0, kind),
+                    (3, kind),
+                    (4, kind),
+                    (version, 0),
+                    (version, 5),
+                    (1, FORGET),
+                    (255, 255),
+                    (version, self.dice.randint(1, 4)),
+                ]
+            )
         if self.chance(self.faulty):
             service = self.dice.choice([0, 4, 66, 255])
         if self.chance(self.faulty):
@@ -81,7 +126,7 @@ class Hostile:
         return body + (self.types(texts[0], diagnostic) + text(self.extensions()) if version > 2 else b"")
 
     def types(self, original: bytes, diagnostic: bytes) -> bytes:
-        """The types of a recipient, of the original one and of a diagnostic; where one of these is missing, seldom one."""
+        """The types of a recipient, of the original one and of a diagnostic; rarely one of a missing field."""
         there = [True, bool(original), bool(diagnostic)]
         return b"".join(text(self.text(ATOM_BYTES, 32, 0.6) if it or self.chance(self.faulty) else b"") for it in there)
 
@@ -90,19 +135,46 @@ class Hostile:
         if self.chance(0.5):
             return b""
         count = self.dice.choice([1, 1, 2, 3, 8, 9 if self.chance(self.faulty) else 7])
-        lines = [b"X-%s: %s\n" % (self.bytes_of(ATOM_BYTES, self.size(62) % 63 or 1), self.bytes_of(bytes(range(32, 127)), self.size(255) % 256 or 1)) for _ in range(count)]
+        lines = [
+            b"X-%s: %s\n"
+            % (
+                self.bytes_of(ATOM_BYTES, self.size(62) % 63 or 1),
+                self.bytes_of(bytes(range(32, 127)), self.size(255) % 256 or 1),
+            )
+            for _ in range(count)
+        ]
         if self.chance(self.faulty):
-            lines[self.dice.randrange(count)] = self.dice.choice([
-                b"A: b\n", b"x-A: b\n", b"X-: b\n", b"X-A:b\n", b"X-A: \n", b"X-A b\n", b"X-A:B: c\n", b"X-A : b\n", b"X-A: b", b"X-A: b\r\n", b"X-A: \xe9\n",
-                b"X-A: \t\n", b"\n", b"", b"X-%s: b\n" % (b"a" * 63), b"X-A: %s\n" % (b"b" * 256),
-            ])  # fmt: skip
+            lines[self.dice.randrange(count)] = self.dice.choice(
+                [
+                    b"A: b\n",
+                    b"x-A: b\n",
+                    b"X-: b\n",
+                    b"X-A:b\n",
+                    b"X-A: \n",
+                    b"X-A b\n",
+                    b"X-A:B: c\n",
+                    b"X-A : b\n",
+                    b"X-A: b",
+                    b"X-A: b\r\n",
+                    b"X-A: \xe9\n",
+                    b"X-A: \t\n",
+                    b"\n",
+                    b"",
+                    b"X-%s: b\n" % (b"a" * 63),
+                    b"X-A: %s\n" % (b"b" * 256),
+                ]
+            )
         return b"".join(lines)
 
     def spoken(self) -> bytes:
         """A diagnostic or a reason: any bytes."""
         if self.chance(self.faulty):
             return b"x" * (LONGEST_TEXT + 1)
-        return b"" if self.chance(0.5) else self.bytes_of(b"550 no such user\t\r\n.\x7f\x80\xff-~ ?", self.size(LONGEST_TEXT) % (LONGEST_TEXT + 1))
+        return (
+            b""
+            if self.chance(0.5)
+            else self.bytes_of(b"550 no such user\t\r\n.\x7f\x80\xff-~ ?", self.size(LONGEST_TEXT) % (LONGEST_TEXT + 1))
+        )
 
     def last_date(self, action: int = 2) -> bytes:
         """A date that an append may have; one that only a delayed recipient has, seldom with another."""
@@ -114,7 +186,7 @@ class Hostile:
         return self.dice.choice([ANY_COUNT, ANY_COUNT - 1, 1000, 256, 0, 1, 1, 2, 2, 3, 4, self.dice.randint(0, 12)])
 
     def wishes(self) -> bytes:
-        """What a flush of version 3 asks for besides: a count, two bytes that are 0 or 1, seldom others, and extension fields."""
+        """The other fields of a flush of version 3: a count, two bytes that are mostly 0 or 1, and extension fields."""
         two = [self.dice.choice([2, 3, 255] if self.chance(self.faulty) else [0, 1, 1]) for _ in range(2)]
         return self.count().to_bytes(4, "big") + bytes(two) + text(self.extensions())
 
@@ -129,23 +201,48 @@ class Hostile:
         return moment.to_bytes(8, "big") + arrival.to_bytes(8, "big") + texts + wishes
 
     def message(self, stem: bytes) -> bytes:
-        """A message: mostly lines that stand in a 7bit mail as they are, escapes and empty ones among them; seldom others."""
+        """A message: mostly lines that a 7bit mail has unchanged, with escapes and empty ones; rarely others."""
         if self.chance(0.2):
             return self.header(stem)
         lines = []
         for at in range(self.dice.randint(0, 12)):
-            begin = self.dice.choice([b"", b".", b"..", b"--", stem + b"%04d" % self.dice.choice([0, at, at // 2]), b"\t", b"Subject: "])
+            begin = self.dice.choice(
+                [b"", b".", b"..", b"--", stem + b"%04d" % self.dice.choice([0, at, at // 2]), b"\t", b"Subject: "]
+            )
             size = self.dice.choice([997, 998, 999] if self.chance(0.03) else [0, 0, 1, 5, 40])
-            lines.append((begin + self.bytes_of(b"abc xyz.-\t\x1b\x7f\x01", size))[: max(size, 40)] + self.dice.choice([b"\n", b"\n", b"\r\n"]))
+            lines.append(
+                (begin + self.bytes_of(b"abc xyz.-\t\x1b\x7f\x01", size))[: max(size, 40)]
+                + self.dice.choice([b"\n", b"\n", b"\r\n"])
+            )
         return b"".join(lines)
 
     def header(self, stem: bytes) -> bytes:
-        """A message's header: lines that begin with dots and dashes, that are long, that rule boundaries out, that end otherwise."""
+        """A message's header: lines that begin with dots or dashes, are long, exclude boundaries, or end otherwise."""
         lines = []
         for at in range(self.dice.randint(0, 12)):
-            begin = self.dice.choice([b"", b".", b"..", b"--", b"-", stem + b"%04d" % self.dice.choice([0, at, at // 2, 9999]), stem, b" ", b"\t", b"Subject: "])
-            rest = self.bytes_of(b"abc xyz.-\t\x80\xff\0\r", self.dice.choice([0, 1, 5, 40, 990, 998, 999] if self.chance(0.05) else [0, 1, 5, 40]))
-            lines.append(begin + rest + self.dice.choice([b"\n", b"\n", b"\r\n", b"\r\n", b"\r", b"\n\n" if self.chance(0.1) else b"\n"]))
+            begin = self.dice.choice(
+                [
+                    b"",
+                    b".",
+                    b"..",
+                    b"--",
+                    b"-",
+                    stem + b"%04d" % self.dice.choice([0, at, at // 2, 9999]),
+                    stem,
+                    b" ",
+                    b"\t",
+                    b"Subject: ",
+                ]
+            )
+            rest = self.bytes_of(
+                b"abc xyz.-\t\x80\xff\0\r",
+                self.dice.choice([0, 1, 5, 40, 990, 998, 999] if self.chance(0.05) else [0, 1, 5, 40]),
+            )
+            lines.append(
+                begin
+                + rest
+                + self.dice.choice([b"\n", b"\n", b"\r\n", b"\r\n", b"\r", b"\n\n" if self.chance(0.1) else b"\n"])
+            )
         header = b"".join(lines)
         if self.chance(0.1):
             header = header.rstrip(b"\r\n")
@@ -158,16 +255,32 @@ class Hostile:
         """A body with a byte changed, added or taken away, or cut."""
         at = self.dice.randrange(len(body))
         some = bytes([self.dice.randrange(256)])
-        return self.dice.choice([body[:at] + some + body[at + 1 :], body[:at] + some + body[at:], body[:at] + body[at + 1 :], body[:at], body + some])
+        return self.dice.choice(
+            [
+                body[:at] + some + body[at + 1 :],
+                body[:at] + some + body[at:],
+                body[:at] + body[at + 1 :],
+                body[:at],
+                body + some,
+            ]
+        )
 
     def frames(self) -> list:
         """The frames of a session."""
         made = []
         for number in range(self.dice.choice([1, 2, 3, 5, 8, 13, 30])):
-            body = self.body(number if not self.chance(self.faulty / 4) else self.dice.choice([number + 1, number ^ 1 << self.dice.randrange(32), 2**32 - 1]))
+            body = self.body(
+                number
+                if not self.chance(self.faulty / 4)
+                else self.dice.choice([number + 1, number ^ 1 << self.dice.randrange(32), 2**32 - 1])
+            )
             if self.chance(self.faulty):
                 body = self.changed(body) or b"\0"
-            size = len(body) if not self.chance(self.faulty / 10) else self.dice.choice([0, 65_536, 65_537, 2**32 - 1, len(body) + 1])
+            size = (
+                len(body)
+                if not self.chance(self.faulty / 10)
+                else self.dice.choice([0, 65_536, 65_537, 2**32 - 1, len(body) + 1])
+            )
             made.append(size.to_bytes(4, "big") + body)
         return made
 

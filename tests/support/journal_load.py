@@ -1,7 +1,7 @@
-"""A load on daemons over one journal, each with an outbox of its own, which are killed one after another: clients of which some are hostile, and
-the model of what the journal must have kept. Of each key it has the worlds that may be: one, where each request about it was
-answered; and where one was sent and not answered, that with it and that without. What is answered, what the journal has and
-what the outbox has takes worlds away, and one must be left."""
+"""A load on daemons over one journal, each with an outbox of its own, which are killed one after another: clients of
+which some are hostile, and the model of what the journal must have kept. Of each key it has the worlds that may be:
+one, where each request about it was answered; and where one was sent and not answered, that with it and that without.
+What is answered, what the journal has and what the outbox has takes worlds away, and one must be left."""
 import contextlib
 import hashlib
 import random
@@ -36,7 +36,7 @@ FREE = ((), ())  # the world of a key that was never used: no log, no letters
 
 
 def applied(world: tuple, request: Request) -> tuple:
-    """What a request does to the log of its key, and to the letters that were made of it: reply and value, and the world then."""
+    """What a request does to its key's log and to the letters made of it: reply, value, and the world after it."""
     log, letters = world
     logs = Logs(Limits())
     if log is None or log:
@@ -126,7 +126,10 @@ class Model:
             self.found.setdefault(key, []).append((serial, text))
             return
         self.repeats += 1
-        self.checks.true(f"letter {serial} comes again as the first of a run, and is the last of {len(self.sums)}", is_first and serial == len(self.sums) - 1)
+        self.checks.true(
+            f"letter {serial} comes again as the first of a run, and is the last of {len(self.sums)}",
+            is_first and serial == len(self.sums) - 1,
+        )
         self.checks.equal(f"letter {serial}, again", digest, self.sums[serial] if serial < len(self.sums) else None)
 
     def check_letters(self):
@@ -135,7 +138,9 @@ class Model:
             found = self.found.get(key, [])
             left = set()
             for log, letters in self.of(key):
-                if len(letters) == len(found) and all(text == mail(HOST.encode(), Letter(key, *it, serial)) for it, (serial, text) in zip(letters, found)):
+                if len(letters) == len(found) and all(
+                    text == mail(HOST.encode(), Letter(key, *it, serial)) for it, (serial, text) in zip(letters, found)
+                ):
                     left.add((log, ()))
             self.narrow(f"{len(found)} letters", key, left)
         self.found.clear()
@@ -155,11 +160,13 @@ class Model:
         """The notes of a clean end name the logs that may be open, with so many outcomes, and no others."""
         told = {(SERVICE_OF[it[0]], it[1]): int(it[2]) for it in OPEN_LINE.findall(notes)}
         for key in set(self.worlds) | set(told):
-            self.narrow(f"open {told.get(key, 0)}", key, {it for it in self.of(key) if len(it[0] or ()) == told.get(key, 0)})
+            self.narrow(
+                f"open {told.get(key, 0)}", key, {it for it in self.of(key) if len(it[0] or ()) == told.get(key, 0)}
+            )
 
 
 class Outbox:
-    """The outboxes of all runs, each in its turn at one path: one begins with a greeting, and may be cut within a letter."""
+    """The outboxes of all runs, in turn at one path. Each begins with a greeting, and may be cut within a letter."""
 
     def __init__(self, path: Path, model: Model):
         self.path, self.model, self.at, self.greeted, self.first, self.cut = path, model, 0, False, True, b""
@@ -180,17 +187,22 @@ class Outbox:
     def take(self, letter: bytes):
         """Takes a letter; the first one of a run is that which the run before was cut in."""
         if self.cut:
-            self.model.checks.true(f"a letter that was cut after {len(self.cut)} bytes comes again", letter.startswith(self.cut))
+            self.model.checks.true(
+                f"a letter that was cut after {len(self.cut)} bytes comes again", letter.startswith(self.cut)
+            )
         self.model.letter(letter, self.first)
         self.at, self.first, self.cut = self.at + len(letter), False, b""
 
     def end_run(self) -> bytes:
-        """Reads to the end of a run that was ended, and gives what stands after its last letter. The file is put away, as whoever
-        starts a daemon has to: one that has something is refused."""
+        """Reads to the end of a run that was ended, and gives what stands after its last letter. The file is put away,
+        as whoever starts a daemon has to: one that has something is refused."""
         rest = self.read()
         checks = self.model.checks
         if rest and rest != b"QUIT\r\n":
-            checks.true(f"{rest[:100]} is a front of a letter", rest.startswith(b"MAIL FROM:<>\r\n"[: len(rest)]) if self.greeted else GREETING.startswith(rest))
+            checks.true(
+                f"{rest[:100]} is a front of a letter",
+                rest.startswith(b"MAIL FROM:<>\r\n"[: len(rest)]) if self.greeted else GREETING.startswith(rest),
+            )
             self.model.cut += 1
             self.cut = rest if self.greeted else b""
         self.path.unlink(missing_ok=True)
@@ -230,19 +242,35 @@ class Client:
         if kind > 0.95:
             return FRAMES.discard(number, *key)
         header = b"Subject: %d\n" % number * self.dice.choice([0, 0, 0, 2, 60])
-        return FRAMES.flush(number, *key, b"" if kind > 0.92 else b"ann%d@example.com" % self.place, self.dice.randrange(1 << 31), header=header)
+        return FRAMES.flush(
+            number,
+            *key,
+            b"" if kind > 0.92 else b"ann%d@example.com" % self.place,
+            self.dice.randrange(1 << 31),
+            header=header,
+        )
 
     def append(self, number: int, key: tuple) -> bytes:
         """The frame of an append."""
         action, status = {1: (1, b"5.1.1"), 2: (2, b"4.4.1"), 3: (3, b"2.0.0")}[key[0]]
-        return FRAMES.append(number, *key, b"bob%d@example.org" % self.dice.randrange(1000), action, status, diagnostic=b"550 no" * self.dice.choice([0, 1, 40]))
+        return FRAMES.append(
+            number,
+            *key,
+            b"bob%d@example.org" % self.dice.randrange(1000),
+            action,
+            status,
+            diagnostic=b"550 no" * self.dice.choice([0, 1, 40]),
+        )
 
     def note(self, request: Request, given: tuple):
         """Takes an answer in."""
         self.model.answered(request, given)
         key, reply = request.key, given[0]
         is_closed = reply == CLOSED or request.kind in (FLUSH, DISCARD)
-        for has, wants in ((self.open, reply == NOT_CLOSED or request.kind == APPEND and reply != CLOSED), (self.closed, is_closed)):
+        for has, wants in (
+            (self.open, reply == NOT_CLOSED or request.kind == APPEND and reply != CLOSED),
+            (self.closed, is_closed),
+        ):
             while key in has:
                 has.remove(key)
             has += [key] if wants else []
@@ -295,7 +323,7 @@ class Recorded(Logs):
 
 
 class HostileClient:
-    """A client that sends what no client may, on keys of its own that are new in each session, and leaves when it likes."""
+    """A client that sends malformed input, on keys that are new in each session, and leaves at any time."""
 
     def __init__(self, place: int, model: Model, dice: random.Random):
         self.place, self.model, self.dice = place, model, dice
@@ -305,9 +333,12 @@ class HostileClient:
         """A run begins."""
 
     def session(self) -> tuple:
-        """The bytes of a session, and its answers as a plain reading gives them, each with its request if it has one."""
+        """The bytes of a session, and the answers of the plain reading, each with its request if it has one."""
         hostile = Hostile(self.dice)
-        hostile.keys = [(self.dice.choice([1, 2, 3]), b"HH%d" % self.place + hostile.bytes_of(LETTERS_AND_DIGITS, 16)) for _ in range(3)]
+        hostile.keys = [
+            (self.dice.choice([1, 2, 3]), b"HH%d" % self.place + hostile.bytes_of(LETTERS_AND_DIGITS, 16))
+            for _ in range(3)
+        ]
         given, logs, wanted = hostile.session(), Recorded(), []
         with contextlib.suppress(Fault):
             for it in answers(given, logs, []):
@@ -334,14 +365,17 @@ class HostileClient:
         whole = whole_answers(got)
         count = len(whole)
         self.model.tell(whole)
-        self.model.checks.equal("answers to a hostile session", [*map(said, whole)], [said(it) for it, _ in wanted[:count]])
+        self.model.checks.equal(
+            "answers to a hostile session", [*map(said, whole)], [said(it) for it, _ in wanted[:count]]
+        )
         for it, request in wanted[:count]:
             if request:
                 self.model.answered(request, said(it)[2::2])
         self.model.unanswered([it for _, it in wanted[count:] if it])
 
     def let_go(self, ask):
-        """Closes its logs and forgets them, once their run has ended; no more of them than a table holds are so held at once."""
+        """Closes its logs and forgets them, once their run has ended; no more of them than a table holds are so held at
+        once."""
         for key in self.keys:
             for frame in (FRAMES.discard(0, *key), FRAMES.forget(0, *key)):
                 ask(frame)
@@ -349,8 +383,8 @@ class HostileClient:
 
 
 class Load:
-    """A journal's folder, an outbox, and daemons over both, one after another. The journal's file has so many bytes, or is the
-    daemon's own."""
+    """A journal's folder, an outbox, and daemons over both, one after another. The journal's file has so many bytes, or
+    is the daemon's own."""
 
     def __init__(self, checks: Checks, room: Path, dice: random.Random, size: int = 0, hostile: int = HOSTILE):
         self.checks, self.room, self.dice, self.model = checks, room, dice, Model(checks)
@@ -368,8 +402,8 @@ class Load:
         return Daemon(16, 1_000_000, options=("--journal", self.folder, "--outbox", self.room / "outbox"), **how)
 
     def serves(self, daemon: Daemon, forgets: bool = False) -> bool:
-        """Waits until a daemon serves: by then all letters of earlier runs stand in the outbox, and the journal has all that was
-        answered. False where it ended before."""
+        """Waits until a daemon serves: by then all letters of earlier runs stand in the outbox, and the journal has all
+        that was answered. False where it ended before."""
         try:
             with daemon.connect() as it:
                 it.sendall(FRAMES.forget(0, 1, b"NEVER"))
@@ -397,7 +431,11 @@ class Load:
                 request = decoded(frame[4:])
                 if request.key not in self.model.worlds:
                     return
-                numbered = FRAMES.discard(place, *request.key) if request.kind == DISCARD else FRAMES.forget(place, *request.key)
+                numbered = (
+                    FRAMES.discard(place, *request.key)
+                    if request.kind == DISCARD
+                    else FRAMES.forget(place, *request.key)
+                )
                 stream.sendall(numbered)
                 got = answers_heard(stream, 1)
                 if got:
@@ -411,7 +449,8 @@ class Load:
                     it.let_go(ask)
 
     def work(self, daemon: Daemon, seconds: float, end):
-        """The clients ask for so long, and until the daemon was ended. Counts how often the journal is seen put away for a shorter one."""
+        """The clients ask for so long, and until the daemon was ended. Counts how often the journal is seen put away
+        for a shorter one."""
         sys.setswitchinterval(SWITCH)
         over = threading.Event()
         watching = threading.Thread(target=self.watch, args=(over,))
@@ -441,7 +480,10 @@ class Load:
         wanted, began = self.shortened + PUT_AWAY, time.monotonic()
         while self.shortened < wanted and time.monotonic() - began < PATIENCE:
             time.sleep(LOOK)
-        self.checks.true(f"a journal that gets full is put away {PUT_AWAY} times in one run, {self.shortened + PUT_AWAY - wanted}", self.shortened >= wanted)
+        self.checks.true(
+            f"a journal that gets full is put away {PUT_AWAY} times in one run, {self.shortened + PUT_AWAY - wanted}",
+            self.shortened >= wanted,
+        )
         ends.set()
 
     def talk(self, client, daemon: Daemon, ends: threading.Event):
@@ -473,8 +515,8 @@ class Load:
         return is_full or ran.status == status
 
     def ends_well(self, seconds: float, is_small: bool = False):
-        """A load of so many seconds without a kill, or until a small journal got full a few times, and a clean end; then a last start,
-        which still has all that was open."""
+        """A load of so many seconds without a kill, or until a small journal got full a few times, and a clean end;
+        then a last start, which still has all that was open."""
         with self.daemon() as daemon:
             self.checks.true("the run after the last kill serves", self.serves(daemon))
             self.work(daemon, seconds, self.wait_shortened if is_small else threading.Event.set)
@@ -486,8 +528,8 @@ class Load:
         self.model.check_letters()
 
     def stop(self, daemon: Daemon):
-        """Ends a daemon in order: its status, the end of its outbox, and its open logs. One that a full journal ended before names no
-        logs, and the next run writes what its outbox lacks."""
+        """Ends a daemon in order: its status, the end of its outbox, and its open logs. One that a full journal ended
+        before names no logs, and the next run writes what its outbox lacks."""
         stopped = run(["stop", daemon.path]).status
         ended = daemon.end()
         self.checks.true(f"a clean end, {ended.status}", self.is_ended_by(ended, 0))
@@ -506,5 +548,8 @@ class Load:
     def told(self, what: str):
         """Prints what came of it."""
         it = self.model
-        print(f"  {what}: {self.runs} runs, {it.asked} requests answered, {len(it.sums)} notices, {it.repeats} of them twice, {it.cut} cut, "
-              f"a full journal put away {self.shortened} times, {self.full} runs ended by one")
+        print(
+            f"  {what}: {self.runs} runs, {it.asked} requests answered, {len(it.sums)} notices, "
+            f"{it.repeats} of them twice, {it.cut} cut, "
+            f"a full journal put away {self.shortened} times, {self.full} runs ended by one"
+        )

@@ -1,7 +1,7 @@
 #!/usr/bin/env python3
-"""Stands in for `noticed postfix` where the scripts that run a Postfix are tried themselves: it listens at private/noticed-NAME, and passes
-each request on to Postfix's own service of that name. The variable DROPS has it answer one append in so many without passing it on:
-then recipients are lost, and the scripts must say so.
+"""Stands in for `noticed postfix` where the scripts that run a Postfix are tried themselves: it listens at
+private/noticed-NAME, and passes each request on to Postfix's own service of that name. The variable DROPS has it answer
+one append in so many without passing it on: then recipients are lost, and the scripts must say so.
 
     passing_on.py postfix [OPTION]... QUEUE-FOLDER HOST HAND-IN"""
 import contextlib

@@ -1,5 +1,6 @@
-"""What the script of `noticed postfix` shares: a queue folder as Postfix has it, with messages that Postfix wrote; the program that
-serves it; its clients, as Postfix's programs are; a mail server that takes the notices; and one of Postfix's own services."""
+"""What the script of `noticed postfix` shares: a queue folder as Postfix has it, with messages that Postfix wrote; the
+program that serves it; its clients, as Postfix's programs are; a mail server that takes the notices; and one of
+Postfix's own services."""
 import contextlib
 import os
 import re
@@ -27,16 +28,53 @@ def listed(**attributes) -> bytes:
     return b"".join(name.encode() + b"\0" + str(value).encode() + b"\0" for name, value in attributes.items()) + b"\0"
 
 
-def notice(kind: int, message: str, flags: int = 0, sender: str = "ann@example.com", queue: str = "deferred", fifth: str = "smtputf8", **more) -> bytes:
+def notice(
+    kind: int,
+    message: str,
+    flags: int = 0,
+    sender: str = "ann@example.com",
+    queue: str = "deferred",
+    fifth: str = "smtputf8",
+    **more,
+) -> bytes:
     """A request for a notice: 1 flush, 2 warn, 5 trace."""
-    words = {"flags": flags, "queue_name": queue, "queue_id": message, "encoding": "", fifth: 0, "sender": sender, "envelope_id": "", "ret_flags": 0}
+    words = {
+        "flags": flags,
+        "queue_name": queue,
+        "queue_id": message,
+        "encoding": "",
+        fifth: 0,
+        "sender": sender,
+        "envelope_id": "",
+        "ret_flags": 0,
+    }
     return listed(nrequest=kind, **words, **more)
 
 
-def append(message: str, recipient: str = "no.bob@example.org", offset: int = 0, flags: int = 0, text: str = "550 5.1.1 no such user") -> bytes:
+def append(
+    message: str,
+    recipient: str = "no.bob@example.org",
+    offset: int = 0,
+    flags: int = 0,
+    text: str = "550 5.1.1 no such user",
+) -> bytes:
     """A request to log that a recipient was refused."""
-    who = {"original_recipient": recipient, "recipient": recipient, "offset": offset, "dsn_orig_rcpt": "", "notify_flags": 0}
-    what = {"status": "5.1.1", "diag_type": "smtp", "diag_text": text, "mta_type": "dns", "mta_mname": "mx.example.org", "action": "failed", "reason": f"it said: {text}"}
+    who = {
+        "original_recipient": recipient,
+        "recipient": recipient,
+        "offset": offset,
+        "dsn_orig_rcpt": "",
+        "notify_flags": 0,
+    }
+    what = {
+        "status": "5.1.1",
+        "diag_type": "smtp",
+        "diag_text": text,
+        "mta_type": "dns",
+        "mta_mname": "mx.example.org",
+        "action": "failed",
+        "reason": f"it said: {text}",
+    }
     return listed(nrequest=0, flags=flags, queue_id=message, **who, **what)
 
 
@@ -44,10 +82,19 @@ def append(message: str, recipient: str = "no.bob@example.org", offset: int = 0,
 
 
 class MailServer:
-    """A mail server on loopback that takes notices, and says at each step what `replies` has for it, 0 for nothing and a close. What
-    `waits` has for a step is called before the reply. It notes what was said in each session, and each message that it took."""
+    """A mail server on loopback that takes notices, and says at each step what `replies` has for it, 0 for nothing and
+    a close. What `waits` has for a step is called before the reply. It notes what was said in each session, and each
+    message that it took.
+    """
 
-    GOOD = {"connect": b"220 mx.example.net ESMTP", "EHLO": b"250 mx.example.net", "MAIL": b"250 ok", "RCPT": b"250 ok", "DATA": b"354 go on", "QUIT": b"221 bye"}
+    GOOD = {
+        "connect": b"220 mx.example.net ESMTP",
+        "EHLO": b"250 mx.example.net",
+        "MAIL": b"250 ok",
+        "RCPT": b"250 ok",
+        "DATA": b"354 go on",
+        "QUIT": b"221 bye",
+    }
 
     def __init__(self):
         self.replies, self.waits, self.taken, self.said, self.count, self.peers = {}, {}, [], [], 0, []
@@ -114,7 +161,9 @@ class MailServer:
 class OwnService:
     """One of Postfix's own services in the queue folder: it keeps what it is asked, and answers a status."""
 
-    def __init__(self, folder: Path, name: str, status: bytes = b"status\x000\x00\x00", announcement: bytes = ANNOUNCEMENT):
+    def __init__(
+        self, folder: Path, name: str, status: bytes = b"status\x000\x00\x00", announcement: bytes = ANNOUNCEMENT
+    ):
         self.asked, self.status, self.announcement, self.during = [], status, announcement, None
         path = folder / "private" / name
         path.unlink(missing_ok=True)
@@ -215,10 +264,33 @@ class Postfix:
 
     def start(self, umask: int = 0o027, closed: str = ""):
         """Starts the program, with streams that a shell closes, and waits until it listens, or ends."""
-        words = ["sh", "-c", f'exec "$@" {closed}', "sh", program(), "postfix", *self.options, str(self.folder), HOST, self.hand_in]
+        words = [
+            "sh",
+            "-c",
+            f'exec "$@" {closed}',
+            "sh",
+            program(),
+            "postfix",
+            *self.options,
+            str(self.folder),
+            HOST,
+            self.hand_in,
+        ]
         with open(self.errors, "ab") as errors:
-            self.running = subprocess.Popen(words, stdin=subprocess.DEVNULL, stdout=errors, stderr=errors, umask=umask, preexec_fn=self.limits, close_fds=self.close_fds)
-        if not until(lambda: is_listened_on(self.at("private/noticed-trace")) and (closed or self.has_said()) or self.running.poll() is not None):
+            self.running = subprocess.Popen(
+                words,
+                stdin=subprocess.DEVNULL,
+                stdout=errors,
+                stderr=errors,
+                umask=umask,
+                preexec_fn=self.limits,
+                close_fds=self.close_fds,
+            )
+        if not until(
+            lambda: is_listened_on(self.at("private/noticed-trace"))
+            and (closed or self.has_said())
+            or self.running.poll() is not None
+        ):
             raise TimeoutError(self.lines())
 
     def kill(self, how: int = signal.SIGKILL) -> int:

@@ -1,5 +1,6 @@
-"""What the scripts share that refuse the program something from outside: the small libraries in C beside this file, which are
-loaded before the program's own (LD_PRELOAD), and the ends of runs in each of which one more thing is refused."""
+"""What the scripts share that refuse the program something from outside: the small libraries in C beside this file,
+which are loaded before the program's own (LD_PRELOAD), and the ends of runs in each of which one more thing is
+refused."""
 import os
 import subprocess
 from pathlib import Path
@@ -12,7 +13,9 @@ SUPPORT = Path(__file__).resolve().parent
 def built(room, name: str) -> Path:
     """The library of this folder with that name, compiled into a folder."""
     library = Path(room) / f"{name}.so"
-    subprocess.run(["gcc", "-O2", "-shared", "-fPIC", "-o", str(library), str(SUPPORT / f"{name}.c"), "-ldl"], check=True)
+    subprocess.run(
+        ["gcc", "-O2", "-shared", "-fPIC", "-o", str(library), str(SUPPORT / f"{name}.c"), "-ldl"], check=True
+    )
     return library
 
 
@@ -22,8 +25,8 @@ def preloading(library: Path, **variables) -> dict:
 
 
 def each_refused(library: Path, most: int, run, whole) -> list:
-    """How a run ends where its first growth of memory is refused, its second, and so on up to the first run that is whole, or
-    so many. `run` is given the environment."""
+    """How a run ends where its first growth of memory is refused, its second, and so on up to the first run that is
+    whole, or so many. `run` is given the environment."""
     ends = []
     for number in range(1, most):
         ends.append(run(preloading(library, REFUSE=number)))
@@ -34,6 +37,7 @@ def each_refused(library: Path, most: int, run, whole) -> list:
 
 def compare_ends(checks: Checks, about: str, ends: list, wanted: dict):
     """Compares ends with the wanted ones, by their names: they come in this order, and each is met."""
+
     def parts(end):
         return (end.outbox, end.notes, end.status)
 

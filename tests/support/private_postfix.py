@@ -1,6 +1,7 @@
-"""A Postfix of its own on loopback for the scripts that need one, in a temporary folder: its queue, configuration, log and ports are its
-own, it runs without systemd, and it ends with the script, also with one that is killed. Its notices are made by its own bounce(8), or
-by a program in front of it that is given as `serves`. All mail goes to a server of the script (tests/postfix/capture/upstream.py)."""
+"""A Postfix of its own on loopback for the scripts that need one, in a temporary folder: its queue, configuration, log
+and ports are its own, it runs without systemd, and it ends with the script, also with one that is killed. Its notices
+are made by its own bounce(8), or by a program in front of it that is given as `serves`. All mail goes to a server of
+the script (tests/postfix/capture/upstream.py)."""
 import contextlib
 import grp
 import os
@@ -50,7 +51,8 @@ MAIN = {
     "virtual_alias_maps": "inline:{ { alias@example.org = no.behind@example.org }"
     " { everybody@example.org = no.one@example.org, no.two@example.org, later.three@example.org }"
     " { glad@example.org = ok.one@example.org, ok.two@example.org } }",
-    "transport_maps": "inline:{ { gone.example.org = error:5.1.6 the domain has moved } { silent.example.org = error:5.7.1 }"
+    "transport_maps": "inline:{ { gone.example.org = error:5.1.6 the domain has moved }"
+    " { silent.example.org = error:5.7.1 }"
     " { paused.example.org = retry:4.3.2 deliveries are paused } { closed.example.org = smtp:[127.0.0.1]:9 } }",
     # nobody pauses where more mail comes in than goes out, neither a program in front nor bounce(8)
     "in_flow_delay": "0",
@@ -72,7 +74,8 @@ HEADER_CHECKS = """
 /^X-Check: prepend/ PREPEND X-Prepended: by a rule
 /^X-Check: bcc/ BCC later.copy@example.org
 """
-# To this server a program in front hands its notices in: nothing there refuses or changes them. Its cleanup(8) is that of docs/DEPLOY.md.
+# To this server a program in front hands its notices in: nothing there refuses or changes them. Its cleanup(8) is that
+# of docs/DEPLOY.md.
 HAND_IN = """
 127.0.0.1:{hand_in} inet n - n - - smtpd
     -o syslog_name=postfix/hand-in
@@ -88,8 +91,8 @@ noticed-cleanup unix n - n - 0 cleanup
     -o message_size_limit=0
     -o in_flow_delay=0
 """
-# The queue manager is woken often: it puts a message of which the file is locked back to those that came in, for a minute, and looks at
-# these only when it is woken or mail comes.
+# The queue manager is woken often: it puts a message of which the file is locked back to those that came in, for a
+# minute, and looks at these only when it is woken or mail comes.
 MUTE = "    -o cleanup_service_name=nowhere"  # of bounce(8), so that it can't hand a notice in
 MASTER = """
 127.0.0.1:{smtp} inet n - n - - smtpd
@@ -122,7 +125,12 @@ def lacks() -> str:
     if os.geteuid():
         return "root"
     with contextlib.suppress(KeyError):
-        if pwd.getpwnam("postfix") and grp.getgrnam("postdrop") and (SBIN / "master").exists() and shutil.which("postfix"):
+        if (
+            pwd.getpwnam("postfix")
+            and grp.getgrnam("postdrop")
+            and (SBIN / "master").exists()
+            and shutil.which("postfix")
+        ):
             return ""
     return "the package postfix"
 
@@ -139,7 +147,7 @@ def free_ports(count: int) -> list[int]:
 
 
 def asked(path: Path, request: bytes, seconds=60.0) -> bytes:
-    """What a service says on a request that comes whole, as one of Postfix's programs sends it: its announcement, and its answer."""
+    """What a service sends on a whole request of one of Postfix's programs: its announcement and its answer."""
     with socket.socket(socket.AF_UNIX) as stream:
         stream.settimeout(seconds)
         stream.connect(str(path))
@@ -152,7 +160,13 @@ def asked(path: Path, request: bytes, seconds=60.0) -> bytes:
 
 def attributes(pairs) -> bytes:
     """A list of attributes as it is sent."""
-    return b"".join(name.encode() + b"\0" + (value if isinstance(value, bytes) else str(value).encode()) + b"\0" for name, value in pairs) + b"\0"
+    return (
+        b"".join(
+            name.encode() + b"\0" + (value if isinstance(value, bytes) else str(value).encode()) + b"\0"
+            for name, value in pairs
+        )
+        + b"\0"
+    )
 
 
 def comes_true(holds, seconds=PATIENCE, every=0.05) -> bool:
@@ -183,7 +197,8 @@ class Mailbox(upstream.Server):
         self.server_close()
 
 
-# Gives a program the descriptors that its first word names, as 3 and what follows: as systemd gives a service its sockets.
+# Gives a program the descriptors that its first word names, as 3 and what follows: as systemd gives a service its
+# sockets.
 HANDS_ON = """
 import fcntl, os, sys
 given = [fcntl.fcntl(int(it), fcntl.F_DUPFD, 100) for it in sys.argv[1].split(",")]
@@ -195,8 +210,9 @@ os.execvp(sys.argv[2], sys.argv[2:])
 
 
 class Front:
-    """A program that serves in place of bounce(8): `PROGRAM postfix [OPTION].. QUEUE-FOLDER HOST HAND-IN`, run as Postfix's user. It
-    inherits its sockets where it can (`--inherited`): so they take clients also while it is started anew."""
+    """A program that serves in place of bounce(8): `PROGRAM postfix [OPTION].. QUEUE-FOLDER HOST HAND-IN`, run as
+    Postfix's user. It inherits its sockets where it can (`--inherited`): so they take clients also while it is started
+    anew."""
 
     def __init__(self, program: str, room: Path, hand_in: str):
         self.said, self.running, self.options = room / "front.log", None, []
@@ -217,10 +233,25 @@ class Front:
             held, inherited = [sys.executable, "-c", HANDS_ON, ",".join(map(str, descriptors))], ["--inherited"]
         drop = ["setpriv", "--reuid=postfix", "--regid=postfix", "--clear-groups", "--pdeathsig=KILL", "--"]
         with self.said.open("ab") as out:
-            words = [*held, *drop, str(self.program), "postfix", *self.options, *inherited, str(self.queue), HOST, self.hand_in]
+            words = [
+                *held,
+                *drop,
+                str(self.program),
+                "postfix",
+                *self.options,
+                *inherited,
+                str(self.queue),
+                HOST,
+                self.hand_in,
+            ]
             kept = [it.fileno() for it in self.sockets]
-            self.running = subprocess.Popen(words, cwd="/", stdin=subprocess.DEVNULL, stdout=out, stderr=out, pass_fds=kept)
-        if not comes_true(lambda: self.times_listening() > before or self.running.poll() is not None) or self.running.poll() is not None:
+            self.running = subprocess.Popen(
+                words, cwd="/", stdin=subprocess.DEVNULL, stdout=out, stderr=out, pass_fds=kept
+            )
+        if (
+            not comes_true(lambda: self.times_listening() > before or self.running.poll() is not None)
+            or self.running.poll() is not None
+        ):
             raise RuntimeError(f"{self.program} doesn't listen: {self.said.read_text()[-2000:]}")
 
     def inherits(self) -> bool:
@@ -252,7 +283,7 @@ class Front:
 
 
 class Postfix:
-    """One instance. `serves` is the program in front of bounce(8), or None; `settings` are those of main.cf beside MAIN's."""
+    """One instance. `serves` is the program in front of bounce(8), or None; `settings` are added to MAIN's."""
 
     def __init__(self, mailbox: Mailbox, serves: str | None = None, milter_port=9, place=None, **settings):
         self.room = Path(tempfile.mkdtemp(prefix="noticed-postfix-", dir=place))
@@ -262,24 +293,45 @@ class Postfix:
             (self.room / name).mkdir()
         shutil.chown(self.room / "data", "postfix")
         self.smtp, self.filtered, self.hand_in = free_ports(3)
-        self.ports = {"smtp": self.smtp, "filtered": self.filtered, "hand_in": self.hand_in, "milter": milter_port, "upstream": mailbox.port}
-        self.settings = MAIN | {
-            "queue_directory": str(self.queue),
-            "data_directory": str(self.room / "data"),
-            "maillog_file": str(self.room / "maillog"),
-            "maillog_file_prefixes": str(self.room),
-            "relayhost": f"[127.0.0.1]:{mailbox.port}",
-            "header_checks": f"regexp:{self.room}/etc/header_checks",
-        } | settings
+        self.ports = {
+            "smtp": self.smtp,
+            "filtered": self.filtered,
+            "hand_in": self.hand_in,
+            "milter": milter_port,
+            "upstream": mailbox.port,
+        }
+        self.settings = (
+            MAIN
+            | {
+                "queue_directory": str(self.queue),
+                "data_directory": str(self.room / "data"),
+                "maillog_file": str(self.room / "maillog"),
+                "maillog_file_prefixes": str(self.room),
+                "relayhost": f"[127.0.0.1]:{mailbox.port}",
+                "header_checks": f"regexp:{self.room}/etc/header_checks",
+            }
+            | settings
+        )
         self.mute = False  # whether no notice can be handed in, by bounce(8) or by a program in front
         self.front = Front(serves, self.room, f"127.0.0.1:{self.hand_in}") if serves else None
         self.settings |= FRONT if serves else {}
 
     def options(self) -> list:
         """The options of a program in front, which are what main.cf says."""
-        named = {"maximal_queue_lifetime": "--lifetime", "hash_queue_names": "--hash-queue-names", "hash_queue_depth": "--hash-queue-depth"}
+        named = {
+            "maximal_queue_lifetime": "--lifetime",
+            "hash_queue_names": "--hash-queue-names",
+            "hash_queue_depth": "--hash-queue-depth",
+        }
         found = [(option, self.settings[name]) for name, option in named.items() if name in self.settings]
-        return [word for option, value in found for word in (option, value.replace(" ", "").removesuffix("s") if option == "--lifetime" else value.replace(" ", ""))]
+        return [
+            word
+            for option, value in found
+            for word in (
+                option,
+                value.replace(" ", "").removesuffix("s") if option == "--lifetime" else value.replace(" ", ""),
+            )
+        ]
 
     def write(self):
         """Writes the configuration."""
@@ -297,7 +349,13 @@ class Postfix:
         """Runs one of Postfix's commands on this instance."""
         name, *rest = words
         option = "-C" if name == "sendmail" else "-c"
-        return subprocess.run([f"/usr/sbin/{name}", option, str(self.room / "etc"), *rest], capture_output=True, check=False, timeout=PATIENCE, **how)
+        return subprocess.run(
+            [f"/usr/sbin/{name}", option, str(self.room / "etc"), *rest],
+            capture_output=True,
+            check=False,
+            timeout=PATIENCE,
+            **how,
+        )
 
     def start(self, front=True):
         """Starts it, with the program in front, and waits until it takes mail."""
@@ -310,17 +368,23 @@ class Postfix:
             self.front.start()
         self.master = subprocess.Popen(
             [str(SBIN / "master"), "-c", str(self.room / "etc"), "-s"],
-            cwd=self.queue, stdin=subprocess.DEVNULL, stdout=subprocess.DEVNULL, stderr=subprocess.DEVNULL, env={"PATH": os.environ["PATH"], "MAIL_CONFIG": str(self.room / "etc")},
-        )  # fmt: skip
+            cwd=self.queue,
+            stdin=subprocess.DEVNULL,
+            stdout=subprocess.DEVNULL,
+            stderr=subprocess.DEVNULL,
+            env={"PATH": os.environ["PATH"], "MAIL_CONFIG": str(self.room / "etc")},
+        )
         self.watch()
         if not comes_true(lambda: (self.mute or is_open(self.hand_in)) and is_open(self.smtp)):
             raise RuntimeError(f"Postfix doesn't listen: {self.log()[-2000:]}")
 
     def watch(self):
-        """Has a process wait for this script's end, also by a signal, and end Postfix then: its master forgets a signal that it is to get at
-        the death of its parent, since it changes its user."""
+        """Has a process wait for this script's end, also by a signal, and end Postfix then: its master forgets a signal
+        that it is to get at the death of its parent, since it changes its user."""
         words = ["sh", "-c", 'cat; kill -s KILL -- "-$0"; rm -rf "$1"', str(self.master.pid), str(self.room)]
-        self.watcher = subprocess.Popen(words, stdin=subprocess.PIPE, stdout=subprocess.DEVNULL, stderr=subprocess.DEVNULL, start_new_session=True)
+        self.watcher = subprocess.Popen(
+            words, stdin=subprocess.PIPE, stdout=subprocess.DEVNULL, stderr=subprocess.DEVNULL, start_new_session=True
+        )
 
     def reload(self):
         """Has it read its configuration again."""
@@ -366,7 +430,9 @@ class Postfix:
 
     def complaints(self) -> list:
         """What it logged of things that went wrong in its programs."""
-        return [it for it in self.log().splitlines() if any(word in it for word in (" fatal: ", " panic: ", " error: "))]
+        return [
+            it for it in self.log().splitlines() if any(word in it for word in (" fatal: ", " panic: ", " error: "))
+        ]
 
     def queued(self, *queues) -> list[Path]:
         """The files of messages in these queues, or in all."""
@@ -384,13 +450,15 @@ class Postfix:
         return found
 
     def has_both_logs(self) -> bool:
-        """Whether the one message is put off, with a log of recipients who were refused and one of those who are tried again."""
+        """Whether the one message is deferred, with a log of refused recipients and one of those still tried."""
         return len(self.logs("bounce")) == len(self.logs("defer")) == len(self.queued("deferred")) == 1
 
     def at_work(self, empty=False) -> list[str]:
-        """The files of messages that aren't put off, and those of logs of no such message; where `empty` is said, all files."""
+        """The files of messages that aren't deferred, and logs of no such message; with `empty`, all files."""
         kept = set() if empty else {it.name for it in self.queued("deferred")}
-        held = self.queued("maildrop", "incoming", "active") + [it for it in self.queued() + self.logs() if it.name not in kept]
+        held = self.queued("maildrop", "incoming", "active") + [
+            it for it in self.queued() + self.logs() if it.name not in kept
+        ]
         return sorted({str(it.relative_to(self.queue)) for it in held})
 
     def left(self, seconds=PATIENCE, empty=False) -> list[str]:

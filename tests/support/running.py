@@ -56,8 +56,8 @@ def empty_outbox(host=HOST) -> bytes:
 
 @functools.cache
 def example_module(name: str):
-    """The module of examples/NAME.py. Users run these files by their paths, so examples/ isn't a package: the file is loaded
-    under the name by which the others there import it."""
+    """The module of examples/NAME.py. Users run these files by their paths, so examples/ isn't a package: the file is
+    loaded under the name by which the others there import it."""
     spec = importlib.util.spec_from_file_location(name, EXAMPLES / f"{name}.py")
     module = sys.modules[name] = importlib.util.module_from_spec(spec)
     spec.loader.exec_module(module)

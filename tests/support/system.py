@@ -1,5 +1,5 @@
-"""A Debian of their own for the scripts that need one: a base system, which debootstrap makes once in a folder that is kept
-(a minute or two, 300 MB), and layers over it."""
+"""A Debian of their own for the scripts that need one: a base system, which debootstrap makes once in a folder that is
+kept (a minute or two, 300 MB), and layers over it."""
 import os
 import re
 import shutil
@@ -49,7 +49,9 @@ class Layer:
             self.mount("tmpfs", "tmpfs", self.room, "mode=755")
             for it in ("root", "upper", "work"):
                 (self.room / it).mkdir()
-            self.mount("overlay", "overlay", self.root, f"lowerdir={lower},upperdir={self.room}/upper,workdir={self.room}/work")
+            self.mount(
+                "overlay", "overlay", self.root, f"lowerdir={lower},upperdir={self.room}/upper,workdir={self.room}/work"
+            )
         except BaseException:
             self.leave()
             raise
@@ -74,8 +76,24 @@ class Layer:
     def inside(self, *words, **variables) -> subprocess.CompletedProcess:
         """Runs a command in the root, with processes and mounts of its own: what it leaves running ends with it."""
         enter = 'mount -t proc proc "$0/proc" && mount --rbind /dev "$0/dev" && exec chroot "$0" "$@"'
-        entering = ["unshare", "--mount", "--pid", "--fork", "--kill-child", "sh", "-c", enter, str(self.root), *map(str, words)]
-        how = {"env": WITHIN | variables, "stdin": subprocess.DEVNULL, "stdout": subprocess.PIPE, "stderr": subprocess.STDOUT}
+        entering = [
+            "unshare",
+            "--mount",
+            "--pid",
+            "--fork",
+            "--kill-child",
+            "sh",
+            "-c",
+            enter,
+            str(self.root),
+            *map(str, words),
+        ]
+        how = {
+            "env": WITHIN | variables,
+            "stdin": subprocess.DEVNULL,
+            "stdout": subprocess.PIPE,
+            "stderr": subprocess.STDOUT,
+        }
         return subprocess.run(entering, check=False, text=True, errors="replace", **how)
 
     def leave(self):
@@ -116,17 +134,27 @@ def until(holds, patience=PATIENCE) -> bool:
 
 
 class Container(Layer):
-    """A container over a base system: what is written in it goes to memory, stays over a reboot, and is gone at the end."""
+    """A container over a base system: what is written in it stays in memory over a reboot, and is gone at the end."""
 
     running = None
 
     def boot(self) -> bool:
         """Boots it, and waits until systemd has started what it starts."""
-        words = ["systemd-nspawn", "--quiet", "--boot", f"--directory={self.root}", "--machine=noticed-boot", "--private-network", "--console=pipe"]
+        words = [
+            "systemd-nspawn",
+            "--quiet",
+            "--boot",
+            f"--directory={self.root}",
+            "--machine=noticed-boot",
+            "--private-network",
+            "--console=pipe",
+        ]
         if not Path("/run/systemd/system").is_dir():
             words += ["--register=no", "--keep-unit"]  # no systemd runs on this machine that could be asked for a scope
         with open(self.room / "console", "wb") as console:
-            self.running = subprocess.Popen(words, stdin=subprocess.DEVNULL, stdout=console, stderr=console, start_new_session=True)
+            self.running = subprocess.Popen(
+                words, stdin=subprocess.DEVNULL, stdout=console, stderr=console, start_new_session=True
+            )
         wanted = ("running", "degraded")
         return until(lambda: self.leader() and self.said("systemctl", "is-system-running") in wanted)
 
@@ -146,8 +174,8 @@ class Container(Layer):
         return int(children[0]) if children else 0
 
     def reboot(self) -> bool:
-        """Has systemd end all and turn the machine off, and boots it anew. (`systemctl reboot` is the same to the units;
-        systemd-nspawn can't begin anew on each machine.)"""
+        """Has systemd end all and turn the machine off, and boots it anew. (`systemctl reboot` is the same to the
+        units; systemd-nspawn can't begin anew on each machine.)"""
         self.run("systemctl", "poweroff")
         self.running.wait(timeout=PATIENCE)
         return self.boot()

@@ -1,5 +1,5 @@
-"""What a notice says, taken apart so that two of them can be compared, without what differs from one message to the next: ids of
-messages, moments and ports."""
+"""What a notice says, taken apart so that two of them can be compared, without what differs from one message to the
+next: ids of messages, moments and ports."""
 import email.utils
 import re
 from dataclasses import dataclass, field
@@ -39,7 +39,7 @@ class Told:
 
     @property
     def key(self):
-        """By which it is found beside the other side's: its address, what it says became of its recipients, and who they are."""
+        """The key by which the two sides' notices are matched: address, actions and names of the recipients."""
         return self.to, self.actions(), sorted(it.get(b"Final-Recipient", b"") for it in self.recipients)
 
     def actions(self) -> list:
@@ -73,12 +73,19 @@ def taken_apart(to: list, text: bytes, ports: dict) -> Told:
     head = fields(header)
     for name in (b"From", b"To", b"Subject", b"Auto-Submitted", b"MIME-Version"):
         it.parts[name.decode()] = [value for found, value in head if found.lower() == name.lower()]
-    it.parts["Date, Message-ID"] = [len([1 for found, _ in head if found.lower() == name]) for name in (b"date", b"message-id")]
+    it.parts["Date, Message-ID"] = [
+        len([1 for found, _ in head if found.lower() == name]) for name in (b"date", b"message-id")
+    ]
     it.parts["report-type"] = re.search(rb"report-type=([\w-]+)", header)[1]
     it.parts["type of the status"] = dict(fields(kind)).get(b"Content-Type")
     for name, value in message.items():
         it.parts[f"message: {name.decode()}"] = typed(cleaned(value, it.queue_id, ports))
-    it.parts["recipients"] = sorted(([(name, typed(cleaned(value, it.queue_id, ports))) for name, value in sorted(group.items())] for group in recipients))
+    it.parts["recipients"] = sorted(
+        (
+            [(name, typed(cleaned(value, it.queue_id, ports))) for name, value in sorted(group.items())]
+            for group in recipients
+        )
+    )
     return with_texts(it, words, returned, ports)
 
 

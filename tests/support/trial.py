@@ -1,7 +1,7 @@
-"""What `make try` runs: the demo without a proof. `rt try` compiles the program once, with checks that stop it at an index out
-of bounds, an overflow or a bad access, and runs it twice: `batch` on an example, then a daemon of two agents. The daemon's two
-clients are this script's, by the connection of examples/client.py, in the place of `noticed send`. Nothing is proved by it,
-and no program is kept. Its status is 0 where both runs ended with status 0."""
+"""What `make try` runs: the demo without a proof. `rt try` compiles the program once, with checks that stop it at an
+index out of bounds, an overflow or a bad access, and runs it twice: `batch` on an example, then a daemon of two agents.
+The daemon's two clients are this script's, by the connection of examples/client.py, in the place of `noticed send`.
+Nothing is proved by it, and no program is kept. Its status is 0 where both runs ended with status 0."""
 import os
 import re
 import shutil
@@ -66,8 +66,8 @@ class Client(threading.Thread):
 
 
 def parts_of(said: str, notes: str) -> dict:
-    """What each run wrote to standard output and to standard error, and how it ended: `rt try` shows the first under headings,
-    and a line that begins with case= after each of the second."""
+    """What each run wrote to standard output and to standard error, and how it ended: `rt try` shows the first under
+    headings, and a line that begins with case= after each of the second."""
     found = re.split(r"^== (\w+)\n", said, flags=re.MULTILINE)
     outboxes = dict(zip(found[1::2], found[2::2]))
     parts, begun = {}, 0
@@ -90,12 +90,22 @@ def show(parts: dict, clients: list):
 
 
 def main() -> int:
-    print("make try proves NOTHING: the program is compiled with checks and run, by rt try; that takes a minute or two ..", flush=True)
+    print(
+        "make try proves NOTHING: the program is compiled with checks and run, by rt try; "
+        "that takes a minute or two ..",
+        flush=True,
+    )
     with tempfile.TemporaryDirectory(prefix="noticed-try-") as name:
         room = Path(name)
         prepared(room)
         words = [RT, "try", "--cases", str(room / "cases")]
-        how = {"stdin": subprocess.DEVNULL, "stdout": subprocess.PIPE, "stderr": subprocess.PIPE, "text": True, "errors": "replace"}
+        how = {
+            "stdin": subprocess.DEVNULL,
+            "stdout": subprocess.PIPE,
+            "stderr": subprocess.PIPE,
+            "text": True,
+            "errors": "replace",
+        }
         with subprocess.Popen(words, cwd=ROOT / "crates/noticed", **how) as tried:
             clients = [Client(it, room, tried) for it in ("first", "second")]
             for it in clients:
@@ -104,7 +114,11 @@ def main() -> int:
             for it in clients:
                 it.join()
     parts = parts_of(said, notes)
-    ended = tried.returncode == 0 and set(parts) == set(RUNS) and all("run=ended status=0" in f"run={it[2]}" for it in parts.values())
+    ended = (
+        tried.returncode == 0
+        and set(parts) == set(RUNS)
+        and all("run=ended status=0" in f"run={it[2]}" for it in parts.values())
+    )
     if not ended:
         print(f"{said}{notes}the program could not be compiled or run, or a run failed")
         return 1

@@ -1,5 +1,5 @@
-"""Runs a script, and writes a byte to a descriptor whenever the script begins to sleep: then it has done what there was to do.
-What else is to be different in the script is a text of Python that runs before it.
+"""Runs a script, and writes a byte to a descriptor whenever the script begins to sleep: then it has done what there was
+to do. What else is to be different in the script is a text of Python that runs before it.
 
     python3 watched.py DESCRIPTOR TEXT SCRIPT [WORD]..."""
 import os

@@ -1,8 +1,9 @@
-"""Makes tests/postfix/files/: what a real Postfix keeps of each message of cases.py, and the notices that its bounce(8) makes of that.
+"""Makes tests/postfix/files/: what a real Postfix keeps of each message of cases.py, and the notices that its bounce(8)
+makes of that.
 
-Runs as root where Debian's package `postfix` is installed, on ports of loopback; nothing of it is in the gate. Twice for each of the
-settings: first bounce(8) can't hand in a notice, so its logs stay, and they are copied with the queue files while Postfix is stopped; then
-it can, and is asked for the notices as the queue manager would ask.
+Runs as root where Debian's package `postfix` is installed, on ports of loopback; nothing of it is in the gate. Twice
+for each of the settings: first bounce(8) can't hand in a notice, so its logs stay, and they are copied with the queue
+files while Postfix is stopped; then it can, and is asked for the notices as the queue manager would ask.
 """
 import re
 import shutil
@@ -26,9 +27,11 @@ ASKED = {
 
 
 def records_of(postfix: Instance, file: Path) -> list[tuple[bytes, bytes]]:
-    """Type and bytes of each record that Postfix's postcat shows but pointers and the end: it shows where each begins, and the bytes are
-    the file's."""
-    shown = subprocess.run(["postcat", "-c", str(postfix.room / "etc"), "-vo", str(file)], capture_output=True, check=True).stdout
+    """Type and bytes of each record that Postfix's postcat shows but pointers and the end: it shows where each begins,
+    and the bytes are the file's."""
+    shown = subprocess.run(
+        ["postcat", "-c", str(postfix.room / "etc"), "-vo", str(file)], capture_output=True, check=True
+    ).stdout
     text, records = file.read_bytes(), []
     for line in shown.split(b"\n"):
         if not (found := re.match(rb" *(\d+) (?:[a-z_]+: |\*\*\* )", line)):
@@ -74,8 +77,15 @@ def request_of(case: cases.Case, asked: int, queue_id: str, queue_name: str, rec
 
 def settled(postfix: Instance, known: dict) -> bool:
     """Whether each message has the log that it is to have, and none is at work."""
-    at_work = [it for name in ("active", "incoming", "maildrop") for it in (postfix.room / "queue" / name).rglob("*") if it.is_file()]
-    return not at_work and all(postfix.log_file(case.log, found) and postfix.queue_file(found) for found, case in known.items())
+    at_work = [
+        it
+        for name in ("active", "incoming", "maildrop")
+        for it in (postfix.room / "queue" / name).rglob("*")
+        if it.is_file()
+    ]
+    return not at_work and all(
+        postfix.log_file(case.log, found) and postfix.queue_file(found) for found, case in known.items()
+    )
 
 
 def keep(postfix: Instance, known: dict):
@@ -95,7 +105,7 @@ def keep(postfix: Instance, known: dict):
 
 
 def ask_for_notices(postfix: Instance, known: dict, server: upstream.Server):
-    """Asks for the notices of each message, and writes them with the requests: of each its recipient, and then its text."""
+    """Asks for the notices of each message, and writes the requests and the notices: recipient, then text."""
     for queue_id, case in known.items():
         room = FILES / case.name
         file = postfix.queue_file(queue_id)
@@ -110,7 +120,9 @@ def ask_for_notices(postfix: Instance, known: dict, server: upstream.Server):
                 mine = [it for it in server.notices if b"X-Postfix-Queue-ID: " + queue_id.encode() + b"\n" in it[1]]
                 server.notices[:] = [it for it in server.notices if it not in mine]
                 for at, (to, text) in enumerate(mine):
-                    (room / (name if len(mine) == 1 else f"{name}-{at + 1}")).write_bytes(b"to " + b" ".join(to) + b"\n" + text)
+                    (room / (name if len(mine) == 1 else f"{name}-{at + 1}")).write_bytes(
+                        b"to " + b" ".join(to) + b"\n" + text
+                    )
 
 
 def run(settings: str, messages: list, server: upstream.Server):
@@ -120,13 +132,19 @@ def run(settings: str, messages: list, server: upstream.Server):
         postfix.start(keeps_logs=True)
         known = {}
         for case in messages:
-            known[by_sendmail(postfix, case) if case.command else by_smtp(FILTERED if case.filtered else SMTP, case)] = case
+            known[
+                by_sendmail(postfix, case) if case.command else by_smtp(FILTERED if case.filtered else SMTP, case)
+            ] = case
         for _ in range(60):
             if settled(postfix, known):
                 break
             time.sleep(1)
         else:
-            lacking = [case.name for found, case in known.items() if not (postfix.log_file(case.log, found) and postfix.queue_file(found))]
+            lacking = [
+                case.name
+                for found, case in known.items()
+                if not (postfix.log_file(case.log, found) and postfix.queue_file(found))
+            ]
             raise RuntimeError(f"not settled: {lacking}; {postfix.room}/maillog")
         postfix.stop()
         keep(postfix, known)

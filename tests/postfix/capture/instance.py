@@ -1,4 +1,5 @@
-"""A Postfix of its own on loopback, in a folder of its own, whose bounce(8) can be kept from handing in a notice: then its logs stay."""
+"""A Postfix of its own on loopback, in a folder of its own, whose bounce(8) can be kept from handing in a notice: then
+its logs stay."""
 import grp
 import os
 import pwd
@@ -128,7 +129,11 @@ class Instance:
         self.run("postfix", "-c", str(self.room / "etc"), "stop")
 
     def queue_file(self, queue_id: str) -> Path | None:
-        found = [it for it in (self.room / "queue").rglob(queue_id) if it.relative_to(self.room / "queue").parts[0] in ("active", "deferred", "incoming", "hold")]
+        found = [
+            it
+            for it in (self.room / "queue").rglob(queue_id)
+            if it.relative_to(self.room / "queue").parts[0] in ("active", "deferred", "incoming", "hold")
+        ]
         return found[0] if found else None
 
     def log_file(self, service: str, queue_id: str) -> Path | None:

@@ -10,10 +10,14 @@ CHANGES = {
     "more-dsn": [b"2<no.asked@example.org>\0NOTIFY=FAILURE,DELAY ORCPT=rfc822;asked@example.net\0"],
     "fewer": [b"-<no.taken@example.org>\0"],
     "field": [b"m" + struct.pack(">I", 1) + b"Subject\0changed by a filter\0"],
-    "long-field": [b"m" + struct.pack(">I", 1) + b"Subject\0" + b"changed to one that is much longer than it was " * 6 + b"\0"],
+    "long-field": [
+        b"m" + struct.pack(">I", 1) + b"Subject\0" + b"changed to one that is much longer than it was " * 6 + b"\0"
+    ],
     "no-field": [b"m" + struct.pack(">I", 1) + b"Subject\0\0"],
     "new-field": [b"hX-Added\0at the end\0", b"i" + struct.pack(">I", 0) + b"X-First\0at the beginning\0"],
-    "body": [b"bA body that a filter wrote.\r\nIt is longer than the one that was here before it, by some lines.\r\n" * 4],
+    "body": [
+        b"bA body that a filter wrote.\r\nIt is longer than the one that was here before it, by some lines.\r\n" * 4
+    ],
     "short-body": [b"bx\r\n"],
     "no-body": [b"b"],
 }

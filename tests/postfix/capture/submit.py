@@ -45,7 +45,13 @@ def by_sendmail(postfix: Instance, case: Case) -> str:
     log = postfix.room / "maillog"
     before = log.read_text().count("uid=")
     addresses = [it[0] if isinstance(it, tuple) else it for it in case.recipients]
-    subprocess.run(["/usr/sbin/sendmail", "-C", str(postfix.room / "etc"), *case.command, *addresses], input=case.text(), check=True, stdout=subprocess.DEVNULL, timeout=60)
+    subprocess.run(
+        ["/usr/sbin/sendmail", "-C", str(postfix.room / "etc"), *case.command, *addresses],
+        input=case.text(),
+        check=True,
+        stdout=subprocess.DEVNULL,
+        timeout=60,
+    )
     for _ in range(100):
         found = re.findall(r"pickup\[\d+\]: (\w+): uid=", log.read_text())
         if len(found) > before:

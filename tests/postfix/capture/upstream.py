@@ -1,5 +1,5 @@
-"""The mail server to which the private Postfix relays: it answers each RCPT by the first word of the recipient's local part, keeps the
-notices that come from nobody, apart from all other mail."""
+"""The mail server to which the private Postfix relays: it answers each RCPT by the first word of the recipient's local
+part, keeps the notices that come from nobody, apart from all other mail."""
 import socketserver
 import threading
 
@@ -83,7 +83,8 @@ class Upstream(socketserver.StreamRequestHandler):
 
 
 class Server(socketserver.ThreadingTCPServer):
-    """The server, with the notices that it took: of each its recipients and its text; and all else that it took, with the sender."""
+    """The server, with the notices that it took: of each its recipients and its text; and all else that it took, with
+    the sender."""
 
     allow_reuse_address, daemon_threads, request_queue_size = True, True, 100
 

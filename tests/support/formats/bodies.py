@@ -14,7 +14,8 @@ ADDRESS = re.compile(rb"[!-;=?-~]{1,256}")
 QUEUE_ID = re.compile(rb"[0-9A-Za-z]{1,32}")
 STATUS = re.compile(rb"[245]\.(0|[1-9][0-9]{0,2})\.(0|[1-9][0-9]{0,2})")
 MTA = re.compile(rb"[!-~]{1,255}")
-TYPE_NAME = re.compile(rb"[!#$%&'*+/0-9=?A-Z^_`a-z{|}~-]{1,32}")  # the bytes of an atom, as RFC 5322 section 3.2.3 lists them
+# The bytes of an atom, as RFC 5322 section 3.2.3 lists them.
+TYPE_NAME = re.compile(rb"[!#$%&'*+/0-9=?A-Z^_`a-z{|}~-]{1,32}")
 EXTENSIONS = re.compile(rb"(X-[!#$%&'*+/0-9=?A-Z^_`a-z{|}~-]{1,62}: [ -~]{1,255}\n){0,8}")
 ENVELOPE_ID = re.compile(rb"[ -~]{1,100}")
 NOT_PRINTABLE = re.compile(rb"[^ -~]")
@@ -57,7 +58,7 @@ class Outcome:
 
 @dataclass(frozen=True)
 class Draft:
-    """What a flush says beside its key; None expects any number of outcomes. `header` is the message where that is returned."""
+    """What a flush says beside its key; None expects any number. `header` is the message if that is returned."""
 
     moment: int
     arrival: int
@@ -140,8 +141,12 @@ def outcome_of(service: int, fields: dict) -> Outcome:
     refuse_unless(len(fields["reason"]) <= LONGEST_TEXT, 8)
     refuse_unless(retry_until is None or action == DELAYED, 10)
     refuse_unless(empty_or(TYPE_NAME, fields["recipient_type"]), 15)
-    refuse_unless(empty_or(TYPE_NAME, fields["original_type"]) and (fields["original"] or not fields["original_type"]), 16)
-    refuse_unless(empty_or(TYPE_NAME, fields["diagnostic_type"]) and (fields["diagnostic"] or not fields["diagnostic_type"]), 17)
+    refuse_unless(
+        empty_or(TYPE_NAME, fields["original_type"]) and (fields["original"] or not fields["original_type"]), 16
+    )
+    refuse_unless(
+        empty_or(TYPE_NAME, fields["diagnostic_type"]) and (fields["diagnostic"] or not fields["diagnostic_type"]), 17
+    )
     refuse_unless(EXTENSIONS.fullmatch(fields["extensions"]), 20)
     cleaned = {it: NOT_PRINTABLE.sub(b"?", fields[it]) for it in ("diagnostic", "reason")}
     return Outcome(**{**fields, **cleaned, "last_attempt": last_attempt, "retry_until": retry_until})
@@ -164,17 +169,32 @@ def decoded(body: bytes) -> Request:
     refuse_unless(not body or body[0] in KINDS, 21)
     refuse_unless(len(body) < 2 or body[1] in KINDS[body[0]], 22)
     fields = Fields(body)
-    version, kind, number, service, queue_id = fields.number(1), fields.number(1), fields.number(4), fields.number(1), fields.text()
+    version, kind, number, service, queue_id = (
+        fields.number(1),
+        fields.number(1),
+        fields.number(4),
+        fields.number(1),
+        fields.text(),
+    )
     parts, draft = {}, None
     if kind == APPEND:
         parts = {"original": fields.text(), "recipient": fields.text(), "action": fields.number(1)}
         parts |= {it: fields.text() for it in ("status", "mta", "diagnostic", "reason")}
         parts |= {it: fields.number(8) if version > 1 else NO_MOMENT for it in ("last_attempt", "retry_until")}
-        parts |= {it: fields.text() if version == 3 else b"" for it in ("recipient_type", "original_type", "diagnostic_type", "extensions")}
+        parts |= {
+            it: fields.text() if version == 3 else b""
+            for it in ("recipient_type", "original_type", "diagnostic_type", "extensions")
+        }
     elif kind == FLUSH:
         draft = Draft(fields.number(8), fields.number(8), fields.text(), fields.text(), fields.text())
         if version == 3:
-            draft = replace(draft, expected=counted(fields.number(4)), returned=fields.number(1), wording=fields.number(1), extensions=fields.text())
+            draft = replace(
+                draft,
+                expected=counted(fields.number(4)),
+                returned=fields.number(1),
+                wording=fields.number(1),
+                extensions=fields.text(),
+            )
     refuse_unless(fields.at == len(body), 24)
     refuse_unless(service in ACTIONS, 25)
     refuse_unless(QUEUE_ID.fullmatch(queue_id), 26)

@@ -93,7 +93,11 @@ def second_part(host: bytes, letter: Letter) -> list:
         lines.append(b"")
         if it.original:
             lines.append(b"Original-Recipient: %s; %s" % (it.original_type or b"rfc822", it.original))
-        lines += [b"Final-Recipient: %s; %s" % (it.recipient_type or b"rfc822", it.recipient), b"Action: " + ACTION_WORDS[it.action], b"Status: " + it.status]
+        lines += [
+            b"Final-Recipient: %s; %s" % (it.recipient_type or b"rfc822", it.recipient),
+            b"Action: " + ACTION_WORDS[it.action],
+            b"Status: " + it.status,
+        ]
         if it.mta:
             lines.append(b"Remote-MTA: dns; " + it.mta)
         if it.diagnostic:
@@ -109,7 +113,9 @@ def second_part(host: bytes, letter: Letter) -> list:
 def third_part(letter: Letter, returned: list) -> list:
     """The returned lines with their header."""
     whole = returns_message(letter.draft)
-    description = RETURNED_OF[worded_as(letter) if letter.draft.wording == BY_OUTCOME else BOUNCE] + (b"" if whole else b" Headers")
+    description = RETURNED_OF[worded_as(letter) if letter.draft.wording == BY_OUTCOME else BOUNCE] + (
+        b"" if whole else b" Headers"
+    )
     content_type = b"message/rfc822" if whole else b"text/rfc822-headers"
     return [b"Content-Description: " + description, b"Content-Type: " + content_type, b"", *returned, b""]
 

@@ -6,17 +6,41 @@ from tests.support.running import Ran
 
 from .bodies import Refused, decoded
 from .logs import (
-    CLOSED, DIFFERS, DISCARDED, FORGOTTEN, GONE, LOG_FULL, LOGGED, NO_RETURN, NOT_CLOSED, NOTHING, REFUSED, SEALED, TABLE_FULL, Limits, Logs,
+    CLOSED,
+    DIFFERS,
+    DISCARDED,
+    FORGOTTEN,
+    GONE,
+    LOG_FULL,
+    LOGGED,
+    NO_RETURN,
+    NOT_CLOSED,
+    NOTHING,
+    REFUSED,
+    SEALED,
+    TABLE_FULL,
+    Limits,
+    Logs,
 )
 from .notices import SERVICE_LETTERS, outbox
 
 LONGEST_FRAME = 65_536
 OUT_OF_TURN, TOO_MANY = 46, 47
 WORDS = {
-    LOGGED: b"logged %d", CLOSED: b"closed", TABLE_FULL: b"table full", LOG_FULL: b"log full", NOTHING: b"nothing",
-    NO_RETURN: b"no return %d", SEALED: b"sealed %d", DISCARDED: b"discarded %d", GONE: b"gone", REFUSED: b"refused %d",
-    FORGOTTEN: b"forgotten", NOT_CLOSED: b"not closed", DIFFERS: b"differs %d",
-}  # fmt: skip
+    LOGGED: b"logged %d",
+    CLOSED: b"closed",
+    TABLE_FULL: b"table full",
+    LOG_FULL: b"log full",
+    NOTHING: b"nothing",
+    NO_RETURN: b"no return %d",
+    SEALED: b"sealed %d",
+    DISCARDED: b"discarded %d",
+    GONE: b"gone",
+    REFUSED: b"refused %d",
+    FORGOTTEN: b"forgotten",
+    NOT_CLOSED: b"not closed",
+    DIFFERS: b"differs %d",
+}
 
 
 class Fault(Exception):
@@ -98,7 +122,9 @@ class Notes:
             self.lines += [] if self.lost else [it]
 
 
-def batch(host: bytes, given: bytes, limits: Limits = Limits(), broken: bool = False, room: Optional[int] = None) -> Ran:
+def batch(
+    host: bytes, given: bytes, limits: Limits = Limits(), broken: bool = False, room: Optional[int] = None
+) -> Ran:
     """What `noticed batch` gives on these bytes: of a broken input the read after them fails, and of the notes there is
     room for so many lines, if that is said."""
     logs, letters, notes, faults = Logs(limits), [], Notes(room), []

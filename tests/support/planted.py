@@ -35,7 +35,7 @@ EDITS = [
     ("batch", "formats/bodies.py", "is_moment(it) for it in dates), 27)", "is_moment(it) for it in dates[:1]), 27)"),
     ("batch", "formats/bodies.py", "is None or action == DELAYED, 10", "is None or action != DELIVERED, 10"),
     ("batch", "formats/bodies.py", "fields.at == len(body), 24", "fields.at <= len(body), 24"),
-    ("batch", "formats/bodies.py", "{1: (1, 2, 3), 2: (1, 2, 3, 4)}", "{1: (1, 2, 3, 4), 2: (1, 2, 3, 4)}"),
+    ("batch", "formats/bodies.py", "KINDS = {1: (1, 2, 3), 2", "KINDS = {1: (1, 2, 3, 4), 2"),
     ("batch", "formats/logs.py", "return FORGOTTEN, 0, None", "return NOT_CLOSED, 0, None"),
     ("batch", "formats/logs.py", "        del self.held[key]\n", ""),
     (

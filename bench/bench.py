@@ -5,8 +5,8 @@ same.
 
     python3 -m bench.bench [WORD ..]      only the workloads whose names have one of these words
 
-What strace, valgrind and GNU time would tell is left out where they aren't installed. The last line is 'within its
-limits' or says what was over; the exit status is 1 then.
+What needs strace, valgrind or GNU time is skipped if they aren't installed. The last line is 'within its limits' or
+says what was over, and names what was skipped. The exit status is 1 if something was over.
 """
 import re
 import shutil
@@ -116,7 +116,9 @@ def main() -> int:
         for workload in all_workloads():
             if not wanted or any(word in workload.name for word in wanted):
                 over += measure(workload, room, empty)
-    print("over: " + "; ".join(over) if over else "within its limits")
+    missing = [it for it in ("time", "strace", "valgrind") if not shutil.which(it)]
+    skipped = f"; skipped: what needs {' or '.join(missing)}" if missing else ""
+    print(("over: " + "; ".join(over) if over else "within its limits") + skipped)
     return 1 if over else 0
 
 

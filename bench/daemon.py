@@ -111,7 +111,7 @@ def calls_of(counts) -> dict:
 def calls(room: Path):
     """Reads and writes of a daemon and its client, a request."""
     if not shutil.which("strace"):
-        print("strace isn't installed: reads and writes are left out")
+        print("skipped: reads and writes (needs strace)")
         return
     given, path = room / "traced", room / "socket"
     given.write_bytes(appends(0, TRACED))

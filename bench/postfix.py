@@ -137,6 +137,8 @@ def main():
     for name, all_of_it in figures.items():
         rate, postfix, front = (shown([it[at] for it in all_of_it]) for at in range(3))
         print(f"  {name}: {rate} messages a second; processor a message: Postfix {postfix} ms, the service {front} ms")
+    if "noticed" not in sides:
+        print("skipped: noticed (the program has no command `postfix`)")
 
 
 if __name__ == "__main__":

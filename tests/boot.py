@@ -274,10 +274,10 @@ def check_all(checks: Checks, it: Machine):
 def main():
     checks = Checks("boot: the units under a systemd of their own")
     if len(sys.argv) != 2:
-        print("  skipped: python3 -m tests.boot FOLDER boots a Debian that it makes in FOLDER")
+        checks.skip("everything (name a FOLDER in which Debian's base system is made)")
         checks.done()
     if lacking(TOOLS):
-        print(f"  skipped: it needs {' and '.join(lacking(TOOLS))}")
+        checks.skip(f"everything (needs {' and '.join(lacking(TOOLS))})")
         checks.done()
     signal.signal(signal.SIGTERM, lambda *_: sys.exit(1))
     with Machine(base_system(Path(sys.argv[1]).resolve())) as it:

@@ -112,7 +112,7 @@ def folders(checks: Checks, room: Path):
 def not_allowed(checks: Checks, room: Path):
     """A folder that this account may not write in; as root, another account's daemon."""
     if os.geteuid() == 0 and not shutil.which("setpriv"):
-        print("  a folder that can't be written: left out, since root may write everywhere and there is no setpriv")
+        checks.skip("a folder that can't be written (root may write everywhere, so it needs setpriv)")
         return
     with tempfile.TemporaryDirectory() as name:
         folder, copy = Path(name) / "journal", Path(name) / "noticed"

@@ -339,7 +339,7 @@ def main():
     runs = 20 if "--full" in options else 2
     named = [it for it in sys.argv[1:] if it not in options]
     if "--apart" in options and lacking(TOOLS):
-        print(f"  skipped: it needs {' and '.join(lacking(TOOLS))}")
+        checks.skip(f"everything (needs {' and '.join(lacking(TOOLS))})")
         checks.done()
     signal.signal(signal.SIGTERM, lambda *_: sys.exit(1))
     for mailer, (is_there, package, is_of_root, odd) in MAILERS.items():
@@ -349,9 +349,9 @@ def main():
         if "--apart" in options:
             apart(checks, name, package, sorted(options - {"--apart"}))
         elif not is_there():
-            print(f"  {name} isn't installed, and was skipped: install {package}")
+            checks.skip(f"{name} (needs {package})")
         elif is_of_root and os.geteuid():
-            print(f"  {name} is tried by root alone, and was skipped")
+            checks.skip(f"{name} (needs root)")
         else:
             handed_in(checks, mailer, runs, odd)
     checks.done()

@@ -1,6 +1,6 @@
 """Sends the same messages, of over 80 kinds, to two Postfixes of this script's own on loopback, one with its own
 bounce(8), the other with `noticed postfix` in front: each recipient is told once on both sides, and the notices differ
-only in what is named here. Needs root and Debian's package postfix, and is left out without them.
+only in what is named here. Needs root and Debian's package postfix, and is skipped without them.
 
     python3 -m tests.postfix_beside [--itself] [NAME]...
 
@@ -379,12 +379,12 @@ def main():
     checks = Checks("Postfix: the notices of the same messages beside those of its own bounce(8)")
     options = {it for it in sys.argv[1:] if it.startswith("--")}
     if lacks():
-        print(f"  left out: it needs {lacks()}")
+        checks.skip(f"everything (needs {lacks()})")
         checks.done()
     named = [it for it in sys.argv[1:] if it not in options]
     serves = None if "--itself" in options else program()
     if serves and not has_command():
-        print("  the program has no command `postfix`: bounce(8) beside itself")
+        checks.skip("noticed postfix (the program has no such command), so bounce(8) was compared with itself")
         serves = None
     used = Counter({it.name: 0 for it in ALLOWED}) if serves else None
     for it in RUNS:

@@ -1,7 +1,7 @@
 """Runs a Postfix of this script's own on loopback with `noticed postfix` in front of its bounce(8), and harms it: the
 service is killed at load, mail can't be handed in, Postfix is loaded anew or stopped while logs wait, logs and queue
 files are damaged, locked, or meet a full disk, and clients send what no program of Postfix sends. No recipient is lost,
-and few are told twice. Needs root and Debian's package postfix, and is left out without them.
+and few are told twice. Needs root and Debian's package postfix, and is skipped without them.
 
     python3 -m tests.postfix_faults [--itself] [--full] [NAME]...
 
@@ -464,7 +464,7 @@ def full_disk(checks: Checks, serves, full: bool):
     with contextlib.ExitStack() as stack:
         it = stack.enter_context(Tried(serves))
         if not stack.enter_context(small_disk(it.postfix.queue / "bounce")):
-            print("  a full disk: left out, since nothing can be mounted here")
+            checks.skip("a full disk (nothing can be mounted here)")
             return
         queue_id, room = "ABC123", it.postfix.queue / "bounce"
         for at in range(9):
@@ -561,7 +561,7 @@ def hostile(checks: Checks, serves, full: bool):
             f"{before[1]} and {after[1]} files, {before[2]} and {after[2]} threads"
         )
         if memory(service, "VmSize") > SANITIZED:
-            print("  its memory says nothing: it was built with a sanitizer, which keeps what is freed")
+            checks.skip("memory after hostile clients (the program has a sanitizer, which keeps what is freed)")
         else:
             checks.true("hostile clients: memory doesn't grow", after[0] - before[0] <= GROWTH)
         checks.equal("hostile clients: files and threads stay", after[1:], before[1:])
@@ -625,11 +625,11 @@ def main():
     checks = Checks("Postfix with noticed in front, harmed: no recipient is lost, and few are told twice")
     options = {it for it in sys.argv[1:] if it.startswith("--")}
     if lacks():
-        print(f"  left out: it needs {lacks()}")
+        checks.skip(f"everything (needs {lacks()})")
         checks.done()
     serves = None if "--itself" in options else program()
     if serves and b"postfix" not in run(["postfix"]).notes:
-        print("  the program has no command `postfix`: bounce(8) alone")
+        checks.skip("noticed postfix (the program has no such command), so bounce(8) served alone")
         serves = None
     named = [it for it in sys.argv[1:] if it not in options]
     for check in CHECKS:

@@ -237,7 +237,7 @@ def at_load(checks: Checks):
 def not_allowed(checks: Checks):
     """Whoever may not remove the socket's file can't stop the daemon."""
     if os.geteuid() != 0:
-        print("  not run as root: a stop by another account isn't tried")
+        checks.skip("a stop by another account (needs root)")
         return
     with Daemon(1, 1000) as daemon:
         daemon.listens()

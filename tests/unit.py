@@ -225,15 +225,15 @@ def mode_of(path: Path) -> str:
     return stat.filemode(path.lstat().st_mode)
 
 
-def has_accounts() -> bool:
+def has_accounts(checks: Checks) -> bool:
     """Whether commands can be run as other accounts here."""
     if os.geteuid():
-        print("  not run as root: nobody else tries to get at the outbox")
+        checks.skip("other accounts at the outbox (needs root)")
         return False
     try:
         return subprocess.run(["true"], check=False, user=DAEMON, group=DAEMON, extra_groups=[AGENT]).returncode == 0
     except (OSError, subprocess.SubprocessError):
-        print("  no other accounts can be taken here: nobody else tries to get at the outbox")
+        checks.skip("other accounts at the outbox (no command can be run as another account here)")
         return False
 
 
@@ -544,7 +544,7 @@ def check_postfix(checks: Checks):
 def check_verify(checks: Checks, name: str, text: str):
     """What systemd itself says of a unit."""
     if not shutil.which("systemd-analyze"):
-        print("  systemd-analyze isn't installed (Debian's package systemd): the keys alone were checked")
+        checks.skip("systemd-analyze verify (needs systemd)")
         return
     with tempfile.TemporaryDirectory() as room:
         unit = Path(room) / name
@@ -564,7 +564,7 @@ def main():
         signal.signal(it, signal.SIG_DFL)  # and a shell can't trap a signal that was ignored when it began
     text = UNIT.read_text()
     sections = sections_of(text)
-    account = has_accounts()
+    account = has_accounts(checks)
     check_keys(checks, sections)
     (command,) = sections["Service"]["ExecStart"]
     for check in (

@@ -65,11 +65,11 @@ def example_module(name: str):
 
 
 class Checks:
-    """Counts what holds and prints what doesn't."""
+    """Counts what holds, prints what doesn't, and names what was skipped in the last line."""
 
     def __init__(self, about: str):
         print(about)
-        self.held, self.failed = 0, 0
+        self.held, self.failed, self.skipped = 0, 0, []
 
     def equal(self, what: str, found, wanted):
         """Checks that two values are equal, and prints both where they aren't."""
@@ -83,9 +83,15 @@ class Checks:
         """Checks that something holds."""
         self.equal(what, bool(holds), True)
 
+    def skip(self, what: str):
+        """Records a part that can't be checked on this machine, and why: such a run must not pass for a whole one."""
+        if what not in self.skipped:
+            self.skipped.append(what)
+
     def done(self):
-        """Prints the counts and ends the script."""
-        print(f"  {self.held} held, {self.failed} failed")
+        """Prints the counts, and what was skipped, in one line, and ends the script."""
+        skipped = f"; skipped: {'; '.join(self.skipped)}" if self.skipped else ""
+        print(f"  {self.held} held, {self.failed} failed{skipped}")
         sys.exit(1 if self.failed else 0)
 
 

@@ -13,8 +13,8 @@ TEST = re.compile(r"`([\w./]+): (\w+)`")
 HOMES = {"src": ROOT / "crates/dsn_text/src/fault_code.rt", "specs": ROOT / "crates/dsn_text/specs/FaultCode.antt"}
 CONSTANT = re.compile(r"^pub const (\w+): u32 = (\d+);$", re.M)
 DEFINITION = re.compile(r"^(\w+)_code = (\d+)$", re.M)
-# Where a number would be that of a refusal or of a fault: given by a `code`, answered, told, or compared with a
-# session's end.
+# Where a bare number would be that of a refusal or of a fault: returned by a `code`, answered, reported, or the end of
+# a session. In the contracts an end is an optional number, and no other optional number is written there as digits.
 IN_CODE = re.compile(
     r"Refused\((\d+)|\bfault (\d+)"
     r"|(?:Fault|Refusal|Cause|End)::\w+(?:\(_\))? => (?:Some\()?(\d+)"
@@ -23,7 +23,7 @@ IN_CODE = re.compile(
 )
 IN_CONTRACTS = re.compile(
     r"Refused (\d+)|\w*(?:_code|_end)\b[^=\n]*= (?:Some )?(\d+)|\bend ≢ Some (\d+)"
-    r"|IsOutside medium \(Some (\d+)|ended_with (\d+)|fault_line (\d+)|code == (\d+)"
+    r"|\(Some (\d+)|ended_with (\d+)|fault_line (\d+)|code == (\d+)"
 )
 COMMENT = re.compile(r"^\s*(?://|--).*$", re.M)
 

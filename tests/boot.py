@@ -87,7 +87,7 @@ def install(it: Machine):
         "--silent",
         f"--old-file={program()}",
         "install",
-        f"NOTICED={program()}",
+        f"BUILT={program()}",
         f"DESTDIR={it.root}",
         "PREFIX=/usr/local",
     ]

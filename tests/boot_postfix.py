@@ -237,7 +237,7 @@ def main():
             "--silent",
             f"--old-file={program()}",
             "install",
-            f"NOTICED={program()}",
+            f"BUILT={program()}",
             f"DESTDIR={it.root}",
             "PREFIX=/usr/local",
         ]

@@ -116,7 +116,7 @@ class Machine:
             "--silent",
             f"--old-file={program()}",
             "install",
-            f"NOTICED={program()}",
+            f"BUILT={program()}",
             f"DESTDIR={self.room}",
             "PREFIX=/usr/local",
         ]

@@ -9,7 +9,7 @@ from pathlib import Path
 
 from tests.support.running import EXAMPLES, ROOT, Checks, batch
 
-TEXT = re.compile(r'const (\w+): &\[u8; \d+\] = b"((?:[^"\\]|\\.|\\\n)*)";', re.DOTALL)
+TEXT = re.compile(r'const (\w+): &\[u8(?:; \d+)?\] = b"((?:[^"\\]|\\.|\\\n)*)";', re.DOTALL)
 
 
 def outboxes_in(source: Path):
@@ -21,11 +21,13 @@ def outboxes_in(source: Path):
 
 
 def in_tests(checks: Checks):
-    """Compares the outboxes of the crates' tests with those of the examples."""
+    """Compares the outboxes that the crates' tests expect with those of the examples."""
     stored = {it.read_bytes() for it in EXAMPLES.glob("*.outbox")}
-    for source in sorted(ROOT.glob("crates/*_tests/src/**/*.rt")):
-        for name, made in outboxes_in(source):
-            checks.true(f"{source.relative_to(ROOT)}: {name} is an example's outbox", made in stored)
+    sources = [it for crate in ("*_tests", "dsn_fakes") for it in sorted(ROOT.glob(f"crates/{crate}/src/**/*.rt"))]
+    found = [(source, *it) for source in sources for it in outboxes_in(source)]
+    checks.true("the tests expect outboxes", found)
+    for source, name, made in found:
+        checks.true(f"{source.relative_to(ROOT)}: {name} is an example's outbox", made in stored)
 
 
 def in_page(checks: Checks):

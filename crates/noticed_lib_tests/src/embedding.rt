@@ -1,6 +1,5 @@
 //! The whole example of docs/EMBEDDING.md, word for word (tests/examples.py), as a test.
 use crate::assert_same::same;
-use crate::outboxes::ONE_NOTICE;
 use dsn_frame::encode_request;
 use dsn_outcome::{
     Body, Draft, DraftParts, Key, Outcome, Parts, Plain, QueueId, Service, Stamp, Types,
@@ -75,7 +74,7 @@ fn notice_for_ann(alloc: Global) -> Result<(Vec<u8>, Vec<u8>), Fail> {
 #[test]
 fn embedded(rt: HostRuntime) -> Result<(), Fail> {
     let (outbox, notes) = notice_for_ann(rt.alloc())?;
-    same(&rt, outbox.as_slice(), ONE_NOTICE.as_slice());
+    same(&rt, outbox.as_slice(), dsn_fakes::ONE_NOTICE);
     same(
         &rt,
         notes.as_slice(),

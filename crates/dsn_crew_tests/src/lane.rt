@@ -1,9 +1,4 @@
-//! Tests of lanes by one thread and by many, over what `dsn_crew` makes public.
+//! Tests of lanes, over what `dsn_crew` makes public: who waits, and what comes if a half is gone.
 mod full;
 mod halves_gone;
-mod hands;
 mod item;
-mod long;
-mod one_thread;
-mod threads;
-mod waiting;

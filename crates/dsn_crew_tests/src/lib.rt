@@ -1,22 +1,29 @@
-//! Tests of lanes, of agents and their collector, and of whole crews, over what their crates make
-//! public: so they are proved without the proofs of these, and beside their wrong edits.
+//! Tests of books, of marks and disks, of lanes, of agents and their collector, of the post, and of
+//! whole crews, over what their crates make public: so they are proved without the proofs of these,
+//! and beside their wrong edits.
 #![tactic(auto)]
 
 #[cfg(test)]
 mod assert_same;
 #[cfg(test)]
+mod bodies;
+#[cfg(test)]
+mod book;
+#[cfg(test)]
 mod crew;
 #[cfg(test)]
 mod desk;
+#[cfg(test)]
+mod journal;
 #[cfg(test)]
 mod lane;
 #[cfg(test)]
 mod ledgers;
 #[cfg(test)]
-mod letter_id;
-#[cfg(test)]
-mod memory;
+mod letters;
 #[cfg(test)]
 mod open_logs;
+#[cfg(test)]
+mod post;
 #[cfg(test)]
 mod refusing;

@@ -10,15 +10,12 @@ pub(crate) fn open_logs(alloc: Global, book: &Book) -> Result<Vec<OpenLine>, NoM
     book.open_lines(alloc)
 }
 
-/// Asserts that these bounce logs are open, each of so many outcomes, and no other.
-pub(crate) fn expect_open(rt: &impl Abort, seen: &[OpenLine], logs: &[[u8; 2]], outcomes: u32) {
-    same(rt, seen.len(), logs.len());
-    for (line, log) in seen.iter().zip(logs) {
-        same(
-            rt,
-            (line.key.service, line.count),
-            (Service::Bounce, outcomes),
-        );
-        same(rt, line.key.id.bytes(), log.as_slice());
+/// Asserts that the bounce log of a message is open, with so many outcomes, and no other log.
+pub(crate) fn expect_open(rt: &impl Abort, open: &[OpenLine], message: [u8; 2], outcomes: u32) {
+    same(rt, open.len(), 1);
+    for line in open {
+        let found = (line.key.service, line.count);
+        same(rt, found, (Service::Bounce, outcomes));
+        same(rt, line.key.id.bytes(), message.as_slice());
     }
 }

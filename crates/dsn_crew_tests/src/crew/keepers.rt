@@ -1,16 +1,15 @@
-//! Crews over keepers that refuse a request for want of room: the run ends with 45, and the keeper
-//! comes back, with the logs that are open. Over a ledger what was answered is found again once its
-//! disk is opened anew.
+//! A crew over a keeper that refuses a request for want of room: the run ends with 45, and the keeper
+//! comes back. A crew over a ledger: what a crash leaves at each moment of it.
 ghost use Rattle.std.specs.Prelude.{◌^◌, ◌<◌, ◌≤◌, List};
 ghost use Rattle.dsn_crew.specs.desk.Desk.{BeginsWith};
 ghost use Rattle.dsn_journal.specs.MemoryDisk.{memory_moment};
 ghost use Rattle.dsn_outcome.specs.History.{Exchange};
 
-use super::frames::{Kind, frames_of};
-use super::memory_port::{MemoryPort, only_port};
+use super::client::{ClientPort, only_port};
+use super::frames::frames_of;
 use crate::assert_same::same;
+use crate::bodies::Kind;
 use crate::ledgers::{open_disk, outcomes_on};
-use crate::open_logs::{expect_open, open_logs};
 use crate::refusing::Refusing;
 use dsn_book::{Book, Keeper, Limits, NotKept};
 use dsn_crew::{Account, CrewCause, CrewFault, NoGate, run_crew_over};
@@ -36,7 +35,7 @@ fn run_ports<R: Threads + Wait + Sync, B: Keeper + Drop>(
     rt: &R,
     alloc: Global,
     keeper: B,
-    ports: Vec<MemoryPort<'_>>,
+    ports: Vec<ClientPort<'_>>,
     site: Site,
 ) -> Ended<B>
     requires few { B.sealed keeper < 2 ^ 63 }
@@ -79,8 +78,6 @@ fn run_refusing<R: Threads + Wait + Sync>(
 fn refused_request_ends_a_crew(rt: HostRuntime) -> Result<(), Fail> {
     let (cause, keeper) = run_refusing(&rt, rt.alloc())?;
     same(&rt, (cause, keeper.left), (Some(NO_ROOM), 0));
-    let logs = open_logs(rt.alloc(), &keeper.book)?;
-    expect_open(&rt, &logs, &[*b"K1"], 1);
     Ok(())
 }
 
@@ -100,38 +97,6 @@ fn run_over_disk<R: Threads + Wait + Sync>(
     let keeper = KeptBook::new(alloc, ledger);
     let (cause, left) = run_keeper(rt, alloc, keeper)?;
     Ok((cause, left.into_ledger().into_disk()))
-}
-
-/// Which of the things that can come of a run came, of these many: there is no room for the first
-/// append, for the second, for the goodbye after them, or there is room for all.
-fn case_of(cause: Option<CrewCause>, outcomes: u32) -> Option<usize> {
-    match (cause, outcomes) {
-        (Some(NO_ROOM), 0) => Some(0),
-        (Some(NO_ROOM), 1) => Some(1),
-        (Some(NO_ROOM), 2) => Some(2),
-        (None, 2) => Some(3),
-        _ => None,
-    }
-}
-
-/// Which of them comes on a disk of so many bytes.
-fn case_at<R: Threads + Wait + Sync>(rt: &R, alloc: Global, size: usize) -> Result<usize, Fail> {
-    let (cause, disk) = run_over_disk(rt, alloc, size)?;
-    let outcomes = outcomes_on(alloc, disk).ok_or("not opened again")?;
-    Ok(case_of(cause, outcomes).ok_or("another case")?)
-}
-
-#[test]
-fn what_a_crew_answers_is_found_again(rt: HostRuntime) -> Result<(), Fail> {
-    let mut met = [false; 4];
-    for size in 48..192usize {
-        let case = case_at(&rt, rt.alloc(), size)?;
-        if case < met.len() {
-            met[case] = true;
-        }
-    }
-    same(&rt, met, [true; 4]);
-    Ok(())
 }
 
 /// How many outcomes a crash leaves at this moment, which loses what these bits say.

@@ -1,51 +1,77 @@
-//! What comes when one side of a crew is gone.
-use super::asks::{Asked, ask_discard};
-use super::opened::opened;
-use super::turns::{REQUESTS, Turn, two_turns};
+//! What comes if one side of a crew is gone.
+use super::turns::takes_one;
 use crate::assert_same::same;
-use dsn_crew::Agent;
+use crate::bodies::{Kind, body};
+use dsn_book::Limits;
+use dsn_crew::{Agent, AskFault, Desk, open_crew};
 use std::alloc::Global;
 use std::sync::Wait;
 use std::test::Fail;
 
-/// The number of the fault with which an agent's goodbye ends, or 0.
-fn bye_code(rt: &impl Wait, agent: Agent) -> u32 {
-    match agent.bye(rt) {
-        Ok(_) => 0,
-        Err(fault) => fault.code(),
+/// A crew of two.
+fn opened(rt: &impl Wait, alloc: Global) -> Option<(Vec<Agent>, Desk)> {
+    let limits = Limits::new(8, 8, 8)?;
+    open_crew(rt, alloc, limits, 2).ok()
+}
+
+/// The number of a fault, which is taken apart: as a whole it takes long to prove that it is dropped.
+fn number_of(fault: AskFault) -> u32 {
+    let number = fault.code();
+    match fault {
+        AskFault::Limit(_body) => number,
+        AskFault::Lost(_body) => number,
     }
 }
 
-/// What an agent is answered whose collector is gone: at two asks, and at its goodbye.
-fn without_desk(rt: &impl Wait, alloc: Global) -> Option<(Option<Asked>, Option<Asked>, u32)> {
-    let (mut agents, desk) = opened(rt, alloc, 2, 0).ok()?;
+/// The number of the fault with which an ask for a discard ends, or 0.
+fn ask(rt: &impl Wait, alloc: Global, agent: &mut Agent) -> u32 {
+    let Some(body) = body(alloc, Kind::Discard, b"K1") else {
+        return 0;
+    };
+    if body.is_bye() {
+        return 0;
+    }
+    match agent.ask(rt, body) {
+        Ok(_) => 0,
+        Err(fault) => number_of(fault),
+    }
+}
+
+/// The number of the fault with which a goodbye ends, or 0.
+fn bye(rt: &impl Wait, agent: Agent) -> u32 {
+    match agent.bye(rt) {
+        Ok(_) => 0,
+        Err(fault) => number_of(fault),
+    }
+}
+
+/// What two asks and a goodbye of an agent come to whose collector is gone.
+fn without_desk(rt: &impl Wait, alloc: Global) -> Option<[u32; 3]> {
+    let (mut agents, desk) = opened(rt, alloc)?;
     drop(desk);
     let mut agent = agents.pop()?;
-    let first = ask_discard(rt, alloc, &mut agent);
-    let second = ask_discard(rt, alloc, &mut agent);
-    Some((first, second, bye_code(rt, agent)))
+    let first = ask(rt, alloc, &mut agent);
+    let second = ask(rt, alloc, &mut agent);
+    Some([first, second, bye(rt, agent)])
 }
 
 #[test]
-fn agent_without_its_collector_is_lost(rt: HostRuntime) -> Result<(), Fail> {
-    let seen = without_desk(&rt, rt.alloc());
-    let lost = Some(Err((41, true)));
-    same(&rt, seen, Some((lost, lost, 41)));
-    Ok(())
+fn agent_without_its_collector_is_lost(rt: HostRuntime) {
+    same(&rt, without_desk(&rt, rt.alloc()), Some([41; 3]));
 }
 
-/// What comes of two turns of a collector whose agents are gone without a goodbye, and whether it says
-/// then that all said goodbye.
-fn without_agents(rt: &impl Wait, alloc: Global) -> Option<([Turn; 2], bool)> {
-    let (agents, mut desk) = opened(rt, alloc, 16, 0).ok()?;
+/// Whether a collector takes a request whose agents are gone without a goodbye, twice, and whether it
+/// says then that all said goodbye.
+fn without_agents(rt: &impl Wait, alloc: Global) -> Option<[bool; 3]> {
+    let (agents, mut desk) = opened(rt, alloc)?;
     drop(agents);
-    let turns = two_turns(rt, &mut desk);
-    Some((turns, desk.all_gone()))
+    let first = takes_one(rt, &mut desk);
+    let second = takes_one(rt, &mut desk);
+    Some([first, second, desk.all_gone()])
 }
 
 #[test]
 fn collector_without_agents_has_failed(rt: HostRuntime) -> Result<(), Fail> {
-    let seen = without_agents(&rt, rt.alloc());
-    same(&rt, seen, Some(([Some(Err(REQUESTS)); 2], false)));
+    same(&rt, without_agents(&rt, rt.alloc()), Some([false; 3]));
     Ok(())
 }

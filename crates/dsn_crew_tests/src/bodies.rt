@@ -5,15 +5,14 @@ use dsn_outcome::{
 };
 use std::alloc::Global;
 
-/// What an agent asks for.
+/// What is asked for.
 #[derive(Clone, Copy)]
-pub(super) enum Kind {
+pub(crate) enum Kind {
     /// An append of a failed recipient.
     Append,
     /// A flush for the sender.
     Flush,
     Discard,
-    Bye,
 }
 
 /// A failed recipient.
@@ -61,12 +60,11 @@ fn log(id: QueueId) -> Key {
 }
 
 /// A body of this kind, about the bounce log of this message.
-pub(super) fn body(alloc: Global, kind: Kind, message: &[u8]) -> Option<Body> {
+pub(crate) fn body(alloc: Global, kind: Kind, message: &[u8]) -> Option<Body> {
     let id = QueueId::new(message)?;
     match kind {
         Kind::Append => Some(Body::Append(id, failed(alloc)?)),
         Kind::Flush => Some(Body::Flush(log(id), draft(alloc)?)),
         Kind::Discard => Some(Body::Discard(log(id))),
-        Kind::Bye => Some(Body::Bye),
     }
 }

@@ -1,9 +1,9 @@
 //! What comes if one side of a crew is gone.
+use super::asks::{Asked, ask_discard, told};
 use super::turns::takes_one;
 use crate::assert_same::same;
-use crate::bodies::{Kind, body};
 use dsn_book::Limits;
-use dsn_crew::{Agent, AskFault, Desk, open_crew};
+use dsn_crew::{Agent, Desk, open_crew};
 use std::alloc::Global;
 use std::sync::Wait;
 use std::test::Fail;
@@ -14,50 +14,29 @@ fn opened(rt: &impl Wait, alloc: Global) -> Option<(Vec<Agent>, Desk)> {
     open_crew(rt, alloc, limits, 2).ok()
 }
 
-/// The number of a fault, which is taken apart: as a whole it takes long to prove that it is dropped.
-fn number_of(fault: AskFault) -> u32 {
-    let number = fault.code();
-    match fault {
-        AskFault::Limit(_body) => number,
-        AskFault::Lost(_body) => number,
-    }
-}
-
-/// The number of the fault with which an ask for a discard ends, or 0.
-fn ask(rt: &impl Wait, alloc: Global, agent: &mut Agent) -> u32 {
-    let Some(body) = body(alloc, Kind::Discard, b"K1") else {
-        return 0;
-    };
-    if body.is_bye() {
-        return 0;
-    }
-    match agent.ask(rt, body) {
-        Ok(_) => 0,
-        Err(fault) => number_of(fault),
-    }
-}
-
 /// The number of the fault with which a goodbye ends, or 0.
 fn bye(rt: &impl Wait, agent: Agent) -> u32 {
     match agent.bye(rt) {
         Ok(_) => 0,
-        Err(fault) => number_of(fault),
+        Err(fault) => told(fault).0,
     }
 }
 
 /// What two asks and a goodbye of an agent come to whose collector is gone.
-fn without_desk(rt: &impl Wait, alloc: Global) -> Option<[u32; 3]> {
+fn without_desk(rt: &impl Wait, alloc: Global) -> Option<(Option<Asked>, Option<Asked>, u32)> {
     let (mut agents, desk) = opened(rt, alloc)?;
     drop(desk);
     let mut agent = agents.pop()?;
-    let first = ask(rt, alloc, &mut agent);
-    let second = ask(rt, alloc, &mut agent);
-    Some([first, second, bye(rt, agent)])
+    let first = ask_discard(rt, alloc, &mut agent);
+    let second = ask_discard(rt, alloc, &mut agent);
+    Some((first, second, bye(rt, agent)))
 }
 
 #[test]
 fn agent_without_its_collector_is_lost(rt: HostRuntime) {
-    same(&rt, without_desk(&rt, rt.alloc()), Some([41; 3]));
+    let lost = Some(Err((41, true)));
+    let seen = without_desk(&rt, rt.alloc());
+    same(&rt, seen, Some((lost, lost, 41)));
 }
 
 /// Whether a collector takes a request whose agents are gone without a goodbye, twice, and whether it

@@ -1,8 +1,9 @@
 //! A lane that is full makes a send wait.
 ghost use Rattle.std.specs.Prelude.{◌≡◌, ◌≤◌};
 
-use super::item::{Item, lane, send_next};
 use crate::assert_same::same;
+use crate::lane::hands::{last_half, opened};
+use crate::lane::item::{Item, send_next};
 use dsn_crew::LaneIn;
 use std::alloc::Global;
 use std::sync::Wait;
@@ -12,12 +13,12 @@ use std::thread;
 use std::thread::Threads;
 use std::time::{Clock, Duration};
 
-/// Sends so many items, and counts those that are through.
+/// Sends so many items of agent 0, and counts those that are through.
 fn send_counted(rt: &impl Wait, half: &mut LaneIn<Item>, through: &AtomicU64, more: u32) -> bool
     requires { half.old.agent ≡ 0 }
 {
     for _ in 0..more {
-        if !send_next(rt, half) {
+        if !send_next(rt, half, 0) {
             return false;
         }
         through.fetch_add(1, Ordering::SeqCst);
@@ -42,7 +43,8 @@ fn run<R: Threads + Wait + Clock + Sync>(rt: &R, alloc: Global, capacity: u32) -
     requires { (1 ≤ capacity) × (capacity ≤ 1024) }
 {
     let full = u64::from(capacity);
-    let (mut half, mut out) = lane(rt, alloc, capacity)?;
+    let (mut halves, mut out) = opened(rt, alloc, 1, capacity)?;
+    let mut half = last_half(&mut halves, &out, 1)?;
     let through = AtomicU64::new(0);
     let through = &through;
     let (sent, seen) = thread::join(

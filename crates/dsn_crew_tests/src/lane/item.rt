@@ -1,24 +1,24 @@
-//! A lane of one agent, and small items for it.
-ghost use Rattle.std.specs.Prelude.{◌≡◌, ◌≤◌, IfSome};
+//! A small item.
+ghost use Rattle.std.specs.Prelude.{◌≡◌};
 
-use dsn_crew::{LaneIn, LaneOut, open_lane};
+use dsn_crew::LaneIn;
 use dsn_outcome::Carried;
-use std::alloc::Global;
 use std::sync::Wait;
 
-/// An item of agent 0, that is its number.
+/// An item that is its agent and its number.
 #[derive(Clone, Copy)]
 pub struct Item {
+    pub agent: u32,
     pub number: u32,
 }
 
 impl Carried for Item {
-    ghost agent = { λ _. 0 };
+    ghost agent = { λ item. item.agent };
 
     ghost number = { λ item. item.number };
 
     fn agent(&self) -> u32 {
-        0
+        self.agent
     }
 
     fn number(&self) -> u32 {
@@ -26,27 +26,27 @@ impl Carried for Item {
     }
 }
 
-/// A lane of agent 0 alone, for so many items.
-pub(super) fn lane(
-    rt: &impl Wait,
-    alloc: Global,
-    capacity: u32,
-) -> Option<(LaneIn<Item>, LaneOut<Item>)>
-    requires { (1 ≤ capacity) × (capacity ≤ 1024) }
-    ensures { IfSome result (λ lane. lane.0.agent ≡ 0) }
-{
-    let (mut halves, out) = open_lane(rt, alloc, 0, 1, capacity).ok()?;
-    let Some(half) = halves.pop() else {
-        return None;
-    };
-    Some((half, out))
-}
-
-/// Sends the next item; false if the receiving half is gone.
-pub(super) fn send_next(rt: &impl Wait, half: &mut LaneIn<Item>) -> bool
-    requires { half.old.agent ≡ 0 }
-    ensures { half.new.agent ≡ 0 }
+/// Sends the next item of an agent; false where the receiving half is gone.
+pub(crate) fn send_next(rt: &impl Wait, half: &mut LaneIn<Item>, agent: u32) -> bool
+    requires { agent ≡ half.old.agent }
+    ensures { (half.new.lane ≡ half.old.lane) × (half.new.agent ≡ half.old.agent) }
 {
     let number = half.count();
-    number < u32::MAX && half.send(rt, Item { number }).is_ok()
+    number < u32::MAX && half.send(rt, Item { agent, number }).is_ok()
 }
+
+/// Sends so many items of an agent, one after another.
+pub(crate) fn send_many(rt: &impl Wait, half: &mut LaneIn<Item>, agent: u32, more: u32) -> bool
+    requires { agent ≡ half.old.agent }
+    ensures { (half.new.lane ≡ half.old.lane) × (half.new.agent ≡ half.old.agent) }
+{
+    for _ in 0..more {
+        if !send_next(rt, half, agent) {
+            return false;
+        }
+    }
+    true
+}
+
+/// The agent and the number of an item.
+pub(crate) type Sent = (u32, u32);

@@ -1,5 +1,5 @@
 """Measures crews of 1, 4 and 16 agents over connections in memory (the program probe): requests a second, and
-processor time a request. Beside them two threads that exchange as many messages over the same kind of channels alone.
+processor time a request.
 
     python3 -m bench.crew [REQUESTS]      so many requests in all, 400,000 unless said
 """
@@ -19,7 +19,7 @@ def measured(words) -> tuple:
     before, began = resource.getrusage(resource.RUSAGE_CHILDREN), time.monotonic()
     ended = subprocess.run([PROBE, *words], stdout=subprocess.PIPE, check=True)
     seconds, after = time.monotonic() - began, resource.getrusage(resource.RUSAGE_CHILDREN)
-    if not ended.stdout.startswith((b"ok\n", b"messages ")):
+    if not ended.stdout.startswith(b"ok\n"):
         raise RuntimeError(ended.stdout[:80])
     return seconds, after.ru_utime - before.ru_utime, after.ru_stime - before.ru_stime
 
@@ -41,7 +41,6 @@ def main():
     print(f"{len(os.sched_getaffinity(0))} processors")
     for agents in (1, 4, 16):
         show(f"requests of {agents} agents", total, measured(["crew", str(agents), str(total // agents)]))
-    show("messages and answers over channels alone, two threads", total, measured(["channel", str(total)]))
 
 
 if __name__ == "__main__":

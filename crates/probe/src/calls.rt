@@ -2,8 +2,7 @@
 //!
 //! Standard output gets the line `begin` once the values are made, and after the call a text that
 //! was kept and `made`, or `refused` and the number of the refusal. `collect` is a collector and an
-//! outbox at work, and `keys-ascending` and `keys-descending` a book that gets 65,536 keys in that
-//! order; they take no memory after `begin`.
+//! outbox at work, which take no memory after `begin`.
 mod asked;
 mod collect;
 mod frames;
@@ -45,8 +44,6 @@ fn come_to(rt: &(impl Print + Wait), alloc: Global, name: &str) -> Option<u32> {
         "draft" => logs::draft(rt, alloc),
         "book" => logs::book(rt, alloc),
         "open-lines" => logs::open_lines(rt, alloc),
-        "keys-ascending" => logs::keys(rt, alloc, false),
-        "keys-descending" => logs::keys(rt, alloc, true),
         "read-frame" => frames::read(rt, alloc, frames::FRAME),
         "read-next" => frames::read_next(rt, alloc),
         "read-empty" => frames::read(rt, alloc, frames::EMPTY),

@@ -25,13 +25,9 @@
 //! reads a request, the log of that service and the queue file, a length in four bytes before each, and
 //! writes the notices that the request has. `probe postfix many KIND` reads many files of a kind likewise,
 //! and writes a line of numbers for each.
-//!
-//! `probe channel MESSAGES` exchanges so many messages between two threads over channels alone, for
-//! comparison.
 #![tactic(auto)]
 
 mod calls;
-mod channel;
 mod crew;
 mod journal;
 mod postfix;
@@ -60,7 +56,6 @@ fn main(rt: HostRuntime) -> ExitCode {
             Some(sent) => postfix::show(&rt, kind, &sent),
             None => None,
         },
-        Some(Task::Channel(messages)) => channel::exchange(&rt, rt.alloc(), messages),
         None => None,
     };
     ExitCode::from(u8::from(done.is_none()))

@@ -14,8 +14,6 @@ pub(crate) enum Task {
     Call(String, Option<String>),
     /// Runs a crew of so many agents, of which each serves so many appends.
     Crew(u32, u32),
-    /// Exchanges so many messages.
-    Channel(u32),
     /// Runs a crew of one agent over given connections, each read giving at most so many bytes.
     Given(usize, Failing),
     /// Keeps requests in a journal.
@@ -33,7 +31,6 @@ pub(crate) fn asked_for(rt: &HostRuntime) -> Option<Task> {
         "call" => Some(Task::Call(words.next()?, words.next())),
         "crew" => Some(Task::Crew(number(&mut words)?, number(&mut words)?)),
         "given" => given(words),
-        "channel" => Some(Task::Channel(number(&mut words)?)),
         "journal" => journal(words),
         "postfix" => Some(Task::Postfix(file_of(words)?)),
         _ => None,

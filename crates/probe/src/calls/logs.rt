@@ -1,5 +1,5 @@
 //! Outcomes, drafts, and a book of logs.
-use crate::calls::asked::{EXTENSIONS, append, envelope_id, header, key, return_path};
+use crate::calls::asked::{EXTENSIONS, append, envelope_id, header, return_path};
 use crate::calls::{asked, begin};
 use dsn_book::{Book, Limits};
 use dsn_outcome::{
@@ -80,37 +80,4 @@ pub(crate) fn open_lines(rt: &impl Print, alloc: Global) -> Option<u32> {
     }
     begin(rt)?;
     Some(if book.open_lines(alloc).is_ok() { 0 } else { 9 })
-}
-
-/// A digit of a number, from the right, which is worth so much.
-fn digit(number: u32, worth: u32) -> u8 {
-    b'0'.wrapping_add((number / worth.max(1) % 10) as u8)
-}
-
-/// The body of a discard of the key whose queue id is this number in five digits.
-fn discard(number: u32) -> Option<Body> {
-    let id = [
-        digit(number, 10_000),
-        digit(number, 1000),
-        digit(number, 100),
-        digit(number, 10),
-        digit(number, 1),
-    ];
-    Some(Body::Discard(key(&id)?))
-}
-
-/// A book gets the most keys that it may hold, in ascending or in descending order.
-pub(crate) fn keys(rt: &impl Print, alloc: Global, is_descending: bool) -> Option<u32> {
-    let mut book = Book::new(alloc, Limits::new(65_536, 1, 65_536)?).ok()?;
-    begin(rt)?;
-    for number in 0..65_536u32 {
-        let place = if is_descending {
-            65_535 - number
-        } else {
-            number
-        };
-        let body = discard(place)?;
-        ask(&mut book, body);
-    }
-    Some(0)
 }

@@ -74,7 +74,10 @@ fn asked(rt: &impl Wait, alloc: Global) -> Option<(Vec<LaneOut<Answer>>, Desk)> 
     let limits = Limits::new(8, 8, 8)?;
     let (crew, mut desk) = open_crew(rt, alloc, limits, 5).ok()?;
     desk.miss(4);
-    send_all(rt, alloc, crew).map(|heard| (heard, desk))
+    match send_all(rt, alloc, crew) {
+        Some(heard) => Some((heard, desk)),
+        None => None,
+    }
 }
 
 /// Posts the letters, and says how many there were; none where one could not be posted.
@@ -91,6 +94,18 @@ fn post_all(poster: Poster<Plain<Vec<u8>>>, letters: Letters) -> Option<u32> {
     None
 }
 
+/// Whether a collector runs to its end. (A fault is dropped by its letter: a fault as a whole takes long
+/// to prove.)
+fn runs(rt: &impl Wait, desk: &mut Desk, kept: &mut Kept) -> bool {
+    match desk.run(rt, kept) {
+        Ok(()) => true,
+        Err(fault) => {
+            let _letter = fault.into_letter();
+            false
+        }
+    }
+}
+
 /// A collector answers an append and a flush of two logs each, and its two letters are posted: 0
 /// where all of this succeeds.
 pub(crate) fn collect(rt: &(impl Print + Wait), alloc: Global) -> Option<u32> {
@@ -102,8 +117,12 @@ pub(crate) fn collect(rt: &(impl Print + Wait), alloc: Global) -> Option<u32> {
         letters: Letters::new(),
     };
     begin(rt)?;
-    desk.run(rt, &mut kept).ok()?;
-    let posted = post_all(poster, kept.letters)?;
+    let has_run = runs(rt, &mut desk, &mut kept);
+    let posted = post_all(poster, kept.letters);
     drop(heard);
-    if posted == 2 { Some(0) } else { None }
+    if has_run && posted == Some(2) {
+        Some(0)
+    } else {
+        None
+    }
 }

@@ -30,7 +30,10 @@ impl Write for Outbox<'_> {
 
     fn flush(&mut self) -> io::Result<()> {
         match self.failing.at(Call::Flush) {
-            Some(failure) => failure.given().map(|_| ()),
+            Some(failure) => {
+                failure.given()?;
+                Ok(())
+            }
             None => Ok(()),
         }
     }

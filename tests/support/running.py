@@ -1,6 +1,4 @@
 """What the scripts of tests/ share: the program under test, running it, and counting what failed."""
-import functools
-import importlib.util
 import os
 import subprocess
 import sys
@@ -54,14 +52,13 @@ def empty_outbox(host=HOST) -> bytes:
     return f"EHLO {host}\r\nQUIT\r\n".encode()
 
 
-@functools.cache
 def example_module(name: str):
-    """The module of examples/NAME.py. Users run these files by their paths, so examples/ isn't a package: the file is
-    loaded under the name by which the others there import it."""
-    spec = importlib.util.spec_from_file_location(name, EXAMPLES / f"{name}.py")
-    module = sys.modules[name] = importlib.util.module_from_spec(spec)
-    spec.loader.exec_module(module)
-    return module
+    """The module of examples/NAME.py. Users run these files by their paths, and they import one another by their names:
+    so it is known by its name alone, too."""
+    if name not in sys.modules:
+        __import__(f"{EXAMPLES.name}.{name}")
+        sys.modules[name] = sys.modules[f"{EXAMPLES.name}.{name}"]
+    return sys.modules[name]
 
 
 class Checks:

@@ -87,8 +87,9 @@ scripts:
 	echo "$$((passed + $(BEFORE))) passed, $$failed failed"
 	[ "$$failed" = 0 ]
 
+# (a script that calls make is no part of this one)
 script-%:
-	@if python3 -m tests.$* > out/scripts/$*.failed 2>&1; then
+	@if MAKEFLAGS= python3 -m tests.$* > out/scripts/$*.failed 2>&1; then
 	    mv out/scripts/$*.failed out/scripts/$*.log
 	    cat out/scripts/$*.log
 	else

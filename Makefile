@@ -39,7 +39,7 @@ $(BUILT): $(SOURCES) crates.txt HANDLES
 	cd crates/noticed
 	$(RT) run -- batch build.example < /dev/null > /dev/null
 
-$(PROBES): $(BUILT)
+$(PROBES): $(SOURCES) crates.txt HANDLES | $(BUILT)
 	@cd crates/probe
 	$(RT) run -- call site < /dev/null
 

@@ -16,13 +16,13 @@ import tempfile
 import time
 from pathlib import Path
 
-from tests.support.running import ROOT, example_module
+from tests.support.daemon_and_clients import flush, frames
+from tests.support.running import ROOT
 
 PROBE = os.environ.get("PROBE") or str(ROOT / "crates/probe/out/probe")
 SIZE = 16 * 2**20  # bytes of the file
 RUNS = 5
 GROUPS = (1, 4, 16)
-frames = example_module("frames")
 DIAGNOSTIC = b"550 5.1.1 <recipient@example.org>: Recipient address rejected: User unknown in local recipient table"
 
 
@@ -31,7 +31,7 @@ def request(number: int) -> bytes:
     message, step = divmod(number, 6)
     queue_id = b"4B%08X" % message
     if step == 4:
-        return frames.flush(number, 1, queue_id)
+        return flush(number, queue_id)
     if step == 5:
         return frames.forget(number, 1, queue_id)
     return frames.append(

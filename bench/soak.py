@@ -12,7 +12,7 @@ import threading
 import time
 from pathlib import Path
 
-from tests.support.daemon_and_clients import Daemon, asked, frames, heard
+from tests.support.daemon_and_clients import Daemon, asked, flush, frames, heard
 from tests.support.formats.logs import (
     CLOSED,
     DISCARDED,
@@ -58,9 +58,7 @@ class Client(threading.Thread):
             return frames.append(place, BOUNCE, key, b"x@y", 1, b"5.0.0", diagnostic=long, reason=long)
         if what == "flush":
             path = self.dice.choice([b"ann@example.com", b"ann@example.com", b""])
-            return frames.flush(
-                place, BOUNCE, key, return_path=path, header=b"X: y\n" * self.dice.choice([0, 10, 6000])
-            )
+            return flush(place, key, return_path=path, header=b"X: y\n" * self.dice.choice([0, 10, 6000]))
         if what == "refused":
             return frames.frame(bytes(self.dice.choice([1, 100, 65_536])))
         return getattr(frames, what)(place, BOUNCE, key)

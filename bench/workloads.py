@@ -2,7 +2,7 @@
 import random
 from dataclasses import dataclass
 
-from tests.support.running import example_module
+from tests.support.daemon_and_clients import flush, frames
 
 SEED = 20231114
 BOUNCE, FAILED = 1, 1
@@ -10,8 +10,6 @@ LETTERS = "ABCDEFGHIJKLMNOPQRSTUVWXYZabcdefghijklmnopqrstuvwxyz0123456789"
 LOGS, ENTRIES, FRAMES = 4096, 1000, 1_000_000  # the limits of `noticed batch`
 MESSAGES = 4000
 HEADER = 32_768  # the longest returned header, in bytes
-
-frames = example_module("frames")
 
 
 @dataclass
@@ -37,8 +35,8 @@ class Stream:
         self.parts.append(frames.append(len(self.parts), BOUNCE, queue_id, recipient, FAILED, b"5.1.1", **texts))
 
     def flush(self, queue_id: bytes, **texts):
-        """A flush, with the moments and the return path that frames.py has unless said."""
-        self.parts.append(frames.flush(len(self.parts), BOUNCE, queue_id, **texts))
+        """A flush, with the moments and the return path of the stored examples unless said."""
+        self.parts.append(flush(len(self.parts), queue_id, **texts))
 
     def discard(self, queue_id: bytes):
         """A discard."""

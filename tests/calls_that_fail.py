@@ -7,7 +7,7 @@ import tempfile
 from pathlib import Path
 from typing import Optional
 
-from tests.support.daemon_and_clients import Daemon, conversation, line, socket_fault
+from tests.support.daemon_and_clients import Daemon, conversation, flush, line, socket_fault
 from tests.support.formats import sessions
 from tests.support.formats.logs import REFUSED, Limits, Logs
 from tests.support.formats.notices import crlf, mail, outbox
@@ -22,13 +22,13 @@ MOST = 2000  # calls of a run; more than this and the sweep is broken
 def messages() -> bytes:
     """Three messages that are flushed, the second with a letter of more than 64 KiB, and one that stays open."""
     header = 32 * (1023 * b"a" + b"\n")
-    made = [FRAMES.append(0, 1, b"K1", b"x@y", 1, b"5.0.0"), FRAMES.flush(1, 1, b"K1")]
+    made = [FRAMES.append(0, 1, b"K1", b"x@y", 1, b"5.0.0"), flush(1, b"K1")]
     made += [
         FRAMES.append(it, 1, b"K2", b"x@y", 1, b"5.0.0", diagnostic=800 * b"d", reason=800 * b"r")
         for it in range(2, 26)
     ]
-    made += [FRAMES.flush(26, 1, b"K2", header=header), FRAMES.append(27, 1, b"K3", b"x@y", 1, b"5.0.0")]
-    return b"".join([*made, FRAMES.flush(28, 1, b"K3"), FRAMES.append(29, 1, b"K4", b"x@y", 1, b"5.0.0")])
+    made += [flush(26, b"K2", header=header), FRAMES.append(27, 1, b"K3", b"x@y", 1, b"5.0.0")]
+    return b"".join([*made, flush(28, b"K3"), FRAMES.append(29, 1, b"K4", b"x@y", 1, b"5.0.0")])
 
 
 def failing(library: Path, call: str, at: int, error: int, short: int = 0) -> dict:

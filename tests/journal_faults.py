@@ -1,9 +1,10 @@
 """Runs `noticed serve --journal` where something is wrong with its folder, a file of it or its outbox: another daemon
-has it, it isn't there, it can't be written, it is another program's, damaged, older or of another journal, or a write
-or a sync fails, once or for good (by a small library that is preloaded, tests/support/power.c, compiled here with gcc).
-Each has its number and status, what can't be opened stays as it was, and what was answered before is there once the
-next daemon starts. Of runs that nothing is wrong with, that a clean end forgets which keys are closed, and a kill
-doesn't."""
+has it, it isn't there, it can't be written, it is another program's, damaged, older, too short or of another journal,
+or a write or a sync fails, once or for good (by a small library that is preloaded, tests/support/power.c, compiled here
+with gcc). Each has its number and status, what can't be opened stays as it was, and what was answered before is there
+once the next daemon starts. Of runs that nothing is wrong with, that a clean end forgets which keys are closed, and a
+kill doesn't; that a machine which stops while the files are made leaves ones that the next daemon begins with; and that
+a run which is asked nothing needs no room in its journal."""
 import contextlib
 import os
 import re
@@ -16,12 +17,15 @@ from tests.support.daemon_and_clients import Daemon, answer, append, asked, flus
 from tests.support.formats import journal
 from tests.support.formats.logs import Limits
 from tests.support.preloading import built, preloading
-from tests.support.running import HOST, Checks, Ran, program
+from tests.support.running import HOST, Checks, Ran, program, run
 
 SIZE = 65_536  # bytes of a journal here: its start is soon over
 MARKS = 4_096
 EIO, ENOSPC = 5, 28
 NOBODY = 65_534  # a user who may write nowhere
+NEW = {"journal": 67_108_864, "marks": 4_096}  # bytes of the files that a daemon makes
+WRITES = 16_384  # calls that write the zeros of a new journal
+STOPPED = 77  # the status of a daemon whose machine stopped
 FAULT = re.compile(rb"^fault (\d+)", re.M)
 MESSAGE_ID = re.compile(rb"^Message-ID: <B\.(\w+)\.\d+\.(\d+)@", re.M)
 
@@ -184,6 +188,94 @@ def files(checks: Checks, room: Path):
     checks.equal("a longer journal stays as long", len(place.file("journal")), 2 * SIZE)
 
 
+def listed(place: Place) -> Ran:
+    """What `noticed journal` says of the folder."""
+    return run(["journal", place.folder])
+
+
+def short_marks(checks: Checks, room: Path):
+    """Marks that are too short for a mark, which takes 17 bytes at most, beside a notice that none counts: 71 at each
+    start, and the notice isn't written."""
+    place = Place(room, "short")
+    with place.daemon(outbox="/dev/full") as it:
+        exchange(it, append(0, b"K1") + flush(1, b"K1"), 2)
+        it.end()
+    begun = place.file("journal")
+    for has in (b"", b"\0", bytes(8), bytes(16), b"\1" * 15, journal.spelled((3).to_bytes(8, "big"))):
+        (place.folder / "marks").write_bytes(has)
+        for start in (1, 2):
+            about = f"marks of {len(has)} bytes, start {start}"
+            checks.equal(about, place.run(), Ran(b"", b"fault 71\n", 1))
+            checks.equal(f"{about}: the outbox", place.outbox.read_bytes(), b"")
+            files = (place.file("journal"), place.file("marks"))
+            checks.equal(f"{about}: the files stay", files, (begun, has))
+        wanted = not_opened(place.folder, "the file of marks is too short for a mark", 71)
+        checks.equal(f"marks of {len(has)} bytes, listed", listed(place), wanted)
+    (place.folder / "marks").write_bytes(bytes(17))
+    with place.daemon() as it:
+        exchange(it, b"", 0)
+        checks.equal("marks of 17 bytes", it.end().status, 0)
+    checks.equal("marks of 17 bytes: the notice is written", place.letters(), [(b"K1", b"0")])
+
+
+def missing(checks: Checks, room: Path):
+    """One file of two isn't there: 72, and nothing is made. Where both aren't, both are made."""
+    place = filled(room, "missing")
+    gone = "No such file or directory (os error 2)"
+    for name, words in (
+        ("journal", "the journal is missing, and its marks are there"),
+        ("marks", "the marks are missing, and their journal is there"),
+    ):
+        kept = {it: place.file(it) for it in NEW}
+        (place.folder / name).unlink()
+        checks.equal(f"without {name}", place.run(), not_opened(place.folder, words))
+        checks.equal(f"without {name}, listed", listed(place), not_opened(place.folder, gone))
+        left = {it.name: it.read_bytes() for it in place.folder.iterdir()}
+        checks.equal(f"without {name}: the other file stays alone", left, {it: kept[it] for it in NEW if it != name})
+        (place.folder / name).write_bytes(kept[name])
+    check_still_there(checks, "with both files again", place)
+    for name in NEW:
+        (place.folder / name).unlink()
+    with place.daemon() as it:
+        exchange(it, b"", 0)
+        checks.equal("without both: the end", it.end().status, 0)
+    checks.equal("without both: they are made", {it: len(place.file(it)) for it in NEW}, NEW)
+
+
+def stops_of_a_first_start(checks: Checks, room: Path, library: Path):
+    """The machine stops within each call from the last write of a new journal to the last call for its marks: the next
+    daemon begins. So it does with zeros as a journal, and no marks."""
+    for number in range(WRITES, WRITES + 11):
+        place, shadow = Place(room, f"stopped-{number}"), room / f"shadow-{number}"
+        shadow.mkdir()
+        (place.folder / "journal").unlink()
+        stopping = preloading(
+            library, FOLDER=place.folder, OUTBOX=place.outbox, SHADOW=shadow, STOP_AT=number, KEEP="all"
+        )
+        checks.equal(f"call {number} of a first start: stopped", place.run(env=stopping).status, STOPPED)
+        with place.daemon() as it:
+            exchange(it, b"", 0)
+            checks.equal(f"call {number} of a first start: the next one", it.end().status, 0)
+        checks.equal(f"call {number} of a first start: the files", {it: len(place.file(it)) for it in NEW}, NEW)
+        (place.folder / "journal").unlink()
+
+
+def nothing_asked(checks: Checks, room: Path):
+    """A journal that has room for its header and no byte more: a run that is asked nothing ends in order, and one that
+    is asked something can't keep it."""
+    place = Place(room, "header")
+    file = journal.spelled(journal.header(Limits()))
+    (place.folder / "journal").write_bytes(bytes(len(file)))
+    for about in ("a new journal", "one that was opened before"):
+        with place.daemon() as it:
+            exchange(it, b"", 0)
+            checks.equal(f"{about} full of its header", it.end(), Ran(b"", line(0, 0), 0))
+        checks.equal(f"{about} full of its header: the file", place.file("journal"), file)
+    with place.daemon() as it:
+        checks.equal("a full journal, asked something", exchange(it, append(0), 1), b"")
+        checks.equal("a full journal, asked something: the end", it.end(), Ran(b"", b"fault 45\n", 1))
+
+
 def outboxes(checks: Checks, room: Path):
     """An outbox that can't be opened or written (31): the next daemon posts the letters that it didn't take."""
     place = Place(room, "outboxes")
@@ -294,9 +386,11 @@ def main():
     checks = Checks("journal_faults: folders, files and outboxes that fail a daemon with a journal")
     with tempfile.TemporaryDirectory(prefix="noticed-faults-") as name:
         room = Path(name)
-        for check in (folders, not_allowed, files, outboxes, ends):
+        for check in (folders, not_allowed, files, short_marks, missing, nothing_asked, outboxes, ends):
             check(checks, room)
-        calls(checks, room, built(room, "power"))
+        library = built(room, "power")
+        stops_of_a_first_start(checks, room, library)
+        calls(checks, room, library)
     checks.done()
 
 

@@ -11,6 +11,7 @@ import tempfile
 from dataclasses import dataclass, field
 from pathlib import Path
 
+from tests.support.daemon_and_clients import flush
 from tests.support.formats import bodies, journal, sessions
 from tests.support.formats.logs import Limits
 from tests.support.preloading import built, preloading
@@ -34,7 +35,9 @@ def frame(number: int, asked: tuple) -> bytes:
     kind, (service, queue_id) = asked
     if kind == "append":
         return FRAMES.append(number, service, queue_id, b"bob@example.org", *VALUES[service])
-    return {"flush": FRAMES.flush, "discard": FRAMES.discard, "forget": FRAMES.forget}[kind](number, service, queue_id)
+    if kind == "flush":
+        return flush(number, queue_id, service)
+    return {"discard": FRAMES.discard, "forget": FRAMES.forget}[kind](number, service, queue_id)
 
 
 def request(asked: tuple) -> bodies.Request:

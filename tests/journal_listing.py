@@ -1,12 +1,13 @@
 """Runs `noticed journal` on folders that daemons left, after a kill and after an end in order, and on random ones: it
 prints what a plain reading of docs/FORMATS.md has of them, and no byte, name, mode or time of a folder is changed.
 Where a daemon has the folder, a file isn't there or is none of a journal, a line can't be written, or memory is
-refused, it has its number and status."""
+refused, it has its number and status. It lists the backups of a folder on which a daemon is at work, too."""
 import os
 import random
 import subprocess
 import sys
 import tempfile
+import threading
 import time
 from pathlib import Path
 
@@ -17,9 +18,11 @@ from tests.support.formats.logs import Limits
 from tests.support.hostile import Hostile
 from tests.support.preloading import built, each_refused
 from tests.support.running import Checks, Ran, program, run
+from tests.support.system import deploy_block
 
 SIZE, MARKS = 16_384, 4_096  # bytes of a journal and of marks here
 FOLDERS = 60  # random ones
+CLIENTS, BACKUPS, ROOMY = 4, 20, 8 << 20  # and bytes of a journal that doesn't get full while it is copied
 MOST = 300  # growths of a listing; more than this and the sweep is broken
 
 
@@ -66,11 +69,11 @@ def used(folder: Path) -> int:
     return sum(len(journal.spelled(it)) for it in journal.records((folder / "journal").read_bytes()))
 
 
-def made(room: Path, name: str) -> Path:
-    """A folder with a small journal that no daemon had yet."""
+def made(room: Path, name: str, size: int = SIZE) -> Path:
+    """A folder with a journal of this size, a small one unless said, that no daemon had yet."""
     folder = room / name
     folder.mkdir(mode=0o700)
-    (folder / "journal").write_bytes(bytes(SIZE))
+    (folder / "journal").write_bytes(bytes(size))
     return folder
 
 
@@ -134,6 +137,44 @@ def unposted(checks: Checks, room: Path):
         it.connect().close()
         checks.equal("the next daemon posts them", it.end().status, 0)
     check_told(checks, "notices that were posted", folder, b"marked 2\n" + last % (used(folder), SIZE))
+
+
+def keep_busy(daemon_at_work: Daemon, place: int, over: threading.Event):
+    """A client that has a notice made, and forgets it, until all is over."""
+    with daemon_at_work.connect() as client:
+        for number in range(0, 900_000, 3):
+            if over.is_set():
+                return
+            key = b"P%dx%d" % (place, number)
+            asked(client, append(number, key) + flush(number + 1, key) + frames.forget(number + 2, 1, key), 3)
+
+
+def backed_up(checks: Checks, room: Path):
+    """Each backup of a folder on which a daemon is at work can be opened: the command of docs/DEPLOY.md makes it, and
+    the one after it looks at it."""
+    folder, ends, sealed = made(room, "busy", ROOMY), [], []
+    commands = (
+        deploy_block("cp -p ").replace("/var/lib/noticed/journal", str(folder)).replace("noticed ", f"{program()} ")
+    )
+    with Daemon(CLIENTS, 1, options=("--journal", folder, "--outbox", room / "busy.outbox")) as it:
+        it.listens()
+        over = threading.Event()
+        busy = [threading.Thread(target=keep_busy, args=(it, place, over)) for place in range(CLIENTS)]
+        for thread in busy:
+            thread.start()
+        for number in range(BACKUPS):
+            backup = room / f"backup.{number}"
+            backup.mkdir(mode=0o700)
+            words = ["sh", "-e", "-c", commands.replace("BACKUP", str(backup))]
+            ran = subprocess.run(words, capture_output=True, check=False)
+            ends.append((ran.returncode, ran.stderr))
+            sealed += [int(line.split()[1]) for line in ran.stdout.splitlines() if line.startswith(b"sealed ")]
+        over.set()
+        for thread in busy:
+            thread.join()
+        checks.equal("a daemon that is copied ends in order", it.end().status, 0)
+    checks.equal("each backup can be opened", ends, [(0, b"")] * BACKUPS)
+    checks.true(f"while notices were sealed: {sealed}", sealed == sorted(sealed) and sealed[0] < sealed[-1])
 
 
 def random_folder(dice: random.Random, folder: Path):
@@ -239,9 +280,9 @@ def files(checks: Checks, room: Path):
         folder,
         b"marked 0\nsealed 0\nbytes %d %d\n" % (len(journal.spelled(journal.header(limits))), SIZE),
     )
-    (folder / "marks").write_bytes(b"")
+    (folder / "marks").write_bytes(bytes(MARKS))
     (folder / "journal").write_bytes(right)
-    check_fault(checks, "empty marks, and a base", folder, 77, "the mark counts fewer letters than the journal's base")
+    check_fault(checks, "marks without a mark, and a base", folder, 77, "the mark counts fewer letters than the journal's base")
 
 
 def lost_lines(checks: Checks, room: Path):
@@ -284,7 +325,7 @@ def main():
     checks = Checks(f"journal_listing: what noticed journal prints of folders, seed {seed}")
     with tempfile.TemporaryDirectory(prefix="noticed-listing-") as name:
         room = Path(name)
-        for check in (killed, unposted, folders, files, lost_lines):
+        for check in (killed, unposted, backed_up, folders, files, lost_lines):
             check(checks, room)
         random_folders(checks, room, seed)
         without_memory(checks, room, built(room, "refuse"))

@@ -4,9 +4,10 @@ and logs of many. So memory that is refused at some lengths alone, or a text tha
 seconds."""
 import random
 
+from tests.support.daemon_and_clients import flush, frames
 from tests.support.formats import sessions
 from tests.support.formats.bodies import LONGEST_HEADER, LONGEST_TEXT
-from tests.support.running import EXAMPLES, HOST, Checks, Ran, example_module, run
+from tests.support.running import EXAMPLES, HOST, Checks, Ran, run
 
 BOUNCE, DEFER, FAILED, DELAYED = 1, 2, 1, 2
 ADDRESS, ID, MTA, HOST_NAME, ENVELOPE = 256, 32, 255, 255, 100  # the longest of each, in bytes
@@ -15,7 +16,6 @@ STEP = 89  # bytes between two lengths of headers; those below it are all tried
 ALONE = 331  # bytes between two lengths of the only frame of a run
 EXAMPLE = (EXAMPLES / "all-optional-fields.frames").read_bytes()
 
-frames = example_module("frames")
 dice = random.Random(20231114)
 
 
@@ -65,11 +65,11 @@ def headers(checks: Checks):
     given = []
     for at, length in enumerate(lengths):
         given.append(frames.append(2 * at, BOUNCE, b"H%d" % length, b"x@y", FAILED, b"5.0.0"))
-        given.append(frames.flush(2 * at + 1, BOUNCE, b"H%d" % length, header=header(length)))
+        given.append(flush(2 * at + 1, b"H%d" % length, header=header(length)))
     compare(checks, f"headers of {len(lengths)} lengths", b"".join(given))
     unbroken = [
         frames.append(0, BOUNCE, b"H", b"x@y", FAILED, b"5.0.0"),
-        frames.flush(1, BOUNCE, b"H", header=some(LONGEST_HEADER)),
+        flush(1, b"H", header=some(LONGEST_HEADER)),
     ]
     compare(checks, "a header of one line", b"".join(unbroken))
 
@@ -77,9 +77,9 @@ def headers(checks: Checks):
 def messages(outcomes: list) -> bytes:
     """The frames of messages of one outcome each, with these texts, and their flushes."""
     given = []
-    for at, (queue_id, recipient, flush, texts) in enumerate(outcomes):
+    for at, (queue_id, recipient, closing, texts) in enumerate(outcomes):
         given.append(frames.append(2 * at, DEFER, queue_id, recipient, DELAYED, b"4.0.0", **texts))
-        given.append(frames.flush(2 * at + 1, DEFER, queue_id, **flush))
+        given.append(flush(2 * at + 1, queue_id, DEFER, **closing))
     return b"".join(given)
 
 
@@ -131,8 +131,8 @@ def logs(checks: Checks):
             given.append(frames.append(number + at, BOUNCE, b"L%d" % count, b"%d@y" % at, FAILED, b"5.0.0"))
         number += count
         if count % 3:
-            close = frames.flush if count % 3 == 1 else frames.discard
-            given.append(close(number, BOUNCE, b"L%d" % count))
+            key = b"L%d" % count
+            given.append(flush(number, key) if count % 3 == 1 else frames.discard(number, BOUNCE, key))
             number += 1
     compare(checks, "logs of many lengths", b"".join(given))
 

@@ -3,14 +3,13 @@ frames; letters that are longer than the program's buffers, up to the longest th
 which logs are open."""
 from itertools import chain
 
-from tests.support.running import HOST, Checks, batch, empty_outbox, example_module
+from tests.support.daemon_and_clients import flush, frames
+from tests.support.running import HOST, Checks, batch, empty_outbox
 
 LOGS, ENTRIES, FRAMES = 4096, 1000, 1_000_000
 LETTERS, OPEN = 1000, 1000
 BUFFER = 65_536  # bytes of each of the program's buffers
 BOUNCE, FAILED, STATUS = 1, 1, b"5.1.1"
-
-frames = example_module("frames")
 
 
 def queue_id(number: int) -> bytes:
@@ -22,7 +21,7 @@ def keys(checks: Checks):
     """4,096 keys are held; for the next one there is no room, until the run's end."""
     given = b"".join(frames.append(it, BOUNCE, queue_id(it), b"x@y", FAILED, STATUS) for it in range(LOGS))
     given += frames.append(LOGS, BOUNCE, b"K", b"x@y", FAILED, STATUS)
-    given += frames.flush(LOGS + 1, BOUNCE, b"K") + frames.discard(LOGS + 2, BOUNCE, queue_id(0))
+    given += flush(LOGS + 1, b"K") + frames.discard(LOGS + 2, BOUNCE, queue_id(0))
     given += frames.discard(LOGS + 3, BOUNCE, b"K")
     answers = [b"%d logged 0" % it for it in range(LOGS)]
     answers += [
@@ -42,7 +41,7 @@ def outcomes(checks: Checks):
     """A log takes 1,000 outcomes and no other, and its notice lists them in their order."""
     recipients = [b"r%04d@example.org" % it for it in range(ENTRIES + 1)]
     given = b"".join(frames.append(at, BOUNCE, b"FULL", it, FAILED, STATUS) for at, it in enumerate(recipients))
-    ran = batch(given + frames.flush(ENTRIES + 1, BOUNCE, b"FULL"))
+    ran = batch(given + flush(ENTRIES + 1, b"FULL"))
     answers = [b"%d logged %d" % (it, it) for it in range(ENTRIES)]
     checks.equal(
         f"{ENTRIES + 1:,} outcomes of one log: notes",
@@ -93,16 +92,14 @@ def letters(checks: Checks):
         ("lines of dots", dots, [b"." + it for it in dots]),
     ):
         text = b"".join(it + b"\n" for it in lines)
-        given = frames.append(0, BOUNCE, b"LONG", b"x@y", FAILED, STATUS) + frames.flush(
-            1, BOUNCE, b"LONG", header=text
-        )
+        given = frames.append(0, BOUNCE, b"LONG", b"x@y", FAILED, STATUS) + flush(1, b"LONG", header=text)
         ran = batch(given)
         checks.equal(f"a letter of {what}: notes", (ran.status, ran.notes), (0, b"0 logged 0\n1 sealed 1\n"))
         checks.equal("its returned lines", third_part(ran.outbox), wanted)
     many = 500
     texts = dict(mta=b"mail.example.org", diagnostic=b"d" * 800, reason=b"r" * 800)
     given = b"".join(frames.append(it, BOUNCE, b"MANY", b"x%03d@y" % it, FAILED, STATUS, **texts) for it in range(many))
-    ran = batch(given + frames.flush(many, BOUNCE, b"MANY", header=text))
+    ran = batch(given + flush(many, b"MANY", header=text))
     checks.true("a letter of many buffers", len(ran.outbox) > 8 * BUFFER)
     checks.equal("its reasons", ran.outbox.count(b"\r\n    " + b"r" * 800 + b"\r\n"), many)
     checks.equal("its diagnostics", ran.outbox.count(b"\r\nDiagnostic-Code: smtp; " + b"d" * 800 + b"\r\n"), many)
@@ -117,7 +114,7 @@ def letters_and_open_logs(checks: Checks):
     for at in range(LETTERS):
         given += [
             frames.append(2 * at, BOUNCE, b"S%d" % at, b"x@y", FAILED, STATUS),
-            frames.flush(2 * at + 1, BOUNCE, b"S%d" % at),
+            flush(2 * at + 1, b"S%d" % at),
         ]
         answers += [b"%d logged 0" % (2 * at), b"%d sealed 1" % (2 * at + 1)]
     for at in range(OPEN):

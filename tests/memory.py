@@ -11,6 +11,7 @@ from pathlib import Path
 from typing import Callable
 
 from tests.support.daemon_and_clients import Daemon, answers_to, asked, frames, heard
+from tests.support.daemon_and_clients import flush as flush_of
 from tests.support.formats.logs import (
     CLOSED,
     DISCARDED,
@@ -59,7 +60,7 @@ def append(key: bytes) -> Callable:
 
 def flush(key: bytes, **fields) -> Callable:
     """A flush with the longest header."""
-    return lambda number: frames.flush(number, BOUNCE, key, header=LONG, **fields)
+    return lambda number: flush_of(number, key, header=LONG, **fields)
 
 
 def discard(key: bytes) -> Callable:

@@ -6,10 +6,9 @@ The outbox is a pipe that doesn't block and is full at the first letter, so that
 import os
 import subprocess
 
-from tests.support.daemon_and_clients import Daemon, answer, asked, line
-from tests.support.running import HOST, LIMIT, Checks, example_module, program
+from tests.support.daemon_and_clients import Daemon, answer, append, asked, flush, line
+from tests.support.running import HOST, LIMIT, Checks, program
 
-FRAMES = example_module("frames")
 ON_THE_WAY = 18  # letters that a daemon may not have tried to write though their flushes are answered
 LOGGED, SEALED = 1, 7
 
@@ -37,9 +36,7 @@ def empty(reading: int, filled: int):
 
 def message(number: int, queue_id: bytes, header: bytes) -> bytes:
     """The frames of one message, the first of them with this number."""
-    return FRAMES.append(number, 1, queue_id, b"x@y", 1, b"5.0.0") + FRAMES.flush(
-        number + 1, 1, queue_id, header=header
-    )
+    return append(number, queue_id) + flush(number + 1, queue_id, header=header)
 
 
 def check_batch(checks: Checks, what: str, header: bytes):

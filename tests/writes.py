@@ -8,8 +8,9 @@ import tempfile
 import time
 from pathlib import Path
 
+from tests.support.daemon_and_clients import flush, frames
 from tests.support.preloading import built, preloading
-from tests.support.running import HOST, Checks, batch, example_module
+from tests.support.running import HOST, Checks, batch
 
 MESSAGES = 1000
 READ = 65536
@@ -17,11 +18,11 @@ READ = 65536
 
 def requests() -> bytes:
     """An append and a flush for each of a thousand messages."""
-    frames, made = example_module("frames"), []
+    made = []
     for message in range(MESSAGES):
         queue_id = b"M%04d" % message
         made.append(frames.append(2 * message, 1, queue_id, b"bob@example.org", 1, b"5.1.1"))
-        made.append(frames.flush(2 * message + 1, 1, queue_id))
+        made.append(flush(2 * message + 1, queue_id))
     return b"".join(made)
 
 

@@ -13,7 +13,7 @@ import threading
 import time
 from pathlib import Path
 
-from tests.support.daemon_and_clients import Daemon, heard
+from tests.support.daemon_and_clients import Daemon, flush, heard
 from tests.support.formats import journal
 from tests.support.formats.bodies import APPEND, DISCARD, FLUSH, Request, decoded
 from tests.support.formats.logs import CLOSED, FORGOTTEN, NOT_CLOSED, Letter, Limits, Logs
@@ -242,11 +242,13 @@ class Client:
         if kind > 0.95:
             return FRAMES.discard(number, *key)
         header = b"Subject: %d\n" % number * self.dice.choice([0, 0, 0, 2, 60])
-        return FRAMES.flush(
+        service, queue_id = key
+        return flush(
             number,
-            *key,
-            b"" if kind > 0.92 else b"ann%d@example.com" % self.place,
-            self.dice.randrange(1 << 31),
+            queue_id,
+            service,
+            return_path=b"" if kind > 0.92 else b"ann%d@example.com" % self.place,
+            moment=self.dice.randrange(1 << 31),
             header=header,
         )
 
@@ -501,8 +503,8 @@ class Load:
         """Flushes each log that is open."""
         with daemon.connect() as stream:
             keys = sorted(key for key, worlds in self.model.worlds.items() if any(log for log, _ in worlds))
-            for place, key in enumerate(keys):
-                frame = FRAMES.flush(place, *key)
+            for place, (service, queue_id) in enumerate(keys):
+                frame = flush(place, queue_id, service)
                 stream.sendall(frame)
                 got = answers_heard(stream, 1)
                 self.checks.equal("a flush is answered", len(got), 1)

@@ -16,15 +16,17 @@ const MARKS_SIZE: usize = 4_096;
 /// The exit status of a run that could not have its journal.
 const FAULT: u8 = 1;
 
-/// Opens the journal and the marks of a folder, for this process alone, and makes those that aren't
-/// there. An error of the kind `WouldBlock` comes where another process has them.
+/// Opens the journal and the marks of a folder, for this process alone. A folder that has neither gets
+/// both. If one of them is missing, what the other says is not known any more: an error of the kind
+/// `NotFound`, and nothing is made. One of the kind `WouldBlock` comes if another process has them.
 pub(crate) fn open_folder<'a>(
     rt: &'a HostRuntime,
     folder: &str,
 ) -> io::Result<JournalFolder<FileDisk<'a>, FileDisk<'a>>> {
-    let journal = open_or_make(rt, folder, "journal", JOURNAL_SIZE)?;
-    let marks = open_or_make(rt, folder, "marks", MARKS_SIZE)?;
-    Ok(JournalFolder { journal, marks })
+    let journal = path_in(rt, folder, "journal")?;
+    let marks = path_in(rt, folder, "marks")?;
+    make_files(rt, journal.as_str(), marks.as_str())?;
+    open_both(rt, journal.as_str(), marks.as_str())
 }
 
 /// Opens the journal and the marks of a folder as they are, for this process alone: neither is made,
@@ -35,27 +37,55 @@ pub(crate) fn open_as_it_is<'a>(
 ) -> io::Result<JournalFolder<FileDisk<'a>, FileDisk<'a>>> {
     let journal = path_in(rt, folder, "journal")?;
     let marks = path_in(rt, folder, "marks")?;
+    open_both(rt, journal.as_str(), marks.as_str())
+}
+
+/// Opens the files of a journal and of its marks.
+fn open_both<'a>(
+    rt: &'a HostRuntime,
+    journal: &str,
+    marks: &str,
+) -> io::Result<JournalFolder<FileDisk<'a>, FileDisk<'a>>> {
     Ok(JournalFolder {
-        journal: FileDisk::open(rt, journal.as_str())?,
-        marks: FileDisk::open(rt, marks.as_str())?,
+        journal: FileDisk::open(rt, journal)?,
+        marks: FileDisk::open(rt, marks)?,
     })
 }
 
-/// Opens the file of this name, which is made with so many bytes where it isn't there.
-fn open_or_make<'a>(
-    rt: &'a HostRuntime,
-    folder: &str,
-    name: &str,
-    size: usize,
-) -> io::Result<FileDisk<'a>> {
-    let path = path_in(rt, folder, name)?;
-    if !fs::exists(rt, path.as_str())? {
-        match create_file(rt, path.as_str(), size) {
-            Err(error) if error.kind() != ErrorKind::AlreadyExists => return Err(error),
-            _ => {}
-        }
+/// Makes the files of a new journal: first the journal, then its marks. A crash between the two leaves
+/// zeros and no marks, and such a journal still gets them.
+fn make_files(rt: &HostRuntime, journal: &str, marks: &str) -> io::Result<()> {
+    let (has_journal, has_marks) = (fs::exists(rt, journal)?, fs::exists(rt, marks)?);
+    if has_journal && has_marks {
+        return Ok(());
     }
-    FileDisk::open(rt, path.as_str())
+    if has_marks {
+        return Err(not_found("the journal is missing, and its marks are there"));
+    }
+    if !has_journal {
+        make_file(rt, journal, JOURNAL_SIZE)?;
+    } else if !is_unwritten(rt, journal)? {
+        return Err(not_found("the marks are missing, and their journal is there"));
+    }
+    make_file(rt, marks, MARKS_SIZE)
+}
+
+/// Makes a file of zeros, if it isn't there by then.
+fn make_file(rt: &HostRuntime, path: &str, size: usize) -> io::Result<()> {
+    match create_file(rt, path, size) {
+        Err(error) if error.kind() == ErrorKind::AlreadyExists => Ok(()),
+        made => made,
+    }
+}
+
+/// Whether a file has no other bytes than zeros.
+fn is_unwritten(rt: &HostRuntime, path: &str) -> io::Result<bool> {
+    Ok(fs::read(rt, path)?.iter().all(|byte| *byte == 0))
+}
+
+/// The error that one of two files is missing.
+fn not_found(words: &str) -> io::Error {
+    Error::new(ErrorKind::NotFound, words)
 }
 
 /// The path of the file of this name.

@@ -50,8 +50,13 @@ fn mark_in(alloc: Global, bytes: &[u8]) -> Result<u64, MarksError> {
 
 /// Files, and the marks that they have.
 const FILES: &[(&[u8], Result<u64, MarksError>)] = &[
-    (b"\0\0\0\0", Ok(0)),
-    (b"", Ok(0)),
+    (b"\0\0\0\0\0\0\0\0\0\0\0\0\0\0\0\0\0", Ok(0)),
+    // Some mark has no room in 16 bytes.
+    (
+        b"\0\0\0\0\0\0\0\0\0\0\0\0\0\0\0\0",
+        Err(MarksError::TooShort),
+    ),
+    (b"", Err(MarksError::TooShort)),
     // The mark 1, whose record is seven zeros and a 1, and what a crash leaves of it.
     (
         b"\x01\x01\x01\x01\x01\x01\x01\x01\x01\x01\x01\x01\x01\x01\x01\x02\0\0",

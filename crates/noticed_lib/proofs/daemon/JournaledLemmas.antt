@@ -21,7 +21,7 @@ use Rattle.dsn_journal.specs.KeptBook.{HasKept, ledger_keeper}
 use Rattle.dsn_journal.specs.Ledger.{AreKept, earlier_agent, records_of}
 use Rattle.dsn_journal.specs.OpenLedger.{AwaitsInPlaceOf, AwaitsRequests, Ledger}
 use Rattle.dsn_journal.specs.MarkedOutbox.{MarkedOutbox}
-use Rattle.dsn_journal.specs.Marks.{IsForeignToMarks, LeavesTheMark, SayMark, SayNoMark}
+use Rattle.dsn_journal.specs.Marks.{IsForeignToMarks, IsTooShortForMarks, LeavesTheMark, SayMark, SayNoMark}
 use Rattle.dsn_journal.specs.Posting.{AreToPost}
 use Rattle.dsn_journal.specs.Moments.{LeavesOnly}
 use Rattle.dsn_journal.specs.Opening.{IsForeign, IsLeftByOpening}
@@ -32,6 +32,7 @@ use Rattle.dsn_journal.specs.declared.keep_error.KeepError.{KeepError}
 use Rattle.dsn_journal.specs.declared.keep_error.KeepError.TheVariants.{Unsettled, Journal}
 use Rattle.dsn_journal.specs.declared.marks_error.MarksError.{MarksError}
 use Rattle.dsn_journal.specs.declared.marks_error.MarksError.TheVariants as no_marks_for
+use Rattle.dsn_journal.proofs.Goodbyes.{kept_to_carry_out}
 use Rattle.dsn_journal.proofs.KeptBooks.{has_kept, nothing_kept, some_kept}
 use Rattle.dsn_journal.proofs.LedgersInPlace.{headed}
 use Rattle.dsn_journal.proofs.Moments.{joined, started, weaker}
@@ -69,7 +70,7 @@ module _ {D : Type 0} (disk : Disk.Ghosts D) (ledger : Ledger D) (settled : ledg
 
   module _ (durable : IsSettled disk ledger.journal.disk ledger.journal.used) (earlier : (long : List Exchange) → IsLedgerInPlaceOf ledger.book ledger.base (recovered (disk.seen ledger.journal.disk)) long → IsLedgerInPlaceOf ledger.book ledger.base (recovered (disk.seen ledger.journal.disk)) (of_earlier_run long)) (unanswered : (agent : ℕ) (long : List Exchange) → agent < earlier_agent → answers_to agent (of_earlier_run long) ≡ []) where
     each : (long : List Exchange) → IsLedgerInPlaceOf ledger.book ledger.base (recovered (disk.seen ledger.journal.disk)) long → BeginsWith (ledger_keeper disk) ledger (of_earlier_run long)
-    each long in_place = (has durable (of_earlier_run long) (earlier long in_place), λ agent few. unanswered agent long few)
+    each long in_place = (kept_to_carry_out disk ledger (of_earlier_run long) [] (has durable (of_earlier_run long) (earlier long in_place)), λ agent few. unanswered agent long few)
 
     pub begins_anew : HaveHistoryOfLedger ledger.book ledger.base (recovered (disk.seen ledger.journal.disk)) → BeginsAnew disk ledger
     begins_anew some = record { some = (of_earlier_run some.long, each some.long some.in_place); each = each }
@@ -170,13 +171,14 @@ many_sealed sealed all is none =
     omega (arith, more)
 
 -- marks that were not opened
-pub marks_refused : (file : List ℕ) (cause : MarksError) → (cause ≡ no_marks_for.Foreign → IsForeignToMarks file) → (cause ≡ no_marks_for.Damaged → SayNoMark (recovered file)) → (cause ≡ no_marks_for.Journal Full → ⊥)
+pub marks_refused : (file : List ℕ) (cause : MarksError) → (cause ≡ no_marks_for.Foreign → IsForeignToMarks file) → (cause ≡ no_marks_for.Damaged → SayNoMark (recovered file)) → (cause ≡ no_marks_for.TooShort → IsTooShortForMarks file) → (cause ≡ no_marks_for.Journal Full → ⊥)
     → AreMarksRefusedFor file cause
-marks_refused file (no_marks_for.Journal Memory) foreign damaged full = tt
-marks_refused file (no_marks_for.Journal Failed) foreign damaged full = tt
-marks_refused file (no_marks_for.Journal Full) foreign damaged full = absurd (full refl)
-marks_refused file no_marks_for.Foreign foreign damaged full = foreign refl
-marks_refused file no_marks_for.Damaged foreign damaged full = damaged refl
+marks_refused file (no_marks_for.Journal Memory) foreign damaged short full = tt
+marks_refused file (no_marks_for.Journal Failed) foreign damaged short full = tt
+marks_refused file (no_marks_for.Journal Full) foreign damaged short full = absurd (full refl)
+marks_refused file no_marks_for.Foreign foreign damaged short full = foreign refl
+marks_refused file no_marks_for.Damaged foreign damaged short full = damaged refl
+marks_refused file no_marks_for.TooShort foreign damaged short full = short refl
 
 -- the mark under which a journal was opened is one of it
 pub mark_of_opened : (limits : Limits) (mark : ℕ) (journal : List ℕ) (book : Book) (base : ℕ) (records : List (List ℕ)) → (IsForeign limits journal → ⊥) → book.limits ≡ limits

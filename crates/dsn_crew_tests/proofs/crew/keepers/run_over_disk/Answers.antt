@@ -6,6 +6,7 @@ use Rattle.dsn_journal.specs.InPlace.{IsLedgerInPlaceOf}
 use Rattle.dsn_journal.specs.Journal.{IsSettled}
 use Rattle.dsn_journal.specs.OpenLedger.{AwaitsRequests, Ledger}
 use Rattle.dsn_journal.specs.contracts.memory_disk.MemoryDiskDisk.TheImpl as memory
+use Rattle.dsn_journal.proofs.Goodbyes.{kept_to_carry_out}
 use Rattle.dsn_journal.proofs.KeptBooks.{has_kept}
 use Rattle.dsn_crew_tests.proofs.crew.keepers.run_over_disk.Goals as goal
 
@@ -22,5 +23,5 @@ run_keeper-requires-clause-begins g c κs within =
     let durable : IsSettled memory.ghosts ledger.journal.disk ledger.journal.used =
     subst (λ (it : Ledger _). IsSettled memory.ghosts it.journal.disk it.journal.used) (sym c.new-keeper.ensures) (c.book.ensures.stands.settled (search rules)) in (
       of_earlier_run file.history,
-      (has_kept memory.ghosts ledger (of_earlier_run file.history) [] (record { many = none.many; front = none.front; in_place = earlier; kept = none.kept; file = none.file }) settled durable, λ agent few. c.ledgers_have_earlier_histories.ensures.unanswered agent file.history few),
+      (kept_to_carry_out memory.ghosts ledger (of_earlier_run file.history) [] (has_kept memory.ghosts ledger (of_earlier_run file.history) [] (record { many = none.many; front = none.front; in_place = earlier; kept = none.kept; file = none.file }) settled durable), λ agent few. c.ledgers_have_earlier_histories.ensures.unanswered agent file.history few),
     )

@@ -54,7 +54,7 @@ returns-in-Ok-open-clause-fault g c =
 pub returns-in-Err-clause-fault : goal.returns-in-Err-clause-fault
 returns-in-Err-clause-fault g c =
     let left = c.in-Err.ensures in
-    no_marks c.in-Err.left.cause c.code-code.ensures refl (marks_refused (g.M.Disk.seen c.args.folder.marks) c.in-Err.left.cause left.foreign left.damaged left.not_full) refl
+    no_marks c.in-Err.left.cause c.code-code.ensures refl (marks_refused (g.M.Disk.seen c.args.folder.marks) c.in-Err.left.cause left.foreign left.damaged left.short left.not_full) refl
     (only_read g.M.Disk c.args.folder.marks c.in-Err.left.disk _ left.untouched left.unwritten) left.any_moment left.count
 
 pub returns-in-Err-open-clause-fault : goal.returns-in-Err-open-clause-fault
@@ -62,7 +62,7 @@ returns-in-Err-open-clause-fault g c =
     let mark = subst (SayMark (recovered (g.M.Disk.seen c.args.folder.marks))) (sym c.mark-mark.ensures.mark) c.in-Ok.ensures.mark in
     let left = c.in-Err-open.ensures in
     let marks_opened = subst (LeavesMarksOpened g.M.Disk c.args.folder.marks) (sym c.into_disk.ensures.disk) c.in-Ok.ensures.any_moment in
-    no_ledger c.in-Err-open.left.cause c.mark-mark.result c.code-code-in-Err-open.ensures refl (record { own = c.in-Ok.ensures.new; says = mark })
+    no_ledger c.in-Err-open.left.cause c.mark-mark.result c.code-code-in-Err-open.ensures refl (record { own = c.in-Ok.ensures.new; room = c.in-Ok.ensures.room; says = mark })
     (journal_refused c.args.limits c.mark-mark.result (g.D.Disk.seen c.args.folder.journal) c.in-Err-open.left.cause left.foreign left.other left.damaged left.headed left.ahead left.begun left.behind left.full)
     (only_read g.D.Disk c.args.folder.journal c.in-Err-open.left.disk _ left.untouched left.unwritten) left.any_moment left.count marks_opened
 

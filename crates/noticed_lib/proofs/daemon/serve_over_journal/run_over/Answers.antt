@@ -2,6 +2,7 @@ use Rattle.std.proofs.Common.{◌≡◌, inl, inr, length, ap, subst, ◌∙◌}
 use Rattle.std.specs.Prelude.{IfSome, is_some}
 use Rattle.dsn_crew.specs.Crew.{CrewFault, MayCrashWithin}
 use Rattle.dsn_journal.specs.KeptBook.{keeper_of_ledger}
+use Rattle.dsn_journal.proofs.Goodbyes.{none_to_carry_out}
 use Rattle.dsn_journal.specs.MarkedOutbox.{MarkedOutbox}
 use Rattle.dsn_journal.specs.Marks.{Marks}
 use Rattle.noticed_lib.specs.daemon.Serve.{WritesFault}
@@ -12,7 +13,7 @@ pub write_kept_account-requires : goal.write_kept_account-requires
 write_kept_account-requires g c =
     let start = c.requires.start in
     let account = c.in-Ok.ensures.account start.from start.posted start.begins.0 start.begins.1 in
-    record { none = λ settled. none_awaited g.D.Disk c.in-Ok.account.book _ account.is.book.awaits }
+    record { none = λ settled. none_awaited g.D.Disk c.in-Ok.account.book _ (none_to_carry_out g.D.Disk c.in-Ok.account.book _ account.is.book).awaits }
 
 pub returns-in-Ok : goal.returns-in-Ok
 returns-in-Ok g c = inl (record {

@@ -119,9 +119,9 @@ install: $(BUILT)
 	@install -D -m 755 $(BUILT) "$(DESTDIR)$(PREFIX)/bin/noticed"
 	install -D -m 644 docs/noticed.8 "$(DESTDIR)$(PREFIX)/share/man/man8/noticed.8"
 	for it in docs/FORMATS.md docs/DEPLOY.md docs/FEEDER.md docs/REFUSALS.md examples/noticed.service \
-	    examples/noticed-postfix.service examples/noticed-feed.service examples/noticed-run.sh examples/feed.py \
-	    examples/feed_mailers.py examples/feed_outbox.py examples/feed_state.py examples/frames.py examples/client.py \
-	    examples/agent.c examples/one-bounce.frames; do
+	    examples/noticed-postfix.socket examples/noticed-postfix.service examples/noticed-feed.service \
+	    examples/noticed-run.sh examples/feed.py examples/feed_mailers.py examples/feed_outbox.py examples/feed_state.py \
+	    examples/frames.py examples/client.py examples/agent.c examples/one-bounce.frames; do
 	    install -D -m 644 "$$it" "$(DESTDIR)$(PREFIX)/share/doc/noticed/$${it##*/}"
 	done
 	echo "installed $(DESTDIR)$(PREFIX)/bin/noticed, its manual page and $(DESTDIR)$(PREFIX)/share/doc/noticed"

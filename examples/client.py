@@ -3,23 +3,24 @@ r"""A delivery agent's client: it asks a daemon what becomes of one message, ove
 
     python3 examples/client.py [--connect S] [--wait S] [--answer S] [--give-up S] [--json] SOCKET [FILE]
 
-FILE, or standard input, has the message's requests in their order: the lines of examples/frames.py (the numbers there
-are left aside), or with --json a list of objects such as these. A flush says its return path ("" or return= for the
-null one), its moment and its arrival: there are no others in their place. It may say how many outcomes its log is to
-have (expects=2 or "expected": 2): no notice is made of another number.
+FILE, or standard input, has the message's requests in their order: the lines of frames.py (the numbers there are left
+aside), or with --json a list of objects such as these. A flush says its return path ("" or return= for the null one),
+its moment and its arrival. It may say how many outcomes its log is to have (expects=2 or "expected": 2): no notice is
+made of another number. With returns=message ("returned": 1) its header is the whole message; one of more than 32,768
+bytes is refused, since a part of it would be returned as the whole.
 
     {"request": "append", "service": "bounce", "queue_id": "A1B2C3", "recipient": "bob@example.org",
      "action": "failed", "status": "5.1.1", "diagnostic": "550 5.1.1 no such user"}
     {"request": "flush", "service": "bounce", "queue_id": "A1B2C3", "return_path": "ann@example.com",
      "moment": 1700000000, "arrival": 1699996400, "header": "Subject: hi\n"}
 
-Each answer is a line on standard output: the request's place from 0, and the words of docs/FORMATS.md section 6. What
-else the caller has to know is a line on standard error: an address that can't be logged, an outcome that may stand in
-the log twice, a request that wasn't carried out, a notice that lacks an outcome. What an answer means, and when a
-request is asked again, is the table of docs/FORMATS.md section 7.
+Each answer is a line on standard output: the request's place from 0, and the words of FORMATS.md section 6. What else
+the caller has to know is a line on standard error: an address that can't be logged, a header that was cut, an outcome
+that the log may have twice, a request that wasn't carried out, a notice that lacks an outcome. What an answer means,
+and when a request is asked again, is the table of FORMATS.md section 7.
 
-The status is 0 where all was carried out, 1 where something can't be, which is told, 2 for wrong arguments or requests,
-75 (EX_TEMPFAIL) where no daemon did it in time, or none can be reached. Hand in the whole message again later: then no
+The status is 0 if all was carried out, 1 if something can't be, which is reported, 2 for wrong arguments or requests,
+75 (EX_TEMPFAIL) if no daemon did it in time, or none can be reached. Submit the whole message again later: then no
 outcome is missing, and those that were logged may be in the notice twice.
 """
 import argparse
@@ -72,7 +73,6 @@ LONGEST_TEXT, LONGEST_HEADER = 800, 32_768
 PAUSE, LONGEST_PAUSE = 0.05, 5  # seconds before a request is asked again: the first, each twice the last, and the most
 # No daemon, one that ended, one that is busy.
 FOR_NOW = (FileNotFoundError, ConnectionError, TimeoutError, BlockingIOError)
-OF_A_FLUSH = ("return_path", "moment", "arrival")  # what examples/frames.py would make up
 GREETING = frames.frame(b"\0")  # a body that is refused, and changes nothing: its answer says that an agent is there
 
 
@@ -188,14 +188,8 @@ class Message:
         return reply, value
 
     def fits(self, request: Request) -> bool:
-        """Whether a request can be asked; what is too long and may be cut is cut, and an original recipient that can't
-        be told is left out."""
+        """Whether a request can be asked; an original recipient that can't be told is left out."""
         fields = request.fields
-        for it in ("diagnostic", "reason"):
-            if it in fields:
-                fields[it] = fields[it][:LONGEST_TEXT]
-        if len(fields.get("header", b"")) > LONGEST_HEADER:
-            fields["header"] = fields["header"][: fields["header"].rfind(b"\n", 0, LONGEST_HEADER) + 1]
         if fields.get("original") and not ADDRESS.fullmatch(fields["original"]):
             self.warn(f"{shown(fields.pop('original'))} can't be told as the original recipient")
         address = fields.get("recipient") if request.kind == "append" else fields.get("return_path") or b"none"
@@ -299,12 +293,27 @@ def shown(text: bytes) -> str:
     return ascii(text.decode("latin-1"))[1:-1]
 
 
-def whole(request: Request) -> Request:
-    """A request that says all that nobody may make up in its place; ValueError where it doesn't."""
-    missing = [it for it in OF_A_FLUSH if request.kind == "flush" and it not in request.fields]
-    if missing:
-        raise ValueError(f"a flush must say its {', '.join(missing)}")
-    return request
+def cut(request: Request, warn):
+    """Cuts what is longer than a request takes: texts, and a header after its last whole field, which is reported.
+    ValueError if a message is too long, or a header's first field: a part would pass for the whole."""
+    fields = request.fields
+    for it in ("diagnostic", "reason"):
+        if it in fields:
+            fields[it] = fields[it][:LONGEST_TEXT]
+    brought, named = fields.get("header", b""), shown(fields["queue_id"])
+    if len(brought) <= LONGEST_HEADER:
+        return
+    takes = f"bytes, and a flush takes {LONGEST_HEADER}"
+    if fields.get("returned") == frames.RETURNED["message"]:
+        raise ValueError(f"the message of {named} has {len(brought)} {takes}: encode it, or send its header")
+    header = re.split(rb"^\r?\n", brought, maxsplit=1, flags=re.MULTILINE)[0]
+    # a folded field goes on in lines that begin with a space or a tab (RFC 5322 section 2.2.3)
+    ends = [it.end() for it in re.finditer(rb"\n(?![ \t])", header)] + [len(header)]
+    if ends[0] > LONGEST_HEADER:
+        raise ValueError(f"the first field of the header of {named} has {ends[0]} {takes}")
+    fields["header"] = header[: max(it for it in ends if it <= LONGEST_HEADER)]
+    if len(fields["header"]) < len(header):
+        warn(f"the header of {named} is cut to its first {len(fields['header'])} of {len(header)} bytes")
 
 
 def from_json(text: str) -> list:
@@ -359,7 +368,8 @@ def main() -> int:
         with open(0 if said.file == "-" else said.file, encoding="utf-8") as it:
             requests = (from_json if said.json else from_words)(it.read())
         for it in requests:
-            frames.frame_of(it.kind, 0, whole(it).fields)
+            cut(it, say)
+            frames.frame_of(it.kind, 0, it.fields)
     except (OSError, ValueError, KeyError, TypeError, AttributeError, struct.error) as why:
         say(why)
         return 2

@@ -18,13 +18,13 @@ which no notice waits: it is kept, removed or renamed to done.OUTBOX.TIME.
 
 A notice that is refused for now (a reply 4yz, no server, a lost connection; of a program any status but 64, 65 and 67,
 a signal that ended it, or that it could not be run) is put off: it is tried again once a minute, for four days, while
-later ones are handed in (RFC 5321 section 4.5.4.1; --retry and --give-up say other times, in seconds). One that is
-refused for good, or for so long, is left out: it must not cause another notice. Each of both is said once, by a line on
-standard error with its key and the reply. Of a pipe what is put off is kept in memory: where a hundred wait nothing
-more is read, and those that still wait when a signal comes are left out. A notice is sent twice where it was taken and
-its reply was late or lost, or the feeder was killed before it had written that down. With --once a notice is left out
-where the state has that it was handed in before, byte for byte: a daemon that keeps a journal may post a letter again
-after it was killed.
+later ones are handed in (RFC 5321 section 4.5.4.1; --retry and --give-up say other times, in seconds). The four days
+begin once a server was reached, or a program run. One that is refused for good, or for so long, is left out: it must
+not cause another notice. Each of both is said once, by a line on standard error with its key and the reply. Of a pipe
+what is put off is kept in memory: where a hundred wait nothing more is read, and those that still wait when a signal
+comes are left out. A notice is sent twice where it was taken and its reply was late or lost, or the feeder was killed
+before it had written that down. With --once a notice is left out where the state has that it was handed in before, byte
+for byte: a daemon that keeps a journal may post a letter again after it was killed.
 
 The last line says how many were handed in, how many were left out, how many were handed in before, and how many wait
 for the next start. The status is 0 where none was left out and each outbox was whole, 1 where one was left out or cut
@@ -34,6 +34,7 @@ can't be used. FEEDER.md has more.
 import argparse
 import contextlib
 import hashlib
+import math
 import os
 import re
 import signal
@@ -127,8 +128,9 @@ class Feeder:
 
     def hand_in(self, source, notice: Notice):
         """Hands in a notice that was just read, puts it off, or leaves it out."""
-        record, start, since = source.record, source.record.position, time.time()
+        record, start = source.record, source.record.position
         refused, message_id = self.refused(notice), notice.message_id()
+        since = first_refusal(refused)
         digest = source.taken()
         if refused is None:
             self.state.note(record, "handed", source.at, digest, *self.known_as(notice))
@@ -161,7 +163,7 @@ class Feeder:
 
     def is_last_try(self, refused: Refused, since: float) -> bool:
         """Whether a notice that was first refused then isn't tried again."""
-        return not refused.for_now or time.time() + self.given.retry > since + self.given.give_up
+        return not refused.for_now or refused.reached and time.time() + self.given.retry > since + self.given.give_up
 
     def leave_out(self, message_id: str, why):
         """A notice that isn't tried again."""
@@ -185,17 +187,25 @@ class Feeder:
         try:
             notice = self.reread(record, it)
         except OSError as why:
-            refused = Refused(str(why))
+            refused = Refused(str(why), reached=False)
         else:
             refused = self.refused(notice) if notice else Refused("its outbox is gone", for_now=False)
-        if refused is not None and not self.is_last_try(refused, it.since):
-            it.due = time.monotonic() + self.given.retry
-            self.waiting.append(it)
+        since = first_refusal(refused, it.since)
+        if refused is not None and not self.is_last_try(refused, since):
+            self.put_off_again(record, it, since)
             return
         if refused is not None:
             self.leave_out(it.message_id, refused)
         self.state.note(record, "settled", it.start, *(("left",) if refused else ("handed", *self.known_as(notice))))
         self.finish(record)
+
+    def put_off_again(self, record: Record, it: Waiting, since: float):
+        """Has a waiting notice tried later, and keeps when it was first refused, if that is known now."""
+        if since != it.since:
+            self.state.note(record, "waits", it.start, it.end, "-", f"{since:.3f}", it.message_id)
+            record.waiting[it.start].notice, it = it.notice, record.waiting[it.start]
+        it.due = time.monotonic() + self.given.retry
+        self.waiting.append(it)
 
     def reread(self, record: Record, it: Waiting) -> Optional[Notice]:
         """A waiting notice, from its place; None where its outbox isn't there any more."""
@@ -462,6 +472,11 @@ class Feeder:
             + "".join(f", {count} {what}" for count, what in more if count)
         )
         return 1 if self.left_out or self.cut or self.state.is_behind else 0
+
+
+def first_refusal(refused: Optional[Refused], before: float = math.inf) -> float:
+    """When a notice was first refused by a mail system that was reached; infinity if it wasn't yet."""
+    return min(before, time.time()) if refused and refused.reached else before
 
 
 def tell(what: str, message_id: str, why):

@@ -21,11 +21,12 @@ DOMAIN = re.compile(rb"[A-Za-z0-9_-]+(\.[A-Za-z0-9_-]+)*|\[[A-Za-z0-9:.-]+\]")
 
 
 class Refused(Exception):
-    """A notice that wasn't taken, and whether another try may succeed."""
+    """A notice that wasn't taken, whether another try may succeed, and whether a mail system refused it: one that isn't
+    reached says nothing of the notice."""
 
-    def __init__(self, why: str, for_now: bool = True):
+    def __init__(self, why: str, for_now: bool = True, reached: bool = True):
         super().__init__(why.replace("\n", " "))
-        self.for_now = for_now
+        self.for_now, self.reached = for_now, reached
 
 
 class Closed(Refused):
@@ -108,7 +109,7 @@ class Server:
     def connect(self, host: bytes):
         """Makes a connection. A refusal here is of no notice, so that it is for now, whatever its number."""
         if time.monotonic() < self.absent:
-            raise Refused(self.why)
+            raise Refused(self.why, reached=False)
         try:
             self.connection = smtplib.SMTP(timeout=GREETING, local_hostname=host.decode(errors="replace") or None)
             code, text = self.connection.connect(self.host, self.port)
@@ -122,7 +123,7 @@ class Server:
         except (smtplib.SMTPException, OSError, Refused) as why:
             self.drop()
             self.absent, self.why = time.monotonic() + self.retry, f"no connection: {why}"
-            raise Refused(self.why) from why
+            raise Refused(self.why, reached=False) from why
         self.used = time.monotonic()
 
     def drop(self):
@@ -176,7 +177,7 @@ class Program:
         except subprocess.TimeoutExpired as late:
             raise Refused(f"{self.words[0]} didn't end, and was killed; it may have taken the message") from late
         except (OSError, ValueError) as why:
-            raise Refused(f"{self.words[0]}: {why}") from why
+            raise Refused(f"{self.words[0]}: {why}", reached=False) from why
         if status < 0:
             raise Refused(f"{self.words[0]} was ended by signal {-status}")
         if status:

@@ -24,8 +24,9 @@ class Unusable(Exception):
 
 @dataclass
 class Waiting:
-    """A notice that was put off: its outbox's number and its place there, when it was first refused (seconds of
-    time.time), its Message-ID, when it is tried next (of time.monotonic), and itself where there is no file."""
+    """A notice that was put off: its outbox's number and its place there, when a mail system first refused it (seconds
+    of time.time, infinity if none was reached yet), its Message-ID, when it is tried next (of time.monotonic), and
+    itself if there is no file."""
 
     number: int
     start: int

@@ -11,7 +11,7 @@ standard input, and each frame is written as soon as its line is there.
     append NUMBER SERVICE ID RECIPIENT ACTION STATUS [original=T] [mta=T] [diagnostic=T] [reason=T]
            [attempt=N] [retry=N] [type=T] [original-type=T] [diagnostic-type=T]
            [extension="X-Name: value"] ..
-    flush NUMBER SERVICE ID [return=T] [moment=N] [arrival=N] [envelope=T] [header=T] [expects=N]
+    flush NUMBER SERVICE ID return=T moment=N arrival=N [envelope=T] [header=T] [expects=N]
           [returns=header|message] [wording=service|outcome] [extension="X-Name: value"] ..
     discard NUMBER SERVICE ID
     forget NUMBER SERVICE ID
@@ -20,12 +20,12 @@ standard input, and each frame is written as soon as its line is there.
 NUMBER is the frame's place, from 0; a dot stands for it. SERVICE is bounce, defer or trace, ACTION is failed, delayed,
 delivered, relayed or expanded (or either is the byte's number). A word may stand in quotes, as in a shell, and in a
 text T, RECIPIENT, STATUS and ID these stand for other bytes: \n LF, \r CR, \t tab, \s space, \\ a backslash, \xE9 the
-byte of that number, \{1200*a} so many times the one character. A flush has moment=1700000000, arrival=1699996400 and
-return=ann@example.com unless said; return= is the null return path, moment=now and arrival=now are this moment; with
-expects=N it is carried out only where its log has N outcomes; with returns=message the text of header= is the message,
-which is returned whole where it can be. The word extension may be repeated; LF follows each.
+byte of that number, \{1200*a} the one character 1200 times. A flush without return=, moment= or arrival= is refused;
+return= is the null return path, moment=now and arrival=now are this moment. With expects=N it is carried out only if
+its log has N outcomes. With returns=message the text of header= is the message, which is returned whole if it can be.
+The word extension may be repeated; LF follows each.
 
-docs/FORMATS.md has the layout of the frames. Nothing here tests a value: the daemon does.
+FORMATS.md has the layout of the frames. Nothing here tests a value: the daemon does.
 """
 import re
 import shlex
@@ -40,6 +40,7 @@ SECOND_VERSION, FORGET = 2, 4
 THIRD_VERSION = 3
 NO_MOMENT = 2**64 - 1
 ANY_COUNT = 2**32 - 1
+OF_A_FLUSH = ("return_path", "moment", "arrival")  # fields that each flush has
 RETURNED = {"header": 0, "message": 1}
 WORDINGS = {"service": 0, "outcome": 1}
 
@@ -92,9 +93,9 @@ def flush(
     number,
     service,
     queue_id,
-    return_path=b"ann@example.com",
-    moment=1700000000,
-    arrival=1699996400,
+    return_path,
+    moment,
+    arrival,
     envelope=b"",
     header=b"",
     expected=None,
@@ -203,7 +204,10 @@ def request_of_line(line: str) -> tuple:
 
 
 def frame_of(kind: str, number: int, fields: dict) -> bytes:
-    """The frame of a request with these fields."""
+    """The frame of a request with these fields. ValueError if a flush lacks one that each has."""
+    lacking = [it.replace("_", " ") for it in OF_A_FLUSH if kind == "flush" and it not in fields]
+    if lacking:
+        raise ValueError(f"a flush must say its {', '.join(lacking)}")
     return {"append": append, "flush": flush, "discard": discard, "forget": forget}[kind](number, **fields)
 
 

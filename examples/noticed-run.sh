@@ -14,19 +14,24 @@
 # all went well, or where no run was there; 1 where the outbox failed, say, whether before the signal or after it.
 # The daemon itself ignores these signals. So one that goes to all processes (Ctrl-C, the end of a login, a shutdown
 # without systemd, `systemctl kill`) ends the run in order too, and doesn't lose the logs that are open. To `kill` the
-# daemon alone does nothing, therefore: use `noticed stop`, or SIGKILL.
+# daemon alone does nothing, therefore: use `noticed stop`, or SIGKILL. Both ignore SIGUSR1, SIGUSR2 and SIGALRM too.
 set -u
 
 program=$1 socket=$2 host=$3 agents=$4 uses=$5
 shift 5
 daemon='' stopping=''
 
+# Another file of the socket's name stays: it is somebody's, and the daemon ends with fault 61.
+remove_socket() {
+    [ ! -S "$socket" ] || rm -f -- "$socket"
+}
+
 # Removes the socket until the daemon has ended: one that has only just begun has none yet.
 end_run() {
     trap '' TERM INT HUP
     stopping=yes
     while [ "$daemon" ] && kill -0 "$daemon" 2> /dev/null; do
-        rm -f -- "$socket"
+        remove_socket
         sleep 0.2
     done
 }
@@ -37,8 +42,9 @@ exec 9>> lock
 flock --nonblock 9 || { echo "another daemon has its outbox in $PWD" >&2; exit 1; }
 
 trap end_run TERM INT HUP
+trap '' USR1 USR2 ALRM # of the daemon too: what a shell ignores stays so in the programs that it starts
 while [ -z "$stopping" ]; do
-    rm -f -- "$socket" || exit 1
+    remove_socket || exit 1
     if [ -s outbox ]; then mv outbox "outbox.$(date +%s.%N)" || exit 1; fi
     rm -f outbox || exit 1
     # The name is on the disk before anything is written to the file that a journal counts as done.

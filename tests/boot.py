@@ -95,7 +95,7 @@ def install(it: Machine):
     for name in ("agent", "stranger"):
         it.run("useradd", "--system", name).check_returncode()
     steps = deploy_block("groupadd ").replace("AGENT", "agent") + deploy_block(
-        "cd /usr/local/share/doc/noticed\ncp "
+        "cd /usr/local/share/doc/noticed\ncp noticed.service"
     ).replace("editor ", "test -w ")
     it.run("sh", "-c", f"set -e\n{steps.partition(' && systemctl enable')[0]}").check_returncode()
     for name in DELIVERED[:2]:
@@ -107,6 +107,7 @@ def install(it: Machine):
 def check_first_start(checks: Checks, it: Machine):
     """The unit comes up where nothing is there, and an agent's account has a notice made that it can't read."""
     checks.equal("systemctl start", it.run("systemctl", "start", "noticed").stderr, b"")
+    checks.equal("the start was over once the socket was there", it.run("test", "-S", SOCKET).returncode, 0)
     checks.true("a socket is listened on", it.listens())
     checks.equal("systemctl is-active", it.said("systemctl", "is-active", "noticed"), "active")
     checks.equal("modes and owners", it.modes(), MODES)

@@ -20,8 +20,8 @@ TOOLS = {"systemd-nspawn": "systemd-container", "debootstrap": "debootstrap", "n
 ANSWERS = f"postfix postfix/main_mailer_type select Internet Site\npostfix postfix/mailname string {HOST}\n"
 QUEUE = "/var/spool/postfix"
 STEPS = {
-    "entry": "127.0.0.1:10025 inet",
-    "unit": "cp /usr/local/share/doc/noticed/noticed-postfix.service",
+    "entries": "postconf -M 127.0.0.1:10025/inet=",
+    "units": "cd /usr/local/share/doc/noticed\ncp noticed-postfix.socket",
     "switch": "postconf -e bounce_service_name",
     "test": "printf 'Subject: a test",
     "back": "postconf -X bounce_service_name",
@@ -108,14 +108,12 @@ class Machine(Container):
 
 
 def check_steps(checks: Checks, it: Machine):
-    """DEPLOY's steps, as they stand there, from the entry of master.cf to the first notice."""
-    with open(it.file("/etc/postfix/master.cf"), "a", encoding="ascii") as file:
-        file.write(deploy_block(STEPS["entry"]))
-    checks.equal(
-        "postfix reload", it.shell("postconf -e myhostname=mx.example.net; postfix reload; postfix check").stdout, b""
-    )
+    """DEPLOY's steps, as they stand there, from the entries of master.cf to the first notice."""
+    it.shell("postconf -e myhostname=mx.example.net").check_returncode()
+    checks.equal("the entries", it.shell(deploy_block(STEPS["entries"])).returncode, 0)
+    checks.equal("postfix check", it.shell("postfix check").stderr, b"")
     checks.true("the entry listens", until(lambda: "127.0.0.1:10025" in it.said("ss", "-ltn"), 10))
-    checks.equal("the unit", it.shell(deploy_block(STEPS["unit"]).replace("editor ", "test -w ")).returncode, 0)
+    checks.equal("the units", it.shell(deploy_block(STEPS["units"]).replace("editor ", "test -w ")).returncode, 0)
     checks.true(
         "it listens",
         until(
@@ -144,11 +142,17 @@ def check_passed_on(checks: Checks, it: Machine):
 
 
 def check_ends(checks: Checks, it: Machine):
-    """Over a kill, a stop and a reboot each message has its notice."""
+    """Over a kill, a stop and a reboot each message has its notice; over a kill none is deferred: systemd keeps the
+    sockets."""
     it.run("systemctl", "kill", "--signal=KILL", "noticed-postfix")
-    it.shell("postconf -e minimal_backoff_time=2s maximal_backoff_time=2s queue_run_delay=2s; postfix reload")
     checks.equal("after a kill", it.bounces("killed")[0], it.main_process())
-    it.run("systemctl", "stop", "noticed-postfix")
+    look = "journalctl --identifier=postfix/local --output=cat | grep 'to=<killed@' | grep -c status=deferred || true"
+    checks.equal("it wasn't deferred", it.said("sh", "-c", look), "0")
+    names = ["private", *(f"private/noticed-{name}" for name in ("bounce", "defer", "trace"))]
+    modes = it.said("stat", "--format=%A %U", *(f"{QUEUE}/{name}" for name in names))
+    checks.equal("modes", modes.splitlines(), ["drwx------ postfix", *3 * ["srw-rw-rw- postfix"]])
+    it.shell("postconf -e minimal_backoff_time=2s maximal_backoff_time=2s queue_run_delay=2s; postfix reload")
+    it.run("systemctl", "stop", "noticed-postfix.socket", "noticed-postfix")
     it.shell(f"printf 'Subject: x\n\nx\n' | sendmail -f root@{HOST} stopped@{HOST}")
     checks.true(
         "while it is stopped the message is kept",
@@ -161,32 +165,20 @@ def check_ends(checks: Checks, it: Machine):
     checks.true("nothing is left", until(it.is_empty, 10))
 
 
-def check_kept_sockets(checks: Checks, it: Machine):
-    """With sockets that systemd keeps, a message that is sent while the service is gone is told without a deferral."""
-    it.file("/etc/systemd/system/noticed-postfix.socket").write_text(deploy_block("[Socket]"))
-    it.shell(
-        "sed -i 's/ postfix --postfix/ postfix --inherited --postfix/' "
-        "/etc/systemd/system/noticed-postfix.service; systemctl daemon-reload"
-    )
-    it.shell(
-        "systemctl stop noticed-postfix; systemctl enable --now noticed-postfix.socket; systemctl start noticed-postfix"
-    ).check_returncode()
-    checks.equal("with sockets of systemd", it.bounces("kept")[0], it.main_process())
-    it.run("systemctl", "kill", "--signal=KILL", "noticed-postfix")
-    checks.equal("after a kill", it.bounces("keptkilled")[0], it.main_process())
-    deferred = it.said(
-        "sh",
-        "-c",
-        "journalctl --identifier=postfix/local --output=cat | grep 'to=<keptkilled@' | grep -c status=deferred || true",
-    )
-    checks.equal("it wasn't deferred", deferred, "0")
-    modes = it.said(
-        "stat",
-        "--format=%A %U",
-        f"{QUEUE}/private",
-        *(f"{QUEUE}/private/noticed-{name}" for name in ("bounce", "defer", "trace")),
-    )
-    checks.equal("modes", modes.splitlines(), ["drwx------ postfix", *3 * ["srw-rw-rw- postfix"]])
+def check_before_postfix(checks: Checks, it: Machine):
+    """Before the first start of Postfix there is no folder for the sockets: the units make none, and are there once
+    Postfix has made it."""
+    units = ("noticed-postfix.socket", "noticed-postfix", "postfix@-", "postfix")
+    it.run("systemctl", "stop", *units).check_returncode()
+    it.run("mv", f"{QUEUE}/private", "/root/private").check_returncode()
+    it.run("systemctl", "start", "noticed-postfix")
+    restarts = ("systemctl", "show", "--value", "--property=NRestarts", "noticed-postfix")
+    checks.true("it is tried again", until(lambda: int(it.said(*restarts)) > 1))
+    checks.true("no folder is made", it.run("test", "-e", f"{QUEUE}/private").returncode)
+    it.run("systemctl", "start", "postfix").check_returncode()
+    listening = ("systemctl", "is-active", "noticed-postfix.socket", "noticed-postfix")
+    checks.true("it is there once Postfix is", until(lambda: it.said(*listening) == "active\nactive"))
+    checks.equal("and makes a notice", it.bounces("first")[0], it.main_process())
     checks.true("nothing is left", until(it.is_empty, 10))
 
 
@@ -204,7 +196,7 @@ def check_against(checks: Checks, it: Machine):
 
 def check_back(checks: Checks, it: Machine):
     """bounce(8) goes on with the logs that wait."""
-    it.shell("postconf -M# 127.0.0.1:10025/inet; postfix reload")
+    it.shell("postconf -P 127.0.0.1:10025/inet/smtpd_client_restrictions=defer; postfix reload")
     it.shell(f"printf 'Subject: x\n\nx\n' | sendmail -f root@{HOST} waiting@{HOST}")
     checks.true("a log waits", until(lambda: it.said("find", f"{QUEUE}/bounce", "-type", "f")))
     checks.equal("back", it.shell(deploy_block(STEPS["back"])).returncode, 0)
@@ -243,7 +235,7 @@ def main():
         ]
         subprocess.run(words, cwd=ROOT, stdout=subprocess.DEVNULL, check=True)
         checks.true("the container boots", it.boot())
-        for check in (check_steps, check_passed_on, check_ends, check_kept_sockets, check_against, check_back):
+        for check in (check_steps, check_passed_on, check_ends, check_before_postfix, check_against, check_back):
             failed = checks.failed
             check(checks, it)
             if checks.failed > failed:

@@ -148,7 +148,7 @@ def two(number: int) -> bytes:
 
 def counted(number: int) -> bytes:
     """The frame of a flush that expects two outcomes."""
-    return frames.flush(number, 1, b"Q1", expected=2)
+    return flush(number, expected=2)
 
 
 def forget(number: int) -> bytes:
@@ -178,7 +178,7 @@ def talk(
 
 def real(checks: Checks):
     """Against the program: an exchange from words and from JSON, and agents that are all busy."""
-    words = (EXAMPLES / "one-bounce.requests").read_text(encoding="utf-8").rstrip() + f" {SAYS}\n"
+    words = (EXAMPLES / "one-bounce.requests").read_text(encoding="utf-8")
     objects = [
         {
             "request": "append",
@@ -578,21 +578,63 @@ def fields(checks: Checks):
         "a null return path",
         FLUSH.rstrip() + " return=\n",
         [null],
-        [(lambda at: frames.flush(at, 1, b"Q1", return_path=b""),)],
+        [(lambda at: flush(at, return_path=b""),)],
         b"0 no return 1\n",
     )
     long = ONE.rstrip() + " diagnostic=\\{801*d} reason=\\{900*r}\n"
     cut = (lambda at: frames.append(at, 1, b"Q1", b"x@y", 1, b"5.0.0", diagnostic=b"d" * 800, reason=b"r" * 800),)
     talk(checks, "long texts", long, [[GREETED, (LOGGED, 0)]], [cut], b"0 logged 0\n")
-    header = (lambda at: frames.flush(at, 1, b"Q1", header=b"X: " + b"h" * 20_000 + b"\n"),)
+
+
+def headers(checks: Checks):
+    """A header is sent as far as whole fields of it fit, and a cut is reported. A message, and a header whose first
+    field is too long, are refused: what was cut of one would be another one."""
+    most = 32_768  # bytes of a returned header, and of a message (FORMATS, section 15)
+    x, y, folded = 20_000, "Y: \\{9000*y}\\n", "Z: z\\n \\{9000*z}\\n"
+    for what, given, sent, warned in (
+        ("as long as it may be", f"X: \\{{{most - 4}*h}}\\n", b"X: " + b"h" * (most - 4) + b"\n", b""),
+        (
+            "of two long fields",
+            f"X: \\{{{x}*h}}\\nX: \\{{{x}*h}}\\n",
+            b"X: " + b"h" * x + b"\n",
+            b"the header of Q1 is cut to its first 20004 of 40008 bytes",
+        ),
+        (
+            "whose last field is folded",
+            f"X: \\{{{x}*h}}\\n{y}{folded}",
+            b"X: " + b"h" * x + b"\nY: " + b"y" * 9000 + b"\n",
+            b"the header of Q1 is cut to its first 29008 of 38015 bytes",
+        ),
+        ("before a long body", f"Subject: hi\\r\\n\\r\\n\\{{{most}*b}}\\n", b"Subject: hi\r\n", b""),
+    ):
+        talk(
+            checks,
+            f"a header {what}",
+            f'{FLUSH.rstrip()} "header={given}"\n',
+            [[GREETED, (NOTHING, 0)]],
+            [(lambda at, sent=sent: flush(at, header=sent),)],
+            b"0 nothing\n",
+            0,
+            warned,
+        )
+    whole = b"X: y\n\n" + b"b" * (most - 7) + b"\n"
     talk(
         checks,
-        "a long header",
-        FLUSH.rstrip() + ' "header=X: \\{20000*h}\\nX: \\{20000*h}\\n"\n',
+        "a message as long as it may be",
+        f'{FLUSH.rstrip()} returns=message "header=X: y\\n\\n\\{{{most - 7}*b}}\\n"\n',
         [[GREETED, (NOTHING, 0)]],
-        [header],
+        [(lambda at: flush(at, header=whole, returned=1),)],
         b"0 nothing\n",
     )
+    for what, given, why in (
+        ("a message of a byte more", f"X: y\\n\\n\\{{{most - 6}*b}}\\n", "message of Q1 has 32769"),
+        ("a message that no text of a frame holds", "X: y\\n\\n\\{66000*b}\\n", "message of Q1 has 66007"),
+        ("a header of one long field", "X: \\{40000*h}\\n", "first field of the header of Q1 has 40004"),
+    ):
+        returns = "header" if "header" in what else "message"
+        ran = client("/nowhere", f'{ONE}{FLUSH.rstrip()} returns={returns} "header={given}"\n')
+        said = ran.notes.startswith(f"client.py: the {why} bytes, and a flush takes 32768".encode())
+        checks.equal(what, (ran.outbox, ran.status, said), (b"", 2, True))
 
 
 def wrong_words(checks: Checks):
@@ -613,7 +655,7 @@ def wrong_words(checks: Checks):
         checks.equal(what, (ran.outbox, ran.status, bool(ran.notes)), (b"", 2, True))
     for lacking in range(3):
         said = SAYS.split()
-        lacks = said.pop(lacking).partition("=")[0].replace("return", "return_path").encode()
+        lacks = said.pop(lacking).partition("=")[0].replace("return", "return path").encode()
         ran = client("/nowhere", f"{ONE}flush . bounce Q1 {' '.join(said)}\n")
         checks.equal(
             f"a flush without its {lacks.decode()}",
@@ -624,7 +666,7 @@ def wrong_words(checks: Checks):
     checks.equal(
         "a flush of JSON without all three",
         (ran.outbox, ran.status, ran.notes),
-        (b"", 2, b"client.py: a flush must say its return_path, moment, arrival\n"),
+        (b"", 2, b"client.py: a flush must say its return path, moment, arrival\n"),
     )
     checks.equal("nothing to ask", client("/nowhere", ""), Ran(b"", b"", 0))
 
@@ -633,7 +675,7 @@ def main():
     checks = Checks(
         "client: examples/client.py against the daemon, and against false ones for each row of what an answer means"
     )
-    for check in (real, unreachable, endings, replies, daemons_in_turn, counts, fields, wrong_words):
+    for check in (real, unreachable, endings, replies, daemons_in_turn, counts, fields, headers, wrong_words):
         check(checks)
     checks.done()
 

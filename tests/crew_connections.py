@@ -9,6 +9,7 @@ import sys
 from dataclasses import dataclass, field
 from typing import Optional
 
+from tests.support.daemon_and_clients import flush
 from tests.support.formats import sessions
 from tests.support.formats.logs import CLOSED, DISCARDED, REFUSED, Limits, Logs
 from tests.support.formats.notices import crlf, mail, outbox
@@ -114,7 +115,7 @@ def check_all(checks: Checks, about: str, sent: list):
 
 def check_cuts(checks: Checks):
     """The first n bytes of the first exchange, each followed by a whole connection; and all of them in one run."""
-    rest = FRAMES.flush(0, 1, b"A1B2C3")
+    rest = flush(0, b"A1B2C3")
     for count in range(len(FIRST) + 1):
         for most in (1, 2, 3, MANY):
             found = crew([FIRST[:count], rest], most)
@@ -136,7 +137,7 @@ def odd_lengths() -> list:
     """Frames whose lengths no frame has, bodies of the longest length, frames out of turn, requests after a goodbye."""
     bodies = [b"\0\0\0\0", b"\0\1\0\1", b"\xff\xff\xff\xff", b"\0\1\0\0" + bytes(65_536), b"\0\1\0\0" + bytes(65_535)]
     turns = [
-        FRAMES.flush(5, 1, b"K1"),
+        flush(5, b"K1"),
         FRAMES.discard(0, 1, b"K1"),
         FRAMES.discard(0, 1, b"K1") + FRAMES.discard(0, 1, b"K1"),
     ]
@@ -161,10 +162,10 @@ def messages() -> list:
     """Two connections, which flush three logs between them."""
     first = [
         FRAMES.append(0, 1, b"K1", b"x@y", 1, b"5.0.0"),
-        FRAMES.flush(1, 1, b"K1"),
+        flush(1, b"K1"),
         FRAMES.append(2, 1, b"K2", b"x@y", 1, b"5.0.0"),
     ]
-    second = [FRAMES.flush(0, 1, b"K2"), FRAMES.append(1, 1, b"K3", b"x@y", 1, b"5.0.0"), FRAMES.flush(2, 1, b"K3")]
+    second = [flush(0, b"K2"), FRAMES.append(1, 1, b"K3", b"x@y", 1, b"5.0.0"), flush(2, b"K3")]
     return [b"".join(first), b"".join(second)]
 
 

@@ -143,7 +143,7 @@ def cut_and_flushed(checks: Checks):
         with daemon.connect() as client:
             checks.equal("the cut one", asked(client, FRAMES[:60]), answer(1))
         with daemon.connect() as client:
-            checks.equal("the second", asked(client, frames.flush(0, 1, b"A1B2C3")), answer(7, 0, 1))
+            checks.equal("the second", asked(client, flush(0, b"A1B2C3")), answer(7, 0, 1))
         checks.equal("their daemon", daemon.end(), Ran(OUTBOX, line(0, 2, 2, 1), 0))
 
 

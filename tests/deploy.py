@@ -1,6 +1,9 @@
 """Runs what docs/DEPLOY.md describes, in a folder of this script's own: examples/noticed-run.sh, which runs one daemon
 after another, each on a new outbox; messages written in words and sent by `noticed send`; and the feeder, which follows
-the outbox and hands each notice to a submission program. The same with a journal."""
+the outbox and hands each notice to a submission program. The same with a journal. And the commands that put the entries
+of `noticed postfix` into a master.cf of this script's own, and take them out again."""
+import os
+import shutil
 import signal
 import subprocess
 import sys
@@ -8,7 +11,8 @@ import tempfile
 from pathlib import Path
 
 from tests.support.daemon_and_clients import PATIENCE, line, until
-from tests.support.running import EXAMPLES, HOST, Checks, program
+from tests.support.running import EXAMPLES, HOST, Checks, empty_outbox, program
+from tests.support.system import deploy_block
 
 FRAMES = [sys.executable, str(EXAMPLES / "frames.py"), "-"]
 FEED = [sys.executable, str(EXAMPLES / "feed.py")]
@@ -88,8 +92,71 @@ def followed(checks: Checks, options: list):
         checks.equal("outboxes", len(list(room.glob("outbox*"))), 3)
 
 
+def unsupervised(checks: Checks):
+    """The loop for a machine without a supervisor: its run is ended in order, by the command of the page, once the loop
+    is."""
+    with tempfile.TemporaryDirectory(prefix="noticed-") as name:
+        room = Path(name)
+        words = " ".join(["sh", str(EXAMPLES / "noticed-run.sh"), program(), "socket", HOST, "1", "2", "--log"])
+        (room / "run").write_text(f"#!/bin/sh\nexec {words} < /dev/null 2> notes\n")
+        (room / "run").chmod(0o755)
+        (room / "notes").touch()
+        loop, stop = (
+            deploy_block(start).replace("/run/noticed.pid", str(room / "pid"))
+            for start in ("while :; do ./run", "kill ")
+        )
+        with subprocess.Popen(["sh", "-c", loop], cwd=room) as looping:
+            try:
+                next_run(checks, room, 1)
+            finally:
+                looping.kill()
+        pid = int((room / "pid").read_text())
+        subprocess.run(["sh", "-c", stop], check=True)
+        checks.true("the run is ended", until(lambda: not Path(f"/proc/{pid}").exists()))
+        checks.equal("in order", (room / "outbox").read_bytes(), empty_outbox())
+        checks.true("and its socket is removed", not (room / "socket").exists())
+
+
+def entries_of(folder: Path) -> list:
+    """The services of a master.cf, each as SERVICE/TYPE."""
+    said = subprocess.run(["postconf", "-c", str(folder), "-M"], capture_output=True, text=True, check=True).stdout
+    return ["/".join(it.split()[:2]) for it in said.splitlines()]
+
+
+def entries(checks: Checks):
+    """The entries of master.cf: pasted into a shell, the commands of the page add them, a second time change nothing,
+    and are undone by those of the way back."""
+    if not shutil.which("postconf"):
+        checks.skip("the entries of master.cf (needs Postfix's postconf)")
+        return
+    with tempfile.TemporaryDirectory(prefix="noticed-") as name:
+        folder, given = (
+            Path(name),
+            "pickup unix n - y 60 1 pickup\nmailman unix - n n - - pipe\n  flags=FRX user=list\n",
+        )
+        (folder / "main.cf").write_text("")
+        (folder / "master.cf").write_text(given)
+        adds = deploy_block("postconf -M 127.0.0.1:10025/inet").partition("postfix reload")[0]
+        (undoes,) = [it for it in deploy_block("postconf -X ").splitlines() if it.startswith("postconf -MX ")]
+        before, named = entries_of(folder), ["127.0.0.1:10025/inet", "noticed-cleanup/unix"]
+        for times in ("once", "twice"):
+            ran = subprocess.run(
+                ["sh", "-e", "-c", adds], capture_output=True, check=False, env={**os.environ, "MAIL_CONFIG": name}
+            )
+            checks.equal(f"the commands, {times}", (ran.stdout, ran.stderr, ran.returncode), (b"", b"", 0))
+            checks.equal(f"the entries, {times}", entries_of(folder), before + named)
+        words = ["postconf", "-c", name, "-h", "-P", "127.0.0.1:10025/inet/cleanup_service_name"]
+        checks.equal(
+            "its cleanup(8)", subprocess.run(words, capture_output=True, check=False).stdout, b"noticed-cleanup\n"
+        )
+        subprocess.run(["sh", "-c", undoes], check=False, env={**os.environ, "MAIL_CONFIG": name})
+        checks.equal("the way back", (folder / "master.cf").read_text(), given)
+
+
 def main():
-    checks = Checks("deploy: two daemons one after another, their clients, and the feeder that follows their outboxes")
+    checks = Checks("deploy: two daemons one after another, their clients, the feeder, and the entries of master.cf")
+    entries(checks)
+    unsupervised(checks)
     followed(checks, [])
     followed(checks, ["--journal", "journal", "--outbox", "outbox"])
     checks.done()

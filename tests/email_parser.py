@@ -9,6 +9,7 @@ from email import policy
 from email.parser import BytesParser
 from email.utils import parsedate_to_datetime
 
+from tests.support.daemon_and_clients import flush
 from tests.support.running import HOST, Checks, batch, example_module
 
 FRAMES = example_module("frames")
@@ -186,7 +187,7 @@ def frames_of(case):
     """The request frames of a case."""
     service, queue_id = SERVICES[case.service], case.queue_id.encode()
     appends = [FRAMES.append(at, service, queue_id, **it.given) for at, it in enumerate(case.recipients)]
-    return b"".join([*appends, FRAMES.flush(len(appends), service, queue_id, **case.flush)])
+    return b"".join([*appends, flush(len(appends), queue_id, service, **case.flush)])
 
 
 def messages_of(outbox):

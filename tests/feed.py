@@ -5,6 +5,7 @@ import re
 import socket
 import subprocess
 import tempfile
+import time
 from pathlib import Path
 
 try:
@@ -76,19 +77,19 @@ def tries(checks: Checks, outbox: bytes):
         (1, sorted([*put_off, *left_out, f"0 handed in, {MESSAGES} left out"])),
     )
     checks.true("how often", all(2 <= it <= 5 for it in server.tries.values()))
-    status, said = feed([*SOON, "127.0.0.1:1"], outbox)
-    checks.equal("no server", (status, said[-1:]), (1, [f"0 handed in, {MESSAGES} left out"]))
-    checks.equal("its lines", [it[:11] for it in said[:-1]], ["put off B K"] * MESSAGES + ["left out B "] * MESSAGES)
-    status, said = feed(["--give-up", "0", "127.0.0.1:1"], outbox)
+    server = MailServer(greylists=1)
+    status, said = feed(["--give-up", "0", server.address], outbox)
     checks.equal(
         "nothing tried again", (status, [it[:12] for it in said]), (1, ["left out B K"] * MESSAGES + ["0 handed in,"])
     )
     with socket.create_server(("127.0.0.1", 0)) as it:
         port = it.getsockname()[1]
-    with Fed("--retry", "0.1", f"127.0.0.1:{port}", stdin=subprocess.PIPE) as it:
+    with Fed("--retry", "0.1", "--give-up", "0", f"127.0.0.1:{port}", stdin=subprocess.PIPE) as it:
         it.given(outbox)
-        checks.true("a server that isn't there yet: a line", comes_to(lambda: min(len(it.said()), 1), 1))
-        checks.true("the first line", it.said()[0].startswith("put off B K0: "))
+        checks.true("a server that isn't there yet: lines", comes_to(lambda: len(it.said()), MESSAGES))
+        time.sleep(1)  # longer than a notice is tried at a server that is there
+        put_off = [f"put off B K{at}: no connection" for at in range(MESSAGES)]
+        checks.equal("they are put off", [line[: len(put_off[0])] for line in it.said()], put_off)
         server = MailServer(port=port)
         checks.true("all of it", comes_to(lambda: len(server.taken), MESSAGES))
         status, said = it.ended()
@@ -234,9 +235,12 @@ def programs(checks: Checks, outbox: bytes):
             checks.true(
                 "a message", (Path(room) / f"sender{at}@example.com").read_bytes() == message.replace(b"\r\n", b"\n")
             )
-        status, said = feed([*SOON, str(Path(room) / "nothing")], outbox)
-        checks.equal("no program: end", (status, said[-1:]), (1, [f"0 handed in, {MESSAGES} left out"]))
-        checks.equal("its lines", sorted({it[:7] for it in said[:-1]}), ["left ou", "put off"])
+        with Fed("--retry", "0.1", "--give-up", "0", f"{room}/later/submit", stdin=subprocess.PIPE) as it:
+            it.given(outbox)
+            checks.true("no program: each is put off", comes_to(lambda: len(it.said()), MESSAGES) and it.rests())
+            (Path(room) / "later").mkdir()
+            submission(f"{room}/later", "cat > /dev/null\n")
+            checks.equal("once it is there", it.ended()[1][MESSAGES:], [f"{MESSAGES} handed in, 0 left out"])
 
 
 STATUSES = {

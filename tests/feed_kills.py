@@ -13,7 +13,7 @@ import time
 from collections import Counter
 from pathlib import Path
 
-from tests.support.daemon_and_clients import Daemon
+from tests.support.daemon_and_clients import Daemon, flush
 from tests.support.feeding import Following, MailServer, comes_to, frames, outbox_of, submission
 from tests.support.running import Checks
 
@@ -137,7 +137,7 @@ def daemons_killed(checks: Checks, kills: int, room: Path):
                 path.rename(f"{path}.{time.time():.9f}")
             made = b"".join(
                 frames.append(2 * at, 1, b"R%dx%d" % (run, at), b"x@y", 1, b"5.0.0")
-                + frames.flush(2 * at + 1, 1, b"R%dx%d" % (run, at))
+                + flush(2 * at + 1, b"R%dx%d" % (run, at))
                 for at in range(2000)
             )
             with path.open("ab") as outbox, Daemon(1, 1, stdout=outbox) as daemon:

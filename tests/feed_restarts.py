@@ -287,6 +287,43 @@ def waits_on(checks: Checks, outbox: bytes):
         )
 
 
+def out_of_reach(checks: Checks, outbox: bytes):
+    """A notice that no mail system has refused is never left out, also after its clock jumped ahead by days: the time
+    for which it is tried begins once one is reached."""
+    ahead = "import time\nnow = time.time\ntime.time = lambda: now() + 5 * 86400"
+    with tempfile.TemporaryDirectory() as room:
+        path, state = Path(room) / "outbox", Path(room) / "feed.outbox.state"
+        path.write_bytes(outbox)
+        with socket.create_server(("127.0.0.1", 0)) as it:
+            address = "127.0.0.1:%d" % it.getsockname()[1]
+        waits = f"0 handed in, 0 left out, {MESSAGES} wait"
+        for first, mailer in (("", [address]), (ahead, [address]), (ahead, [f"{room}/no-such-program"])):
+            with Following(path, "--retry", "0.2", *mailer, first=first) as it:
+                checks.true("each waits", comes_to(lambda: kept(path).count(b" waits "), MESSAGES) and it.rests())
+                status, said = it.end()
+            checks.equal(f"{mailer}: its end", (status, said[-1]), (0, waits))
+            checks.equal("none is left out", [line for line in said if line.startswith("left out")], [])
+        server = MailServer(port=int(address.rpartition(":")[2]), greylists=1)
+        with Following(path, "--retry", "0.2", address, first=ahead) as it:
+            checks.true("refused once, then taken", comes_to(lambda: len(server.taken), MESSAGES))
+            checks.equal("its end", it.end(), (0, [f"{MESSAGES} handed in, 0 left out"]))
+        checks.equal("tries of each", set(server.tries.values()), {2})
+        state.unlink()
+        server.tries.clear()
+        with Following(path, "--retry", "3600", address) as it:
+            checks.true("refused today", comes_to(lambda: kept(path).count(b" waits "), MESSAGES))
+            checks.equal("its end", it.end()[1][-1], waits)
+        server.listener.shutdown(socket.SHUT_RDWR)
+        server.listener.close()
+        with Following(path, "--retry", "0.2", address, first=ahead) as it:
+            checks.true("five days later it isn't there", it.rests())
+            checks.equal("its end", it.end(), (0, [waits]))
+        server = MailServer(port=int(address.rpartition(":")[2]), greylists=1)
+        with Following(path, "--retry", "0.2", address, first=ahead) as it:
+            checks.true("then it refuses each again", comes_to(lambda: len(it.said()), MESSAGES))
+            checks.equal("its end", it.end()[1][-1], f"0 handed in, {MESSAGES} left out")
+
+
 def cut_once(checks: Checks, outbox: bytes):
     """That an outbox was cut short is said once, also over two starts; and of one that grows not at all."""
     with tempfile.TemporaryDirectory() as room:
@@ -506,6 +543,7 @@ def main():
         not_synced,
         moved_while_none_grows,
         waits_on,
+        out_of_reach,
         cut_once,
         two_feeders,
         number_used_again,

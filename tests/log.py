@@ -28,8 +28,8 @@ def notices(checks: Checks):
         checks.equal("the first notice, before the end", daemon.said(len(first)), first)
         longest = b"a" * 256
         with daemon.connect() as client:
-            asked(client, append(0, b"K" * 32) + frames.flush(1, 1, b"K" * 32, return_path=longest), 2)
-            asked(client, frames.flush(2, 1, b"K2"))
+            asked(client, append(0, b"K" * 32) + flush(1, b"K" * 32, return_path=longest), 2)
+            asked(client, flush(2, b"K2"))
         second = b"notice B." + b"K" * 32 + b".1 to <" + longest + b">\n"
         ended = daemon.end()
         checks.equal("all lines, and then the notes", ended.notes, first + second + line(0, 5, 2))

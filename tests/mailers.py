@@ -23,7 +23,7 @@ try:
 except ImportError:
     Controller = None
 
-from tests.support.daemon_and_clients import Daemon
+from tests.support.daemon_and_clients import Daemon, flush
 from tests.support.feeding import Following, frames
 from tests.support.running import ROOT, Checks, program
 from tests.support.system import KEPT, Layer, base_system, installed, lacking
@@ -274,7 +274,7 @@ def one_run(path: Path, run: int, odd: list):
     for at, sender in enumerate(senders(run, odd)):
         key = b"R%dx%d" % (run, at)
         made += frames.append(2 * at, 1, key, b"bob@example.org", 1, b"5.1.1")
-        made += frames.flush(2 * at + 1, 1, key, return_path=sender, header=b"Subject: hi\n.dots\n..\n.\n")
+        made += flush(2 * at + 1, key, return_path=sender, header=b"Subject: hi\n.dots\n..\n.\n")
     with path.open("ab") as outbox, Daemon(1, 1, stdout=outbox) as daemon:
         daemon.send(made)
         daemon.running.wait(timeout=PATIENCE)

@@ -4,28 +4,34 @@ modes and owners that come of it; the runs that follow one another, and their en
 by `systemd-analyze verify` where that is installed. As root the daemon runs as an account of its own, and others try to
 get at its socket and its outbox. And examples/noticed-feed.service: that it follows the outbox of the first, as an
 account that may read it, is waited for as long as a reply may take, and keeps nothing from the mail program that it
-runs. tests/boot.py tries both under systemd. And examples/noticed-postfix.service: its keys, and that its command
-begins to listen in a queue folder, where it is put in place of Postfix's. tests/boot_postfix.py tries it under
+runs. tests/boot.py tries both under systemd. And examples/noticed-postfix.socket and .service: their keys, and that the
+command takes the sockets in a queue folder that is put in place of Postfix's. tests/boot_postfix.py tries both under
 systemd."""
+import contextlib
 import os
 import random
 import re
 import shlex
 import shutil
 import signal
+import socket
 import stat
 import subprocess
+import sys
 import tempfile
 import time
 from dataclasses import dataclass
 from pathlib import Path
 
 from tests.support.daemon_and_clients import FIRST_FRAME, FRAMES, NOTES, OUTBOX, PATIENCE, is_listened_on, until
+from tests.support.private_postfix import HANDS_ON
 from tests.support.running import EXAMPLES, HOST, ROOT, Checks, Ran, empty_outbox, program
+from tests.support.system import deploy_block
 
 UNIT = EXAMPLES / "noticed.service"
 FEEDER = EXAMPLES / "noticed-feed.service"
-POSTFIX = EXAMPLES / "noticed-postfix.service"
+POSTFIX, SOCKETS = EXAMPLES / "noticed-postfix.service", EXAMPLES / "noticed-postfix.socket"
+QUEUE = "/var/spool/postfix"  # Postfix's folder, as Debian has it
 DAEMON, AGENT, STRANGER = 64801, 64802, 64803  # accounts that no machine has; the daemon's group has its number
 # Keys of a unit that hide files from what it runs, or take rights away; and those that the feeder's has as comments.
 KEEPS = (
@@ -69,10 +75,25 @@ WANTED_OF_POSTFIX = {
     "NoNewPrivileges": ["yes"],
     "CapabilityBoundingSet": [""],
     "ProtectSystem": ["strict"],
-    "ReadWritePaths": ["/var/spool/postfix"],
+    "ReadWritePaths": [QUEUE],
     "RestrictAddressFamilies": ["AF_UNIX AF_INET AF_INET6"],
     "IPAddressAllow": ["localhost"],
 }
+
+
+# Of the unit of its sockets: whose they are, and that systemd makes no folder for them, which would be root's.
+WANTED_OF_SOCKETS = {
+    "Unit": {"ConditionPathIsDirectory": [f"{QUEUE}/private"]},
+    "Socket": {
+        "ListenStream": [f"{QUEUE}/private/noticed-{name}" for name in ("bounce", "defer", "trace")],
+        "SocketUser": ["postfix"],
+        "SocketMode": ["0666"],
+    },
+    "Install": {"WantedBy": ["sockets.target"]},
+}
+
+
+OF_OTHERS = {"postfix.service", "sendmail.c", "exim.c"}  # files of other programs that the pages name
 
 
 def sections_of(text: str) -> dict:
@@ -148,8 +169,9 @@ class Machine:
             if self.account:
                 os.chown(folder, DAEMON, DAEMON)
 
-    def begin(self, command: str) -> subprocess.Popen:
-        """Begins a command of the unit, in systemd's order. FileNotFoundError where systemd has status 209 or 200."""
+    def begin(self, command: str, main: int = 0) -> subprocess.Popen:
+        """Begins a command of the unit, in systemd's order, as that of this main process if one runs. FileNotFoundError
+        if systemd has status 209 or 200."""
         with self.output("StandardOutput") as out, self.output("StandardError") as notes:
             self.folders()
             how = {"user": DAEMON, "group": DAEMON, "extra_groups": []} if self.account else {}
@@ -160,6 +182,7 @@ class Machine:
                 stdout=out,
                 stderr=notes,
                 cwd=self.path(self.one("WorkingDirectory")),
+                env={**os.environ, "MAINPID": str(main)},
                 **how,
             )
 
@@ -316,6 +339,25 @@ def check_access(checks: Checks, machine: Machine, command: str):
         daemon.wait(timeout=PATIENCE)
 
 
+def check_journal_folder(checks: Checks, machine: Machine, _: str):
+    """The command of docs/DEPLOY.md makes the journal's folder for the daemon's account alone, and changes nothing to
+    which a link of that account leads."""
+    if not machine.account:
+        return
+    machine.folders()
+    made, victim = machine.path("/var/lib/noticed/journal"), machine.room / "victim"
+    as_account = f"setpriv --reuid={DAEMON} --regid={DAEMON} --clear-groups --"
+    words = machine.here(deploy_block("runuser -u noticed -- mkdir").replace("runuser -u noticed --", as_account))
+    status = subprocess.run(words, check=False, timeout=PATIENCE).returncode
+    checks.equal("the journal's folder", (status, made.stat().st_uid, mode_of(made)), (0, DAEMON, "drwx------"))
+    made.rmdir()
+    victim.mkdir(mode=0o755)
+    made.symlink_to(victim)
+    status = subprocess.run(words, capture_output=True, check=False, timeout=PATIENCE).returncode
+    checks.true("a link in its place is no success", status)
+    checks.equal("where the link leads", (victim.stat().st_uid, mode_of(victim)), (0, "drwxr-xr-x"))
+
+
 def check_runs(checks: Checks, machine: Machine, command: str):
     """Two runs to their last connections, each with an outbox of its own, and the next begins at once; then a stop."""
     daemon = begun(checks, machine, short(command))
@@ -345,11 +387,16 @@ def check_stop(checks: Checks, machine: Machine, daemon: subprocess.Popen):
 
 
 def end_of(machine: Machine, command: str):
-    """Starts the unit and waits for its end: the status, or why it could not be started."""
+    """Starts the unit and waits for its end: the status, or why it could not be started, or that it goes on."""
     try:
-        return machine.start(command).wait(timeout=PATIENCE)
+        daemon = machine.start(command)
     except OSError as why:
         return why
+    if not until(lambda: daemon.poll() is not None):
+        daemon.send_signal(signal.SIGTERM)
+        daemon.wait(timeout=PATIENCE)
+        return "it went on"
+    return daemon.returncode
 
 
 def stand_in(machine: Machine, script: str):
@@ -365,6 +412,10 @@ def check_failures(checks: Checks, machine: Machine, command: str):
     machine.socket.mkdir(parents=True)
     checks.equal("a folder has the socket's name", end_of(machine, command), 1)
     machine.socket.rmdir()
+    machine.socket.write_bytes(b"mine")
+    checks.equal("a file has the socket's name", end_of(machine, command), 1)
+    checks.equal("and is left as it is", machine.socket.exists() and machine.socket.read_bytes(), b"mine")
+    machine.socket.unlink(missing_ok=True)
     mark = machine.room / "mark"
     for says, status, wanted in (("echo said", 1, 1), ("", 3, 3), ("", 0, 4), ("kill -9 $$", 0, 137)):
         mark.unlink(missing_ok=True)
@@ -374,11 +425,18 @@ def check_failures(checks: Checks, machine: Machine, command: str):
 
 
 def stand_in_daemon(machine: Machine, before: str = "", after: str = ""):
-    """Puts a shell script in the place of the program; it ends once its socket is removed, and does more."""
+    """Puts a shell script in the place of the program; it ends once its socket is removed, and does more. A shell can't
+    make a socket: it gives one that was made here another name."""
+    made = machine.room / "made"
+    if not made.exists():
+        with socket.socket(socket.AF_UNIX) as it:
+            it.bind(str(made))
+        if machine.account:
+            os.chown(made, DAEMON, DAEMON)
     finds_it = "for it; do case $it in */socket) socket=$it ;; esac; done"
     stand_in(
         machine,
-        f'test "$1" = serve || exit 9\n{finds_it}\n{before}\n: > "$socket"\n'
+        f'test "$1" = serve || exit 9\n{finds_it}\n{before}\nln {made} "$socket"\n'
         f'while test -e "$socket"; do sleep 0.05; done\n{after}',
     )
 
@@ -453,8 +511,32 @@ def check_moments(checks: Checks, machine: Machine, command: str):
         checks.equal(f"stops at any moment {what}", ends, [(0, True)] * 15)
 
 
+def check_started(checks: Checks, machine: Machine, command: str):
+    """The unit's start is over once the daemon has its socket, or has ended; a socket that was left isn't one."""
+    waits = machine.service.get("ExecStartPost", [])
+    checks.equal("commands after the start", len(waits), 1)
+    if not waits:
+        return
+    machine.folders()
+    with socket.socket(socket.AF_UNIX) as it:
+        it.bind(str(machine.socket))
+    stand_in_daemon(machine, before="sleep 1")
+    began, daemon = time.monotonic(), machine.start(command)
+    waited = machine.begin(waits[0], daemon.pid).wait(timeout=PATIENCE)
+    checks.equal("the start of a daemon whose socket is late", (waited, machine.socket.exists()), (0, True))
+    checks.true("it waited for the daemon's own socket", time.monotonic() - began >= 1)
+    daemon.send_signal(signal.SIGTERM)
+    checks.equal("its stop", daemon.wait(timeout=PATIENCE), 0)
+    stand_in(machine, "exit 3")
+    daemon = machine.start(command)
+    checks.equal("a daemon that ends", daemon.wait(timeout=PATIENCE), 3)
+    began, waited = time.monotonic(), machine.begin(waits[0], daemon.pid).wait(timeout=PATIENCE)
+    checks.equal("its start is over at once", (waited, time.monotonic() - began < 10), (0, True))
+
+
 def check_all_signalled(checks: Checks, machine: Machine, command: str):
-    """A signal to the daemon alone does nothing; one to all processes ends the run in order."""
+    """A signal to the daemon alone does nothing; one to all processes ends the run in order, unless it asks for no
+    end."""
     for it in (signal.SIGTERM, signal.SIGINT, signal.SIGHUP):
         script = begun(checks, machine, command)
         if not script:
@@ -465,8 +547,12 @@ def check_all_signalled(checks: Checks, machine: Machine, command: str):
             )
             for child in Path(f"/proc/{script.pid}/task/{script.pid}/children").read_text(encoding="ascii").split():
                 os.kill(int(child), it)
+            for other in (signal.SIGUSR1, signal.SIGUSR2, signal.SIGALRM):
+                os.killpg(script.pid, other)
             checks.equal(
-                f"{it.name} to the daemon does nothing", machine.send(FRAMES[:FIRST_FRAME]).outbox, b"0 logged 1\n"
+                f"{it.name} to the daemon does nothing, nor USR1, USR2 and ALRM to all",
+                machine.send(FRAMES[:FIRST_FRAME]).outbox,
+                b"0 logged 1\n",
             )
             os.killpg(script.pid, it)
             checks.equal(f"{it.name} to all processes: the status", script.wait(timeout=PATIENCE), 0)
@@ -478,13 +564,22 @@ def check_all_signalled(checks: Checks, machine: Machine, command: str):
 
 
 def check_installed(checks: Checks, machine: Machine, *commands: str):
-    """Each file that the units name is one that `make install` puts there."""
+    """`make install` puts the units there, each file that they name, and what the pages for operators name."""
     named = [it for command in commands for it in words_of(command) if it.startswith("/usr/local/")]
     checks.equal(
         "files that the units name and that aren't installed",
         [it for it in named if not machine.path(it).is_file()],
         [],
     )
+    units, folder = (UNIT, FEEDER, POSTFIX, SOCKETS), machine.path("/usr/local/share/doc/noticed")
+    checks.equal("units that aren't installed", [it.name for it in units if not (folder / it.name).is_file()], [])
+    for page in ("DEPLOY.md", "FEEDER.md"):
+        text = (folder / page).read_text()
+        there = {it.name for it in folder.iterdir()}
+        files = set(re.findall(r"(?<![\w/.-])[\w-]+\.(?:py|sh|service|socket|c|frames|md)\b", text))
+        checks.equal(f"files that {page} names and that aren't installed", sorted(files - there - OF_OTHERS), [])
+        elsewhere = re.findall(r"(?<![\w/])(?:docs|examples|tests|bench|crates)[/.]\w+", text)
+        checks.equal(f"places of the repository that {page} names", elsewhere, [])
 
 
 def check_feeder(checks: Checks, sections: dict):
@@ -512,9 +607,12 @@ def check_feeder(checks: Checks, sections: dict):
 
 
 def check_postfix(checks: Checks):
-    """The unit for Postfix has its account, its folder and loopback, and its command listens; without the folder it is
-    tried again."""
-    given = sections_of(POSTFIX.read_text())
+    """The units for Postfix: the service has its account, its folder and loopback, the sockets are in that folder, and
+    the command takes them; without them it is tried again."""
+    given, sockets = sections_of(POSTFIX.read_text()), sections_of(SOCKETS.read_text())
+    for name, keys in WANTED_OF_SOCKETS.items():
+        for key, value in keys.items():
+            checks.equal(f"for Postfix: {key}", sockets[name].get(key), value)
     checks.equal("for Postfix: sections", list(given), ["Unit", "Service", "Install"])
     for key, value in WANTED_OF_POSTFIX.items():
         checks.equal(f"for Postfix: {key}", given["Service"].get(key), value)
@@ -522,33 +620,46 @@ def check_postfix(checks: Checks):
         "for Postfix: it is there before Postfix", given["Unit"].get("Before"), ["postfix.service postfix@-.service"]
     )
     checks.equal("for Postfix: the count of starts has no limit", given["Unit"].get("StartLimitIntervalSec"), ["0"])
+    checks.equal("for Postfix: its sockets are there first", given["Unit"].get("Requires"), [SOCKETS.name])
     (command,) = given["Service"]["ExecStart"]
     words = words_of(command)
-    folder = given["Service"]["ReadWritePaths"][0]
-    checks.equal("for Postfix: what is written to is its folder", words.count(folder), 1)
+    checks.equal("for Postfix: what is written to is its folder", words.count(QUEUE), 1)
     with tempfile.TemporaryDirectory(prefix="noticed-") as name:
-        words = [program(), *(name if it == folder else it for it in words[1:])]
+        words = [program(), *(name if it == QUEUE else it for it in words[1:])]
         ended = subprocess.run(words, stdin=subprocess.DEVNULL, capture_output=True, check=False, timeout=PATIENCE)
-        checks.equal(
-            "for Postfix: without private/", (ended.returncode, ended.stderr.splitlines()[0]), (1, b"fault 61")
-        )
+        checks.equal("for Postfix: without sockets", (ended.returncode, ended.stderr[:8]), (1, b"fault 61"))
         (Path(name) / "private").mkdir()
-        with subprocess.Popen(words, stdin=subprocess.DEVNULL, stderr=subprocess.PIPE) as serving:
-            checks.equal(
-                "for Postfix: its first line", serving.stderr.readline(), f"listening in {name} for {HOST}\n".encode()
-            )
-            serving.terminate()
-        checks.equal("for Postfix: SIGTERM ends it", serving.returncode, -signal.SIGTERM)
+        check_inherits(checks, words, name, [it.replace(QUEUE, name) for it in sockets["Socket"]["ListenStream"]])
 
 
-def check_verify(checks: Checks, name: str, text: str):
-    """What systemd itself says of a unit."""
+def check_inherits(checks: Checks, words: list, folder: str, paths: list):
+    """A command for Postfix takes sockets that were made for it, and is ended by a signal."""
+    with contextlib.ExitStack() as kept:
+        given = [kept.enter_context(socket.socket(socket.AF_UNIX)) for _ in paths]
+        for it, path in zip(given, paths):
+            it.bind(path)
+            it.listen()
+        descriptors = [it.fileno() for it in given]
+        held = [sys.executable, "-c", HANDS_ON, ",".join(map(str, descriptors)), *words]
+        how = {"stdin": subprocess.DEVNULL, "stderr": subprocess.PIPE, "pass_fds": descriptors}
+        serving = kept.enter_context(subprocess.Popen(held, **how))
+        checks.equal(
+            "for Postfix: its first line", serving.stderr.readline(), f"listening in {folder} for {HOST}\n".encode()
+        )
+        serving.terminate()
+        checks.equal("for Postfix: SIGTERM ends it", serving.wait(timeout=PATIENCE), -signal.SIGTERM)
+
+
+def check_verify(checks: Checks, name: str, text: str, **others: str):
+    """What systemd itself says of a unit, beside others, each by its kind."""
     if not shutil.which("systemd-analyze"):
         checks.skip("systemd-analyze verify (needs systemd)")
         return
     with tempfile.TemporaryDirectory() as room:
         unit = Path(room) / name
         unit.write_text("\n".join(it for it in text.splitlines() if not it.startswith("Documentation=")) + "\n")
+        for kind, it in others.items():
+            unit.with_suffix(f".{kind}").write_text(it)
         words = ["systemd-analyze", "verify", "--man=no", str(unit)]
         verified = subprocess.run(
             words, capture_output=True, text=True, check=False, timeout=60, env={**os.environ, "LC_ALL": "C"}
@@ -569,11 +680,13 @@ def main():
     (command,) = sections["Service"]["ExecStart"]
     for check in (
         check_access,
+        check_journal_folder,
         check_runs,
         check_failures,
         check_second,
         check_statuses,
         check_moments,
+        check_started,
         check_all_signalled,
     ):
         with tempfile.TemporaryDirectory(prefix="noticed-") as name:
@@ -594,9 +707,10 @@ def main():
         (UNIT.name, text),
         (FEEDER.name, feeder),
         (f"set.{FEEDER.name}", OPTION.sub("", feeder)),
-        (POSTFIX.name, postfix),
     ):
         check_verify(checks, name, it)
+    check_verify(checks, POSTFIX.name, postfix, socket=SOCKETS.read_text())
+    check_verify(checks, SOCKETS.name, SOCKETS.read_text(), service=postfix)
     checks.done()
 
 

@@ -38,9 +38,10 @@ def append(number: int, message: bytes = b"Q1", recipient: bytes = b"x@y") -> by
     return frames.append(number, 1, message, recipient, 1, b"5.0.0")
 
 
-def flush(number: int, message: bytes = b"Q1") -> bytes:
-    """A flush of a bounce log."""
-    return frames.flush(number, 1, message)
+def flush(number: int, message: bytes = b"Q1", service: int = 1, **fields) -> bytes:
+    """A flush of a log, a bounce log unless said, with the return path and the moments of the stored examples."""
+    said = {"return_path": b"ann@example.com", "moment": 1700000000, "arrival": 1699996400} | fields
+    return frames.flush(number, service, message, **said)
 
 
 def until(holds, patience=PATIENCE) -> bool:

@@ -12,14 +12,13 @@ import time
 from collections import Counter
 from pathlib import Path
 
-from tests.support.running import EXAMPLES, LIMIT, batch, example_module
+from tests.support.daemon_and_clients import flush, frames
+from tests.support.running import EXAMPLES, LIMIT, batch
 
 FEEDER = os.environ.get("FEEDER") or str(EXAMPLES / "feed.py")
 FEED = [sys.executable, FEEDER]
 WATCHED = str(Path(__file__).parent / "watched.py")
 PATIENCE = 120  # seconds that anything may take that is waited for, on a machine that is slow or busy
-
-frames = example_module("frames")
 
 
 def outbox_of(messages: int, names: bytes = b"K") -> bytes:
@@ -32,7 +31,7 @@ def outbox_for(senders: list, names: bytes = b"K") -> bytes:
     made = b""
     for at, sender in enumerate(senders):
         made += frames.append(2 * at, 1, names + b"%d" % at, b"bob@example.org", 1, b"5.1.1")
-        made += frames.flush(2 * at + 1, 1, names + b"%d" % at, return_path=sender, header=b".dots\n..\n.\n")
+        made += flush(2 * at + 1, names + b"%d" % at, return_path=sender, header=b".dots\n..\n.\n")
     return batch(made).outbox
 
 

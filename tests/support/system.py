@@ -195,14 +195,9 @@ class Container(Layer):
 
 
 def deploy_block(start: str) -> str:
-    """The one indented block of docs/DEPLOY.md that begins so."""
-    found = [[]]
-    for line in (ROOT / "docs/DEPLOY.md").read_text().splitlines():
-        if line.startswith("    ") or (not line and found[-1]):
-            found[-1].append(line[4:])
-        elif found[-1]:
-            found.append([])
-    (block,) = [it for it in ("\n".join(it).rstrip() + "\n" for it in found if it) if it.startswith(start)]
+    """The one fenced block of docs/DEPLOY.md that begins so, byte for byte as somebody copies it."""
+    page = (ROOT / "docs/DEPLOY.md").read_text()
+    (block,) = [it for it in re.findall(r"^```\w*\n(.*?)^```$", page, re.M | re.S) if it.startswith(start)]
     return block
 
 

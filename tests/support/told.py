@@ -1,11 +1,13 @@
 """What a notice says, taken apart so that two of them can be compared, without what differs from one message to the
-next: ids of messages, moments and ports."""
+next: ids of messages, moments, ports and folders."""
 import email.utils
 import re
 from dataclasses import dataclass, field
 
 MOMENT = re.compile(rb"\w{3}, +\d{1,2} \w{3} \d{4} \d\d:\d\d:\d\d [+-]\d{4}(?: \(UTC\))?")
 OWN_MESSAGE_ID = re.compile(rb"<\d{14}\.\w+@")
+OTHER_QUEUE_ID = re.compile(rb"(\bid |queued as |forwarded as )[0-9A-Za-z]{9,}\b")
+NAME = re.compile(rb"(?mi)^Message-ID: <([\w-]+)@client\.example\.com>")
 DATES = (b"Arrival-Date", b"Will-Retry-Until", b"Last-Attempt-Date")
 
 
@@ -42,6 +44,11 @@ class Told:
         """The key by which the two sides' notices are matched: address, actions and names of the recipients."""
         return self.to, self.actions(), sorted(it.get(b"Final-Recipient", b"") for it in self.recipients)
 
+    @property
+    def is_own(self) -> bool:
+        """Whether noticed made it, and not bounce(8)."""
+        return re.search(rb"(?mi)^Message-ID: <[BDT]\.", self.text.partition(b"\n\n")[0]) is not None
+
     def actions(self) -> list:
         return sorted({it.get(b"Action", b"") for it in self.recipients})
 
@@ -50,16 +57,22 @@ class Told:
         return sorted((it.get(b"Final-Recipient", b""), it.get(b"Action", b"")) for it in self.recipients)
 
 
-def cleaned(text: bytes, queue_id: bytes, ports: dict) -> bytes:
-    """A text without the message's id, moments, and ports."""
+def cleaned(text: bytes, queue_id: bytes, varying: dict) -> bytes:
+    """A text without what differs between two instances: ids of messages, moments, and what `varying` names."""
     if queue_id:
         text = re.sub(rb"\b" + re.escape(queue_id) + rb"\b", b"ID", text)
-    for name, port in ports.items():
-        text = re.sub(rb"\b%d\b" % port, name.encode(), text)
-    return OWN_MESSAGE_ID.sub(b"<MOMENT.ID@", MOMENT.sub(b"MOMENT", text))
+    for value, name in varying.items():
+        text = re.sub(rb"(?<!\w)" + re.escape(value.encode()) + rb"\b", name.encode(), text)
+    return OWN_MESSAGE_ID.sub(b"<MOMENT.ID@", MOMENT.sub(b"MOMENT", OTHER_QUEUE_ID.sub(rb"\1ID", text)))
 
 
-def taken_apart(to: list, text: bytes, ports: dict) -> Told:
+def name_in(text: bytes) -> str:
+    """The name of a message, from its header or from a notice that returns the header; empty if there is none."""
+    found = NAME.search(text)
+    return found[1].decode() if found else ""
+
+
+def taken_apart(to: list, text: bytes, varying: dict) -> Told:
     """A notice's parts. Raises where it isn't a report of three parts, or of two."""
     header, _, _ = text.partition(b"\n\n")
     boundary = re.search(rb'boundary="([^"]*)"', header)[1]
@@ -79,25 +92,25 @@ def taken_apart(to: list, text: bytes, ports: dict) -> Told:
     it.parts["report-type"] = re.search(rb"report-type=([\w-]+)", header)[1]
     it.parts["type of the status"] = dict(fields(kind)).get(b"Content-Type")
     for name, value in message.items():
-        it.parts[f"message: {name.decode()}"] = typed(cleaned(value, it.queue_id, ports))
+        it.parts[f"message: {name.decode()}"] = typed(cleaned(value, it.queue_id, varying))
     it.parts["recipients"] = sorted(
         (
-            [(name, typed(cleaned(value, it.queue_id, ports))) for name, value in sorted(group.items())]
+            [(name, typed(cleaned(value, it.queue_id, varying))) for name, value in sorted(group.items())]
             for group in recipients
         )
     )
-    return with_texts(it, words, returned, ports)
+    return with_texts(it, words, returned, varying)
 
 
-def with_texts(it: Told, words: bytes, returned: list, ports: dict) -> Told:
+def with_texts(it: Told, words: bytes, returned: list, varying: dict) -> Told:
     """A notice with what it says to people, whose lines are compared in any order, and what it gives back."""
-    it.parts["words"] = sorted(cleaned(words.partition(b"\n\n")[2], it.queue_id, ports).split(b"\n"))
+    it.parts["words"] = sorted(cleaned(words.partition(b"\n\n")[2], it.queue_id, varying).split(b"\n"))
     for part in returned:
         about, _, content = part.lstrip(b"\n").partition(b"\n\n")
         about = dict(fields(about))
         it.parts["type of what is given back"] = about.get(b"Content-Type")
         it.parts["description of what is given back"] = about.get(b"Content-Description")
-        it.parts["given back"] = cleaned(content, it.queue_id, ports)
+        it.parts["given back"] = cleaned(content, it.queue_id, varying)
     return it
 
 
